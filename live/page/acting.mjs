@@ -8,6 +8,7 @@ import {isCovered, privateOf} from "./layers.mjs";
 import {linesOf} from "./listing.mjs";
 import {look} from "./looking.mjs";
 import {Road} from "./rows.mjs";
+import {keyOf} from "./stamps.mjs";
 import {changed, isOwn, store, tell} from "./store.mjs";
 import {plural} from "./units.mjs";
 import {periodShown} from "./view.mjs";
@@ -57,6 +58,13 @@ const NOTHING = {undo: "There is nothing of yours to undo.",
                  redo: "There is nothing of yours to redo."};
 const DONE = {undo: "Taken back", redo: "Put again"};
 
+/** What an operation was first called; "" of one that is pending. */
+function noteOf(stamp) {
+  const lines = [...store.layers.mine.lines.values()];
+  const isOf = ({operations}) => operations.some((one) => keyOf(one.stamp) === keyOf(stamp));
+  return (Array.isArray(stamp) && lines.find(isOf)?.note) || "";
+}
+
 function press(does) {
   store.presses.push(does);
   pressed();
@@ -70,7 +78,7 @@ function pressed() {
     if (stamp === undefined) return;
     store.presses.shift();
     if (stamp === null) tell(NOTHING[does], true);
-    else act({undo: {stamp}}, {note: DONE[does], does});
+    else act({undo: {stamp}}, {note: [DONE[does], noteOf(stamp)].filter(Boolean).join(": "), does});
   }
 }
 
@@ -237,7 +245,8 @@ async function askFigures() {
   const {before} = store;
   const [from, to] = periodShown();
   if (to <= from) return;
-  const said = await ask({figures: {at: store.me.at, of: "preview", from, to}}, {quiet: ["busy"]});
+  const said = await ask({figures: {at: store.me.at, of: "preview", from, to}},
+    {quiet: ["busy"], stands: () => store.before === before});
   if (!said || store.before !== before) return;
   if (said.refused === "busy") {
     before.soon = setTimeout(askFigures, LOOKS);

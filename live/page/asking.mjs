@@ -5,12 +5,14 @@ import {store, tell} from "./store.mjs";
 
 const BUSY = 1000;              // milliseconds until it is asked again of one who was busy
 
-/** An answer, or null where the line broke; a refusal is told, unless it is a `quiet` one.
-    `first`: before those that wait. */
-export async function ask(command, {first = false, quiet = []} = {}) {
+const always = () => true;
+
+/** An answer, or null where the line broke; a refusal is told, unless it is a `quiet` one, or what
+    was asked about does not `stand` any more. `first`: before those that wait. */
+export async function ask(command, {first = false, quiet = [], stands = always} = {}) {
   try {
     const said = await store.line.ask(command, first);
-    const isTold = said.refused && !quiet.includes(said.refused);
+    const isTold = said.refused && !quiet.includes(said.refused) && stands();
     if (isTold) tell(said.why ?? `Refused: ${said.refused}`, true);
     return said;
   } catch (fault) {

@@ -5,6 +5,7 @@ import {askDays, daysAsked, daysShown, dropDays, dropOldDays} from "./days.mjs";
 import {$, button, element, headCell, row} from "./elements.mjs";
 import {changeText, halfText, meanText, sureText} from "./estimates.mjs";
 import {store, when} from "./store.mjs";
+import {ORDER} from "./tables.mjs";
 import {kmText, timeText} from "./units.mjs";
 
 const overText = () => `Over ${daysAsked()} days`;
@@ -22,9 +23,10 @@ const cell = (text, small) => element("td", text, {}, element("small", small));
 
 /** The table, with the roads in the order of the one that it stands for. */
 function tableOf({from, to, figures}, isPreview) {
-  const sides = isPreview ? ["before", "after"] : ["after", "before"];
-  const heads = isPreview ? ["now", "then", "change"]
-    : ["mine", "shared", "mine \u2212\u00a0shared"];
+  const order = ORDER[isPreview ? "preview" : "mine"];
+  const sides = order.map(([side]) => side);
+  const heads = [...order.map(([, head]) => head),
+                 isPreview ? "change" : "mine \u2212\u00a0shared"];
   const lines = figures.map((one) => row(headCell(nameOf(one), "row"),
     ...sides.map((side) => cell(meanText(one[side]), halfText(one[side]))),
     cell(changeText(one.difference), sureText(one.difference))));

@@ -12,7 +12,7 @@ const keyNow = () => [store.layers.mine.next, store.layers.shared.next].join();
 
 /** What is compared: the roads of what is looked at before sharing or taking, else mine and the
     shared one. */
-const comparedNow = () => (store.before ? "preview" : "mine");
+export const comparedNow = () => (store.before ? "preview" : "mine");
 
 /** The question of what is compared; null where there is none. */
 export const daysShown = () => (store.days?.of === comparedNow() ? store.days : null);
@@ -26,7 +26,8 @@ export async function askDays() {
   const days = {of: comparedNow(), key: keyNow(), done: 0, said: null};
   store.days = days;
   changed("days");
-  const said = await ask({days: {at: store.me.at, of: days.of, from, to}}, {quiet: ["stopped"]});
+  const said = await ask({days: {at: store.me.at, of: days.of, from, to}},
+    {stands: () => store.days === days});
   if (store.days !== days) return;
   if (said && !said.refused) days.said = said;
   else store.days = null;
@@ -52,6 +53,7 @@ export function dropDays() {
 /** Drops what is of other roads than there are now. */
 export function dropOldDays() {
   if (!store.days || store.days.key === keyNow()) return;
+  const {said} = store.days;
   dropDays();
-  tell(`A road has changed: what was asked over ${daysAsked()} days was of the one before.`);
+  if (!said) tell(`A road has changed: the question over ${daysAsked()} days was stopped.`);
 }

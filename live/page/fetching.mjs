@@ -46,10 +46,13 @@ function mostRows() {
   return Math.max(1, Math.min(rows, Math.floor(bytes / (store.plan.length + 3))));
 }
 
+/** Whether a road is still looked at: those of a preview go with it. */
+const isKept = (road) => Object.values(store.roads).includes(road);
+
 async function advance(road, to) {
   if (road.advancing) return;
   road.advancing = true;
-  const said = await ask({advance: {at: road.at, to}});
+  const said = await ask({advance: {at: road.at, to}}, {stands: () => isKept(road)});
   road.advancing = false;
   if (!said || said.refused) return;
   road.horizon = Math.max(road.horizon, said.horizon);
@@ -61,7 +64,8 @@ async function askRows(whose, every, {from, to, count}) {
   const level = road.level(every);
   store.asking++;
   level.mark(from, count, 1);
-  const said = await ask({diagram: {at: road.at, from, to, ...(every > 1 ? {every} : {})}});
+  const said = await ask({diagram: {at: road.at, from, to, ...(every > 1 ? {every} : {})}},
+    {stands: () => isKept(road)});
   store.asking = Math.max(0, store.asking - 1);
   if (!said || said.refused) {
     level.mark(from, count, 0);

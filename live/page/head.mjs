@@ -38,7 +38,7 @@ function showSites() {
 
 function showMe() {
   const {name, seat} = store.me;
-  $("me").textContent = `${name} (seat ${seat})`;
+  $("me").replaceChildren(name, element("span", ` (seat ${seat})`, {className: "seat"}));
   document.title = `${name}: a road, live`;
 }
 

@@ -2,10 +2,12 @@
 // again, and tables for a spreadsheet.
 
 import {ask, askUntilFree} from "./asking.mjs";
+import {comparedNow, daysShown} from "./days.mjs";
 import {withoutCursor} from "./drafting.mjs";
 import {$, download, on} from "./elements.mjs";
 import {drawDiagram, legendEntries} from "./picture.mjs";
 import {now, store, tell} from "./store.mjs";
+import {csvOf, tableOfDays, tableOfFigures} from "./tables.mjs";
 import {METRES_A_CELL, kmText, timeText} from "./units.mjs";
 import {partShown, periodShown} from "./view.mjs";
 
@@ -89,6 +91,26 @@ async function saveScript() {
   tell(`Saved ${name}: road_lab runs it, and recipes/delay compares mine and the shared one.`);
 }
 
+/** Saves the figures of the roads that are compared: those of many days where these are shown. */
+async function saveFigures() {
+  const {plan, me: {at}} = store;
+  const [from, to] = periodShown();
+  const days = daysShown()?.said;
+  if (days) {
+    saveLines(tableOfDays(plan, comparedNow(), days), `figures_${days.days}_days.csv`);
+  } else if (to <= from) tell("Nothing is computed yet.", true);
+  else {
+    const of = comparedNow();
+    const said = await askUntilFree({figures: {at, of, from, to}});
+    if (said && !said.refused) saveLines(tableOfFigures(plan, of, said), "figures.csv");
+  }
+}
+
+function saveLines(lines, name) {
+  download([csvOf(lines)], name, "text/csv");
+  tell(`Saved ${name}.`);
+}
+
 /** Saves a table that the server makes. */
 async function saveTable(fields, name) {
   const said = await ask({csv: {at: store.me.at, ...fields}});
@@ -111,6 +133,7 @@ export function begin() {
   on("savePicture", "click", savePicture);
   on("saveTranscript", "click", saveTranscript);
   on("saveScript", "click", saveScript);
+  on("saveFigures", "click", saveFigures);
   on("saveCounts", "click", saveCounts);
   on("saveChanges", "click", saveChanges);
 }

@@ -131,9 +131,11 @@ def table(state: State, seat: Seat) -> list[list[Any]]:
         shown = shown_of(seat, line)
         force = "; ".join(span(one) for one in shown if one[6] is None)
         over = "; ".join(f"{span(one)} by {named(seat, one[6])}" for one in shown if one[6] is not None)
-        for gesture in sorted(seat.lines[line], key=lambda one: one.stamp):
+        done = sorted(seat.lines[line], key=lambda one: one.stamp)
+        first = next((one.note for one in done if one.note), "")
+        for gesture in done:
             when = time.strftime("%Y-%m-%d %H:%M:%S", time.gmtime(gesture.when))
-            found.append([number, gesture.who, gesture.note, when, does(gesture, line), *gesture.stamp,
+            found.append([number, gesture.who, gesture.note or first, when, does(gesture, line), *gesture.stamp,
                           gesture in state.shared.holds, force, over])
     return found
 

@@ -387,12 +387,19 @@ class State:
 
     def shareable(self, seat: Seat, stamps: Collection[Stamp] | None) -> list[Gesture]:
         """Of these those of these stamps; or all by which some layer is another than in what is shared, but for what was taken
-        back and its taking back."""
+        back and its taking back, unless that stands against what the seat took since."""
         if stamps is not None:
             return [gesture for gesture in self.private(seat) if gesture.stamp in stamps]
         there, gone = self.shared.road, self.cancelled(seat)
-        return [gesture for gesture in self.private(seat) if gesture not in gone and any(
-            differ(seat.road.laid(name), there.laid(name)) for name in gesture.lays)]
+        return [gesture for gesture in self.private(seat) if any(
+            differ(seat.road.laid(name), there.laid(name)) and (gesture not in gone or self._stands_against(seat, gesture, name))
+            for name in gesture.lays)]
+
+    def _stands_against(self, seat: Seat, gesture: Gesture, name: Name) -> bool:
+        """Whether a layer is as this gesture laid it, though the seat has taken another that lays it on the shared road."""
+        layers, there = seat.road.layers, self.shared.road.layers
+        return name in there and layers[name][0] == gesture.stamp and any(
+            one in seat.holds for one in self.by_stamp.get(there[name][0], ()))
 
     def cancelled(self, seat: Seat) -> set[Gesture]:
         """The seat's operations that it took back before anybody else had them, and their takings back."""

@@ -29,6 +29,14 @@ test("a refusal is told", async () => {
   assert.deepEqual(store.said, ["another road is run", true]);
 });
 
+test("what was asked about what is looked at no more is not told", async () => {
+  answering({refused: "no preview", why: "ask again"}, {refused: "no preview", why: "ask again"});
+  await ask({diagram: {}}, {stands: () => false});
+  assert.deepEqual(store.said, ["", false]);
+  await ask({diagram: {}}, {stands: () => true});
+  assert.deepEqual(store.said, ["ask again", true]);
+});
+
 test("one who is busy is asked again until there is an answer, and nothing is told", async (t) => {
   t.mock.timers.enable({apis: ["setTimeout"]});
   const asked = answering(BUSY, BUSY, {lines: "a"});

@@ -151,7 +151,7 @@ class Days(Case):
 
 class Leaving(Case):
     async def test_a_tab_that_goes_is_one_who_leaves(self) -> None:
-        server = self.server()
+        server = self.server(LIVE_DAYS="4")
         async with server.seat("Ben") as ben:
             async with server.seat("Ada") as ada:
                 await ada.say("clock", to=3_600)
@@ -159,7 +159,7 @@ class Leaving(Case):
                 asked = asyncio.ensure_future(ada.reply("days", at=ada.at, of="mine", **{"from": 0, "to": 3_600}))
                 await ada.reply("ping")  # (what she asks is begun in its order)
                 busy = await self.refusal(ben)
-                self.assertIn("Ada asks about 20 days", busy)
+                self.assertIn("Ada asks about 4 days", busy)
                 asked.cancel()
 
             async def free() -> bool:

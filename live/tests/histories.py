@@ -399,6 +399,26 @@ class Cases(unittest.TestCase):
         for site in (self.one, self.other):
             self.assertEqual(limits(site.state.shared), [(5, 0), (1, 2), (5, 15)])  # the greater number's, and not both
 
+    def test_what_was_taken_back_is_to_be_shared_where_it_stands_against_what_came(self) -> None:
+        """The other's change is older than the taking back, and was not known then."""
+        base = self.put(self.one, 5, 15, 1)
+        self.one.shares(self.ada, [base])
+        self.other.came(self.one.out[0])
+        self.other.takes(self.ben)
+        for _ in range(3):
+            own = self.one.does(self.ada, changed(self.ada, self.one.state.stamp(self.ada), base.stamp, None, False))
+            back = self.one.does(self.ada, undoing(self.ada, own), undoes=own.stamp)
+        shape = Shape("limit", 3, 3, 5, 20, 1)
+        self.other.shares(self.ben, [self.other.does(self.ben, changed(
+            self.ben, self.other.state.stamp(self.ben), base.stamp, shape, False))])
+        self.one.came(self.other.out[0])
+        self.assertEqual(self.one.state.shareable(self.ada, None), [])  # it is nothing until that is taken
+        self.one.takes(self.ada)
+        self.assertEqual(limits(self.ada), [(5, 0), (1, 5), (5, 15)])
+        self.assertEqual(self.one.state.shareable(self.ada, None), [back])
+        self.one.shares(self.ada, [back])
+        self.assertEqual(limits(self.one.state.shared), limits(self.ada))
+
     def again(self) -> Seat:
         """Ada's seat after a start: by the journal, which has no seat's mendings."""
         state = State()

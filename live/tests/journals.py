@@ -253,6 +253,7 @@ class Folders(Case):
         for plan, why in (({**SMALL, "length": 7}, "the program refuses the plan: Length"), ({"a": 1}, "refuses the plan")):
             with self.assertRaisesRegex(RuntimeError, why):
                 running.Server(folder, plan)
+            self.assertEqual(read(folder / "journal.jsonl"), ([], 0))
         (folder / "journal.jsonl").write_bytes(line_of({"lab": {}})[:-3])  # what was begun was never confirmed
         server = running.Server(folder, SMALL)
         self.addCleanup(lambda: running.end(server.process))

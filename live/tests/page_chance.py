@@ -1,6 +1,7 @@
-"""Is it the change, or chance? Two browsers that ask over many days: 6 here, 20 without the setting."""
+"""Is it the change, or chance? Two browsers that ask over many days: 3 here, 20 without the setting."""
 from __future__ import annotations
 
+import contextlib
 import os
 import subprocess
 from typing import Any
@@ -15,7 +16,12 @@ SEEDED = {**FREE_ROAD, "length": 200, "zone": 200, "words": 1, "zones": [[3, 6_5
 
 def over_days(tab: Tab, within: str) -> dict[str, list[str]]:
     """The table over many days, once it is there: each cell with its small line."""
-    tab.until(lambda: tab.script("return document.querySelector(`${arguments[0]} .over`) !== null", within), "the days")
+    is_there = lambda: tab.script("return document.querySelector(`${arguments[0]} .over`) !== null", within)
+    for _ in range(3):  # what is nice comes late where the machine has other work
+        with contextlib.suppress(AssertionError):
+            tab.until(is_there, "the days")
+            break
+    assert is_there(), tab.truth()
     rows = tab.script("return [...document.querySelectorAll(`${arguments[0]} .over tbody tr`)].map((line) => "
                       "[...line.children].map((one) => one.innerText.replace('\\n', ' ')))", within)
     return {name: cells for name, *cells in rows}
@@ -30,8 +36,8 @@ def numbers(cell: str) -> list[float]:
 class TwoTabs(BrowserCase):
     """Two browsers."""
 
-    def over_six(self, plan: dict[str, Any]) -> list[Tab]:
-        with mock.patch.dict(os.environ, {"LIVE_DAYS": "6"}):
+    def over_three(self, plan: dict[str, Any]) -> list[Tab]:
+        with mock.patch.dict(os.environ, {"LIVE_DAYS": "3"}):
             return self.open(plan)
 
     def run_a_quarter(self, tab: Tab) -> None:
@@ -44,15 +50,15 @@ class TwoTabs(BrowserCase):
         tab.in_figures(kmFrom="0.18", kmTo="0.19", timeFrom="0:05", timeTo="0:07")
 
     def test_mine_beside_shared_and_what_is_looked_at_before(self) -> None:
-        ada, _ = self.over_six(SEEDED)
+        ada, _ = self.over_three(SEEDED)
         self.run_a_quarter(ada)
         self.closed(ada)
-        ada.press("Over 6 days")
-        ada.until(lambda: " of 6 days" in ada.text("days"), "how far it is")
+        ada.press("Over 3 days")
+        ada.until(lambda: " of 3 days" in ada.text("days"), "how far it is")
         found = over_days(ada, "#over")
         self.assertFalse(ada.part("oneDay").is_displayed())
         self.assertEqual(list(found), ["Vehicle hours", "Lost demand, cars", "Cars at 0.21 km"])
-        self.assertIn("Over 6 days, 0:00:00 to 0:15:00", ada.text("over"))
+        self.assertIn("Over 3 days, 0:00:00 to 0:15:00", ada.text("over"))
         mine, shared, more = map(numbers, found["Vehicle hours"])
         self.assertAlmostEqual(more[0], mine[0] - shared[0], delta=0.11)
         # Some 0.4 cars come in a second: in two minutes 50, but those that stand before it.
@@ -62,7 +68,7 @@ class TwoTabs(BrowserCase):
         self.assertLess(numbers(found["Cars at 0.21 km"][2])[1], numbers(found["Cars at 0.21 km"][1])[1])
         ada.press("Share…: Whole road closed")
         before_rows(ada)
-        ada.press("Over 6 days", "#before")
+        ada.press("Over 3 days", "#before")
         before = over_days(ada, "#before")
         self.assertEqual(before["Vehicle hours"], [found["Vehicle hours"][place] for place in (1, 0, 2)])
         ada.press("One day", "#before")
@@ -73,22 +79,22 @@ class TwoTabs(BrowserCase):
         self.assertEqual(ada.lines("own"), ["Whole road closed 0.18–0.188 km, 0:05:00–0:07:00 private"] * 2)
 
     def test_it_is_stopped_and_who_asks_is_told(self) -> None:
-        ada, ben = self.over_six(SEEDED)
+        ada, ben = self.over_three(SEEDED)
         for tab in (ada, ben):
             self.run_a_quarter(tab)
-        ada.press("Over 6 days")
-        ada.until(lambda: " of 6 days" in ada.text("days"), "it runs")
-        ben.press("Over 6 days")
-        ben.until(lambda: "Ada asks about 6 days just now" in ben.text("said"), "he is told who asks")
-        self.assertEqual(ben.text("days"), "Over 6 days")
+        ada.press("Over 3 days")
+        ada.until(lambda: " of 3 days" in ada.text("days"), "it runs")
+        ben.press("Over 3 days")
+        ben.until(lambda: "Ada asks about 3 days just now" in ben.text("said"), "he is told who asks")
+        self.assertEqual(ben.text("days"), "Over 3 days")
         ada.press("Stop")
-        ada.until(lambda: ada.text("days") == "Over 6 days", "it is stopped")
+        ada.until(lambda: ada.text("days") == "Over 3 days", "it is stopped")
         self.assertNotIn("stopped", ada.text("said"))
-        ben.press("Over 6 days")
+        ben.press("Over 3 days")
         self.assertEqual(over_days(ben, "#over")["Vehicle hours"][2], "0 the same each day")
 
     def test_what_is_saved_of_both_roads_is_compared_as_it_is(self) -> None:
-        ada, = self.over_six(SEEDED)[:1]
+        ada, = self.over_three(SEEDED)[:1]
         self.run_a_quarter(ada)
         self.closed(ada)
         saved = [ada.save("Script", "script_mine.jsonl")]
@@ -106,8 +112,8 @@ class TwoTabs(BrowserCase):
                 self.assertEqual([f"{float(value):+.1f}" for value in rows.values()], [hours.replace("−", "-")])
 
     def test_a_road_of_one_day_says_so(self) -> None:
-        ada, = self.over_six(FREE_ROAD)[:1]
+        ada, = self.over_three(FREE_ROAD)[:1]
         self.run_a_quarter(ada)
-        ada.press("Over 6 days")
+        ada.press("Over 3 days")
         ada.until(lambda: "it has one day" in ada.text("said"), "it is told")
-        self.assertEqual(ada.text("days"), "Over 6 days")
+        self.assertEqual(ada.text("days"), "Over 3 days")

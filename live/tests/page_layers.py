@@ -1,6 +1,11 @@
 """Shapes that lie on each other, in a browser: whose edges can be drawn, and what is written at them."""
 from __future__ import annotations
 
+import csv
+import os
+from pathlib import Path
+from unittest import mock
+
 from browsers import FREEWAY, BrowserCase, Tab
 from selenium.webdriver.common.action_chains import ActionChains
 
@@ -62,3 +67,86 @@ class OneTab(BrowserCase):
             tab.choose("limit", "4")
             tab.in_figures(kmFrom=first, kmTo=last, timeFrom="0:40", timeTo="0:45")
         self.assertEqual(self.written(tab), ["108 km/h", "27 km/h", "27 km/h", "54 km/h"])
+
+
+class TwoTabs(BrowserCase):
+    """Two tabs on a freeway."""
+
+    def rows(self, path: Path) -> list[dict[str, str]]:
+        with open(path, encoding="utf-8", newline="") as file:
+            return list(csv.DictReader(file))
+
+    def test_all_that_was_done_and_what_covers_it_is_listed_and_saved(self) -> None:
+        ada, ben = self.open(FREEWAY)
+        ada.run_an_hour()
+        for tab, begin, end in ((ada, "0:20", "0:40"), (ben, "0:25", "0:30")):
+            tab.tool("limit")
+            tab.in_figures(kmFrom="0.75", kmTo="4.5", timeFrom=begin, timeTo=end)
+        ben.share_all()
+        self.assertEqual(ben.text("said"), "Shared 1 change.")  # of ten zones, each with a beginning and an end
+        ada.take()
+        ada.tool("block")
+        ada.in_figures(kmFrom="3", kmTo="3.15", timeFrom="0:50", timeTo="0:55")
+        ada.press("Share…: Whole road closed")
+        ada.press("Share now")
+        ada.press("Withdraw: Whole road closed")
+        ada.settled()
+        ada.open_part("past")
+        past = ada.text("history")
+        for said in ("withdrawn", "covered 0:25:00–0:30:00 by Ben's limit of 54 km/h"):
+            self.assertIn(said, past)
+        for sentence in ("is withdrawn by its line", "heard or made more", "2 of 4 edits", "Withdrew: Withdrew"):
+            self.assertNotIn(sentence, ada.script("return document.body.innerText"))
+        rows = self.rows(ada.save("Changes as CSV", "changes.csv"))
+        self.assertEqual({(row["who"], row["does"]) for row in rows},
+                         {("Ada", "put"), ("Ben", "put"), ("Ada", "withdraw")})
+        covered = [row["covered"] for row in rows if row["covered"]]
+        self.assertEqual(len(covered), 1)
+        self.assertIn("0:25:00 to 0:30:00 by Ben: ", covered[0])
+
+    def test_figures_are_whole_beside_the_picture(self) -> None:
+        """Four digits on both roads, a warning that makes the column scroll, and over many days."""
+        with mock.patch.dict(os.environ, {"LIVE_DAYS": "2"}):
+            ada, _ = self.open(FREEWAY)
+        ada.run_an_hour()
+        ada.tool("block")
+        ada.in_figures(kmFrom="3", kmTo="3.15", timeFrom="0:20", timeTo="0:30")
+        self.addCleanup(ada.driver.execute_cdp_cmd, "Emulation.clearDeviceMetricsOverride", {})
+        for place in ("figures", "over"):
+            if place == "over":
+                ada.press("Over 2 days")
+            ada.until(lambda: ada.script("return $(arguments[0]).querySelector('td') !== null", place), "figures")
+            for width, height in ((1366, 768), (1920, 1080)):
+                ada.driver.execute_cdp_cmd("Emulation.setDeviceMetricsOverride",
+                                           {"width": width, "height": height, "deviceScaleFactor": 1, "mobile": False})
+                ada.until(lambda: "…" not in ada.text("figures"), "the lost demand")
+                ada.settled()
+                more = ada.script("return [...document.querySelectorAll('aside .scrolled')].filter((one) => one.clientWidth)"
+                                  ".map((one) => one.scrollWidth - one.clientWidth)")
+                self.assertEqual(more, [0], (place, width))
+                bottom = ada.script("""
+                    document.querySelector("aside").scrollTo(0, 0);
+                    return [...document.querySelectorAll("aside tr")].filter((one) => one.checkVisibility()).at(-1)
+                      .getBoundingClientRect().bottom;""")
+                self.assertLessEqual(bottom, height, (place, width))
+                who = ada.script("const {scrollWidth, clientWidth} = $('who'); return scrollWidth - clientWidth")
+                self.assertEqual((who, ada.text("who")), (0, "You are Ada (seat 1), with Ben"), width)
+
+    def test_figures_are_saved_as_they_are_shown(self) -> None:
+        ada, _ = self.open(FREEWAY)
+        ada.run_an_hour()
+        ada.tool("block")
+        ada.in_figures(kmFrom="0.6", kmTo="0.65", timeFrom="0:18", timeTo="0:26")
+        ada.until(lambda: "…" not in ada.text("figures"), "the lost demand")
+        shown = ada.script("return [...document.querySelectorAll('#figures tbody tr')].map((line) => "
+                           "[...line.children].map((one) => one.firstChild?.data ?? ''))")
+        rows = {row["figure"]: [row["mine"], row["shared"], row["mine less shared"]]
+                for row in self.rows(ada.save("Figures as CSV", "figures.csv"))}
+        number = lambda text: float(text.replace(",", "").replace("−", "-").replace("+", "") or "nan")
+        for name, saved, digits in (("Vehicle hours", "vehicle hours", 1), ("Lost demand, cars", "lost demand in cars", 0),
+                                    ("Delay, vehicle hours", "delay of cars in both in vehicle hours", 1),
+                                    ("Cars at 2.25 km", "cars at 2.25 km", 0)):
+            wanted, = ([number(text) for text in values] for head, *values in shown if head == name)
+            for one, other in zip(rows[saved], wanted):
+                self.assertTrue(not one or abs(float(one) - other) <= 0.51 * 10 ** -digits, (name, one, other))
+            self.assertNotEqual(rows[saved][2], "")

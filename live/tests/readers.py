@@ -107,8 +107,8 @@ class Reader:
 
     async def shares(self) -> None:
         own = [stamp for stamp in self.held if stamp[1] == self.seat.welcome["number"]]
-        some = {} if self.chance.random() < 0.6 else {"stamps": [one for one in own if self.chance.random() < 0.5][:50]}
-        await self.seat.ask("send", name="shared", **some)
+        some = [one for one in own if self.chance.random() < 0.5][:50]
+        await self.seat.ask("send", name="shared", **({} if self.chance.random() < 0.6 else {"stamps": some}))
 
     async def takes(self) -> None:
         looked, after = None, None
@@ -204,13 +204,15 @@ class Readers(Case):
                 reader.seat = await self.enterAsyncContext(site.seat(key=reader.seat.key))
 
     async def all_have_all(self, readers: list[Reader]) -> None:
-        """All is shared, exchanged and taken: there is one road."""
-        for reader in readers:
-            await reader.seat.ask("send", name="shared")
-
+        """All is shared, exchanged and taken, until nothing is left to share: there is one road. (What laid what was so
+        anyway need not be shared, and is something again where another laid the line meanwhile.)"""
         async def are_same() -> bool:
             one, other = [(await reader.seat.ask("scenario", at="shared"))["edits"] for reader in readers[::2]]
             return bool(one == other) and not any([await self.unsent(reader) for reader in readers[::2]])
+        while any([(await reader.seat.ask("send", name="shared"))["size"] for reader in readers]):
+            await until(are_same, "both sites have the same")
+            for reader in readers:
+                await reader.takes()
         await until(are_same, "both sites have the same")
         for reader in readers:
             await reader.takes()

@@ -9,7 +9,7 @@ const SOURCES = new Map(readdirSync(PAGE).filter((name) => name.endsWith(".mjs")
   [name.replace(".mjs", ""), readFileSync(new URL(name, PAGE), "utf8")]));
 const ACTIONS = ["acting", "days", "drafting", "fetching", "joining", "looking", "store"];
 const PURE = ["chain", "estimates", "geometry", "kept", "labels", "layers", "line", "listing",
-              "rows", "sentences", "stamps", "units"];
+              "rows", "sentences", "stamps", "tables", "units"];
 const importsOf = (source) =>
   [...source.matchAll(/from "\.\/(\w+)\.mjs"/g)].map(([, name]) => name);
 

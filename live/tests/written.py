@@ -3,6 +3,7 @@ from __future__ import annotations
 
 import asyncio
 import errno
+import json
 import threading
 from typing import Any, Coroutine
 from unittest import mock
@@ -123,7 +124,7 @@ class Written(Case):
             self.here.heard.clear()
             share = await self.begun(self.here.share(self.ada))
             looks = [asyncio.create_task(self.here.ask(cleo, verb, at="shared", **more)) for verb, more in (
-                ("layers", {}), ("gestures", {}), ("csv", {"what": "changes"}))]
+                ("layers", {}), ("gestures", {}), ("csv", {"what": "changes"}), ("transcript", {"from": 0, "to": 0}))]
             self.assertEqual((lab.news(cleo, 9)["size"], lab.news(cleo, 9)["shares"][1:]), (1, []))
             first = asyncio.create_task(self.first(cleo))
             self.assertEqual(await self.edits(cleo), 1)  # the road is asked, and is what is there
@@ -131,8 +132,9 @@ class Written(Case):
             self.assertEqual([look for look in (*looks, first) if look.done()], [])
             self.assertEqual(self.here.heard, [])
             self.goes_on(fault)
-            layers, gestures, table = [await soon(look) for look in looks]
-            self.assertEqual([len(layers["layers"]), len(gestures["gestures"]), table["csv"].count("\n") - 1], [edits] * 3)
+            layers, gestures, table, transcript = [await soon(look) for look in looks]
+            self.assertEqual([len(layers["layers"]), len(gestures["gestures"]), table["csv"].count("\n") - 1,
+                              transcript["lines"].count('["limit",')], [edits] * 4)
             if fault:
                 self.assertEqual(await self.refused(share), "not written")
             else:
@@ -222,7 +224,11 @@ class Stalled(Case):
         held.clear()
         self.disk.free = threading.Event()
         self.disk.free.set()
-        self.disk.before = lambda name, given: name in names and held.wait()  # without an end, but that of the test
+
+        def waits(name: str, _given: Any) -> None:
+            if name in names:
+                held.wait()  # without an end, but that of the test
+        self.disk.before = waits
         self.addCleanup(held.set)
         self.held = held
 
@@ -279,24 +285,31 @@ class Stalled(Case):
         there = await self.enterAsyncContext(Here(site=2))
         first, second = bus.site(self.here), bus.site(there)
         await bus.rounds(2)
+        await self.here.put(self.ada, ["limit", 3, 70, 4])
+        await self.here.share(self.ada)
+        await bus.carry()
         await self.here.put(self.ada, [*LIMIT, 3])
         await self.stalls("fsync")
         share = asyncio.create_task(self.here.share(self.ada))
         layers = asyncio.create_task(self.here.ask(self.ben, "layers", at="shared"))
         await self.is_told(1)
-        await self.looks(1)
+        await self.looks(2)
         second._sites.clear()
         await soon(first.announce())
+        first._tell_what_may_lack("another", {})
+        told = [one for one in bus.sent if one.topic.endswith("layers")]
+        self.assertEqual([len(json.loads(one.payload)["gestures"]) for one in told], [2])  # what is on the disk
+        bus.sent = [one for one in bus.sent if one not in told]
         await soon(bus.carry())
         self.assertEqual([one["site"] for one in second.state()["sites"]], [1])  # it is there all the same
-        self.assertEqual(len(there.lab.state.shared.gestures), 1)
+        self.assertEqual(len(there.lab.state.shared.gestures), 2)
         self.assertEqual([one for one in (share, layers) if one.done()], [])
         self.held.set()
         await soon(share)
-        self.assertEqual(len((await soon(layers))["layers"]), 2)
+        self.assertEqual(len((await soon(layers))["layers"]), 3)
         await soon(bus.carry())
-        self.assertEqual(len(there.lab.state.shared.gestures), 2)
-        await self.looks(2)
+        self.assertEqual(len(there.lab.state.shared.gestures), 3)
+        await self.looks(3)
 
     async def test_a_stalled_try_of_a_disk_that_took_nothing_and_a_stalled_compaction(self) -> None:
         self.disk.is_full()
