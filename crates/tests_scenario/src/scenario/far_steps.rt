@@ -71,32 +71,21 @@ fn each_edit_acts_from_its_own_step_on(rt: HostRuntime) -> Result<(), Fail> {
     edits_act(&rt, rt.alloc(), &plan, &edits)
 }
 
-// Tells whether an edit that has come touches its own step, after all of the others stand as they did, and whether it is
+// Tells whether an edit that comes touches its own step, after all of the others stand as they did, and whether it is
 // listed in its place.
-fn has_come(
-    alloc: Global,
-    whole: &[Edit],
-    (held, others): (&Scenario, &[Edit]),
-    (one, step): (&Scenario, u32),
-    joined: &Scenario,
-) -> Result<bool, OutOfMemory> {
-    Ok(
-        lists(alloc, joined, whole)?
-            && lists(alloc, held, others)?
-            && held.touched(joined) == Some(step)
-            && held.touched_by(one, joined) == Some(step),
-    )
-}
-
-// Tells whether it does once it comes.
 fn comes(
     alloc: Global,
     whole: &[Edit],
     (held, others): (&Scenario, &[Edit]),
-    one: (&Scenario, u32),
+    (one, step): (&Scenario, u32),
 ) -> Result<bool, OutOfMemory> {
-    let joined = held.joined(one.0)?;
-    has_come(alloc, whole, (held, others), one, &joined)
+    let joined = held.joined(one)?;
+    Ok(
+        lists(alloc, &joined, whole)?
+            && lists(alloc, held, others)?
+            && held.touched(&joined) == Some(step)
+            && held.touched_by(one, &joined) == Some(step),
+    )
 }
 
 // Tells whether it does where a scenario is held.
