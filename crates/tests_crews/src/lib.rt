@@ -4,8 +4,6 @@
 #[cfg(test)]
 mod alone;
 #[cfg(test)]
-mod asked;
-#[cfg(test)]
 mod ended;
 #[cfg(test)]
 mod meetings;
@@ -15,8 +13,6 @@ mod roads;
 mod rows;
 #[cfg(test)]
 mod sameness;
-#[cfg(test)]
-mod sizes;
 #[cfg(test)]
 mod spans;
 #[cfg(test)]

@@ -41,10 +41,10 @@ fn threads_made_for_a_call_meet(rt: HostRuntime) -> Result<(), Fail> {
     let alloc = rt.alloc();
     let meeting = Arc::new(alloc, Meeting::new(rt.clone()?, 2, TURNS))?;
     let mut crew = Scoped::new(&rt, 2, Box::new(alloc, Shared::of(&meeting)?)?);
-    gives(&rt, alloc, &mut crew, &DENSE, DENSE_ROWS)?;
+    let given = gives(&rt, alloc, &mut crew, &DENSE, DENSE_ROWS);
     let was_held = meeting.was_held(2);
     assert!(rt; was_held);
-    Ok(())
+    given
 }
 
 #[test]
@@ -52,11 +52,11 @@ fn lasting_workers_meet(rt: HostRuntime) -> Result<(), Fail> {
     let alloc = rt.alloc();
     let meeting = Arc::new(alloc, Meeting::new(rt.clone()?, 2, TURNS))?;
     let mut crew = Pool::start_gated(rt.clone()?, alloc, 2, Arc::try_clone(&meeting)?)?;
-    gives(&rt, alloc, &mut crew, &DENSE, DENSE_ROWS)?;
+    let given = gives(&rt, alloc, &mut crew, &DENSE, DENSE_ROWS);
     crew.finish();
     let was_held = meeting.was_held(2);
     assert!(rt; was_held);
-    Ok(())
+    given
 }
 
 // Lets a crew run 64 steps of the long road twice, as one runs them.
@@ -83,17 +83,19 @@ fn meet_in_runs<R: Threads + Wait + Clock + Abort + Clone + Drop + Send + Sync +
     let meeting = Arc::new(alloc, Meeting::new(rt.clone()?, workers, TURNS))?;
     let their_gate = Arc::try_clone(&meeting)?;
     let mut crew = Pool::start_on(rt.clone()?, alloc, workers, their_gate, workers)?;
-    run_twice(rt, alloc, &mut crew)?;
+    let given = run_twice(rt, alloc, &mut crew);
     crew.finish();
     let was_held = meeting.was_held(2);
     assert!(*rt; was_held, "{workers} workers");
-    Ok(())
+    given
 }
 
 #[test]
 fn lasting_workers_meet_in_a_run(rt: HostRuntime) -> Result<(), Fail> {
-    meet_in_runs(&rt, rt.alloc(), 2)?;
-    meet_in_runs(&rt, rt.alloc(), 4)
+    for workers in [2, 4] {
+        meet_in_runs(&rt, rt.alloc(), workers)?;
+    }
+    Ok(())
 }
 
 /// As many lasting workers as the machine has processors, up to 16, are asked together: the crew asks the machine, as
@@ -104,8 +106,9 @@ fn as_many_meet_as_there_are_processors(rt: HostRuntime) -> Result<(), Fail> {
     let processors = thread::available_parallelism(&rt)?.get().min(16) as u32;
     let meeting = Arc::new(alloc, Meeting::new(rt.clone()?, processors, TURNS))?;
     let mut crew = Pool::start_gated(rt.clone()?, alloc, processors, Arc::try_clone(&meeting)?)?;
-    run_twice(&rt, alloc, &mut crew)?;
+    let given = run_twice(&rt, alloc, &mut crew);
     crew.finish();
+    given?;
     if processors == 1 {
         println!(rt; "the machine has one processor: no run is shared")?;
         assert!(rt; meeting.has_none());
@@ -122,8 +125,8 @@ fn pieces_in_turn_do_not_meet(rt: HostRuntime) -> Result<(), Fail> {
     let alloc = rt.alloc();
     let meeting = Arc::new(alloc, Meeting::new(rt.clone()?, 2, 100))?;
     let gate = Shared::of(&meeting)?;
-    gives(&rt, alloc, &mut InTurn { gate }, &DENSE, DENSE_ROWS)?;
+    let given = gives(&rt, alloc, &mut InTurn { gate }, &DENSE, DENSE_ROWS);
     let was_held = meeting.was_held(2);
     assert!(rt; !was_held);
-    Ok(())
+    given
 }

@@ -1,6 +1,6 @@
 //! Random roads by few lasting workers and by many, beside the same steps one by one.
 
-use crate::spans::{Course, pool_runs, worked};
+use crate::spans::{Asked, Course, crews_run, worked};
 use road_plan::Plan;
 use std::alloc::Global;
 use std::process::Abort;
@@ -22,19 +22,49 @@ const SPANS: &[(u32, u32)] = &[
     (16, 6),
 ];
 
-const SHARED: u32 = 3;
+const SHARED: Option<u32> = Some(3);
 
-/// The shortest road and others, on which stretches with what is near them are no less work than the whole.
-const SHORT: &[u32] = &[8, 9, 65, 700];
+/// Roads, of whose cells one part of so many at most is free at first, and who is asked in their spans.
+type Case = (&'static [u32], u32, &'static [Asked]);
 
-/// A road that is cut for many workers, where it is crowded.
-const MIDDLE: &[u32] = &[2_500];
+/// On the shortest road and others, stretches with what is near them are no less work than the whole.
+const SHORT: Case = (
+    &[8, 9, 65, 700],
+    2,
+    &[
+        (1, 2, Some(0)),
+        (2, 2, Some(0)),
+        (3, 4, Some(0)),
+        (7, 8, Some(0)),
+        (16, 16, Some(0)),
+    ],
+);
 
-/// Roads that are cut for any number of workers, the longest one among them.
-const LONG: &[u32] = &[5_000, 6_501, 8_192];
+/// This one is cut for many workers, where it is crowded.
+const MIDDLE: Case = (
+    &[2_500],
+    2,
+    &[
+        (1, 2, None),
+        (2, 2, None),
+        (3, 4, None),
+        (7, 8, None),
+        (16, 16, None),
+    ],
+);
 
-/// How many workers there are, and on how many processors.
-const CREWS: &[(u32, u32)] = &[(1, 2), (2, 2), (3, 4), (7, 8), (16, 16)];
+/// These are cut for any number of workers, the longest one among them.
+const LONG: Case = (
+    &[5_000, 6_501, 8_192],
+    20,
+    &[
+        (1, 2, SHARED),
+        (2, 2, SHARED),
+        (3, 4, SHARED),
+        (7, 8, SHARED),
+        (16, 16, SHARED),
+    ],
+);
 
 // Makes what these spans come to on a road whose cells are taken at first but for one part of so many at most.
 fn random_course(
@@ -49,47 +79,29 @@ fn random_course(
     worked(alloc, plan, cells, SPANS)
 }
 
-// Compares what a crew makes of a road. Answers whether its workers are asked in so many spans, or, where that is not
-// given, each time all of them.
-fn is_run<R: Threads + Wait + Abort + Clone + Drop + Send + 'static>(
+// Compares what crews make of a random road of so many cells.
+fn run_road<R: Threads + Wait + Abort + Clone + Drop + Send + 'static>(
     rt: &R,
     alloc: Global,
-    (workers, processors): (u32, u32),
-    plan: &Arc<Plan>,
-    courses: &[Course<'_>],
-    shared: Option<u32>,
-) -> Result<bool, Fail> {
-    if workers == 0 || workers > 16 {
-        return Err(Fail::new("no such crew"));
-    }
-    let asked = pool_runs(rt, alloc, workers, processors, plan, courses)?;
-    Ok(match shared {
-        Some(spans) => asked == workers.saturating_mul(spans),
-        None => asked % workers == 0,
-    })
+    dice: &mut Dice,
+    length: u32,
+    part: u32,
+    crews: &[Asked],
+) -> Result<(), Fail> {
+    let plan = Arc::new(alloc, random_plan(alloc, dice, length)?)?;
+    let course = random_course(alloc, dice, &plan, part)?;
+    crews_run(rt, alloc, crews, &plan, slice::from_ref(&course))
 }
 
-// Compares what each crew makes of random roads of these lengths, whose cells are taken at first but for one part of so
-// many at most.
-fn crews_run<R: Threads + Wait + Abort + Clone + Drop + Send + 'static>(
+// Compares what crews make of random roads.
+fn run_roads<R: Threads + Wait + Abort + Clone + Drop + Send + 'static>(
     rt: &R,
     alloc: Global,
-    lengths: &[u32],
-    part: u32,
-    shared: Option<u32>,
+    (lengths, part, crews): Case,
 ) -> Result<(), Fail> {
     let mut dice = Dice::of(64);
     for length in lengths {
-        let plan = Arc::new(alloc, random_plan(alloc, &mut dice, *length)?)?;
-        let course = random_course(alloc, &mut dice, &plan, part)?;
-        for crew in CREWS {
-            let is_run = is_run(rt, alloc, *crew, &plan, slice::from_ref(&course), shared)?;
-            assert!(*rt;
-                is_run,
-                "{length} cells, {workers} workers",
-                workers = crew.0
-            );
-        }
+        run_road(rt, alloc, &mut dice, *length, part, crews)?;
     }
     Ok(())
 }
@@ -98,17 +110,17 @@ fn crews_run<R: Threads + Wait + Abort + Clone + Drop + Send + 'static>(
 fn lasting_workers_run_short_random_roads_as_they_are_one_by_one(
     rt: HostRuntime,
 ) -> Result<(), Fail> {
-    crews_run(&rt, rt.alloc(), SHORT, 2, Some(0))
+    run_roads(&rt, rt.alloc(), SHORT)
 }
 
 #[test]
 fn lasting_workers_run_random_roads_as_they_are_one_by_one(rt: HostRuntime) -> Result<(), Fail> {
-    crews_run(&rt, rt.alloc(), MIDDLE, 2, None)
+    run_roads(&rt, rt.alloc(), MIDDLE)
 }
 
 #[test]
 fn lasting_workers_run_long_random_roads_as_they_are_one_by_one(
     rt: HostRuntime,
 ) -> Result<(), Fail> {
-    crews_run(&rt, rt.alloc(), LONG, 20, Some(SHARED))
+    run_roads(&rt, rt.alloc(), LONG)
 }

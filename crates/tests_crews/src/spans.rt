@@ -137,6 +137,37 @@ pub(crate) struct Course<'a> {
     ran: Vec<Ran>,
 }
 
+// Runs a span one by one, and adds what it comes to. Returns the road after it.
+fn works(
+    alloc: Global,
+    plan: &Arc<Plan>,
+    (kind, steps): (u32, u32),
+    step: u32,
+    road: &Road,
+    all: &mut Vec<Ran>,
+) -> Result<Road, Fail> {
+    let ran = one_by_one(alloc, plan, kind, step, steps, road)?;
+    let road = ran.road.copied()?;
+    all.push(ran)?;
+    Ok(road)
+}
+
+// Runs spans one by one, from a road.
+fn works_all(
+    alloc: Global,
+    plan: &Arc<Plan>,
+    mut road: Road,
+    spans: &[(u32, u32)],
+    all: &mut Vec<Ran>,
+) -> Result<(), Fail> {
+    let mut step = 0_u32;
+    for span in spans {
+        road = works(alloc, plan, *span, step, &road, all)?;
+        step = step.saturating_add(span.1);
+    }
+    Ok(())
+}
+
 /// Runs spans one by one, from a queue on so many cells.
 pub(crate) fn worked<'a>(
     alloc: Global,
@@ -144,21 +175,30 @@ pub(crate) fn worked<'a>(
     cells: u32,
     spans: &'a [(u32, u32)],
 ) -> Result<Course<'a>, Fail> {
-    let queue = queue(alloc, cells)?;
-    let mut road = queue.copied()?;
-    let mut all = Vec::new(alloc);
-    let mut step = 0_u32;
-    for (kind, steps) in spans {
-        let ran = one_by_one(alloc, plan, *kind, step, *steps, &road)?;
-        road = ran.road.copied()?;
-        all.push(ran)?;
-        step = step.saturating_add(*steps);
-    }
-    Ok(Course {
+    let mut course = Course {
         spans,
-        queue,
-        ran: all,
-    })
+        queue: queue(alloc, cells)?,
+        ran: Vec::new(alloc),
+    };
+    works_all(alloc, plan, course.queue.copied()?, spans, &mut course.ran)?;
+    Ok(course)
+}
+
+// Compares what a crew makes of a span with what it comes to. Returns the road after it.
+fn runs_span<C: Crew>(
+    rt: &impl Abort,
+    alloc: Global,
+    crew: &mut C,
+    span: &Span,
+    road: &Road,
+    wanted: &Ran,
+    kept: &mut KeptRun,
+) -> Result<Road, Fail> {
+    let Some(ran) = crew.run(alloc, span, road, kept)? else {
+        return Err(Fail::new("a crew that runs no spans"));
+    };
+    assert!(rt; are_same(&ran, wanted), "{} steps", span.steps());
+    Ok(ran.road)
 }
 
 // Compares what a crew makes of these spans, in the run that is lent to it.
@@ -174,18 +214,29 @@ fn runs_as_one_by_one<C: Crew>(
     let mut step = 0_u32;
     for ((kind, steps), wanted) in course.spans.iter().zip(course.ran.iter()) {
         let span = span_of(alloc, plan, *kind, step, *steps)?;
-        let Some(ran) = crew.run(alloc, &span, &road, kept)? else {
-            return Err(Fail::new("a crew that runs no spans"));
-        };
-        assert!(rt; are_same(&ran, wanted), "{steps} steps from {step}");
-        road = ran.road;
+        road = runs_span(rt, alloc, crew, &span, &road, wanted, kept)?;
         step = step.saturating_add(*steps);
     }
     Ok(())
 }
 
-/// Compares what so many lasting workers make of them, on so many processors. Returns how often one was asked.
-pub(crate) fn pool_runs<R: Threads + Wait + Abort + Clone + Drop + Send + 'static>(
+// Compares what a crew makes of courses, in one run that is kept.
+fn runs_all<C: Crew>(
+    rt: &impl Abort,
+    alloc: Global,
+    crew: &mut C,
+    plan: &Arc<Plan>,
+    courses: &[Course<'_>],
+) -> Result<(), Fail> {
+    let mut kept = KeptRun::none();
+    for course in courses {
+        runs_as_one_by_one(rt, alloc, crew, plan, course, &mut kept)?;
+    }
+    Ok(())
+}
+
+// Compares what so many lasting workers make of them, on so many processors. Returns how often one was asked.
+fn pool_runs<R: Threads + Wait + Abort + Clone + Drop + Send + 'static>(
     rt: &R,
     alloc: Global,
     workers: u32,
@@ -199,31 +250,96 @@ pub(crate) fn pool_runs<R: Threads + Wait + Abort + Clone + Drop + Send + 'stati
     let gate = Arc::new(alloc, Counter::new())?;
     let their_gate = Arc::try_clone(&gate)?;
     let mut crew = Pool::start_on(rt.clone()?, alloc, workers, their_gate, processors)?;
-    let mut kept = KeptRun::none();
-    for course in courses {
-        runs_as_one_by_one(rt, alloc, &mut crew, plan, course, &mut kept)?;
-    }
+    let given = runs_all(rt, alloc, &mut crew, plan, courses);
     crew.finish();
+    given?;
     Ok(gate.passed())
 }
 
-/// How many cells are taken at first: none, a few, and so many that all spans but that of one step are shared.
-const FEW: &[u32] = &[0, 200];
+/// How many workers there are, on how many processors, and in how many spans all of them are asked: where that is not
+/// given, in some or in none.
+pub(crate) type Asked = (u32, u32, Option<u32>);
 
-const MANY: &[u32] = &[8_000];
+// Compares what a crew makes of courses, and tells whether its workers are asked so.
+fn is_run<R: Threads + Wait + Abort + Clone + Drop + Send + 'static>(
+    rt: &R,
+    alloc: Global,
+    (workers, processors, shared): Asked,
+    plan: &Arc<Plan>,
+    courses: &[Course<'_>],
+) -> Result<bool, Fail> {
+    if workers == 0 || workers > 16 {
+        return Err(Fail::new("no such crew"));
+    }
+    let asked = pool_runs(rt, alloc, workers, processors, plan, courses)?;
+    Ok(match shared {
+        Some(spans) => asked == workers.saturating_mul(spans),
+        None => asked % workers == 0,
+    })
+}
 
-/// The spans that are shared then.
-const SHARED: u32 = 6;
+/// Compares what each crew makes of courses, and whether its workers are asked so.
+pub(crate) fn crews_run<R: Threads + Wait + Abort + Clone + Drop + Send + 'static>(
+    rt: &R,
+    alloc: Global,
+    crews: &[Asked],
+    plan: &Arc<Plan>,
+    courses: &[Course<'_>],
+) -> Result<(), Fail> {
+    for crew in crews {
+        let is_run = is_run(rt, alloc, *crew, plan, courses)?;
+        assert!(*rt;
+            is_run,
+            "{length} cells, {workers} workers",
+            length = plan.length(),
+            workers = crew.0
+        );
+    }
+    Ok(())
+}
+
+/// The spans that are shared where there are so many cars: all but that of one step.
+const SHARED: Option<u32> = Some(6);
+
+/// How many cells are taken at first, the spans that are run from there, and who is asked in them.
+type Case = (&'static [u32], &'static [(u32, u32)], &'static [Asked]);
+
+/// With no car or a few at first, all are asked or nobody.
+const FEW: Case = (
+    &[0, 200],
+    SPANS,
+    &[(1, 1, Some(0)), (3, 4, None), (7, 7, None), (16, 17, None)],
+);
+
+/// With some more, nobody yet.
+const MORE: Case = (&[600], &[(0, 64)], &[(3, 4, Some(0))]);
+
+/// Else all are asked in each span that is shared, whether the caller has a processor besides or not; nobody where not each
+/// has one.
+const MANY: Case = (
+    &[8_000],
+    SPANS,
+    &[
+        (1, 1, Some(0)),
+        (3, 2, Some(0)),
+        (1, 2, SHARED),
+        (2, 2, SHARED),
+        (3, 4, SHARED),
+        (7, 7, SHARED),
+        (16, 17, SHARED),
+    ],
+);
 
 // Makes what these spans come to from each queue.
 fn courses_of(
     alloc: Global,
     plan: &Arc<Plan>,
     queues: &[u32],
+    spans: &'static [(u32, u32)],
 ) -> Result<Vec<Course<'static>>, Fail> {
     let mut courses = Vec::new(alloc);
     for cells in queues {
-        courses.push(worked(alloc, plan, *cells, SPANS)?)?;
+        courses.push(worked(alloc, plan, *cells, spans)?)?;
     }
     Ok(courses)
 }
@@ -250,53 +366,60 @@ fn one_runs(
 fn one_runs_spans_as_they_are_one_by_one(rt: HostRuntime) -> Result<(), Fail> {
     let alloc = rt.alloc();
     let plan = shared_plan(alloc, &LONG)?;
-    one_runs(&rt, alloc, &plan, &courses_of(alloc, &plan, FEW)?)?;
-    one_runs(&rt, alloc, &plan, &courses_of(alloc, &plan, MANY)?)
+    let courses = courses_of(alloc, &plan, &[0, 200, 8_000], SPANS)?;
+    one_runs(&rt, alloc, &plan, &courses)
 }
 
-/// Where there are few cars, all are asked or nobody.
+// Lets lasting workers run the courses of a case.
+fn workers_run<R: Threads + Wait + Abort + Clone + Drop + Send + 'static>(
+    rt: &R,
+    alloc: Global,
+    plan: &Arc<Plan>,
+    (queues, spans, crews): Case,
+) -> Result<(), Fail> {
+    let courses = courses_of(alloc, plan, queues, spans)?;
+    crews_run(rt, alloc, crews, plan, &courses)
+}
+
 #[test]
 fn lasting_workers_run_spans_of_few_cars_as_they_are_one_by_one(
     rt: HostRuntime,
 ) -> Result<(), Fail> {
-    let alloc = rt.alloc();
-    let plan = shared_plan(alloc, &LONG)?;
-    let courses = courses_of(alloc, &plan, FEW)?;
-    assert!(rt; pool_runs(&rt, alloc, 1, 1, &plan, &courses)? == 0);
-    assert!(rt; pool_runs(&rt, alloc, 3, 4, &plan, &courses)? % 3 == 0);
-    assert!(rt; pool_runs(&rt, alloc, 7, 7, &plan, &courses)? % 7 == 0);
-    assert!(rt; pool_runs(&rt, alloc, 16, 17, &plan, &courses)? % 16 == 0);
+    let plan = shared_plan(rt.alloc(), &LONG)?;
+    for case in [FEW, MORE] {
+        workers_run(&rt, rt.alloc(), &plan, case)?;
+    }
     Ok(())
 }
 
-/// One who has no processor beside the caller's is not asked, and else all are asked in each span that is shared.
 #[test]
 fn lasting_workers_run_spans_of_many_cars_as_they_are_one_by_one(
     rt: HostRuntime,
 ) -> Result<(), Fail> {
-    let alloc = rt.alloc();
-    let plan = shared_plan(alloc, &LONG)?;
-    let courses = courses_of(alloc, &plan, MANY)?;
-    assert!(rt; pool_runs(&rt, alloc, 1, 1, &plan, &courses)? == 0);
-    assert!(rt; pool_runs(&rt, alloc, 1, 2, &plan, &courses)? == SHARED);
-    assert!(rt; pool_runs(&rt, alloc, 2, 2, &plan, &courses)? == 2 * SHARED);
-    assert!(rt; pool_runs(&rt, alloc, 3, 4, &plan, &courses)? == 3 * SHARED);
-    assert!(rt; pool_runs(&rt, alloc, 7, 7, &plan, &courses)? == 7 * SHARED);
-    assert!(rt; pool_runs(&rt, alloc, 16, 17, &plan, &courses)? == 16 * SHARED);
-    Ok(())
+    let plan = shared_plan(rt.alloc(), &LONG)?;
+    workers_run(&rt, rt.alloc(), &plan, MANY)
 }
 
-/// Where a car stands in the exit, which no run of a plan has, nobody runs a span.
+// Tells whether a crew runs nothing: no step, and no road with a car in the exit, which no run of a plan has.
+fn runs_nothing<C: Crew>(alloc: Global, crew: &mut C, plan: &Arc<Plan>) -> Result<bool, Fail> {
+    let (none, span) = (
+        span_of(alloc, plan, 0, 0, 0)?,
+        span_of(alloc, plan, 0, 0, 64)?,
+    );
+    let (road, full) = (queue(alloc, 4_096)?, queue(alloc, plan.length())?);
+    let mut kept = KeptRun::none();
+    let by_none = crew.run(alloc, &none, &road, &mut kept)?;
+    let from_full = crew.run(alloc, &span, &full, &mut kept)?;
+    Ok(by_none.is_none() && from_full.is_none())
+}
+
 #[test]
-fn a_car_in_the_exit_is_not_run(rt: HostRuntime) -> Result<(), Fail> {
+fn no_step_and_no_car_in_the_exit_is_run(rt: HostRuntime) -> Result<(), Fail> {
     let alloc = rt.alloc();
     let plan = shared_plan(alloc, &LONG)?;
-    let span = span_of(alloc, &plan, 0, 0, 64)?;
-    let road = queue(alloc, plan.length())?;
     let mut crew = Pool::start(rt.clone()?, alloc, 2)?;
-    let mut kept = KeptRun::none();
-    assert!(rt; crew.run(alloc, &span, &road, &mut kept)?.is_none());
-    assert!(rt; Alone.run(alloc, &span, &road, &mut kept)?.is_none());
+    let given = runs_nothing(alloc, &mut crew, &plan);
     crew.finish();
+    assert!(rt; given? && runs_nothing(alloc, &mut Alone, &plan)?);
     Ok(())
 }

@@ -1,14 +1,17 @@
-//! The worked rows by every crew, with few workers and with more than there are cars.
+//! What every crew gives, with few workers and with more than there are cars: the worked rows, and what the crew of one gives
+//! on roads with few cars and with many.
 
 ghost use Rattle.std.specs.Prelude.{◌<◌, ◌≤◌};
 
-use crate::rows::gives_all;
-use road_workers::{NoGate, Pool, Scoped};
+use crate::rows::{gives_all, input_of, shared_plan};
+use road_ends::StepInput;
+use road_workers::{Alone, Crew, NoGate, Pool, Scoped};
 use std::alloc::Global;
 use std::process::Abort;
-use std::sync::Wait;
+use std::sync::{Arc, Wait};
 use std::test::Fail;
 use std::thread::Threads;
+use tests_plans::{FREE, Parts, queue};
 
 // Compares them by workers whose threads are made for each call.
 fn scoped_gives<R: Threads + Wait + Abort>(rt: &R, alloc: Global, workers: u32) -> Result<(), Fail>
@@ -21,10 +24,49 @@ fn scoped_gives<R: Threads + Wait + Abort>(rt: &R, alloc: Global, workers: u32) 
 
 #[test]
 fn threads_made_for_each_call_give_the_worked_rows(rt: HostRuntime) -> Result<(), Fail> {
-    scoped_gives(&rt, rt.alloc(), 1)?;
-    scoped_gives(&rt, rt.alloc(), 2)?;
-    scoped_gives(&rt, rt.alloc(), 7)?;
-    scoped_gives(&rt, rt.alloc(), 16)
+    for workers in [1, 2, 7, 16] {
+        scoped_gives(&rt, rt.alloc(), workers)?;
+    }
+    Ok(())
+}
+
+/// The longest road, where nobody enters and no car is slowed.
+const LONG: Parts = Parts {
+    road: (8_192, 1, 8_192),
+    inlets: &[(0, 0)],
+    detectors: &[],
+    ..FREE
+};
+
+/// How many cells are taken by a queue, with 5, 63 and 8,064 cars: the first are fewer than workers, the second no multiple of
+/// two.
+const CELLS: &[u32] = &[5, 64, 8_192];
+
+// Makes the input of a step of such a queue.
+fn input_of_queue(alloc: Global, cells: u32) -> Result<Arc<StepInput>, Fail> {
+    let plan = shared_plan(alloc, &LONG)?;
+    input_of(alloc, &plan, None, 0, &queue(alloc, cells)?)
+}
+
+// Answers whether a crew gives the speeds of the crew of one.
+fn gives_as_one<C: Crew>(alloc: Global, crew: &mut C, cells: u32) -> Result<bool, Fail> {
+    let input = input_of_queue(alloc, cells)?;
+    let wanted = Alone.speeds(alloc, &input)?;
+    let speeds = crew.speeds(alloc, &input)?;
+    Ok(speeds.as_slice() == wanted.as_slice())
+}
+
+// Compares the worked rows, and then all these roads, and them in reverse.
+fn gives_rows_and_queues<C: Crew>(
+    rt: &impl Abort,
+    alloc: Global,
+    crew: &mut C,
+) -> Result<(), Fail> {
+    gives_all(rt, alloc, crew)?;
+    for cells in CELLS.iter().chain(CELLS.iter().rev()) {
+        assert!(rt; gives_as_one(alloc, crew, *cells)?, "{cells} cells");
+    }
+    Ok(())
 }
 
 // Compares them by lasting workers.
@@ -37,15 +79,15 @@ fn pool_gives<R: Threads + Wait + Abort + Clone + Drop + Send + 'static>(
     requires few { workers ≤ 16 }
 {
     let mut crew = Pool::start(rt.clone()?, alloc, workers)?;
-    let given = gives_all(rt, alloc, &mut crew);
+    let given = gives_rows_and_queues(rt, alloc, &mut crew);
     crew.finish();
     given
 }
 
 #[test]
-fn lasting_workers_give_the_worked_rows(rt: HostRuntime) -> Result<(), Fail> {
-    pool_gives(&rt, rt.alloc(), 1)?;
-    pool_gives(&rt, rt.alloc(), 2)?;
-    pool_gives(&rt, rt.alloc(), 7)?;
-    pool_gives(&rt, rt.alloc(), 16)
+fn lasting_workers_give_the_worked_rows_and_what_one_gives(rt: HostRuntime) -> Result<(), Fail> {
+    for workers in [1, 2, 7, 16] {
+        pool_gives(&rt, rt.alloc(), workers)?;
+    }
+    Ok(())
 }

@@ -45,8 +45,8 @@ impl Beside {
     /// Begins both at step 0 on the empty road.
     pub(crate) fn begin(alloc: Global, plan: Plan, settings: Settings) -> Result<Beside, Fail> {
         let plan = Arc::new(alloc, plan)?;
-        let run = run_of(alloc, &plan, &settings)?;
         let totals = nothing(alloc, &plan)?;
+        let run = run_of(alloc, &plan, &settings)?;
         Ok(Beside {
             plan,
             settings,

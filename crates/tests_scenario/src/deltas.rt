@@ -84,7 +84,19 @@ fn is_enough(
     Ok(by_sent == by_all)
 }
 
-// Tells whether one replica sends another these edits, which fit the plan, and no more are wanted.
+// Tells whether what is sent are these edits, which fit the plan, and no more are wanted.
+fn is_right(
+    alloc: Global,
+    plan: &Plan,
+    (asking, asked): (&Scenario, &Scenario),
+    sent: &Scenario,
+    edits: &[Edit],
+) -> Result<bool, OutOfMemory> {
+    let is_sent = sent.fits(plan).is_none() && sent.edits(alloc)?.as_slice() == edits;
+    Ok(is_sent && is_enough(alloc, asking, asked, sent)?)
+}
+
+// Tells whether one replica sends another just these edits.
 fn sends(
     alloc: Global,
     plan: &Plan,
@@ -93,16 +105,36 @@ fn sends(
     edits: &[Edit],
 ) -> Result<bool, OutOfMemory> {
     let sent = sent(alloc, asking, asked)?;
-    let is_sent = sent.fits(plan).is_none() && sent.edits(alloc)?.as_slice() == edits;
-    Ok(is_sent && is_enough(alloc, asking, asked, &sent)?)
+    is_right(alloc, plan, (asking, asked), &sent, edits)
+}
+
+// Tells whether a replica that holds some edits sends another these.
+fn holder_sends(
+    alloc: Global,
+    plan: &Plan,
+    asking: &Scenario,
+    held: &[Edit],
+    edits: &[Edit],
+) -> Result<bool, OutOfMemory> {
+    let asked = Scenario::of_edits(alloc, held)?;
+    sends(alloc, plan, asking, &asked, edits)
+}
+
+// Tells whether an exchange goes as it should with a replica that holds what its first edits make.
+fn goes_with(
+    alloc: Global,
+    plan: &Plan,
+    asking: &Scenario,
+    exchange: &Exchange,
+) -> Result<bool, OutOfMemory> {
+    let ((_, heads), (held, edits)) = *exchange;
+    Ok(tells(alloc, asking, heads)? && holder_sends(alloc, plan, asking, held, edits)?)
 }
 
 // Tells whether an exchange goes as it should.
 fn goes(alloc: Global, plan: &Plan, exchange: &Exchange) -> Result<bool, OutOfMemory> {
-    let ((asking, heads), (asked, sent)) = *exchange;
-    let asking = Scenario::of_edits(alloc, asking)?;
-    let asked = Scenario::of_edits(alloc, asked)?;
-    Ok(tells(alloc, &asking, heads)? && sends(alloc, plan, &asking, &asked, sent)?)
+    let asking = Scenario::of_edits(alloc, exchange.0.0)?;
+    goes_with(alloc, plan, &asking, exchange)
 }
 
 #[test]
@@ -128,29 +160,43 @@ fn limits(alloc: Global, even: u64, odd: u64) -> Result<Vec<Edit>, OutOfMemory> 
 }
 
 // Returns what one replica sends another that tells its heads, as edits.
-fn edits_sent(alloc: Global, asking: &[Edit], asked: &[Edit]) -> Result<Vec<Edit>, OutOfMemory> {
-    let asking = Scenario::of_edits(alloc, asking)?;
-    let asked = Scenario::of_edits(alloc, asked)?;
-    sent(alloc, &asking, &asked)?.edits(alloc)
+fn edits_between(
+    alloc: Global,
+    asking: &Scenario,
+    asked: &Scenario,
+) -> Result<Vec<Edit>, OutOfMemory> {
+    let sent = sent(alloc, asking, asked)?;
+    sent.edits(alloc)
 }
 
-// Counts how many heads a replica of these edits tells.
-fn head_count(alloc: Global, edits: &[Edit]) -> Result<usize, OutOfMemory> {
-    let scenario = Scenario::of_edits(alloc, edits)?;
-    let heads = heads_of(alloc, &scenario)?;
-    Ok(heads.list().len())
+// Returns what a replica that holds some edits sends.
+fn edits_of_holder(
+    alloc: Global,
+    asking: &Scenario,
+    held: &[Edit],
+) -> Result<Vec<Edit>, OutOfMemory> {
+    let asked = Scenario::of_edits(alloc, held)?;
+    edits_between(alloc, asking, &asked)
+}
+
+// Tells whether a replica that has a limit at each step tells as many heads, and is sent just what one with another count
+// holds of odd steps.
+fn is_sent_half(alloc: Global, asking: &Scenario, held: &[Edit]) -> Result<bool, OutOfMemory> {
+    let count = heads_of(alloc, asking)?.list().len();
+    let sent = edits_of_holder(alloc, asking, held)?;
+    Ok(
+        count == 2_900
+            && sent.len() == 1_450
+            && sent
+                .iter()
+                .all(|edit| edit.step % 2 == 1 && edit.stamp.count == 2),
+    )
 }
 
 #[test]
 fn half_of_many_edits_is_sent(rt: HostRuntime) -> Result<(), Fail> {
-    let asking = limits(rt.alloc(), 3, 1)?;
     let asked = limits(rt.alloc(), 2, 2)?;
-    assert_eq!(rt; head_count(rt.alloc(), &asking)?, 2_900);
-    let sent = edits_sent(rt.alloc(), &asking, &asked)?;
-    assert_eq!(rt; sent.len(), 1_450);
-    assert!(rt;
-        sent.iter()
-            .all(|edit| edit.step % 2 == 1 && edit.stamp.count == 2)
-    );
+    let asking = Scenario::of_edits(rt.alloc(), &limits(rt.alloc(), 3, 1)?)?;
+    assert!(rt; is_sent_half(rt.alloc(), &asking, &asked)?);
     Ok(())
 }

@@ -170,22 +170,23 @@ fn maps_give_what_was_put(rt: HostRuntime) -> Result<(), Fail> {
     Ok(())
 }
 
-// Makes the join of two maps, and checks that both are as before.
-fn joined(rt: &impl Abort, alloc: Global, one: &Beside, other: &Beside) -> Result<Beside, Fail> {
-    let mut made = Beside {
+// Puts all that a map must hold.
+fn put_all(held: &mut BTreeMap<u32, u32>, more: &BTreeMap<u32, u32>) -> Result<(), OutOfMemory> {
+    for (key, number) in more.iter() {
+        put(held, *key, *number)?;
+    }
+    Ok(())
+}
+
+// Makes the join of two maps.
+fn joined(alloc: Global, one: &Beside, other: &Beside) -> Result<Beside, OutOfMemory> {
+    let mut held = BTreeMap::new(alloc);
+    put_all(&mut held, &one.held)?;
+    put_all(&mut held, &other.held)?;
+    Ok(Beside {
         map: one.map.joined(&other.map)?,
-        held: BTreeMap::new(alloc),
-    };
-    for (key, number) in one.held.iter().chain(other.held.iter()) {
-        put(&mut made.held, *key, *number)?;
-    }
-    for before in [one, other] {
-        assert!(rt;
-            are_same(before.map.iter(), before.held.range(..), Turns::Front),
-            "before"
-        );
-    }
-    Ok(made)
+        held,
+    })
 }
 
 // Tells whether each number is held by the other too, or a greater one.
@@ -196,6 +197,41 @@ fn is_within(held: &BTreeMap<u32, u32>, other: &BTreeMap<u32, u32>) -> bool {
     })
 }
 
+// Checks what two maps have joined to, and that both are as before.
+fn have_joined(rt: &impl Abort, one: &Beside, other: &Beside, both: &Beside) {
+    for before in [one, other] {
+        assert!(rt;
+            are_same(before.map.iter(), before.held.range(..), Turns::Front),
+            "before"
+        );
+    }
+    assert!(rt;
+        one.map.at_most(&both.map) && other.map.at_most(&both.map),
+        "joined"
+    );
+    for (less, more) in [(one, other), (both, one), (both, other)] {
+        let within = is_within(&less.held, &more.held);
+        assert!(rt; less.map.at_most(&more.map) == within, "at most");
+    }
+}
+
+// Checks a copy of a map.
+fn copy_gives_what_is_held(
+    rt: &impl Abort,
+    alloc: Global,
+    made: &Beside,
+    dice: &mut Dice,
+) -> Result<(), Fail> {
+    let mut held = BTreeMap::new(alloc);
+    put_all(&mut held, &made.held)?;
+    let copy = Beside {
+        map: made.map.copied()?,
+        held,
+    };
+    gives_what_is_held(rt, &copy, dice);
+    Ok(())
+}
+
 // Checks what two maps join to.
 fn join_as_held(
     rt: &impl Abort,
@@ -204,41 +240,54 @@ fn join_as_held(
     other: &Beside,
     dice: &mut Dice,
 ) -> Result<(), Fail> {
-    let both = joined(rt, alloc, one, other)?;
+    let both = joined(alloc, one, other)?;
     gives_what_is_held(rt, &both, dice);
-    assert!(rt;
-        one.map.at_most(&both.map) && other.map.at_most(&both.map),
-        "joined"
-    );
-    for (less, more) in [(one, other), (&both, one), (&both, other)] {
-        let within = is_within(&less.held, &more.held);
-        assert!(rt; less.map.at_most(&more.map) == within, "at most");
-    }
-    let copy = Beside {
-        map: both.map.copied()?,
-        held: joined(rt, alloc, &both, other)?.held,
-    };
-    gives_what_is_held(rt, &copy, dice);
-    Ok(())
+    have_joined(rt, one, other, &both);
+    copy_gives_what_is_held(rt, alloc, &both, dice)
 }
+
+// Checks what a map joins to with one of so many mixed puts.
+fn joins_with(
+    rt: &impl Abort,
+    alloc: Global,
+    one: &Beside,
+    theirs: u32,
+    dice: &mut Dice,
+) -> Result<(), Fail> {
+    let other = Beside::of(alloc, dice, Order::Mixed, theirs)?;
+    join_as_held(rt, alloc, one, &other, dice)
+}
+
+/// How many puts two maps have that are joined.
+const JOINED: &[(u32, u32)] = &[
+    (0, 0),
+    (0, 600),
+    (3, 1_000),
+    (1_000, 3),
+    (600, 1_000),
+    (1_000, 1_000),
+];
 
 #[test]
 fn maps_join_as_held(rt: HostRuntime) -> Result<(), Fail> {
     let mut dice = Dice::of(2);
     for order in ORDERS {
-        for (ours, theirs) in [
-            (0, 0),
-            (0, 600),
-            (3, 1_000),
-            (1_000, 3),
-            (600, 1_000),
-            (1_000, 1_000),
-        ] {
-            let one = Beside::of(rt.alloc(), &mut dice, *order, ours)?;
-            let other = Beside::of(rt.alloc(), &mut dice, Order::Mixed, theirs)?;
-            join_as_held(&rt, rt.alloc(), &one, &other, &mut dice)?;
+        for (ours, theirs) in JOINED {
+            let one = Beside::of(rt.alloc(), &mut dice, *order, *ours)?;
+            joins_with(&rt, rt.alloc(), &one, *theirs, &mut dice)?;
         }
     }
+    Ok(())
+}
+
+// Checks that a map with one more put is another one.
+fn grows_apart(rt: &impl Abort, made: &Beside, key: u32) -> Result<(), OutOfMemory> {
+    let more = made.map.with(key, &Greatest::Of(10))?;
+    assert!(rt; more.get(key) == Some(&Greatest::Of(10)), "with {key}");
+    assert!(rt;
+        made.map.at_most(&more) && !more.at_most(&made.map),
+        "beside {key}"
+    );
     Ok(())
 }
 
@@ -248,13 +297,7 @@ fn a_map_stays_as_it_was(rt: HostRuntime) -> Result<(), Fail> {
     let mut dice = Dice::of(3);
     let made = Beside::of(rt.alloc(), &mut dice, Order::Mixed, 1_000)?;
     for _ in 0..50 {
-        let key = dice.below(KEYS);
-        let more = made.map.with(key, &Greatest::Of(10))?;
-        assert!(rt; more.get(key) == Some(&Greatest::Of(10)), "with {key}");
-        assert!(rt;
-            made.map.at_most(&more) && !more.at_most(&made.map),
-            "beside {key}"
-        );
+        grows_apart(&rt, &made, dice.below(KEYS))?;
     }
     gives_what_is_held(&rt, &made, &mut dice);
     Ok(())

@@ -1,13 +1,13 @@
 //! Refused events: each leaves the world as it was.
 
-use crate::worlds::{Answer, all_hold, answered, holds, shows};
+use crate::worlds::{Answer, all_hold, answered, shows};
 use road_plan::Object;
 use road_replica::{ReplicaFault, Reply};
 use road_scenario::{Edit, Stamp, Value};
 use road_world::{Event, Message, WorldFault};
 use std::alloc::Global;
 use std::test::Fail;
-use tests_plans::{BLOCK, LIMIT, answered_events, edit, pairs};
+use tests_plans::{LIMIT, answered_events, edit, pairs};
 
 /// Of each kind one, at a replica that the world has not.
 const NOWHERE: ([Event; 7], [Answer; 7]) = answered_events![
@@ -48,20 +48,6 @@ fn messages_are_of_the_kind_that_is_wanted(rt: HostRuntime) -> Result<(), Fail> 
     assert!(&rt; matches!(played.world.message(2), Some(Message::Answer(_))));
     assert!(&rt; played.world.message(3).is_none());
     Ok(())
-}
-
-const FAULTY: ([Event; 5], [Answer; 5]) = answered_events![
-    edit(0, Object::Limit(1), 0, 1) => Err(WorldFault::Replica(ReplicaFault::NoObject)),
-    edit(0, LIMIT, 0, 10) => Err(WorldFault::Replica(ReplicaFault::ValueOutOfRange)),
-    withdraw(0, BLOCK, 1_048_576) => Err(WorldFault::Replica(ReplicaFault::Step)),
-    advance(0, 1_048_577) => Err(WorldFault::Replica(ReplicaFault::Horizon)),
-    advance(0, 0) => Ok(Reply::Horizon(0)),
-];
-
-#[test]
-fn a_replica_refuses_what_does_not_fit(rt: HostRuntime) -> Result<(), Fail> {
-    let played = answered(&rt, rt.alloc(), &FAULTY.0, &FAULTY.1)?;
-    holds(&rt, rt.alloc(), &played.world, 0, &[])
 }
 
 const TWO: Edit = edit!(LIMIT, 0, (7, 64), 2);

@@ -23,8 +23,6 @@ pub(crate) const A3: Stamp = stamp!(3, 0);
 
 pub(crate) const B1: Stamp = stamp!(1, 1);
 
-pub(crate) const B2: Stamp = stamp!(2, 1);
-
 pub(crate) const B3: Stamp = stamp!(3, 1);
 
 /// Returns the world of three replicas of the free road after some events.

@@ -57,17 +57,49 @@ fn limits_act(rt: &impl Abort, plan: &Plan, made: &Scenario) {
     }
 }
 
+// Checks the limits of the scenario that edits make one by one, and of the one that they make at once.
+fn edits_act(rt: &impl Abort, alloc: Global, plan: &Plan, edits: &[Edit]) -> Result<(), Fail> {
+    limits_act(rt, plan, &scenario(alloc, edits)?);
+    limits_act(rt, plan, &Scenario::of_edits(alloc, edits)?);
+    Ok(())
+}
+
 #[test]
 fn each_edit_acts_from_its_own_step_on(rt: HostRuntime) -> Result<(), Fail> {
     let plan = plan_of(rt.alloc(), &FREE)?;
     let edits = edits_without(rt.alloc(), None)?;
-    limits_act(&rt, &plan, &scenario(rt.alloc(), &edits)?);
-    limits_act(&rt, &plan, &Scenario::of_edits(rt.alloc(), &edits)?);
-    Ok(())
+    edits_act(&rt, rt.alloc(), &plan, &edits)
 }
 
 // Tells whether an edit that comes touches its own step, after all of the others stand as they did, and whether it is
 // listed in its place.
+fn comes(
+    alloc: Global,
+    whole: &[Edit],
+    (held, others): (&Scenario, &[Edit]),
+    (one, step): (&Scenario, u32),
+) -> Result<bool, OutOfMemory> {
+    let joined = held.joined(one)?;
+    Ok(
+        lists(alloc, &joined, whole)?
+            && lists(alloc, held, others)?
+            && held.touched(&joined) == Some(step)
+            && held.touched_by(one, &joined) == Some(step),
+    )
+}
+
+// Tells whether it does where a scenario is held.
+fn comes_to(
+    alloc: Global,
+    whole: &[Edit],
+    others: (&Scenario, &[Edit]),
+    edit: &Edit,
+) -> Result<bool, OutOfMemory> {
+    let one = scenario(alloc, &[*edit])?;
+    comes(alloc, whole, others, (&one, edit.step))
+}
+
+// Tells whether it does where others are held.
 fn touches_its_step(
     alloc: Global,
     whole: &[Edit],
@@ -75,14 +107,7 @@ fn touches_its_step(
     edit: &Edit,
 ) -> Result<bool, OutOfMemory> {
     let held = scenario(alloc, others)?;
-    let one = scenario(alloc, &[*edit])?;
-    let joined = held.joined(&one)?;
-    Ok(
-        lists(alloc, &joined, whole)?
-            && lists(alloc, &held, others)?
-            && held.touched(&joined) == Some(edit.step)
-            && held.touched_by(&one, &joined) == Some(edit.step),
-    )
+    comes_to(alloc, whole, (&held, others), edit)
 }
 
 #[test]
@@ -140,28 +165,63 @@ fn limit_at(step: u32) -> u32 {
     }
 }
 
+// Returns the step after this one from which on there is another limit.
+fn next_put(step: u32) -> Option<u32> {
+    if step < 2_398 {
+        Some((step / 2).saturating_add(1).saturating_mul(2))
+    } else {
+        None
+    }
+}
+
+// Checks what many edits act.
+fn many_act(rt: &impl Abort, plan: &Plan, made: &Scenario) {
+    assert!(rt; made.greatest_count() == 2);
+    for step in 0..2_405 {
+        assert!(rt;
+            setting_at(rt, made, plan, LIMIT, step) == limit_at(step),
+            "limit at step {step}"
+        );
+        assert!(rt;
+            made.next_date(step) == next_put(step),
+            "date after step {step}"
+        );
+    }
+}
+
+// Checks that two scenarios of many edits act the same, and are the same.
+fn are_same(
+    rt: &impl Abort,
+    alloc: Global,
+    plan: &Plan,
+    one_by_one: &Scenario,
+    by_halves: &Scenario,
+) -> Result<(), Fail> {
+    for made in [one_by_one, by_halves] {
+        assert!(rt; made.edits(alloc)?.len() == 1_200);
+        many_act(rt, plan, made);
+    }
+    assert!(rt; one_by_one.touched(by_halves).is_none());
+    assert!(rt; Scenario::empty(alloc).touched(by_halves) == Some(0));
+    Ok(())
+}
+
+// Checks that many edits make the same one by one and at once.
+fn make_the_same(
+    rt: &impl Abort,
+    alloc: Global,
+    plan: &Plan,
+    edits: &[Edit],
+    one_by_one: &Scenario,
+) -> Result<(), Fail> {
+    let by_halves = Scenario::of_edits(alloc, edits)?;
+    are_same(rt, alloc, plan, one_by_one, &by_halves)
+}
+
 #[test]
 fn an_object_has_edits_at_many_steps(rt: HostRuntime) -> Result<(), Fail> {
     let plan = plan_of(rt.alloc(), &FREE)?;
     let edits = many_edits(rt.alloc())?;
     let one_by_one = scenario(rt.alloc(), &edits)?;
-    let by_halves = Scenario::of_edits(rt.alloc(), &edits)?;
-    for made in [&one_by_one, &by_halves] {
-        assert!(rt; made.edits(rt.alloc())?.len() == 1_200 && made.greatest_count() == 2);
-        for step in 0..2_405 {
-            assert!(rt;
-                setting_at(&rt, made, &plan, LIMIT, step) == limit_at(step),
-                "limit at step {step}"
-            );
-            let next = if step < 2_398 {
-                Some((step / 2).saturating_add(1).saturating_mul(2))
-            } else {
-                None
-            };
-            assert!(rt; made.next_date(step) == next, "date after step {step}");
-        }
-    }
-    assert!(rt; one_by_one.touched(&by_halves).is_none());
-    assert!(rt; Scenario::empty(rt.alloc()).touched(&by_halves) == Some(0));
-    Ok(())
+    make_the_same(&rt, rt.alloc(), &plan, &edits, &one_by_one)
 }
