@@ -31,7 +31,7 @@ from .lab import Early, Lab
 from .seals import LATE, Again, Late, Seal, Unsealed, key_of
 from .stamps import is_early
 from .layers import Stamp
-from .state import FORM as LAYERS, Gesture, State
+from .state import FORM as LAYERS, SEATS, Gesture, State
 
 from refusals import EDIT
 
@@ -74,11 +74,13 @@ class Site(NamedTuple):
 
 
 class Pause(NamedTuple):
-    """Until when a folder is told nothing, how long the next pause is, and from which gesture on it goes on then."""
+    """When a folder was told what it may lack, for how long it is told no more, from which gesture on it goes on at once where
+    that was a piece, and what was held here: once that is more, the pause is no longer than the first one."""
 
-    until: float
-    next: float
+    told: float
+    long: float
     place: int
+    held: str
 
 
 class Sites:
@@ -93,6 +95,7 @@ class Sites:
         self._told: Deque[str] = collections.deque(maxlen=TOLD)
         self._sent: dict[Gesture, tuple[float, float]] = {}  # when, and how long until it is sent again
         self._sums: dict[str, tuple[str, str]] = {}  # of a folder: its hash when it was last heard, and ours then
+        self._operations: dict[str, str | None] = {}  # of a folder: a hash of the operations that it holds
         self._pauses: dict[str, Pause] = {}  # of a folder
         self._disputed: dict[int, str] = {}  # numbers that a folder has that they are not bound to, and their own
         self._early: list[Any] = []  # messages that are taken when their day has come
@@ -309,8 +312,8 @@ class Sites:
             await asyncio.wait([self._taking], timeout=EVERY)  # the disk may take for ever
         unsent = self._keeper.state.unsent
         self._sent = {gesture: when for gesture, when in self._sent.items() if gesture in unsent}
-        if self._keeper.state.shared.doubts and not self._others():
-            await self._lab.answer()  # nobody is there who may hold more
+        if self._may_answer():
+            await self._lab.answer()
         if self._may_send():
             self._publish(f"road/{self._road}/sum", {"sum": await self._sum(),
                                                      "numbers": self._numbers()}, 0)
@@ -441,25 +444,40 @@ class Sites:
         if folder == self._id or not self._may_send():
             return
         ours = await self._sum()
-        if OPERATIONS in numbers:  # else a site of the former form
-            theirs, ours = f"{theirs} {numbers[OPERATIONS]}", f"{ours} {self._numbers().get(OPERATIONS)}"
+        own, other = self._numbers().get(OPERATIONS), numbers.get(OPERATIONS)
+        self._operations.pop(folder, None)
+        self._operations[folder] = other
+        only_newest(self._operations)
+        if other is not None and other != own:  # what is mended meanwhile is none of what may lack
+            theirs, ours = other, str(own)
         pair_now = theirs, ours
         before = self._sums.pop(folder, None)
         self._sums[folder] = pair_now
         only_newest(self._sums)
-        if self._keeper.state.shared.doubts and numbers.get(OPERATIONS) == self._numbers().get(OPERATIONS):
+        if self._may_answer():
             await self._lab.answer()
         if theirs == ours:
             self._pauses.pop(folder, None)
         elif before == pair_now or folder in self._pauses and self._pauses[folder].place:
-            self._tell_what_may_lack(folder, numbers)
+            self._tell_what_may_lack(folder, numbers, ours)
 
-    def _tell_what_may_lack(self, folder: str, numbers: dict[str, str]) -> None:
+    def _may_answer(self) -> bool:
+        """Whether something is doubted, and those who mended so hold the same operations, or else all who are there do: who
+        mends beside one that holds more is answered for ever."""
+        doubts = self._keeper.state.shared.doubts
+        makers = {one.stamp[1] // SEATS for one in doubts}
+        others = [site for site in self._others() if not site.is_former]
+        own = self._numbers().get(OPERATIONS)
+        return bool(doubts) and all(self._operations.get(site.folder) == own for site in
+                                    [site for site in others if site.number in makers] or others)
+
+    def _tell_what_may_lack(self, folder: str, numbers: dict[str, str], held: str) -> None:
         """A piece of it, and the next piece soon; from the first again after pauses that grow."""
         now = time.monotonic()
-        until, pause, place = self._pauses.pop(folder, Pause(0.0, EVERY, 0))
-        if now < until:
-            self._pauses[folder] = Pause(until, pause, place)
+        last = self._pauses.pop(folder, Pause(0.0, 0.0, 0, held))
+        place, pause = last.place, last.long if last.held == held else min(last.long, EVERY)
+        if not place and now < last.told + pause:
+            self._pauses[folder] = last
             return
         own = self._numbers()
         other = {number for number, found in own.items() if numbers.get(number) != found}
@@ -469,8 +487,8 @@ class Sites:
                      min(place + AT_ONCE, len(lacking)), len(lacking))
         self._send(lacking[place:place + AT_ONCE])
         has_more = place + AT_ONCE < len(lacking)
-        self._pauses[folder] = (Pause(now, pause, place + AT_ONCE) if has_more
-                                else Pause(now + pause, min(LONGEST_PAUSE, 2 * pause), 0))
+        self._pauses[folder] = (Pause(now, pause, place + AT_ONCE, held) if has_more
+                                else Pause(now, min(LONGEST_PAUSE, max(EVERY, 2 * pause)), 0, held))
         only_newest(self._pauses)
 
 

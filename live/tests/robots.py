@@ -128,11 +128,21 @@ class Robots(Acts):
             for site, seat in seats:
                 await seat.ask("send", name="shared")
             await until(lambda: self.have_one_road([seat for _, seat in seats]), "all have the same")
+            await until(lambda: self.are_of_the_shapes(seats[::2]), "what is doubted is mended")
             roads = [await self.compare(site, seat, "shared") for site, seat in seats[::2]]
             for site, seat in seats:
                 await seat.ask("take", message="shared")
                 roads.append(await self.compare(site, seat, seat.at))
             self.assertEqual(roads, [roads[0]] * len(roads), seed)
+
+    async def are_of_the_shapes(self, seats: list[tuple[Server, Seat]]) -> bool:
+        """Whether all sites have mended what they are to."""
+        try:
+            for site, seat in seats:
+                await self.compare(site, seat, "shared")
+        except AssertionError:
+            return False
+        return True
 
     async def have_one_road(self, seats: list[Seat]) -> bool:
         """Whether all sites hold the same, and nothing is on its way."""
