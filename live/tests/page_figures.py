@@ -56,7 +56,7 @@ class OneFreeway(BrowserCase):
                                          ("3.36", "3.41", 9, "3.375–3.75"), ("5.8", "6", 15, "5.625–6")):
             tab.in_figures(kmFrom=first, kmTo=last, timeFrom="0:20", timeTo="")
             self.assertEqual(edits_of(gestures_of(self.server)[-1]), [["limit", zone, 1200, 2]])
-            self.assertEqual(tab.text("said"), f"54 km/h, {taken} km, from 0:20:00 on: done. In whole cells: {taken} km.")
+            self.assertEqual(tab.text("said"), f"54 km/h, {taken} km, from 0:20:00 on: done. In whole zones: {taken} km.")
             tab.keys("z")
             tab.settled()
         tab.in_figures(kmFrom="3", kmTo="3.375")
