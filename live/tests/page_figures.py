@@ -5,6 +5,7 @@ import subprocess
 
 from browsers import FREE_ROAD, FREEWAY, TOP, BrowserCase, Tab, before_rows, edits_of, example_rows, gestures_of
 from running import program
+from selenium.webdriver.common.action_chains import ActionChains
 from selenium.webdriver.common.by import By
 from selenium.webdriver.common.keys import Keys
 
@@ -199,6 +200,18 @@ class OneFreeway(BrowserCase):
         lines = transcript.read_text(encoding="utf-8").splitlines()
         self.assertEqual(lines[0::2], script.read_text(encoding="utf-8").splitlines())
         self.assertEqual(lines[1::2], ran.stdout.decode().splitlines())
+
+    def test_the_menu_closes_by_what_is_saved_and_by_escape(self) -> None:
+        """It would lie over the sentence that says what was saved."""
+        tab, = self.open(FREE_ROAD)
+        tab.run_an_hour()
+        tab.save("Counts", "counts.csv")
+        for press in (None, Keys.ESCAPE):
+            if press:
+                tab.open_part("save")
+                ActionChains(tab.driver, duration=0).send_keys(press).perform()
+            self.assertIsNone(tab.part("save").get_attribute("open"))
+            self.assertEqual(tab.script("return document.activeElement.textContent"), "Save")
 
     def test_what_is_saved_waits_for_figures(self) -> None:
         tab, = self.open(FREE_ROAD)
