@@ -5,6 +5,7 @@
 
 import {$, element, headCell, on, row, showList} from "./elements.mjs";
 import {exactOf, reckon} from "./fetching.mjs";
+import {caughtIn} from "./layers.mjs";
 import {placesText} from "./sentences.mjs";
 import {store, when, whoseShown} from "./store.mjs";
 import {HOUR, KMH_A_CELL, kmText, plural, signedText, timeText, whole} from "./units.mjs";
@@ -103,23 +104,24 @@ function lostWarnings({after, before}) {
 }
 
 /** The cars that stand in a closure in the middle of its time, as far as it is computed. */
-function caughtIn({first, last, from, to}) {
+function caught(frame) {
+  const {from, to} = frame;
   const {mine} = store.roads;
   const level = mine.level(everyShown());
   const end = Math.min(to ?? Infinity, mine.horizon, from + CAUGHT);
   const at = Math.floor((end - 1) / level.every);
   const text = at * level.every > from && level.fresh[at] ? level.rows[at] : undefined;
-  const cells = [...(text ?? "").slice(first, last + 1)];
-  return cells.filter((sign) => sign !== "#" && sign !== ".").length;
+  return caughtIn(store.layers.mine, frame, text ?? "");
 }
 
 function closureWarnings() {
-  return store.layers.mine.frames.filter(({kind}) => kind === "block").flatMap((frame) => {
-    const caught = caughtIn(frame);
-    if (!caught) return [];
+  const isClosure = ({kind, value}) => kind === "block" && value;
+  return store.layers.mine.frames.filter(isClosure).flatMap((frame) => {
+    const cars = caught(frame);
+    if (!cars) return [];
     const until = frame.to === null ? "and it does not open"
       : `until it opens at ${timeText(frame.to)}`;
-    return [`${plural(caught, "car stands", "cars stand")} in the closure `
+    return [`${plural(cars, "car stands", "cars stand")} in the closure `
       + `${placesText(store.plan, "block", frame.first, frame.last)}, ${until}.`];
   });
 }

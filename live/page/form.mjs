@@ -104,7 +104,8 @@ function takenText([kind, first, last]) {
   if (kind !== "block" && !OF_ZONES.includes(kind)) return "";
   const taken = cellsOf(store.plan, kind, first, last).map(kmText);
   const written = kmOfForm().map((km) => String(Number(km.toFixed(3))));
-  return taken.join() === written.join() ? "" : ` In whole cells: ${taken.join("\u2013")} km.`;
+  return taken.join() === written.join() ? ""
+    : ` In whole ${kind === "block" ? "cells" : "zones"}: ${taken.join("\u2013")} km.`;
 }
 
 function onForm(event) {

@@ -120,7 +120,22 @@ function onWheel(event) {
 
 // What is read out of a place.
 
-function readOut([cell, step], byKey) {
+let read = null;                // the place that was read out last
+
+function readOut(place, byKey) {
+  read = place;
+  say(textAt(place), byKey);
+}
+
+/** Reads the same place once the road there may be another, without a word to who listens. */
+function readAgain() {
+  if (!read || store.drag || store.corner || store.area) return;
+  if (!layersShown() || !whoseShown().every((whose) => store.roads[whose])) return;
+  const text = textAt(read);
+  if ($("readout").textContent !== text) say(text, false);
+}
+
+function textAt([cell, step]) {
   const {length, zone} = store.plan;
   const [at, moment] = [Math.max(0, Math.min(length - 1, Math.floor(cell))), Math.round(step)];
   const roads = whoseShown();
@@ -130,7 +145,7 @@ function readOut([cell, step], byKey) {
   const said = texts.length === 2
     ? roads.map((whose, which) => `${NAMES[whose]}: ${texts[which]}`).join("; ") : texts[0];
   const place = `${kmOf(at).toFixed(2)} km, ${timeText(moment)}`;
-  say(`${place}: ${said}; limit ${limitText(limit)}`, byKey);
+  return `${place}: ${said}; limit ${limitText(limit)}`;
 }
 
 /** Writes a text below the diagram, which is announced where keys made it. */
@@ -232,5 +247,6 @@ export function begin() {
   const showCursor = () => { $("diagram").style.cursor = cursorOfTool(); };
   when(["tool"], showCursor);
   when(["look"], showStride);
+  when(["look", "rows", "lists"], readAgain);
   showCursor();
 }

@@ -77,6 +77,12 @@ export class Layers {
   }
 }
 
+/** How many cars of a row stand in a part of a closure, where the road opens at its end, or never:
+    where it stays closed they stand in the next part. */
+export const caughtIn = (layers, {first, last, to}, row) =>
+  [...row.slice(first, last + 1)].filter((sign, at) => sign !== "#" && sign !== "."
+    && (to === null || !layers.valueAt("block", first + at, to))).length;
+
 // A line's operations.
 
 export const lastOf = ({operations, name: stamp, when, note}) =>

@@ -47,9 +47,12 @@ export class Words {
     return note || (edits.length ? editsText(this.layers, edits) : "Edits");
   }
 
-  /** Who made a line, and when it was laid last. */
+  /** Who made a line, and when it was laid last, with by whom where it was another. */
   meta(line) {
-    return [this.name(line), dayText(lastOf(line).when)].filter(Boolean).join(", ");
+    const {stamp, who, does, when} = lastOf(line);
+    const by = stamp[1] === this.number ? "you" : who || "somebody";
+    const done = stamp[1] === line.name[1] ? "" : `; ${DONE[does] ?? does} by ${by}`;
+    return [this.name(line) + done, dayText(when)].filter(Boolean).join(", ");
   }
 
   /** A line in a few words: "Ben's limit of 54 km/h". */

@@ -129,6 +129,13 @@ function saveCounts() {
   else saveTable({at: roadShown(), what: "counts", from, to, each: SPAN_OF_COUNTS}, "counts.csv");
 }
 
+/** Closes the menu, which would lie over what is said; who was in it is at its name again. */
+function closeMenu() {
+  const was = $("save").contains(document.activeElement);
+  $("save").open = false;
+  if (was) $("save").querySelector("summary").focus();
+}
+
 export function begin() {
   on("savePicture", "click", savePicture);
   on("saveTranscript", "click", saveTranscript);
@@ -136,4 +143,9 @@ export function begin() {
   on("saveFigures", "click", saveFigures);
   on("saveCounts", "click", saveCounts);
   on("saveChanges", "click", saveChanges);
+  on("save", "click", ({target}) => { if (target.closest("button")) closeMenu(); });
+  on("save", "keydown", ({key}) => { if (key === "Escape") closeMenu(); });
+  addEventListener("pointerdown", ({target}) => {
+    if ($("save").open && !target.closest("#save")) closeMenu();
+  });
 }

@@ -5,7 +5,7 @@ from __future__ import annotations
 import time
 from typing import Any, Iterable
 
-from .layers import END, NOTHING, Laid, Name, Rectangle, Stamp, is_raw
+from .layers import END, NOTHING, Name, Rectangle, Stamp, is_raw
 from .operations import raws
 from .state import Gesture, Seat, State
 
@@ -79,15 +79,19 @@ def operation_of(state: State, gesture: Gesture, line: Stamp | None, later: Iter
     """What was done to a line (or to what lines), and by whom; `lost` is who laid the layer at the same time and won."""
     return {"stamp": gesture.stamp, "who": gesture.who, "note": gesture.note, "when": gesture.when,
             "does": does(gesture, line), "shared": gesture in state.shared.holds, "undoes": gesture.undoes,
-            "lost": line and next((one.stamp for one in later if is_unknown(gesture, one, line)), None)}
+            "lost": lost_to(gesture, line, later) if line in gesture.lays else None}
 
 
-def is_unknown(gesture: Gesture, later: Gesture, line: Stamp) -> bool:
-    """Whether the next gesture on a layer was made by somebody who did not hold this one."""
-    def seen(name: Name) -> Laid:
-        return later.was.get(name, NOTHING)
-    names = [name for name in gesture.lays if name == line and name in later.lays]
-    return any(seen(name) != gesture.lays[name] for name in names)
+def lost_to(gesture: Gesture, line: Stamp, later: Iterable[Gesture]) -> Stamp | None:
+    """The first gesture above this one on a layer whose maker held neither it nor what was made of it, and laid neither;
+    None where none is."""
+    known = [gesture.lays[line]]
+    for one in later:
+        if line in one.lays:
+            if one.was.get(line, NOTHING) not in known and one.lays[line] not in known:
+                return one.stamp
+            known.append(one.lays[line])
+    return None
 
 
 def does(gesture: Gesture, line: Stamp | None) -> str:

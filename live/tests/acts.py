@@ -281,6 +281,20 @@ class Acts(Case):
         with self.assertRaisesRegex(Refused, "Ben changed it since"):
             await self.ada.ask("undo", key="2", stamp=mine)
 
+    async def test_what_another_does_in_turn_is_not_done_at_once(self) -> None:
+        """Who holds a change knows it, however often the line is changed since; a taking back alone, too."""
+        line = tuple(await lay(self.ada, "1", CLOSED))
+        await self.ada.ask("send", name="shared")
+        await self.ben.ask("take", message="shared")
+        await lay(self.ben, "1", ["block", 60, 69, 30, 70, 1], layer=list(line))
+        await lay(self.ben, "2", ["block", 60, 69, 30, 80, 1], layer=list(line))
+        gone = await lay(self.ben, "3", None, layer=list(line))
+        await self.ben.ask("undo", key="4", stamp=gone)
+        await self.ben.ask("send", name="shared")
+        await self.ada.ask("take", message="shared")
+        for seat in (self.ada, self.ben):
+            self.assertEqual({one["lost"] for one in (await lines(seat))[line]["operations"]}, {None})
+
     async def test_two_at_once_on_one_line(self) -> None:
         line = tuple(await lay(self.ada, "1", CLOSED))
         await self.ada.ask("send", name="shared")

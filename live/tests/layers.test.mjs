@@ -5,7 +5,7 @@ import assert from "node:assert/strict";
 import {readFileSync} from "node:fs";
 import {test} from "node:test";
 
-import {Layers, isInForce, lostOf, privateOf} from "../page/layers.mjs";
+import {Layers, caughtIn, isInForce, lostOf, privateOf} from "../page/layers.mjs";
 import {Words, affectedBy, historyOf, linesOf} from "../page/listing.mjs";
 
 const PLAN = JSON.parse(readFileSync(new URL("../plan.json", import.meta.url), "utf8"));
@@ -154,6 +154,30 @@ test("the lists have what stands and what is not shared, newest first", () => {
                              does: "withdraw", shared: false, lost: null});
   assert.deepEqual(linesOf(road(withdrawn), ADA).map(({text, where}) => [text, where]),
                    [["Withdrew: it", "own"]]);
+});
+
+test("who stands in two closures is told of once, where the road opens", () => {
+  const lower = line([1, ADA], "Ada", ["block", 10, 19, 1200, 2400, 1], []);
+  const upper = line([2, BEN], "Ben", ["block", 15, 24, 1800, null, 1], [[1800, null, null]]);
+  lower.shown = [["block", 10, 14, 1200, 2400, 1, null], ["block", 15, 19, 1200, 1800, 1, null],
+                 ["block", 15, 19, 1800, 2400, 1, [2, BEN]]];
+  const layers = road(lower, upper);
+  const row = `${".".repeat(8)}0###0#####0####`.padEnd(PLAN.length, ".");    // 8, 12 and 18
+  assert.deepEqual(layers.frames.map((frame) => [frame.first, frame.to,
+                                                 caughtIn(layers, frame, row)]),
+                   [[10, 2400, 1], [15, 1800, 0], [15, null, 1]]);
+});
+
+test("a line says who made it, and who else has laid it since", () => {
+  const raised = {stamp: [5, BEN], who: "Ben", note: "", when: 0, does: "top", shared: true,
+                  lost: null};
+  const mine = ada([[1200, 2400, null]]);
+  const metas = () => [ADA, BEN].map((number) => linesOf(road(mine), number)[0].meta);
+  assert.deepEqual(metas(), ["you", "Ada"]);
+  mine.operations.push(raised);
+  assert.deepEqual(metas(), ["you; put on top by Ben", "Ada; put on top by you"]);
+  mine.operations.push({...raised, stamp: [6, ADA], who: "Ada", does: "change"});
+  assert.deepEqual(metas(), ["you", "Ada"]);
 });
 
 test("edits that were changed have one line: that of the shape in their place", () => {

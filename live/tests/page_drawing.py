@@ -120,6 +120,17 @@ class OneFreeway(BrowserCase):
 
     names = ("Ada",)
 
+    def test_what_was_read_is_read_again_where_the_road_is_another(self) -> None:
+        tab, = self.open(FREEWAY)
+        tab.run_an_hour()
+        self.assertNotIn("closed", tab.point(400, 1500))
+        tab.tool("block")
+        tab.in_figures(kmFrom="2.9", kmTo="3.1", timeFrom="0:20", timeTo="0:40")
+        tab.settled()
+        tab.until(lambda: ": closed; limit" in tab.text("readout"), "what is read")
+        tab.press("Undo")
+        tab.until(lambda: "closed" not in tab.text("readout"), "what is read")
+
     def test_a_drag_says_that_it_takes_whole_zones(self) -> None:
         tab, = self.open(FREEWAY)
         tab.run_an_hour()

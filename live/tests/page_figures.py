@@ -5,6 +5,7 @@ import subprocess
 
 from browsers import FREE_ROAD, FREEWAY, TOP, BrowserCase, Tab, before_rows, edits_of, example_rows, gestures_of
 from running import program
+from selenium.webdriver.common.action_chains import ActionChains
 from selenium.webdriver.common.by import By
 from selenium.webdriver.common.keys import Keys
 
@@ -56,7 +57,7 @@ class OneFreeway(BrowserCase):
                                          ("3.36", "3.41", 9, "3.375–3.75"), ("5.8", "6", 15, "5.625–6")):
             tab.in_figures(kmFrom=first, kmTo=last, timeFrom="0:20", timeTo="")
             self.assertEqual(edits_of(gestures_of(self.server)[-1]), [["limit", zone, 1200, 2]])
-            self.assertEqual(tab.text("said"), f"54 km/h, {taken} km, from 0:20:00 on: done. In whole cells: {taken} km.")
+            self.assertEqual(tab.text("said"), f"54 km/h, {taken} km, from 0:20:00 on: done. In whole zones: {taken} km.")
             tab.keys("z")
             tab.settled()
         tab.in_figures(kmFrom="3", kmTo="3.375")
@@ -199,6 +200,18 @@ class OneFreeway(BrowserCase):
         lines = transcript.read_text(encoding="utf-8").splitlines()
         self.assertEqual(lines[0::2], script.read_text(encoding="utf-8").splitlines())
         self.assertEqual(lines[1::2], ran.stdout.decode().splitlines())
+
+    def test_the_menu_closes_by_what_is_saved_and_by_escape(self) -> None:
+        """It would lie over the sentence that says what was saved."""
+        tab, = self.open(FREE_ROAD)
+        tab.run_an_hour()
+        tab.save("Counts", "counts.csv")
+        for press in (None, Keys.ESCAPE):
+            if press:
+                tab.open_part("save")
+                ActionChains(tab.driver, duration=0).send_keys(press).perform()
+            self.assertIsNone(tab.part("save").get_attribute("open"))
+            self.assertEqual(tab.script("return document.activeElement.textContent"), "Save")
 
     def test_what_is_saved_waits_for_figures(self) -> None:
         tab, = self.open(FREE_ROAD)

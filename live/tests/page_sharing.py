@@ -80,6 +80,20 @@ class Sharing(BrowserCase):
         self.assertEqual(ben.lines("own"), ["Withdrew: 54 km/h, 0–0.3 km, 0:25:00–0:30:00 private"])
         self.assertEqual(ben.value_at("limit", 0, 1200, 1500, 1800, 2400), [1, 1, 1, 3])
 
+    def test_news_are_in_sight_beside_long_figures(self) -> None:
+        ada, ben = self.open(FREEWAY)
+        ben.driver.execute_cdp_cmd("Emulation.setDeviceMetricsOverride",
+                                   {"width": 1366, "height": 625, "deviceScaleFactor": 1, "mobile": False})
+        self.addCleanup(ben.driver.execute_cdp_cmd, "Emulation.clearDeviceMetricsOverride", {})
+        ada.run_an_hour()
+        ada.limit("1", "0:20", "0:30")
+        ada.share_all()
+        ben.until(lambda: ben.text("news").startswith("Ada shared 1 change."), "news")
+        ben.settled()
+        self.assertGreater(ben.script("return $('figuresPart').getBoundingClientRect().bottom"), 600)
+        top, bottom = ben.script("const {top, bottom} = $('news').getBoundingClientRect(); return [top, bottom];")
+        self.assertTrue(0 <= top < bottom <= 625, (top, bottom))
+
     def test_what_is_pressed_stays_until_it_is_let_go(self) -> None:
         ada, ben = self.open(FREE_ROAD)
         ben.limit("1", "0:20", "0:30")
