@@ -192,7 +192,9 @@ class Lab:
         clean = [index for index in free if index not in self.keeper.program.stale]
         if not clean:
             await self.keeper.turns.ask(SHARED, self.keeper.replace)
-        return await self._give((clean or free)[0], name)
+        made = {number for _, number in self.state.by_stamp}  # whose is not to be another's
+        fresh = [index for index in clean if self.state.seats[index].number not in made]
+        return await self._give((fresh or clean or free)[0], name)
 
     async def _give(self, index: int, name: str) -> tuple[int, str]:
         key = secrets.token_urlsafe(12)
