@@ -416,6 +416,8 @@ class Sites:
         for gesture in gestures:
             self._tell_if_twice(gesture)
         if is_new:
+            if any(gesture.is_mending for gesture in gestures):
+                self._operations.clear()  # what was heard before says nothing of those who mended
             return
         by_stamp = {one.stamp: one for one in gestures}
         back = [gesture.stamp for gesture in self._keeper.state.unsent if gesture.stamp in by_stamp
@@ -468,7 +470,7 @@ class Sites:
         makers = {one.stamp[1] // SEATS for one in doubts}
         others = [site for site in self._others() if not site.is_former]
         own = self._numbers().get(OPERATIONS)
-        return bool(doubts) and all(self._operations.get(site.folder) == own for site in
+        return bool(doubts) and all(self._operations.get(site.folder, "") == own for site in
                                     [site for site in others if site.number in makers] or others)
 
     def _tell_what_may_lack(self, folder: str, numbers: dict[str, str], held: str) -> None:

@@ -123,6 +123,31 @@ class Bounds(Case):
         self.assertEqual(sorted(json.loads(reply)["edits"]), sorted(here.lab.state.shared.scenario()))
         self.assertGreater(len(here.lab.state.shared.gestures), 10)
 
+    async def test_nobody_mends_beside_one_that_holds_more(self) -> None:
+        """Two agree, and lack what a third holds that mended: they wait, are told what they lack, and mend then."""
+        bus = Bus()
+        here = [await self.enterAsyncContext(Here(site=number)) for number in (1, 2, 3)]
+        sites = [bus.site(one) for one in here]
+        await bus.rounds()
+        ada, = await here[1].join("Ada")
+        await here[1].put(ada, ["limit", 1, 50, 4])
+        await here[1].share(ada)  # the others lack it
+        mending = {"stamp": [90, 2 * 64], "known": 5, "edits": [["limit", 3, 8, 0]], "who": "mended"}
+        body = json.dumps({"form": 2, "folder": sites[1]._id, "gestures": [mending]}).encode()
+        for site in sites:
+            await site._came(f"road/{site._road}/layers", sites[1]._id, body)
+        for site in sites[::2]:
+            await site.announce()
+        bus.sent = [one for one in bus.sent if one.topic.endswith("sum")]
+        await bus.carry()
+        doubting = [here[0].lab.state.shared, here[2].lab.state.shared]
+        self.assertEqual([(len(one.doubts), len(one.gestures)) for one in doubting], [(1, 1)] * 2)
+        await bus.rounds(4)
+        self.assertEqual([one.lab.state.shared.doubts for one in here], [[]] * 3)
+        roads = [one.lab.state.shared.scenario() for one in here]
+        self.assertEqual(roads, [roads[0]] * 3)
+        self.assertEqual([one.lab.state.shared.numbers("limit", 3).get(8) for one in here], [None] * 3)
+
     async def test_what_strangers_say_of_themselves_is_bounded(self) -> None:
         bus = Bus()
         here = await self.enterAsyncContext(Here(site=1))
@@ -132,7 +157,7 @@ class Bounds(Case):
             for topic, value in (("road/sites", {"site": number % 1_000 + 2, "road": name, "run": name}),
                                  (f"road/{site._road}/sum", {"sum": name, "numbers": {}})):
                 await site._came(topic, "", json.dumps({"folder": name, **value}).encode())
-        for kept in (site._sites, site._sums, site._pauses, here.lab.state.bound):
+        for kept in (site._sites, site._sums, site._operations, site._pauses, here.lab.state.bound):
             self.assertLessEqual(len(kept), 1_024)
         self.assertLess(len(json.dumps(site.state())), 100_000)
         for number in (0, -1, 1_024, True, "7", None, 1 << 70):

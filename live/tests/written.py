@@ -296,7 +296,7 @@ class Stalled(Case):
         await self.looks(2)
         second._sites.clear()
         await soon(first.announce())
-        first._tell_what_may_lack("another", {})
+        first._tell_what_may_lack("another", {}, "")
         told = [one for one in bus.sent if one.topic.endswith("layers")]
         self.assertEqual([len(json.loads(one.payload)["gestures"]) for one in told], [2])  # what is on the disk
         bus.sent = [one for one in bus.sent if one not in told]
