@@ -132,7 +132,7 @@ impl ShownRun {
         ensures shown { OnOk result (IsShownBy sheet.now self.new) }
     {
         self.settle(alloc, sheet)?;
-        self.run.step();
+        self.run.step(alloc, INTERVAL_STEPS)?;
         Ok(())
     }
 

@@ -1,5 +1,5 @@
 -- The cars of the road are put in, and all that is kept for the settings is made anew.
-use Rattle.std.proofs.Common.{◌≡◌, ◌∙◌, ◌+◌, ◌*◌, ◌-◌, ◌<◌, ◌≤◌, length, sym, ap, subst, arith}
+use Rattle.std.proofs.Common.{◌≡◌, ◌∙◌, ◌+◌, ◌*◌, ◌-◌, ◌<◌, ◌≤◌, length, false, sym, ap, subst, arith, refl}
 use Rattle.std.specs.List.{All}
 use Rattle.std.proofs.Math.Path.{transport}
 use Rattle.std.proofs.lemmas.Bool.{false≢true}
@@ -15,6 +15,8 @@ use Rattle.road_columns.specs.Private.LooseWords.{AreFalling}
 use Rattle.road_columns.specs.Private.Counts.{AreCounts, totals_in}
 use Rattle.road_columns.specs.Private.Step.{AreCarsInColumn, AreRegionsOf, AreSitesOf}
 use Rattle.road_columns.proofs.HeldLists.{few_rising}
+use Rattle.road_columns.specs.declared.interval.IntervalWords.{IntervalWords}
+use Rattle.road_columns.proofs.LongerColumns.{road_longer, running_longer}
 use Rattle.road_columns.proofs.Refilled.{refilled}
 use Rattle.road_columns.proofs.StretchSteps.{stand_all}
 use Rattle.road_columns.proofs.TakenUp.{all_before}
@@ -23,19 +25,19 @@ use Rattle.road_columns.proofs.under_way.UnderWay.take_up.Goals as goal
 
 pub hold-tail-requires-clause-room : goal.hold-tail-requires-clause-room
 hold-tail-requires-clause-room c =
-    let same = ap length (c.cars-2.ensures.all ∙ sym c.cars-3.ensures.all) in
+    let same = ap length (c.cars-many.ensures.all ∙ sym c.cars-2.ensures.all) in
     let long = c.in_ok-lengthen.ensures.long in
     let value = ap length c.deref_mut.ensures.value in omega arith
 
 pub find_places-requires-clause-short : goal.find_places-requires-clause-short
 find_places-requires-clause-short c =
     let start : c.length.result - c.exit.result ≡ exit_start (arc_value c.self.inside.plan) = let a = c.length.ensures.cells in let b = c.exit.ensures in let d = ap (λ (p : Plan). p.cells) c.deref.ensures in let e = ap (λ (p : Plan). p.exit) c.deref-2.ensures in omega arith in
-    let can : All (CanRun c.args.stretch.first c.args.stretch.end (exit_start (arc_value c.self.inside.plan))) c.cars-3.result.now =
-    transport (λ j. All (CanRun c.args.stretch.first c.args.stretch.end (start j)) ((c.cars.ensures.all ∙ sym c.cars-3.ensures.all) j)) (c.can_hold.ensures.0 c.if-not-can_hold.false) in
-    let before : All (λ (car : Car). car.cell < exit_start (arc_value c.self.inside.plan)) c.cars-3.result.now = all_before c.args.stretch.first c.args.stretch.end (exit_start (arc_value c.self.inside.plan)) c.cars-3.result.now can in
-    let few = few_rising (exit_start (arc_value c.self.inside.plan)) c.cars-3.result.now c.cars-3.ensures.rise before in
+    let can : All (CanRun c.args.stretch.first c.args.stretch.end (exit_start (arc_value c.self.inside.plan))) c.cars-2.result.now =
+    transport (λ j. All (CanRun c.args.stretch.first c.args.stretch.end (start j)) ((c.cars.ensures.all ∙ sym c.cars-2.ensures.all) j)) (c.can_hold.ensures.0 c.if-not-can_hold.false) in
+    let before : All (λ (car : Car). car.cell < exit_start (arc_value c.self.inside.plan)) c.cars-2.result.now = all_before c.args.stretch.first c.args.stretch.end (exit_start (arc_value c.self.inside.plan)) c.cars-2.result.now can in
+    let few = few_rising (exit_start (arc_value c.self.inside.plan)) c.cars-2.result.now c.cars-2.ensures.rise before in
     let most = c.self.invariant.within.short_enough in
-    let many = ap length (c.cars-2.ensures.all ∙ sym c.cars-3.ensures.all) in
+    let many = ap length (c.cars-many.ensures.all ∙ sym c.cars-2.ensures.all) in
     let short = c.lengthen.ensures.short c.self.invariant.running.standing.even.short (omega arith) in
     let cells_is = refilled c.lengthen.new.self.cells c.deref_mut.result.now c.hold-tail.new.cells c.deref_mut.ensures.value c.hold-tail.ensures.cells_each in
     let same = ap length (c.deref-5.ensures.value ∙ cells_is) in
@@ -45,9 +47,9 @@ find_places-requires-clause-short c =
 pub find_places-requires-clause-inside : goal.find_places-requires-clause-inside
 find_places-requires-clause-inside c =
     let start : c.length.result - c.exit.result ≡ exit_start (arc_value c.self.inside.plan) = let a = c.length.ensures.cells in let b = c.exit.ensures in let d = ap (λ (p : Plan). p.cells) c.deref.ensures in let e = ap (λ (p : Plan). p.exit) c.deref-2.ensures in omega arith in
-    let can : All (CanRun c.args.stretch.first c.args.stretch.end (exit_start (arc_value c.self.inside.plan))) c.cars-3.result.now =
-    transport (λ j. All (CanRun c.args.stretch.first c.args.stretch.end (start j)) ((c.cars.ensures.all ∙ sym c.cars-3.ensures.all) j)) (c.can_hold.ensures.0 c.if-not-can_hold.false) in
-    let before : All (λ (car : Car). car.cell < exit_start (arc_value c.self.inside.plan)) c.cars-3.result.now = all_before c.args.stretch.first c.args.stretch.end (exit_start (arc_value c.self.inside.plan)) c.cars-3.result.now can in
+    let can : All (CanRun c.args.stretch.first c.args.stretch.end (exit_start (arc_value c.self.inside.plan))) c.cars-2.result.now =
+    transport (λ j. All (CanRun c.args.stretch.first c.args.stretch.end (start j)) ((c.cars.ensures.all ∙ sym c.cars-2.ensures.all) j)) (c.can_hold.ensures.0 c.if-not-can_hold.false) in
+    let before : All (λ (car : Car). car.cell < exit_start (arc_value c.self.inside.plan)) c.cars-2.result.now = all_before c.args.stretch.first c.args.stretch.end (exit_start (arc_value c.self.inside.plan)) c.cars-2.result.now can in
     let within : (arc_value c.self.inside.plan).cells ≤ 65525 = let most = c.self.invariant.within.short_enough in omega arith in
     let cars = c.hold-tail.ensures.cars (arc_value c.self.inside.plan) within before in
     let cells_is = refilled c.lengthen.new.self.cells c.deref_mut.result.now c.hold-tail.new.cells c.deref_mut.ensures.value c.hold-tail.ensures.cells_each in
@@ -57,9 +59,9 @@ find_places-requires-clause-inside c =
 pub find_places-requires-clause-falling : goal.find_places-requires-clause-falling
 find_places-requires-clause-falling c =
     let start : c.length.result - c.exit.result ≡ exit_start (arc_value c.self.inside.plan) = let a = c.length.ensures.cells in let b = c.exit.ensures in let d = ap (λ (p : Plan). p.cells) c.deref.ensures in let e = ap (λ (p : Plan). p.exit) c.deref-2.ensures in omega arith in
-    let can : All (CanRun c.args.stretch.first c.args.stretch.end (exit_start (arc_value c.self.inside.plan))) c.cars-3.result.now =
-    transport (λ j. All (CanRun c.args.stretch.first c.args.stretch.end (start j)) ((c.cars.ensures.all ∙ sym c.cars-3.ensures.all) j)) (c.can_hold.ensures.0 c.if-not-can_hold.false) in
-    let before : All (λ (car : Car). car.cell < exit_start (arc_value c.self.inside.plan)) c.cars-3.result.now = all_before c.args.stretch.first c.args.stretch.end (exit_start (arc_value c.self.inside.plan)) c.cars-3.result.now can in
+    let can : All (CanRun c.args.stretch.first c.args.stretch.end (exit_start (arc_value c.self.inside.plan))) c.cars-2.result.now =
+    transport (λ j. All (CanRun c.args.stretch.first c.args.stretch.end (start j)) ((c.cars.ensures.all ∙ sym c.cars-2.ensures.all) j)) (c.can_hold.ensures.0 c.if-not-can_hold.false) in
+    let before : All (λ (car : Car). car.cell < exit_start (arc_value c.self.inside.plan)) c.cars-2.result.now = all_before c.args.stretch.first c.args.stretch.end (exit_start (arc_value c.self.inside.plan)) c.cars-2.result.now can in
     let within : (arc_value c.self.inside.plan).cells ≤ 65525 = let most = c.self.invariant.within.short_enough in omega arith in
     let cars = c.hold-tail.ensures.cars (arc_value c.self.inside.plan) within before in
     let cells_is = refilled c.lengthen.new.self.cells c.deref_mut.result.now c.hold-tail.new.cells c.deref_mut.ensures.value c.hold-tail.ensures.cells_each in
@@ -70,9 +72,52 @@ invariant_of-self c =
     let i = c.self.invariant in
     let x = c.self.inside in
     let start : c.length.result - c.exit.result ≡ exit_start (arc_value c.self.inside.plan) = let a = c.length.ensures.cells in let b = c.exit.ensures in let d = ap (λ (p : Plan). p.cells) c.deref.ensures in let e = ap (λ (p : Plan). p.exit) c.deref-2.ensures in omega arith in
-    let can : All (CanRun c.args.stretch.first c.args.stretch.end (exit_start (arc_value c.self.inside.plan))) c.cars-3.result.now =
-    transport (λ j. All (CanRun c.args.stretch.first c.args.stretch.end (start j)) ((c.cars.ensures.all ∙ sym c.cars-3.ensures.all) j)) (c.can_hold.ensures.0 c.if-not-can_hold.false) in
-    let before : All (λ (car : Car). car.cell < exit_start (arc_value c.self.inside.plan)) c.cars-3.result.now = all_before c.args.stretch.first c.args.stretch.end (exit_start (arc_value c.self.inside.plan)) c.cars-3.result.now can in
+    let can : All (CanRun c.args.stretch.first c.args.stretch.end (exit_start (arc_value c.self.inside.plan))) c.cars-many.result.now =
+    transport (λ j. All (CanRun c.args.stretch.first c.args.stretch.end (start j)) ((c.cars.ensures.all ∙ sym c.cars-many.ensures.all) j)) (c.can_hold.ensures.0 c.if-not-can_hold.false) in
+    let before : All (λ (car : Car). car.cell < exit_start (arc_value c.self.inside.plan)) c.cars-many.result.now = all_before c.args.stretch.first c.args.stretch.end (exit_start (arc_value c.self.inside.plan)) c.cars-many.result.now can in
+    let few = few_rising (exit_start (arc_value c.self.inside.plan)) c.cars-many.result.now c.cars-many.ensures.rise before in
+    let most = c.self.invariant.within.short_enough in
+    let short = c.lengthen.ensures.short c.self.invariant.running.standing.even.short (omega arith) in
+    let words : IntervalWords = record c.self.inside.words { drawn = false } in
+    record {
+      within = i.within;
+      fits = i.fits;
+      regions_are = i.regions_are;
+      slowing_is = i.slowing_is;
+      sites_are = i.sites_are;
+      running = running_longer (arc_value x.plan) x.kept.sites.items x.step x.stretch.first x.stretch.end x.cars c.lengthen.new.self x.words words x.counts (record {
+        longer = c.lengthen.ensures.longer;
+        short = short;
+        source = refl;
+        inlets = refl;
+        batches_each = i.running.standing.even.batches_each;
+        drawn = λ never. absurd (false≢true never);
+      }) i.running;
+    }
+
+pub returns-in_err-lengthen-clause-err : goal.returns-in_err-lengthen-clause-err
+returns-in_err-lengthen-clause-err c =
+    let x = c.self.inside in
+    let inside : c.self.inside.cars.tail ≤ length c.self.inside.cars.cells.items = let within = c.self.invariant.running.standing.cars_are.inside in omega arith in
+    (λ j. record {
+      plan = arc_value x.plan;
+      settings = arc_value x.settings;
+      step = x.step;
+      lo = x.stretch.first;
+      hi = x.stretch.end;
+      road = road_longer x.cars c.lengthen.new.self c.lengthen.ensures.longer inside j;
+      totals = totals_in x.counts.passes.items x.counts.totals.items;
+    })
+    ∙ c.self.view_is
+
+pub invariant_of-self-2 : goal.invariant_of-self-2
+invariant_of-self-2 c =
+    let i = c.self.invariant in
+    let x = c.self.inside in
+    let start : c.length.result - c.exit.result ≡ exit_start (arc_value c.self.inside.plan) = let a = c.length.ensures.cells in let b = c.exit.ensures in let d = ap (λ (p : Plan). p.cells) c.deref.ensures in let e = ap (λ (p : Plan). p.exit) c.deref-2.ensures in omega arith in
+    let can : All (CanRun c.args.stretch.first c.args.stretch.end (exit_start (arc_value c.self.inside.plan))) c.cars-2.result.now =
+    transport (λ j. All (CanRun c.args.stretch.first c.args.stretch.end (start j)) ((c.cars.ensures.all ∙ sym c.cars-2.ensures.all) j)) (c.can_hold.ensures.0 c.if-not-can_hold.false) in
+    let before : All (λ (car : Car). car.cell < exit_start (arc_value c.self.inside.plan)) c.cars-2.result.now = all_before c.args.stretch.first c.args.stretch.end (exit_start (arc_value c.self.inside.plan)) c.cars-2.result.now can in
     let within : (arc_value c.self.inside.plan).cells ≤ 65525 = let most = c.self.invariant.within.short_enough in omega arith in
     let cars = c.hold-tail.ensures.cars (arc_value c.self.inside.plan) within before in
     let cells_is = refilled c.lengthen.new.self.cells c.deref_mut.result.now c.hold-tail.new.cells c.deref_mut.ensures.value c.hold-tail.ensures.cells_each in
@@ -90,9 +135,9 @@ invariant_of-self c =
     let long_cells : length c.hold-tail.new.cells ≡ length c.lengthen.new.self.cells.items = c.hold-tail.ensures.cells_each ∙ ap length c.deref_mut.ensures.value in
     let long_speeds : length c.hold-tail.new.speeds ≡ length c.lengthen.new.self.speeds.items = c.hold-tail.ensures.speeds_each ∙ ap length c.deref_mut-2.ensures.value in
     let long_numbers : length c.hold-tail.new.numbers ≡ length c.lengthen.new.self.numbers.items = c.hold-tail.ensures.numbers_each ∙ ap length c.deref_mut-3.ensures.value in
-    let few = few_rising (exit_start (arc_value c.self.inside.plan)) c.cars-3.result.now c.cars-3.ensures.rise before in
+    let few = few_rising (exit_start (arc_value c.self.inside.plan)) c.cars-2.result.now c.cars-2.ensures.rise before in
     let most = c.self.invariant.within.short_enough in
-    let many = ap length (c.cars-2.ensures.all ∙ sym c.cars-3.ensures.all) in
+    let many = ap length (c.cars-many.ensures.all ∙ sym c.cars-2.ensures.all) in
     let short = c.lengthen.ensures.short c.self.invariant.running.standing.even.short (omega arith) in
     let longer = c.lengthen.ensures.longer in
     let long : length (with_items c.lengthen.new.self.cells c.hold-tail.new.cells).items ≡ length c.lengthen.new.self.cells.items = ap length cells_is ∙ long_cells in
@@ -119,7 +164,7 @@ invariant_of-self c =
           places_are = transport (λ j. ArePlacesFrom (c.deref-5.ensures.value j) 8 c.hold-tail.result (c.deref-6.ensures.value j) (sym places_is j)) c.find_places.ensures.places;
         };
         stand = subst (StandOn c.args.stretch.first c.args.stretch.end) (sym ((λ k. road_in (cells_is k) (speeds_is k) (numbers_is k) 8 c.hold-tail.result) ∙ c.hold-tail.ensures.road))
-            (stand_all c.args.stretch.first c.args.stretch.end (exit_start (arc_value c.self.inside.plan)) c.cars-3.result.now can);
+            (stand_all c.args.stretch.first c.args.stretch.end (exit_start (arc_value c.self.inside.plan)) c.cars-2.result.now can);
         counts_are = transport (λ j. AreCounts (length (arc_value c.self.inside.plan).detectors) c.args.step (sym passes_is j) (sym totals_is j))
             (counts_cleared (length (arc_value c.self.inside.plan).detectors) c.args.step c.clear_counts.new.passes c.clear_counts.new.totals a b
             (λ d below. c.clear_counts.ensures.passes d (omega arith)) (λ d below. c.clear_counts.ensures.totals d (omega arith)));
@@ -147,7 +192,7 @@ returns-clause-taken c _ =
       step = c.args.step;
       lo = c.args.stretch.first;
       hi = c.args.stretch.end;
-      road = ((λ k. road_in (cells_is k) (speeds_is k) (numbers_is k) 8 c.hold-tail.result) ∙ c.hold-tail.ensures.road ∙ c.cars-3.ensures.road) j;
+      road = ((λ k. road_in (cells_is k) (speeds_is k) (numbers_is k) 8 c.hold-tail.result) ∙ c.hold-tail.ensures.road ∙ c.cars-2.ensures.road) j;
       totals = ((λ k. totals_in (passes_is k) (totals_is k)) ∙ totals_cleared (length (arc_value c.self.inside.plan).detectors) c.args.step c.clear_counts.new.passes c.clear_counts.new.totals a b
           (λ d below. c.clear_counts.ensures.passes d (omega arith)) (λ d below. c.clear_counts.ensures.totals d (omega arith)) ∙ ap nothing_counted plan_is) j;
     })
