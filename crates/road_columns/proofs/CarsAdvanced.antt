@@ -156,7 +156,7 @@ module _ (g : Layout) (t : ℕ) (cars moved cars' : CarColumns) (words : Interva
         let p = g.plan.now in
         let c = are.standing.cars_are in
         let even = are.standing.even in
-        let short = are.standing.even.short in
+        let few_places = are.standing.even.short in
         let inside = are.standing.cars_are.inside in
         let few_cells = short g (64 * (t / 64)) (t % 64) (length g.plan.now.inlets) cars words are in
         let long : length cars'.cells.items ≡ length cars.cells.items = left.long ∙ moves.cells_each in

@@ -1,6 +1,7 @@
 -- Columns that are made longer.
-use Rattle.std.specs.Prelude.{◌≡◌, ℕ, zero, suc, ◌+◌, ◌-◌, ◌*◌, ◌/◌, ◌%◌, ◌<◌, ◌≤◌, List, ◌∷◌, length, slice_index}
-use Rattle.std.proofs.Common.{sym, ap, ◌∙◌, arith, refl, subst}
+use Rattle.std.specs.Prelude.{◌≡◌, ℕ, zero, suc, ◌+◌, ◌-◌, ◌*◌, ◌/◌, ◌%◌, ◌<◌, ◌≤◌, List, ◌∷◌, length}
+use Rattle.std.specs.Prelude.{OnErr}
+use Rattle.std.proofs.Common.{Result, Ok, Err, sym, ap, ◌∙◌, arith, refl, subst}
 use Rattle.std.proofs.Math.Path.{transport}
 use Rattle.road_plan.specs.Plan.{Plan}
 use Rattle.road_cells.specs.Cars.{array_of}
@@ -16,6 +17,11 @@ use Rattle.road_columns.specs.declared.cars.CarColumns.{CarColumns}
 use Rattle.road_columns.specs.declared.counts.Counts.{Counts}
 use Rattle.road_columns.specs.declared.interval.IntervalWords.{IntervalWords}
 use Rattle.road_columns.proofs.CarsStepped.{places_same}
+
+-- what holds, holds where a result is an error
+pub on_err : {T E P : Type 0} (r : Result T E) → P → OnErr r P
+on_err (Ok x) holds = tt
+on_err (Err e) holds = holds
 
 -- cars by the same cells, speeds and numbers
 same_cars : (cell cell' speed speed' number number' : ℕ → ℕ) (n : ℕ) → ((i : ℕ) → i < n → cell i ≡ cell' i) → ((i : ℕ) → i < n → speed i ≡ speed' i) → ((i : ℕ) → i < n → number i ≡ number' i)

@@ -1,5 +1,5 @@
 -- The parts after a step.
-use Rattle.std.proofs.Common.{◌≡◌, ◌≤◌, ◌∙◌, ◌+◌, List, length, map, min, sym, ap, slice_index_or, arith}
+use Rattle.std.proofs.Common.{◌≡◌, ◌≤◌, ◌∙◌, ◌+◌, List, length, map, min, sym, ap, subst, slice_index_or, arith}
 use Rattle.std.specs.List.{range_with_len}
 use Rattle.std.specs.Arc.{arc_value}
 use Rattle.std.proofs.Math.Path.{transport}
@@ -11,9 +11,10 @@ use Rattle.road_detector.specs.declared.counts.Totals.{Totals}
 use Rattle.road_columns.specs.UnderWay.{stepped}
 use Rattle.road_columns.specs.Private.Cars.{road_of}
 use Rattle.road_columns.specs.Private.Counts.{totals_in}
+use Rattle.road_columns.specs.Private.Interval.{HaveRoom}
 use Rattle.road_columns.specs.Private.Running.{AreRunning}
 use Rattle.road_columns.proofs.IntervalStarts.{few_cars}
-use Rattle.road_columns.proofs.LongerColumns.{road_longer, running_longer}
+use Rattle.road_columns.proofs.LongerColumns.{on_err, road_longer, running_longer}
 use Rattle.road_columns.proofs.under_way.UnderWay.step.Goals as goal
 
 -- what is counted after a step of an input
@@ -32,7 +33,38 @@ run_step-requires-clause-running c =
     (running_longer (arc_value x.plan) x.kept.sites.items x.step x.stretch.first x.stretch.end x.cars c.make_room.new.cars x.words c.make_room.new.words x.counts c.make_room.ensures.makes c.self.invariant.running)
 
 pub run_step-requires-clause-room : goal.run_step-requires-clause-room
-run_step-requires-clause-room c = ?
+run_step-requires-clause-room c =
+    subst (λ n. HaveRoom n c.make_room.new.cars c.make_room.new.words)
+    (ap length c.inlets-inlets.ensures.inlets ∙ ap (λ (p : Plan). length p.inlets) (c.deref.ensures ∙ sym c.deref-2.ensures))
+    c.in_ok-make_room.ensures.room
+
+pub invariant_of-self : goal.invariant_of-self
+invariant_of-self c =
+    let i = c.self.invariant in
+    let x = c.self.inside in
+    record {
+      within = i.within;
+      fits = i.fits;
+      regions_are = i.regions_are;
+      slowing_is = i.slowing_is;
+      sites_are = i.sites_are;
+      running = running_longer (arc_value x.plan) x.kept.sites.items x.step x.stretch.first x.stretch.end x.cars c.make_room.new.cars x.words c.make_room.new.words x.counts c.make_room.ensures.makes i.running;
+    }
+
+pub returns-in_err-make_room-clause-err : goal.returns-in_err-make_room-clause-err
+returns-in_err-make_room-clause-err c =
+    let x = c.self.inside in
+    let inside : c.self.inside.cars.tail ≤ length c.self.inside.cars.cells.items = let within = c.self.invariant.running.standing.cars_are.inside in omega arith in
+    on_err c.from_residual.result ((λ j. record {
+      plan = arc_value x.plan;
+      settings = arc_value x.settings;
+      step = x.step;
+      lo = x.stretch.first;
+      hi = x.stretch.end;
+      road = road_longer x.cars c.make_room.new.cars c.make_room.ensures.makes.longer inside j;
+      totals = totals_in x.counts.passes.items x.counts.totals.items;
+    })
+    ∙ c.self.view_is)
 
 pub returns-clause-stepped : goal.returns-clause-stepped
 returns-clause-stepped c =

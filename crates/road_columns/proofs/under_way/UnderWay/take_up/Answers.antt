@@ -1,5 +1,5 @@
 -- The cars of the road are put in, and all that is kept for the settings is made anew.
-use Rattle.std.proofs.Common.{◌≡◌, ◌∙◌, ◌+◌, ◌*◌, ◌-◌, ◌<◌, ◌≤◌, length, false, sym, ap, subst, arith, refl}
+use Rattle.std.proofs.Common.{◌≡◌, ◌∙◌, ◌-◌, ◌<◌, ◌≤◌, length, false, sym, ap, subst, arith, refl}
 use Rattle.std.specs.List.{All}
 use Rattle.std.proofs.Math.Path.{transport}
 use Rattle.std.proofs.lemmas.Bool.{false≢true}
@@ -16,7 +16,7 @@ use Rattle.road_columns.specs.Private.Counts.{AreCounts, totals_in}
 use Rattle.road_columns.specs.Private.Step.{AreCarsInColumn, AreRegionsOf, AreSitesOf}
 use Rattle.road_columns.proofs.HeldLists.{few_rising}
 use Rattle.road_columns.specs.declared.interval.IntervalWords.{IntervalWords}
-use Rattle.road_columns.proofs.LongerColumns.{road_longer, running_longer}
+use Rattle.road_columns.proofs.LongerColumns.{on_err, road_longer, running_longer}
 use Rattle.road_columns.proofs.Refilled.{refilled}
 use Rattle.road_columns.proofs.StretchSteps.{stand_all}
 use Rattle.road_columns.proofs.TakenUp.{all_before}
@@ -99,7 +99,7 @@ pub returns-in_err-lengthen-clause-err : goal.returns-in_err-lengthen-clause-err
 returns-in_err-lengthen-clause-err c =
     let x = c.self.inside in
     let inside : c.self.inside.cars.tail ≤ length c.self.inside.cars.cells.items = let within = c.self.invariant.running.standing.cars_are.inside in omega arith in
-    (λ j. record {
+    on_err c.from_residual-in_err-lengthen.result ((λ j. record {
       plan = arc_value x.plan;
       settings = arc_value x.settings;
       step = x.step;
@@ -108,7 +108,7 @@ returns-in_err-lengthen-clause-err c =
       road = road_longer x.cars c.lengthen.new.self c.lengthen.ensures.longer inside j;
       totals = totals_in x.counts.passes.items x.counts.totals.items;
     })
-    ∙ c.self.view_is
+    ∙ c.self.view_is)
 
 pub invariant_of-self-2 : goal.invariant_of-self-2
 invariant_of-self-2 c =
