@@ -154,11 +154,7 @@ fn ran_on(alloc: Global, span: &Span, road: &Road, run: &mut UnderWay) -> Result
 }
 
 // Makes the steps of a span, and counts in them alone.
-pub(crate) fn make_steps(
-    alloc: Global,
-    span: &Span,
-    run: &mut UnderWay,
-) -> Result<(), OutOfMemory>
+pub(crate) fn make_steps(alloc: Global, span: &Span, run: &mut UnderWay) -> Result<(), OutOfMemory>
     requires { run.old.step ≡ span.now.step }
     ensures { OnOk result (run.new ≡ after_steps span.now.steps (uncounted run.old)) }
 {
