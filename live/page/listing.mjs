@@ -47,11 +47,16 @@ export class Words {
     return note || (edits.length ? editsText(this.layers, edits) : "Edits");
   }
 
+  /** Who did the last thing with a line. */
+  by(line) {
+    const {stamp, who} = lastOf(line);
+    return stamp[1] === this.number ? "you" : who || "somebody";
+  }
+
   /** Who made a line, and when it was laid last, with by whom where it was another. */
   meta(line) {
-    const {stamp, who, does, when} = lastOf(line);
-    const by = stamp[1] === this.number ? "you" : who || "somebody";
-    const done = stamp[1] === line.name[1] ? "" : `; ${DONE[does] ?? does} by ${by}`;
+    const {stamp, does, when} = lastOf(line);
+    const done = stamp[1] === line.name[1] ? "" : `; ${DONE[does] ?? does} by ${this.by(line)}`;
     return [this.name(line) + done, dayText(when)].filter(Boolean).join(", ");
   }
 
@@ -101,9 +106,9 @@ export class Words {
 
   /** What becomes of a line where it was shown otherwise: "then ..". */
   effect(line) {
-    const cover = this.cover(line);
-    const then = !line.standing ? "Withdrawn." : cover || "In force whole.";
-    return `${this.name(line)}: ${this.text(line)} \u2013 then: `
+    const then = line.standing ? this.cover(line) || "In force whole."
+      : `Withdrawn by ${this.by(line)}.`;
+    return `${this.name(line)}: ${this.text(line).replace(/^Withdrew: /, "")} \u2013 then: `
       + `${then[0].toLowerCase()}${then.slice(1)}`;
   }
 

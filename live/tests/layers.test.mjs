@@ -225,6 +225,6 @@ test("before it is done it is said what would be covered, and what would be in f
      + "0:30:00\u20130:40:00."]);
   const effect = (line) => said.effect(road(line).line(line.name));
   assert.match(effect(ada([[1200, 2400, null]])), /then: in force whole\.$/);
-  assert.match(effect({...ada([]), standing: false}), /then: withdrawn\.$/);
+  assert.match(effect({...ada([]), standing: false}), /then: withdrawn by you\.$/);
   assert.deepEqual(affectedBy([{...ada([]), shown: was, was}]), []);
 });
