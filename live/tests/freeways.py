@@ -30,8 +30,6 @@ class Freeways(Case):
             lines = (await ada.ask("layers", at="shared", **{"from": 0}))["layers"]
             self.assertEqual({line["who"] for line in lines}, {"plan.json"})
             self.assertEqual(len(lines), 4)
-            shared = (await ada.ask("gestures", at="shared"))["gestures"]
-            self.assertNotIn(ada.welcome["number"], [one["stamp"][1] for one in shared])  # else they would be hers
             self.assertEqual([one["name"] for one in (await ada.say("seats"))["seats"]], ["Ada"])
         puts = self.of_recipe(server.folder / "plan.json").puts
         script = [plan, *({"edit": {"at": "A", "object": [kind, index], "step": step, "value": value}}
@@ -45,6 +43,9 @@ class Freeways(Case):
         server.stop()
         server.start()
         self.assertNotIn("another plan", server.said())
+        async with server.seat("Cleo") as cleo:
+            shared = (await cleo.ask("gestures", at="shared"))["gestures"]
+            self.assertNotIn(cleo.welcome["number"], [one["stamp"][1] for one in shared])  # else they would be hers
         server.stop()
         (server.folder / "plan.json").write_text(json.dumps({**KM, "main": 800}), encoding="utf-8")
         server.start()

@@ -148,6 +148,20 @@ class Bounds(Case):
         self.assertEqual(roads, [roads[0]] * 3)
         self.assertEqual([one.lab.state.shared.numbers("limit", 3).get(8) for one in here], [None] * 3)
 
+    async def test_what_lacks_is_told_while_roads_are_mended(self) -> None:
+        """A site that lacks operations is told them once, though what wins there is another each time."""
+        bus = Bus()
+        here = await self.enterAsyncContext(Here(site=1))
+        site = bus.site(here)
+        ada, = await here.join("Ada")
+        await here.put(ada, ["limit", 1, 50, 4])
+        await here.share(ada)
+        await bus.carry()
+        for number in range(3):
+            body = json.dumps({"folder": "f", "sum": f"{number}", "numbers": {"operations": "0"}}).encode()
+            await site._came(f"road/{site._road}/sum", "f", body)
+        self.assertEqual([one.topic.rpartition("/")[2] for one in bus.sent], ["layers"])
+
     async def test_what_strangers_say_of_themselves_is_bounded(self) -> None:
         bus = Bus()
         here = await self.enterAsyncContext(Here(site=1))
