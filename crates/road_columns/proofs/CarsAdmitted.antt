@@ -27,15 +27,12 @@ use Rattle.road_columns.proofs.ColumnPlaces.{places_put}
 use Rattle.road_columns.proofs.FallingColumns.{all_before, all_past, loose_numbers, numbers_put, still_falling}
 use Rattle.road_columns.proofs.FirstEntries.{inlet_cell, inlet_closed}
 use Rattle.road_columns.proofs.InletTurns.{enters_here, taken_here}
-use Rattle.road_columns.proofs.IntervalStarts.{interval_room}
 
 module _ (g : Layout) (first k i : ℕ) (cars : CarColumns) (words : IntervalWords) (are : AreReady g first k i cars words) (early : k < 64) (below : i < length g.plan.now.inlets) where
   -- there is room for one car more
   pub room_for_one : cars.tail + 1 < length cars.cells.items
   room_for_one =
-      let most = interval_room (length g.plan.now.inlets) k early in
-      let few = are.words_are.few in
-      let size = are.standing.room.cells_each in omega arith
+      let room = are.room in omega arith
 
   pub site_is : i < length g.sites.now
   site_is = let many = are.layout.sites_are.as_many in omega arith
@@ -53,7 +50,7 @@ module _ (g : Layout) (first k i : ℕ) (cars : CarColumns) (words : IntervalWor
   pub inlet_word : (t : ℕ) → first + k ≡ t → (batch : List ℕ) (index : ℕ) → batch ≡ slice_index_or words.inlets.items i [] → index ≡ index_of k
       → slice_index batch index ≡ word g.plan.now.words (inlet_stream i) t / 65536
   inlet_word t now batch index read at =
-      let many = are.standing.room.inlets_each in
+      let many = are.standing.even.inlets_each in
       (λ j. slice_index (read j) (at j)) ∙ are.words_are.inlet_words i k (omega arith) early ∙ ap (λ u. word g.plan.now.words (inlet_stream i) u / 65536) now
 
   module _ (t lo hi : ℕ) (a : Array) (on : AreAllOn (with_first_entries lo hi i g.plan.now g.settings.now t a) cars) where
@@ -141,9 +138,12 @@ module _ (g : Layout) (first k i : ℕ) (cars : CarColumns) (words : IntervalWor
 
       pub put_ready : AreReady g first k (i + 1) cars' words'
       put_ready =
-          let room = are.standing.room in
-          let few = are.words_are.few in
-          let few_beside = are.words_are.few_beside in
+          let even = are.standing.even in
+          let short = are.standing.even.short in
+          let room = are.room in
+          let beside = are.room_beside in
+          let size = put.cells_each in
+          let size_beside = rest.beside_each in
           let tail = put.tail in
           let head = put.head in
           let from = are.standing.from in
@@ -151,25 +151,24 @@ module _ (g : Layout) (first k i : ℕ) (cars : CarColumns) (words : IntervalWor
             layout = are.layout;
             standing = record {
               source_is = λ stream place. ap (λ source. drawn_word source stream place) rest.source ∙ are.standing.source_is stream place;
-              room = record {
-                cells_each = put.cells_each ∙ room.cells_each;
-                speeds_each = put.speeds_each ∙ room.speeds_each ∙ sym put.cells_each;
-                numbers_each = put.numbers_each ∙ room.numbers_each ∙ sym put.cells_each;
-                rows_each = rest.rows_each ∙ room.rows_each ∙ ap (λ n. 64 * (n + 8)) (sym put.cells_each);
-                beside_each = rest.beside_each ∙ room.beside_each;
-                batches_each = rest.batches_each ∙ room.batches_each ∙ sym rest.beside_each;
-                inlets_each = ap length rest.inlets ∙ room.inlets_each;
+              even = record {
+                short = omega arith;
+                speeds_each = put.speeds_each ∙ even.speeds_each ∙ sym put.cells_each;
+                numbers_each = put.numbers_each ∙ even.numbers_each ∙ sym put.cells_each;
+                batches_each = rest.batches_each ∙ even.batches_each ∙ sym rest.beside_each;
+                inlets_each = ap length rest.inlets ∙ even.inlets_each;
               };
               from = omega arith;
               cars_are = cars_put_in;
               places_are = places_put_in;
             };
             words_are = record {
-              few = omega arith;
-              few_beside = omega arith;
+              rows_each = rest.rows_each ∙ are.words_are.rows_each ∙ ap (λ n. 64 * (n + 8)) (sym put.cells_each);
               entered = subst (AreEntered words') (sym put.tail) entered;
               of_cars = λ is. of_cars (sym rest.worded ∙ is);
               inlet_words = λ j r inside soon. ap (λ xs. high16_in xs j r) rest.inlets ∙ are.words_are.inlet_words j r (subst (λ xs. j < length xs) rest.inlets inside) soon;
             };
+            room = omega arith;
+            room_beside = omega arith;
             free = λ is. are.free (sym rest.worded ∙ is);
           }

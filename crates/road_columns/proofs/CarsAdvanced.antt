@@ -28,7 +28,6 @@ use Rattle.road_columns.specs.declared.layout.Layout.{Layout}
 use Rattle.road_columns.specs.declared.regions.Region.{Region}
 use Rattle.road_columns.proofs.CarsStepped.{cars_stepped, places_stepped, road_stepped, words_stepped}
 use Rattle.road_columns.proofs.CountsStepped.{count_is, count_more}
-use Rattle.road_columns.proofs.IntervalStarts.{one_more}
 use Rattle.road_columns.proofs.MovedCars.{apart, block_ahead, slow_enough, speed_is}
 use Rattle.road_columns.proofs.RegionPlaces.{end_in, ends_fall, in_region, last_end}
 use Rattle.road_columns.proofs.StepSites.{detector_each, detector_from, detector_to, ends_each, ends_from, rises_from, sites_before_exit}
@@ -152,17 +151,16 @@ module _ (g : Layout) (t : ℕ) (cars moved cars' : CarColumns) (words : Interva
     tail_is : cars'.tail ≡ cars.tail
     tail_is = tail ∙ moves.tail
 
-    pub left_ready : AreReady g (64 * (t / 64)) (t % 64 + 1) 0 cars' words
+    pub left_ready : AreReady g (64 * (t / 64)) (t % 64 + 1) (length g.plan.now.inlets) cars' words
     left_ready =
         let p = g.plan.now in
         let c = are.standing.cars_are in
-        let room = are.standing.room in
+        let even = are.standing.even in
+        let few_places = are.standing.even.short in
+        let inside = are.standing.cars_are.inside in
         let few_cells = short g (64 * (t / 64)) (t % 64) (length g.plan.now.inlets) cars words are in
         let long : length cars'.cells.items ≡ length cars.cells.items = left.long ∙ moves.cells_each in
         let early : t % 64 < 64 = omega arith in
-        let more = one_more (length g.plan.now.inlets) (t % 64) in
-        let few = are.words_are.few in
-        let few_beside = are.words_are.few_beside in
         let end = tail_is in
         let from = are.standing.from in
         let gone = left.from in
@@ -170,14 +168,12 @@ module _ (g : Layout) (t : ℕ) (cars moved cars' : CarColumns) (words : Interva
           layout = are.layout;
           standing = record {
             source_is = are.standing.source_is;
-            room = record {
-              cells_each = long ∙ room.cells_each;
-              speeds_each = ap length speeds ∙ moves.speeds_each ∙ room.speeds_each ∙ sym long;
-              numbers_each = ap length (numbers ∙ moves.numbers) ∙ room.numbers_each ∙ sym long;
-              rows_each = room.rows_each ∙ ap (λ n. 64 * (n + 8)) (sym long);
-              beside_each = room.beside_each;
-              batches_each = room.batches_each;
-              inlets_each = room.inlets_each;
+            even = record {
+              short = omega arith;
+              speeds_each = ap length speeds ∙ moves.speeds_each ∙ even.speeds_each ∙ sym long;
+              numbers_each = ap length (numbers ∙ moves.numbers) ∙ even.numbers_each ∙ sym long;
+              batches_each = even.batches_each;
+              inlets_each = even.inlets_each;
             };
             from = omega arith;
             cars_are = subst (λ x. AreCarsInColumn p cars'.head x cars'.cells.items) (sym tail_is)
@@ -191,8 +187,7 @@ module _ (g : Layout) (t : ℕ) (cars moved cars' : CarColumns) (words : Interva
                 (λ d below. places d below ∙ ap (λ xs. place_on moved.cells.items (slice_index g.sites.now d) (slice_index xs d)) moves.places));
           };
           words_are = record {
-            few = omega arith;
-            few_beside = omega arith;
+            rows_each = are.words_are.rows_each ∙ ap (λ n. 64 * (n + 8)) (sym long);
             entered = subst (AreEntered words) (sym tail_is) are.words_are.entered;
             of_cars = λ is.
                 transport (λ j. HaveLooseWords p.words (64 * (t / 64)) (sym long j + 8) (t % 64 + 1) words.rows.items (entered_of_words words) cars'.head (sym tail_is j) cars'.cells.items (slice_index (sym (numbers ∙ moves.numbers) j)))
@@ -201,6 +196,8 @@ module _ (g : Layout) (t : ℕ) (cars moved cars' : CarColumns) (words : Interva
                 (slice_index cars.numbers.items) early (are.words_are.of_cars is));
             inlet_words = are.words_are.inlet_words;
           };
+          room = omega arith;
+          room_beside = are.room_beside;
           free = are.free;
         }
 

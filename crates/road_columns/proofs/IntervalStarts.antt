@@ -1,7 +1,6 @@
--- The words of an interval from step to step, and the cars for which there is room.
+-- The words of an interval from step to step, and how many cars there are.
 use Rattle.std.specs.Prelude.{◌≡◌, ℕ, ◌+◌, ◌-◌, ◌*◌, ◌/◌, ◌%◌, ◌<◌, ◌≤◌, List}
 use Rattle.std.proofs.Common.{arith, inl, inr}
-use Rattle.std.proofs.Math.Nat.{mul-le-mul_right}
 use Rattle.std.proofs.Math.Path.{transport}
 use Rattle.std.proofs.lemmas.Bool.{cases_lt}
 use Rattle.road_plan.specs.Plan.{Plan, exit_start}
@@ -20,17 +19,10 @@ few_cars p head tail cells cars = elim (cases_lt head tail) as (λ _. tail - hea
   | inr none ↦ omega arith
 ]
 
--- there is room for all that the inlets let in
-pub interval_room : (n k : ℕ) → k < 64 → n * k + n ≤ 64 * n
-interval_room n k early = let most = mul-le-mul_right {m = k + 1} {n = 64} n (omega arith) in omega arith
-
-pub one_more : (n k : ℕ) → n * (k + 1) ≡ n * k + n
-one_more n k = omega arith
-
 -- but after its last step an interval goes on
 pub words_on : (p : Plan) (t : ℕ) (cars : CarColumns) (words : IntervalWords) → t % 64 < 63
-    → HaveIntervalWords p (64 * (t / 64)) (t % 64 + 1) 0 cars words → HaveIntervalWords p (64 * ((t + 1) / 64)) ((t + 1) % 64) 0 cars words
+    → HaveIntervalWords p (64 * (t / 64)) (t % 64 + 1) cars words → HaveIntervalWords p (64 * ((t + 1) / 64)) ((t + 1) % 64) cars words
 words_on p t cars words early have =
     let first : 64 * (t / 64) ≡ 64 * ((t + 1) / 64) = omega arith in
     let step : t % 64 + 1 ≡ (t + 1) % 64 = omega arith in
-    transport (λ j. HaveIntervalWords p (first j) (step j) 0 cars words) have
+    transport (λ j. HaveIntervalWords p (first j) (step j) cars words) have

@@ -50,6 +50,7 @@ pub mod IntervalStarts
 pub mod StretchSteps
 pub mod TotalsKept
 pub mod RunSteps
+pub mod LongerColumns
 pub mod Refilled
 pub mod TakenUp
 pub mod NearRuns

@@ -1,10 +1,13 @@
 //! The cars of a road in columns.
 
-ghost use Rattle.std.specs.Prelude.{◌≡◌, ◌<◌, ◌≤◌, ◌+◌, ◌-◌, ◌^◌, ℕ, length, slice_index};
-ghost use Rattle.road_columns.specs.Private.Cars.{PutsCar};
+ghost use Rattle.std.specs.Prelude.{◌≡◌, ◌<◌, ◌≤◌, ◌+◌, ◌-◌, ◌^◌, ℕ, length, slice_index, IfOk, OnOk};
+ghost use Rattle.std.specs.List.{slice_index_or};
+ghost use Rattle.road_columns.specs.Private.Cars.{AreLonger, PutsCar};
 ghost use Rattle.road_columns.specs.Private.Entering.{IsPutIn, place_beside, place_on};
 
 use crate::cutting::NOWHERE;
+use road_ends::OutOfMemory;
+use std::alloc::Global;
 
 /// The cars of a road in columns, the one at the far end first: at the places from `head` to before `tail`. In front of
 /// them is a cell that nobody reaches, and behind them the cell 0.
@@ -29,6 +32,32 @@ impl CarColumns {
         self.cells.len() + 8
     }
 
+    /// Makes the columns at least so long, with the cars at their places.
+    ///
+    /// # Errors
+    ///
+    /// `OutOfMemory` where an allocation failed; then nothing has changed.
+    pub fn lengthen(&mut self, alloc: Global, long: usize) -> Result<(), OutOfMemory>
+        requires few { long < 2 ^ 62 }
+        requires speeds { length self.old.speeds.items ≡ length self.old.cells.items }
+        requires numbers { length self.old.numbers.items ≡ length self.old.cells.items }
+        ensures longer { AreLonger self.old self.new }
+        ensures long { OnOk result (long ≤ length self.new.cells.items) }
+        ensures short { length self.old.cells.items < 65520 → long ≤ 65000 → length self.new.cells.items < 65520 }
+    {
+        if long <= self.cells.len() {
+            return Ok(());
+        }
+        let long = in_odd_lines(long);
+        let cells = lengthened(alloc, &self.cells, long, 0)?;
+        let speeds = lengthened(alloc, &self.speeds, long, 0)?;
+        let numbers = lengthened(alloc, &self.numbers, long, 0)?;
+        self.cells = cells;
+        self.speeds = speeds;
+        self.numbers = numbers;
+        Ok(())
+    }
+
     /// Puts a car that stands at a cell into the columns, at a place.
     #[inline(always)]
     pub fn put(&mut self, place: usize, cell: u16, number: u32, sites: &[u16])
@@ -49,6 +78,34 @@ impl CarColumns {
     }
 }
 
+// Returns the least length from this one on by which a row of words ([`CarColumns::width`]) takes an odd number of lines
+// of 64 bytes: words are turned into such rows fastest.
+fn in_odd_lines(long: usize) -> usize
+    requires { long < 2 ^ 62 }
+    ensures enough { long ≤ result }
+    ensures few { result < long + 64 }
+{
+    long + (88 - long % 64) % 64
+}
+
+// Copies a column into a longer one, with a value behind.
+fn lengthened<T: Copy>(
+    alloc: Global,
+    column: &[T],
+    long: usize,
+    value: T,
+) -> Result<Vec<T>, OutOfMemory>
+    requires { length column.now ≤ long }
+    ensures long { IfOk result (λ longer. length longer.items ≡ long) }
+    ensures kept { IfOk result (λ longer. (i : ℕ) (d : T) → i < length column.now
+        → slice_index_or longer.items i d ≡ slice_index_or column.now i d) }
+{
+    let mut longer = Vec::with_capacity(alloc, long)?;
+    longer.extend_from_slice(column)?;
+    longer.resize(long, value)?;
+    Ok(longer)
+}
+
 /// Inserts a value at a place of a column, before `tail`.
 #[inline(always)]
 pub fn insert<T: Copy>(column: &mut Vec<T>, place: usize, tail: usize, value: T)
@@ -57,10 +114,21 @@ pub fn insert<T: Copy>(column: &mut Vec<T>, place: usize, tail: usize, value: T)
     ensures long { length column.new.items ≡ length column.old.items }
     ensures put_in { (d : T) → IsPutIn column.old.items column.new.items place tail value d }
 {
-    if place < tail {
-        column.copy_within(place..tail, place + 1);
-    }
+    move_up(&mut column[place..tail + 1]);
     column[place] = value;
+}
+
+// Moves each value but the last one place further. (Counted up, it is compiled to one move of memory.)
+#[inline(always)]
+fn move_up<T: Copy>(values: &mut [T])
+    ensures long { length values.new ≡ length values.old }
+    ensures moved { (k : ℕ) (d : T) → 0 < k → k < length values.old
+        → slice_index_or values.new k d ≡ slice_index_or values.old (k - 1) d }
+{
+    for moved in 1..values.len() {
+        let to = values.len() - moved;
+        values[to] = values[to - 1];
+    }
 }
 
 // Moves the kept places of sites on, where a car enters at a cell.

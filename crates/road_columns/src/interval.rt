@@ -1,6 +1,6 @@
 //! The words of an interval: the 64 steps from a multiple of 64 on.
 
-ghost use Rattle.std.specs.Prelude.{◌≡◌, ◌<◌, ◌≤◌, ◌+◌, ◌*◌, ◌/◌, ◌%◌, ◌^◌, ℕ, List, length, slice_index, IsTrue};
+ghost use Rattle.std.specs.Prelude.{◌≡◌, ◌<◌, ◌≤◌, ◌+◌, ◌*◌, ◌/◌, ◌%◌, ◌^◌, ℕ, List, length, slice_index, IsTrue, OnOk};
 ghost use Rattle.road_plan.specs.declared.parts.WordKind.{WordKind};
 ghost use Rattle.road_words.specs.Words.{word};
 ghost use Rattle.road_columns.specs.Private.Drawn.{drawn_word};
@@ -13,7 +13,9 @@ ghost use Rattle.road_columns.specs.Private.LooseWords.{AreFalling, HaveLooseWor
 use crate::cars::insert;
 use crate::drawing::append;
 use crate::entered::move_later;
-use crate::words::{Batch, Source};
+use crate::words::{Batch, INTERVAL, Source};
+use road_ends::OutOfMemory;
+use std::alloc::Global;
 
 /// The words of an interval. A car has its words in a column of the rows, or beside them where it has entered between
 /// others in the interval, so that no row is moved.
@@ -42,6 +44,39 @@ impl IntervalWords {
         ensures worded { IsTrue result → IsTrue slowing → IsTrue self.now.worded }
     {
         self.drawn && (self.worded || !slowing)
+    }
+
+    /// Makes rows of `width` words, and room for so many cars beside them. What words were there is lost.
+    ///
+    /// # Errors
+    ///
+    /// `OutOfMemory` where an allocation failed; then nothing has changed.
+    pub fn make_rows(
+        &mut self,
+        alloc: Global,
+        width: usize,
+        beside: usize,
+    ) -> Result<(), OutOfMemory>
+        requires width { width < 65536 }
+        requires beside { beside < 65536 }
+        requires batches { length self.old.batches.items ≡ length self.old.beside.items }
+        ensures source { self.new.source ≡ self.old.source }
+        ensures drawn { self.new.drawn ≡ self.old.drawn }
+        ensures inlets { self.new.inlets.items ≡ self.old.inlets.items }
+        ensures batches { length self.new.batches.items ≡ length self.new.beside.items }
+        ensures rows { OnOk result (length self.new.rows.items ≡ 64 * width) }
+        ensures beside { OnOk result (beside ≤ length self.new.beside.items) }
+    {
+        if self.rows.len() == INTERVAL * width && beside <= self.beside.len() {
+            return Ok(());
+        }
+        let rows = vec![in alloc; 0u16; INTERVAL * width]?;
+        let places = vec![in alloc; 0u32; beside]?;
+        let batches = vec![in alloc; [0u16; INTERVAL]; beside]?;
+        self.rows = rows;
+        self.beside = places;
+        self.batches = batches;
+        Ok(())
     }
 
     /// Draws and keeps the words of a car that enters at a step, at a place of columns that end before `tail`, where

@@ -9,7 +9,7 @@
 //! let settings = Arc::new(alloc, Settings::of_plan(alloc, &plan)?)?;
 //! let mut run = UnderWay::new(alloc, plan, settings)?;
 //! for _ in 0..100 {
-//!     run.step();
+//!     run.step(alloc, 100)?;
 //! }
 //! println!(rt; "{}", run.row(alloc)?)?;
 //! ```
@@ -30,6 +30,7 @@ mod motion;
 mod passing;
 mod pieces;
 mod regions;
+mod room;
 mod row_text;
 mod shifting;
 mod starting;

@@ -6,7 +6,7 @@ ghost use Rattle.road_words.specs.Words.{word};
 ghost use Rattle.road_cells.specs.Array.{Array};
 ghost use Rattle.road_columns.specs.Private.Cars.{AreCarsOf};
 ghost use Rattle.road_columns.specs.Private.Drawn.{drawn_word};
-ghost use Rattle.road_columns.specs.Private.Interval.{HaveIntervalWords};
+ghost use Rattle.road_columns.specs.Private.Interval.{HaveIntervalWords, HaveRoom};
 ghost use Rattle.road_columns.specs.Private.LooseWords.{AreFalling, HaveLooseWords};
 ghost use Rattle.road_columns.specs.Private.Running.{AreReady, AreStanding, IsLayout};
 
@@ -25,7 +25,8 @@ pub fn make_ready(layout: &Layout, step: u32, cars: &mut CarColumns, words: &mut
     requires layout { IsLayout layout.now }
     requires standing { AreStanding layout.now.plan.now layout.now.sites.now cars.old words.old }
     requires words { IsTrue words.old.drawn
-        → HaveIntervalWords layout.now.plan.now (64 * (step / 64)) (step % 64) 0 cars.old words.old }
+        → HaveIntervalWords layout.now.plan.now (64 * (step / 64)) (step % 64) cars.old words.old }
+    requires room { HaveRoom (length layout.now.plan.now.inlets) cars.old words.old }
     ensures ready { AreReady layout.now (64 * (step / 64)) (step % 64) 0 cars.new words.new }
     ensures road { (a : Array) → AreCarsOf a cars.old → AreCarsOf a cars.new }
 {

@@ -10,6 +10,7 @@ ghost use Rattle.road_ends.specs.EntriesBetween.{input_between};
 ghost use Rattle.road_detector.specs.Passes.{no_totals, passes_at, plus};
 ghost use Rattle.road_columns.specs.Private.Cars.{AreCarsOf, MoveCars, road_of};
 ghost use Rattle.road_columns.specs.Private.Counts.{totals_in};
+ghost use Rattle.road_columns.specs.Private.Interval.{HaveRoom};
 ghost use Rattle.road_columns.specs.Private.Running.{AreReady, AreRunning, IsLayout};
 ghost use Rattle.road_columns.specs.Private.Sites.{IsOfSteps, unpacked};
 
@@ -39,6 +40,7 @@ pub(crate) fn run_step(
     requires layout { IsLayout layout.now }
     requires running { AreRunning layout.now.plan.now layout.now.sites.now step stretch.first stretch.end cars.old
         words.old counts.old }
+    requires room { HaveRoom (length layout.now.plan.now.inlets) cars.old words.old }
     ensures running { AreRunning layout.now.plan.now layout.now.sites.now (step + 1) stretch.first
         (min (stretch.end + GREATEST_SPEED) layout.now.plan.now.cells) cars.new words.new counts.new }
     ensures road { road_of cars.new ≡ input_next
@@ -72,7 +74,8 @@ fn move_cars(
     requires passes { length counts.old.passes.items ≡ length layout.now.plan.now.detectors }
     requires counted { (d : ℕ) → d < length counts.old.passes.items
         → IsOfSteps (step % 64) (slice_index counts.old.passes.items d) }
-    ensures ready { AreReady layout.now (64 * (step / 64)) (step % 64 + 1) 0 cars.new words.now }
+    ensures ready { AreReady layout.now (64 * (step / 64)) (step % 64 + 1) (length layout.now.plan.now.inlets)
+        cars.new words.now }
     ensures totals { counts.new.totals ≡ counts.old.totals }
     ensures passes_each { length counts.new.passes.items ≡ length counts.old.passes.items }
     ensures counted { (d : ℕ) → d < length counts.old.passes.items

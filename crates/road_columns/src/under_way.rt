@@ -24,6 +24,7 @@ use crate::finding::find_places;
 use crate::holding::{can_hold, hold, is_held, road_held};
 use crate::interval::IntervalWords;
 use crate::layout::{Kept, Layout};
+use crate::room::make_room;
 use crate::row_text::text_of;
 use crate::shifting::FIRST;
 use crate::step::run_step;
@@ -31,12 +32,13 @@ use crate::words::{INTERVAL, Source};
 use road_cells::{Car, GREATEST_SPEED, Road};
 use road_detector::Totals;
 use road_ends::{OutOfMemory, Stretch, are_same_settings, is_same_plan};
+use road_plan::limits::GREATEST_LENGTH;
 use road_plan::{Plan, Settings};
 use std::alloc::Global;
 use std::marker::Model;
 use std::sync::Arc;
 
-/// A run under way: its road before a step, and what the detectors have counted. All memory for its steps is there.
+/// A run under way: its road before a step, and what the detectors have counted.
 #[derive(Drop)]
 pub struct UnderWay {
     plan: Arc<Plan>,
@@ -70,8 +72,7 @@ pub fn is_runnable(plan: &Plan, stretch: Stretch, road: &Road) -> bool
 }
 
 impl UnderWay {
-    /// Begins a run of a plan at step 0, on its whole road, which is empty. It takes all memory that its steps need. The
-    /// settings must fit the plan.
+    /// Begins a run of a plan at step 0, on its whole road, which is empty. The settings must fit the plan.
     ///
     /// # Errors
     ///
@@ -90,7 +91,7 @@ impl UnderWay {
     }
 
     /// Begins a run of a plan on a road, at a step, on the cells of a stretch, as [`UnderWay::take_up`] goes on from it:
-    /// `None` where that would answer `false`. It takes all memory that its steps need. The settings must fit the plan.
+    /// `None` where that would answer `false`. The settings must fit the plan.
     ///
     /// # Errors
     ///
@@ -132,12 +133,12 @@ impl UnderWay {
         requires on_road { stretch.end ≤ (arc_value plan).cells }
         requires rise { AreRising cars.now }
         requires can_run { All (CanRun stretch.first stretch.end (exit_start (arc_value plan))) cars.now }
-        ensures { IfOk result (λ run. run ≡ begun_on (arc_value plan) (arc_value settings) step stretch.first stretch.end
-            (array_of cars.now)) }
+        ensures { IfOk result (λ run. run ≡ begun_on (arc_value plan) (arc_value settings) step stretch.first
+            stretch.end (array_of cars.now)) }
     {
         let kept = Kept::of(alloc, &plan, &settings)?;
         let columns = columns_for(alloc, &plan, &kept.sites, cars)?;
-        let words = words_for(alloc, &plan, columns.width())?;
+        let words = words_for(alloc, &plan)?;
         let counts = Counts::of(alloc, plan.detectors().len())?;
         Ok(UnderWay {
             plan,
@@ -182,6 +183,9 @@ impl UnderWay {
         }
         let kept = Kept::of(alloc, &self.plan, &settings)?;
         let mut places = vec![in alloc; 0u32; kept.sites.len()]?;
+        let many = road.cars().len();
+        self.words.drawn = false;
+        self.cars.lengthen(alloc, FIRST + 1 + many)?;
         let tail = hold(
             road.cars(),
             &mut self.cars.cells,
@@ -193,7 +197,6 @@ impl UnderWay {
         self.cars.head = FIRST;
         self.cars.tail = tail;
         self.cars.places = places;
-        self.words.drawn = false;
         self.step = step;
         self.stretch = stretch;
         self.settings = settings;
@@ -226,11 +229,19 @@ impl UnderWay {
         Ok(())
     }
 
-    /// Makes one step: entries, motion, counting, exit. It takes no memory.
-    pub fn step(&mut self)
+    /// Makes one step: entries, motion, counting, exit. It takes memory for the cars that may enter where it is lacking:
+    /// for those of `ahead` steps, where its caller makes so many from here on.
+    ///
+    /// # Errors
+    ///
+    /// `OutOfMemory` where an allocation failed; then nothing has changed.
+    pub fn step(&mut self, alloc: Global, ahead: u32) -> Result<(), OutOfMemory>
         requires { self.old.step < GREATEST_HORIZON }
-        ensures { self.new ≡ stepped self.old }
+        ensures stepped { OnOk result (self.new ≡ stepped self.old) }
+        ensures err { OnErr result (self.new ≡ self.old) }
     {
+        let inlets = self.plan.inlets().len();
+        make_room(alloc, inlets, ahead, &mut self.cars, &mut self.words)?;
         let layout = Layout {
             plan: &self.plan,
             settings: &self.settings,
@@ -248,6 +259,7 @@ impl UnderWay {
         );
         self.stretch.end = (self.stretch.end + u32::from(GREATEST_SPEED)).min(self.plan.length());
         self.step += 1;
+        Ok(())
     }
 
     /// Returns the road before the next step.
@@ -338,7 +350,7 @@ impl UnderWay {
     }
 }
 
-// Makes columns for all cars before a plan's exit and those that enter in an interval. These cars are in them.
+// Makes columns that these cars fill.
 fn columns_for(
     alloc: Global,
     plan: &Plan,
@@ -348,8 +360,6 @@ fn columns_for(
     requires rise { AreRising cars.now }
     requires before_exit { All (λ car. car.cell < exit_start plan.now) cars.now }
     requires short_numbers { All (λ car. car.number < 2 ^ 32) cars.now }
-    ensures cells { IfOk result (λ columns. length columns.cells.items
-        ≡ exit_start plan.now + 64 * length plan.now.inlets + 9) }
     ensures short { IfOk result (λ columns. length columns.cells.items < 65520) }
     ensures speeds { IfOk result (λ columns. length columns.speeds.items ≡ length columns.cells.items) }
     ensures numbers { IfOk result (λ columns. length columns.numbers.items ≡ length columns.cells.items) }
@@ -359,13 +369,11 @@ fn columns_for(
         columns.places.items) }
     ensures road { IfOk result (λ columns. road_of columns ≡ array_of cars.now) }
 {
-    let length = (plan.length() - plan.exit()) as usize
-        + INTERVAL * plan.inlets().len()
-        + FIRST
-        + 1;
-    let mut cells = vec![in alloc; 0u16; length]?;
-    let mut speeds = vec![in alloc; 0u8; length]?;
-    let mut numbers = vec![in alloc; 0u32; length]?;
+    prove!(plan.length() <= GREATEST_LENGTH);
+    let long = FIRST + 1 + cars.len();
+    let mut cells = vec![in alloc; 0u16; long]?;
+    let mut speeds = vec![in alloc; 0u8; long]?;
+    let mut numbers = vec![in alloc; 0u32; long]?;
     let mut places = vec![in alloc; 0u32; sites.len()]?;
     let tail = hold(cars, &mut cells, &mut speeds, &mut numbers);
     find_places(&cells, FIRST, tail, sites, &mut places);
@@ -379,30 +387,23 @@ fn columns_for(
     })
 }
 
-// Makes room for the words of a plan's intervals, in rows of `width` words.
-fn words_for(alloc: Global, plan: &Plan, width: usize) -> Result<IntervalWords, OutOfMemory>
-    requires { width < 2 ^ 32 }
+// Makes the words of a plan's intervals, which are not drawn: there is no room for those of any car.
+fn words_for(alloc: Global, plan: &Plan) -> Result<IntervalWords, OutOfMemory>
     ensures source { IfOk result (λ words. (stream place : ℕ) → drawn_word words.source stream place
         ≡ word plan.now.words stream place) }
     ensures drawn { IfOk result (λ words. words.drawn ≡ false) }
-    ensures rows { IfOk result (λ words. length words.rows.items ≡ 64 * width) }
-    ensures beside { IfOk result (λ words. length words.beside.items ≡ 64 * length plan.now.inlets) }
     ensures batches { IfOk result (λ words. length words.batches.items ≡ length words.beside.items) }
     ensures inlets { IfOk result (λ words. length words.inlets.items ≡ length plan.now.inlets) }
 {
-    let inlets = plan.inlets().len();
-    let rows = vec![in alloc; 0u16; INTERVAL * width]?;
-    let beside = vec![in alloc; 0u32; INTERVAL * inlets]?;
-    let batches = vec![in alloc; [0u16; INTERVAL]; INTERVAL * inlets]?;
-    let inlet_words = vec![in alloc; [0u16; INTERVAL]; inlets]?;
+    let inlets = vec![in alloc; [0u16; INTERVAL]; plan.inlets().len()]?;
     Ok(IntervalWords {
         source: Source::of(plan.words()),
         drawn: false,
         worded: false,
-        rows,
+        rows: Vec::new(alloc),
         entered: 0,
-        beside,
-        batches,
-        inlets: inlet_words,
+        beside: Vec::new(alloc),
+        batches: Vec::new(alloc),
+        inlets,
     })
 }

@@ -18,7 +18,7 @@ use road_columns::UnderWay;
 use road_detector::Totals;
 use road_ends::Stretch;
 use road_ends::laws::cars_stay_on_road;
-use road_plan::{OutOfMemory, Settings};
+use road_plan::OutOfMemory;
 use std::alloc::Global;
 use std::sync::Arc;
 
@@ -47,13 +47,42 @@ impl ShownRun {
         requires plan { IfSome spare (λ run. run.plan ≡ sheet.now.plan) }
         ensures { IfOk result (IsShownBy sheet.now) }
     {
+        let Some(run) = spare else {
+            return ShownRun::begun_anew(alloc, sheet, step);
+        };
         let mut shown = ShownRun {
-            run: run_of(alloc, sheet, spare)?,
+            run,
             under: 0,
             settings: SettingsCache::none(),
         };
         shown.take_up(alloc, sheet, step)?;
         Ok(shown)
+    }
+
+    // Begins a run of a sheet's plan at the last state that the sheet keeps and that is not after a step.
+    fn begun_anew(alloc: Global, sheet: &Sheet, step: u32) -> Result<ShownRun, OutOfMemory>
+        requires simulated { step ≤ sheet.now.horizon }
+        requires horizon { step ≤ GREATEST_HORIZON }
+        ensures { IfOk result (IsShownBy sheet.now) }
+    {
+        let state = sheet.kept_state(alloc, step)?;
+        let mut cache = SettingsCache::none();
+        let settings = cache.at(alloc, sheet, state.step)?;
+        let whole = Stretch {
+            first: 0,
+            end: sheet.plan().length(),
+        };
+        cars_stay_on_road(sheet.plan());
+        let plan = Arc::try_clone(sheet.plan())?;
+        let begun = UnderWay::begin_on(alloc, plan, settings, state.step, whole, &state.road)?;
+        let Some(run) = begun else {
+            unreachable!();
+        };
+        Ok(ShownRun {
+            run,
+            under: state.step,
+            settings: cache,
+        })
     }
 
     // Takes the run out, to be taken up elsewhere.
@@ -132,7 +161,7 @@ impl ShownRun {
         ensures shown { OnOk result (IsShownBy sheet.now self.new) }
     {
         self.settle(alloc, sheet)?;
-        self.run.step();
+        self.run.step(alloc, INTERVAL_STEPS)?;
         Ok(())
     }
 
@@ -220,17 +249,4 @@ impl ShownRun {
         let totals = self.run.totals(alloc)?;
         Ok(totals[detector as usize])
     }
-}
-
-// Takes this run of a sheet's plan, or else makes one.
-fn run_of(alloc: Global, sheet: &Sheet, spare: Option<UnderWay>) -> Result<UnderWay, OutOfMemory>
-    requires { IfSome spare (λ run. run.plan ≡ sheet.now.plan) }
-    ensures { IfOk result (λ run. run.plan ≡ sheet.now.plan) }
-{
-    if let Some(run) = spare {
-        return Ok(run);
-    }
-    let settings = Settings::of_plan(alloc, sheet.plan())?;
-    let plan = Arc::try_clone(sheet.plan())?;
-    UnderWay::new(alloc, plan, Arc::new(alloc, settings)?)
 }

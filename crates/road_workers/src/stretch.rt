@@ -82,7 +82,7 @@ pub(crate) fn run_near(
     let Some(mut run) = run_on(alloc, span, with_margins(span, stretch), near, kept_run)? else {
         unreachable!();
     };
-    make_steps(span, &mut run);
+    make_steps(alloc, span, &mut run)?;
     let ran = cut_out(alloc, span, near, stretch, &run)?;
     kept.run = Some(run);
     Ok(ran)

@@ -146,7 +146,7 @@ fn ran_on(alloc: Global, span: &Span, road: &Road, run: &mut UnderWay) -> Result
     ensures totals { IfOk result (λ ran. ran.totals.items ≡ span_totals span.now road.now) }
     ensures at { IfOk result (λ ran. IsAt (span.now.step + span.now.steps) ran.road run.new) }
 {
-    make_steps(span, run);
+    make_steps(alloc, span, run)?;
     Ok(Ran {
         road: run.road(alloc)?,
         totals: run.totals(alloc)?,
@@ -154,12 +154,13 @@ fn ran_on(alloc: Global, span: &Span, road: &Road, run: &mut UnderWay) -> Result
 }
 
 // Makes the steps of a span, and counts in them alone.
-pub(crate) fn make_steps(span: &Span, run: &mut UnderWay)
+pub(crate) fn make_steps(alloc: Global, span: &Span, run: &mut UnderWay) -> Result<(), OutOfMemory>
     requires { run.old.step ≡ span.now.step }
-    ensures { run.new ≡ after_steps span.now.steps (uncounted run.old) }
+    ensures { OnOk result (run.new ≡ after_steps span.now.steps (uncounted run.old)) }
 {
     run.restart_counts();
     for _ in 0..span.steps() {
-        run.step();
+        run.step(alloc, span.steps())?;
     }
+    Ok(())
 }

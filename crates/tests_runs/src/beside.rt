@@ -147,12 +147,12 @@ impl Beside {
         Ok(())
     }
 
-    /// Makes one step of both.
+    /// Makes one step of both. The run under way is told of few steps ahead, so that it lacks memory again and again.
     pub(crate) fn step(&mut self, alloc: Global) -> Result<(), Fail> {
         if self.run.next_step() >= GREATEST_HORIZON {
             return Err(Fail::new("a step beyond the greatest horizon"));
         }
-        self.run.step();
+        self.run.step(alloc, self.step % 4)?;
         self.step_plainly(alloc)
     }
 

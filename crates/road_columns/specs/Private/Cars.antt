@@ -28,6 +28,18 @@ AreCarsOf a cars =
     AreColumnsOf a (slice_range cars.cells.items cars.head cars.tail)
     (slice_range cars.speeds.items cars.head cars.tail) (slice_range cars.numbers.items cars.head cars.tail)
 
+-- columns are made longer, with the cars at their places
+pub record AreLonger (old new : CarColumns) : Type 0 where
+  pub head : new.head ≡ old.head
+  pub tail : new.tail ≡ old.tail
+  pub places : new.places.items ≡ old.places.items
+  pub longer : length old.cells.items ≤ length new.cells.items
+  pub speeds_each : length new.speeds.items ≡ length new.cells.items
+  pub numbers_each : length new.numbers.items ≡ length new.cells.items
+  pub cells : (q : ℕ) → q < length old.cells.items → slice_index new.cells.items q ≡ slice_index old.cells.items q
+  pub speeds : (q : ℕ) → q < length old.cells.items → slice_index new.speeds.items q ≡ slice_index old.speeds.items q
+  pub numbers : (q : ℕ) → q < length old.cells.items → slice_index new.numbers.items q ≡ slice_index old.numbers.items q
+
 -- a car of speed 0 is put in at a place, and the kept places of sites move on
 pub record PutsCar (sites : List ℕ) (old new : CarColumns) (place cell number : ℕ) : Type 0 where
   pub head : new.head ≡ old.head

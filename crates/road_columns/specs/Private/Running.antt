@@ -1,5 +1,5 @@
 -- A run under way by its parts.
-use Rattle.std.specs.Prelude.{◌≡◌, ℕ, ◌*◌, ◌/◌, ◌%◌, ◌≤◌, List, true, false, length}
+use Rattle.std.specs.Prelude.{◌≡◌, ℕ, ◌+◌, ◌*◌, ◌/◌, ◌%◌, ◌≤◌, List, true, false, length}
 use Rattle.std.specs.Arc.{arc_value}
 use Rattle.road_plan.specs.Plan.{IsWithinLimits, Plan}
 use Rattle.road_plan.specs.Settings.{Fits}
@@ -11,7 +11,7 @@ use Rattle.road_columns.specs.Private.Counts.{AreCounts, totals_in}
 use Rattle.road_columns.specs.Private.Drawn.{drawn_word}
 use Rattle.road_columns.specs.Private.Entering.{ArePlacesFrom}
 use Rattle.road_columns.specs.Private.Held.{StandOn}
-use Rattle.road_columns.specs.Private.Interval.{HaveIntervalWords, HaveRoom}
+use Rattle.road_columns.specs.Private.Interval.{AreEven, HaveIntervalWords}
 use Rattle.road_columns.specs.Private.Regions.{AreFree}
 use Rattle.road_columns.specs.Private.Step.{AreCarsInColumn, AreRegionsOf, AreSitesOf}
 use Rattle.road_columns.specs.declared.cars.CarColumns.{CarColumns}
@@ -40,20 +40,22 @@ pub record IsLayout (g : Layout) : Type 0 where
   pub slowing_is : g.slowing ≡ false → AreFree g.regions.now
   pub sites_are : AreSitesOf g.plan.now g.regions.now g.sites.now
 
--- cars stand in columns, and the kept places of sites are right; there is memory for the words of an interval
+-- cars stand in columns, and the kept places of sites are right
 pub record AreStanding (p : Plan) (sites : List ℕ) (cars : CarColumns) (words : IntervalWords) : Type 0 where
   pub source_is : (stream place : ℕ) → drawn_word words.source stream place ≡ word p.words stream place
-  pub room : HaveRoom p cars words
+  pub even : AreEven p cars words
   pub from : 8 ≤ cars.head
   pub cars_are : AreCarsInColumn p cars.head cars.tail cars.cells.items
   pub places_are : ArePlacesFrom cars.cells.items cars.head cars.tail sites cars.places.items
 
 -- they are ready at step k of the interval from step `first` on, once n inlets have had their turn: the words are
--- there, those of the cars where any is slowed
+-- there, those of the cars where any is slowed, and memory for the cars of the other inlets
 pub record AreReady (g : Layout) (first k n : ℕ) (cars : CarColumns) (words : IntervalWords) : Type 0 where
   pub layout : IsLayout g
   pub standing : AreStanding g.plan.now g.sites.now cars words
-  pub words_are : HaveIntervalWords g.plan.now first k n cars words
+  pub words_are : HaveIntervalWords g.plan.now first k cars words
+  pub room : cars.tail + length g.plan.now.inlets + 1 ≤ length cars.cells.items + n
+  pub room_beside : words.entered + length g.plan.now.inlets ≤ length words.beside.items + n
   pub free : words.worded ≡ false → AreFree g.regions.now
 
 -- the parts of a run agree before step t, on the cells from lo to before hi
@@ -64,7 +66,7 @@ pub record AreRunning (p : Plan) (sites : List ℕ) (t lo hi : ℕ) (cars : CarC
   pub standing : AreStanding p sites cars words
   pub stand : StandOn lo hi (road_of cars)
   pub counts_are : AreCounts (length p.detectors) t counts.passes.items counts.totals.items
-  pub words_are : words.drawn ≡ true → HaveIntervalWords p (64 * (t / 64)) (t % 64) 0 cars words
+  pub words_are : words.drawn ≡ true → HaveIntervalWords p (64 * (t / 64)) (t % 64) cars words
 
 -- the parts of this one
 pub record IsRunning (x : Inside) : Type 0 where

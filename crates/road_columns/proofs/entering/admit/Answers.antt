@@ -14,7 +14,7 @@ returns-then-not-lets_in-clause-entries c a on =
     let g = c.args.layout.now in
     let first = 64 * (c.args.step / 64) in
     let k = c.args.step % 64 in
-    let many = c.requires.ready.standing.room.inlets_each in
+    let many = c.requires.ready.standing.even.inlets_each in
     let inlet = c.requires.inlet in
     let read = get_or_read c.args.words.now.inlets.items c.args.inlet c.index.result.now (omega arith) c.index.ensures [] in
     closed_on g first k c.args.inlet c.args.cars.now c.args.words.now c.requires.ready (omega arith) c.requires.inlet c.args.step c.args.stretch.first c.args.stretch.end a on
@@ -71,7 +71,7 @@ returns-clause-entries c a on =
     let cars = c.args.cars.now in
     let site = site_is g first k c.args.inlet cars c.args.words.now c.requires.ready (omega arith) c.requires.inlet in
     let many = c.requires.ready.standing.places_are.as_many in
-    let inlets = c.requires.ready.standing.room.inlets_each in
+    let inlets = c.requires.ready.standing.even.inlets_each in
     let inlet = c.requires.inlet in
     let to = place_to g first k c.args.inlet cars c.args.words.now c.requires.ready (omega arith) c.requires.inlet in
     let inside = c.requires.ready.standing.cars_are.inside in

@@ -2,7 +2,6 @@
 use Rattle.std.proofs.Common.{◌≡◌, ◌∙◌, ◌+◌, ◌*◌, ◌/◌, ◌%◌, ◌≤◌, length, sym, ap, arith}
 use Rattle.road_ends.specs.Entries.{inlet_stream}
 use Rattle.road_columns.specs.Private.EnteredList.{high16_in}
-use Rattle.road_columns.proofs.IntervalStarts.{few_cars}
 use Rattle.road_columns.proofs.Refilled.{refilled}
 use Rattle.road_columns.proofs.starting.make_ready.Goals as goal
 
@@ -14,12 +13,14 @@ pub returns-clause-ready : goal.returns-clause-ready
 returns-clause-ready c =
     let p = c.args.layout.now.plan.now in
     let st = c.requires.standing in
-    let room = c.requires.standing.room in
+    let even = c.requires.standing.even in
+    let short_columns = c.requires.standing.even.short in
+    let room = c.requires.room.room in
+    let beside = c.requires.room.beside in
     let sb = c.shift_back.ensures in
     let head = c.shift_back.ensures.head in
     let tail = c.shift_back.ensures.tail in
     let cells_each = c.shift_back.ensures.cells_each in
-    let few = few_cars c.args.layout.now.plan.now c.args.cars.now.head c.args.cars.now.tail c.args.cars.now.cells.items c.requires.standing.cars_are in
     let short : c.args.layout.now.plan.now.cells ≤ 65525 = let most = c.requires.layout.within.short_enough in omega arith in
     let value = c.deref_mut.ensures.value in
     let is = refilled c.args.words.now.inlets c.deref_mut.result.now c.draw_inlets.new.batches c.deref_mut.ensures.value c.draw_inlets.ensures.long in
@@ -28,22 +29,19 @@ returns-clause-ready c =
       layout = c.requires.layout;
       standing = record {
         source_is = st.source_is;
-        room = record {
-          cells_each = sb.cells_each ∙ room.cells_each;
-          speeds_each = sb.speeds_each ∙ room.speeds_each ∙ sym sb.cells_each;
-          numbers_each = sb.numbers_each ∙ room.numbers_each ∙ sym sb.cells_each;
-          rows_each = c.draw_where.ensures.long ∙ room.rows_each ∙ ap (λ n. 64 * (n + 8)) (sym sb.cells_each);
-          beside_each = room.beside_each;
-          batches_each = room.batches_each;
-          inlets_each = ap length is ∙ c.draw_inlets.ensures.long ∙ ap length value ∙ room.inlets_each;
+        even = record {
+          short = omega arith;
+          speeds_each = sb.speeds_each ∙ even.speeds_each ∙ sym sb.cells_each;
+          numbers_each = sb.numbers_each ∙ even.numbers_each ∙ sym sb.cells_each;
+          batches_each = even.batches_each;
+          inlets_each = ap length is ∙ c.draw_inlets.ensures.long ∙ ap length value ∙ even.inlets_each;
         };
         from = omega arith;
         cars_are = sb.cars p short st.cars_are;
         places_are = sb.places c.args.layout.now.sites.now st.places_are;
       };
       words_are = record {
-        few = omega arith;
-        few_beside = omega arith;
+        rows_each = c.draw_where.ensures.long ∙ c.requires.room.rows_each ∙ ap (λ n. 64 * (n + 8)) (sym sb.cells_each);
         entered = record {
           few = omega arith;
           rising = record { rising = λ i j less below. absurd (omega arith) };
@@ -55,5 +53,7 @@ returns-clause-ready c =
             ∙ c.draw_inlets.ensures.words i r (let long = ap length is in omega arith) early
             ∙ ap (λ n. n / 65536) (st.source_is (inlet_stream i) (64 * (c.args.step / 64) + r));
       };
+      room = omega arith;
+      room_beside = omega arith;
       free = c.requires.layout.slowing_is;
     }

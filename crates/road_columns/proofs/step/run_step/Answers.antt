@@ -21,7 +21,7 @@ returns-clause-running c =
     let done = c.move_cars.new.cars in
     let ready = c.move_cars.ensures.ready in
     let st = c.move_cars.ensures.ready.standing in
-    let room = c.move_cars.ensures.ready.standing.room in
+    let even = c.move_cars.ensures.ready.standing.even in
     let w = c.move_cars.ensures.ready.words_are in
     let words : IntervalWords = record c.enter.new.words { drawn = c.end_step-words.result } in
     record {
@@ -29,14 +29,12 @@ returns-clause-running c =
       on_road = omega arith;
       standing = record {
         source_is = st.source_is;
-        room = record {
-          cells_each = room.cells_each;
-          speeds_each = room.speeds_each;
-          numbers_each = room.numbers_each;
-          rows_each = room.rows_each;
-          beside_each = room.beside_each;
-          batches_each = room.batches_each;
-          inlets_each = room.inlets_each;
+        even = record {
+          short = even.short;
+          speeds_each = even.speeds_each;
+          numbers_each = even.numbers_each;
+          batches_each = even.batches_each;
+          inlets_each = even.inlets_each;
         };
         from = st.from;
         cars_are = st.cars_are;
@@ -48,8 +46,7 @@ returns-clause-running c =
       counts_are = subst (λ n. AreCounts n (c.args.step + 1) c.end_step-words.new.self.passes.items c.end_step-words.new.self.totals.items)
           (c.move_cars.ensures.passes_each ∙ c.requires.running.counts_are.passes_each) c.end_step-words.ensures.counts;
       words_are = λ goes. words_on p c.args.step done words (c.end_step-words.ensures.goes_on goes) (record {
-        few = w.few;
-        few_beside = w.few_beside;
+        rows_each = w.rows_each;
         entered = record { few = w.entered.few; rising = w.entered.rising; in_order = w.entered.in_order };
         of_cars = w.of_cars;
         inlet_words = w.inlet_words;

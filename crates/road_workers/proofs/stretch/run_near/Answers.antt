@@ -22,6 +22,6 @@ cut_out-requires-clause-after c =
     let margins = c.with_margins.ensures in
     let begun = subst (λ (o : Option UnderWay). IfSome o (IsReady c.with_margins.result.first c.with_margins.result.end c.args.span.now c.args.near.now)) c.in-Some.is c.in_ok-run.ensures.ready in
     let ready = transport (λ i. IsReady (margins.first i) (margins.end i) c.args.span.now c.args.near.now c.in-Some.run') begun in
-    subst (IsAfter c.args.stretch.first c.args.stretch.end span span.steps c.args.near.now) (sym c.make_steps.ensures)
+    subst (IsAfter c.args.stretch.first c.args.stretch.end span span.steps c.args.near.now) (sym c.in_ok-make_steps.ensures)
     (near_after c.args.stretch.first c.args.stretch.end span span.steps c.args.near.now _ (omega arith)
     (near_ready c.args.stretch.first c.args.stretch.end span c.args.near.now run ready))

@@ -8,8 +8,8 @@ use Rattle.road_workers.proofs.whole.make_steps.Goals as goal
 pub loop-preserved : goal.loop-preserved
 loop-preserved c =
     let was = c.loop.invariant.step in
-    let more = ap (λ (run : UnderWay). run.step) c.step.ensures in
+    let more = ap (λ (run : UnderWay). run.step) c.in_ok-step.ensures.stepped in
     record {
       step = omega arith;
-      made = c.step.ensures ∙ ap stepped c.loop.invariant.made ∙ sym (ap (λ n. after_steps n (uncounted c.args.run.now)) (add-one c.loop.counter));
+      made = c.in_ok-step.ensures.stepped ∙ ap stepped c.loop.invariant.made ∙ sym (ap (λ n. after_steps n (uncounted c.args.run.now)) (add-one c.loop.counter));
     }

@@ -10,20 +10,20 @@ returns-clause-road c =
     let span = c.args.span.now in
     let road = c.args.road.now in
     let whole = whole_after span span.steps road _ (whole_ready span road c.args.run.now c.requires) in
-    c.in_ok-road.ensures ∙ ap (λ (run : UnderWay). run.road) c.make_steps.ensures ∙ whole.road
+    c.in_ok-road.ensures ∙ ap (λ (run : UnderWay). run.road) c.in_ok-make_steps.ensures ∙ whole.road
 
 pub returns-clause-totals : goal.returns-clause-totals
 returns-clause-totals c =
     let span = c.args.span.now in
     let road = c.args.road.now in
     let whole = whole_after span span.steps road _ (whole_ready span road c.args.run.now c.requires) in
-    c.in_ok-totals.ensures ∙ ap (λ (run : UnderWay). run.totals) c.make_steps.ensures ∙ all_counted span road _ whole
+    c.in_ok-totals.ensures ∙ ap (λ (run : UnderWay). run.totals) c.in_ok-make_steps.ensures ∙ all_counted span road _ whole
 
 pub returns-clause-at : goal.returns-clause-at
 returns-clause-at c =
     let span = c.args.span.now in
     let road = c.args.road.now in
-    let made = c.make_steps.ensures in
+    let made = c.in_ok-make_steps.ensures in
     let whole = whole_after span span.steps road _ (whole_ready span road c.args.run.now c.requires) in
     record {
       step = ap (λ (run : UnderWay). run.step) made ∙ whole.step;

@@ -27,14 +27,12 @@ invariant_of-self c =
         on_road = i.running.on_road;
         standing = record {
           source_is = st.source_is;
-          room = record {
-            cells_each = st.room.cells_each;
-            speeds_each = st.room.speeds_each;
-            numbers_each = st.room.numbers_each;
-            rows_each = st.room.rows_each;
-            beside_each = st.room.beside_each;
-            batches_each = st.room.batches_each;
-            inlets_each = st.room.inlets_each;
+          even = record {
+            short = st.even.short;
+            speeds_each = st.even.speeds_each;
+            numbers_each = st.even.numbers_each;
+            batches_each = st.even.batches_each;
+            inlets_each = st.even.inlets_each;
           };
           from = st.from;
           cars_are = st.cars_are;
@@ -44,6 +42,6 @@ invariant_of-self c =
         counts_are = i.running.counts_are;
         words_are = λ on.
             let w = i.running.words_are on in
-            record { few = w.few; few_beside = w.few_beside; entered = w.entered; of_cars = w.of_cars; inlet_words = w.inlet_words };
+            record { rows_each = w.rows_each; entered = w.entered; of_cars = w.of_cars; inlet_words = w.inlet_words };
       };
     }

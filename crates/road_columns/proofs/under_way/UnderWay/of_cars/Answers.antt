@@ -1,5 +1,5 @@
 -- A new run: all memory is made, and the cars are put in.
-use Rattle.std.proofs.Common.{◌≡◌, ◌∙◌, ◌+◌, ◌*◌, length, sym, ap, subst, arith}
+use Rattle.std.proofs.Common.{◌≡◌, ◌∙◌, length, sym, ap, subst, arith}
 use Rattle.std.proofs.Math.Path.{transport}
 use Rattle.std.proofs.lemmas.Bool.{false≢true}
 use Rattle.std.specs.Arc.{arc_value}
@@ -33,12 +33,10 @@ invariant_of-result c =
         on_road = c.requires.on_road;
         standing = record {
           source_is = λ stream place. c.in_ok-words.ensures.source stream place ∙ ap (λ (p : Plan). word p.words stream place) c.deref-5.ensures;
-          room = record {
-            cells_each = c.in_ok-columns.ensures.cells ∙ ap (λ (p : Plan). exit_start p + 64 * length p.inlets + 9) c.deref-3.ensures;
+          even = record {
+            short = c.in_ok-columns.ensures.short;
             speeds_each = c.in_ok-columns.ensures.speeds;
             numbers_each = c.in_ok-columns.ensures.numbers;
-            rows_each = c.in_ok-words.ensures.rows ∙ ap (λ n. 64 * n) c.width.ensures;
-            beside_each = c.in_ok-words.ensures.beside ∙ ap (λ (p : Plan). 64 * length p.inlets) c.deref-5.ensures;
             batches_each = c.in_ok-words.ensures.batches;
             inlets_each = c.in_ok-words.ensures.inlets ∙ ap (λ (p : Plan). length p.inlets) c.deref-5.ensures;
           };

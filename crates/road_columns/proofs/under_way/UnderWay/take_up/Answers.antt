@@ -1,9 +1,10 @@
 -- The cars of the road are put in, and all that is kept for the settings is made anew.
-use Rattle.std.proofs.Common.{◌≡◌, ◌∙◌, ◌+◌, ◌*◌, ◌-◌, ◌<◌, ◌≤◌, length, sym, ap, subst, arith}
+use Rattle.std.proofs.Common.{◌≡◌, ◌∙◌, ◌-◌, ◌<◌, ◌≤◌, length, false, sym, ap, subst, arith, refl}
 use Rattle.std.specs.List.{All}
 use Rattle.std.proofs.Math.Path.{transport}
 use Rattle.std.proofs.lemmas.Bool.{false≢true}
 use Rattle.std.specs.Arc.{arc_value}
+use Rattle.std.specs.Vec.{with_items}
 use Rattle.road_plan.specs.Plan.{Plan, exit_start}
 use Rattle.road_plan.specs.Settings.{Fits}
 use Rattle.road_cells.specs.declared.car.Car.{Car}
@@ -14,6 +15,8 @@ use Rattle.road_columns.specs.Private.LooseWords.{AreFalling}
 use Rattle.road_columns.specs.Private.Counts.{AreCounts, totals_in}
 use Rattle.road_columns.specs.Private.Step.{AreCarsInColumn, AreRegionsOf, AreSitesOf}
 use Rattle.road_columns.proofs.HeldLists.{few_rising}
+use Rattle.road_columns.specs.declared.interval.IntervalWords.{IntervalWords}
+use Rattle.road_columns.proofs.LongerColumns.{on_err, road_longer, running_longer}
 use Rattle.road_columns.proofs.Refilled.{refilled}
 use Rattle.road_columns.proofs.StretchSteps.{stand_all}
 use Rattle.road_columns.proofs.TakenUp.{all_before}
@@ -22,12 +25,23 @@ use Rattle.road_columns.proofs.under_way.UnderWay.take_up.Goals as goal
 
 pub hold-tail-requires-clause-room : goal.hold-tail-requires-clause-room
 hold-tail-requires-clause-room c =
+    let same = ap length (c.cars-many.ensures.all ∙ sym c.cars-2.ensures.all) in
+    let long = c.in_ok-lengthen.ensures.long in
+    let value = ap length c.deref_mut.ensures.value in omega arith
+
+pub find_places-requires-clause-short : goal.find_places-requires-clause-short
+find_places-requires-clause-short c =
     let start : c.length.result - c.exit.result ≡ exit_start (arc_value c.self.inside.plan) = let a = c.length.ensures.cells in let b = c.exit.ensures in let d = ap (λ (p : Plan). p.cells) c.deref.ensures in let e = ap (λ (p : Plan). p.exit) c.deref-2.ensures in omega arith in
     let can : All (CanRun c.args.stretch.first c.args.stretch.end (exit_start (arc_value c.self.inside.plan))) c.cars-2.result.now =
     transport (λ j. All (CanRun c.args.stretch.first c.args.stretch.end (start j)) ((c.cars.ensures.all ∙ sym c.cars-2.ensures.all) j)) (c.can_hold.ensures.0 c.if-not-can_hold.false) in
     let before : All (λ (car : Car). car.cell < exit_start (arc_value c.self.inside.plan)) c.cars-2.result.now = all_before c.args.stretch.first c.args.stretch.end (exit_start (arc_value c.self.inside.plan)) c.cars-2.result.now can in
     let few = few_rising (exit_start (arc_value c.self.inside.plan)) c.cars-2.result.now c.cars-2.ensures.rise before in
-    let size = c.self.invariant.running.standing.room.cells_each in
+    let most = c.self.invariant.within.short_enough in
+    let many = ap length (c.cars-many.ensures.all ∙ sym c.cars-2.ensures.all) in
+    let short = c.lengthen.ensures.short c.self.invariant.running.standing.even.short (omega arith) in
+    let cells_is = refilled c.lengthen.new.self.cells c.deref_mut.result.now c.hold-tail.new.cells c.deref_mut.ensures.value c.hold-tail.ensures.cells_each in
+    let same = ap length (c.deref-5.ensures.value ∙ cells_is) in
+    let each = c.hold-tail.ensures.cells_each in
     let value = ap length c.deref_mut.ensures.value in omega arith
 
 pub find_places-requires-clause-inside : goal.find_places-requires-clause-inside
@@ -38,7 +52,7 @@ find_places-requires-clause-inside c =
     let before : All (λ (car : Car). car.cell < exit_start (arc_value c.self.inside.plan)) c.cars-2.result.now = all_before c.args.stretch.first c.args.stretch.end (exit_start (arc_value c.self.inside.plan)) c.cars-2.result.now can in
     let within : (arc_value c.self.inside.plan).cells ≤ 65525 = let most = c.self.invariant.within.short_enough in omega arith in
     let cars = c.hold-tail.ensures.cars (arc_value c.self.inside.plan) within before in
-    let cells_is = refilled c.self.inside.cars.cells c.deref_mut.result.now c.hold-tail.new.cells c.deref_mut.ensures.value c.hold-tail.ensures.cells_each in
+    let cells_is = refilled c.lengthen.new.self.cells c.deref_mut.result.now c.hold-tail.new.cells c.deref_mut.ensures.value c.hold-tail.ensures.cells_each in
     let inside = cars.inside in
     let same = ap length (c.deref-5.ensures.value ∙ cells_is) in omega arith
 
@@ -50,11 +64,54 @@ find_places-requires-clause-falling c =
     let before : All (λ (car : Car). car.cell < exit_start (arc_value c.self.inside.plan)) c.cars-2.result.now = all_before c.args.stretch.first c.args.stretch.end (exit_start (arc_value c.self.inside.plan)) c.cars-2.result.now can in
     let within : (arc_value c.self.inside.plan).cells ≤ 65525 = let most = c.self.invariant.within.short_enough in omega arith in
     let cars = c.hold-tail.ensures.cars (arc_value c.self.inside.plan) within before in
-    let cells_is = refilled c.self.inside.cars.cells c.deref_mut.result.now c.hold-tail.new.cells c.deref_mut.ensures.value c.hold-tail.ensures.cells_each in
+    let cells_is = refilled c.lengthen.new.self.cells c.deref_mut.result.now c.hold-tail.new.cells c.deref_mut.ensures.value c.hold-tail.ensures.cells_each in
     subst (λ xs. AreFalling xs 8 c.hold-tail.result) (sym (c.deref-5.ensures.value ∙ cells_is)) cars.falling
 
 pub invariant_of-self : goal.invariant_of-self
 invariant_of-self c =
+    let i = c.self.invariant in
+    let x = c.self.inside in
+    let start : c.length.result - c.exit.result ≡ exit_start (arc_value c.self.inside.plan) = let a = c.length.ensures.cells in let b = c.exit.ensures in let d = ap (λ (p : Plan). p.cells) c.deref.ensures in let e = ap (λ (p : Plan). p.exit) c.deref-2.ensures in omega arith in
+    let can : All (CanRun c.args.stretch.first c.args.stretch.end (exit_start (arc_value c.self.inside.plan))) c.cars-many.result.now =
+    transport (λ j. All (CanRun c.args.stretch.first c.args.stretch.end (start j)) ((c.cars.ensures.all ∙ sym c.cars-many.ensures.all) j)) (c.can_hold.ensures.0 c.if-not-can_hold.false) in
+    let before : All (λ (car : Car). car.cell < exit_start (arc_value c.self.inside.plan)) c.cars-many.result.now = all_before c.args.stretch.first c.args.stretch.end (exit_start (arc_value c.self.inside.plan)) c.cars-many.result.now can in
+    let few = few_rising (exit_start (arc_value c.self.inside.plan)) c.cars-many.result.now c.cars-many.ensures.rise before in
+    let most = c.self.invariant.within.short_enough in
+    let short = c.lengthen.ensures.short c.self.invariant.running.standing.even.short (omega arith) in
+    let words : IntervalWords = record c.self.inside.words { drawn = false } in
+    record {
+      within = i.within;
+      fits = i.fits;
+      regions_are = i.regions_are;
+      slowing_is = i.slowing_is;
+      sites_are = i.sites_are;
+      running = running_longer (arc_value x.plan) x.kept.sites.items x.step x.stretch.first x.stretch.end x.cars c.lengthen.new.self x.words words x.counts (record {
+        longer = c.lengthen.ensures.longer;
+        short = short;
+        source = refl;
+        inlets = refl;
+        batches_each = i.running.standing.even.batches_each;
+        drawn = λ never. absurd (false≢true never);
+      }) i.running;
+    }
+
+pub returns-in_err-lengthen-clause-err : goal.returns-in_err-lengthen-clause-err
+returns-in_err-lengthen-clause-err c =
+    let x = c.self.inside in
+    let inside : c.self.inside.cars.tail ≤ length c.self.inside.cars.cells.items = let within = c.self.invariant.running.standing.cars_are.inside in omega arith in
+    on_err c.from_residual-in_err-lengthen.result ((λ j. record {
+      plan = arc_value x.plan;
+      settings = arc_value x.settings;
+      step = x.step;
+      lo = x.stretch.first;
+      hi = x.stretch.end;
+      road = road_longer x.cars c.lengthen.new.self c.lengthen.ensures.longer inside j;
+      totals = totals_in x.counts.passes.items x.counts.totals.items;
+    })
+    ∙ c.self.view_is)
+
+pub invariant_of-self-2 : goal.invariant_of-self-2
+invariant_of-self-2 c =
     let i = c.self.invariant in
     let x = c.self.inside in
     let start : c.length.result - c.exit.result ≡ exit_start (arc_value c.self.inside.plan) = let a = c.length.ensures.cells in let b = c.exit.ensures in let d = ap (λ (p : Plan). p.cells) c.deref.ensures in let e = ap (λ (p : Plan). p.exit) c.deref-2.ensures in omega arith in
@@ -63,9 +120,9 @@ invariant_of-self c =
     let before : All (λ (car : Car). car.cell < exit_start (arc_value c.self.inside.plan)) c.cars-2.result.now = all_before c.args.stretch.first c.args.stretch.end (exit_start (arc_value c.self.inside.plan)) c.cars-2.result.now can in
     let within : (arc_value c.self.inside.plan).cells ≤ 65525 = let most = c.self.invariant.within.short_enough in omega arith in
     let cars = c.hold-tail.ensures.cars (arc_value c.self.inside.plan) within before in
-    let cells_is = refilled c.self.inside.cars.cells c.deref_mut.result.now c.hold-tail.new.cells c.deref_mut.ensures.value c.hold-tail.ensures.cells_each in
-    let speeds_is = refilled c.self.inside.cars.speeds c.deref_mut-2.result.now c.hold-tail.new.speeds c.deref_mut-2.ensures.value c.hold-tail.ensures.speeds_each in
-    let numbers_is = refilled c.self.inside.cars.numbers c.deref_mut-3.result.now c.hold-tail.new.numbers c.deref_mut-3.ensures.value c.hold-tail.ensures.numbers_each in
+    let cells_is = refilled c.lengthen.new.self.cells c.deref_mut.result.now c.hold-tail.new.cells c.deref_mut.ensures.value c.hold-tail.ensures.cells_each in
+    let speeds_is = refilled c.lengthen.new.self.speeds c.deref_mut-2.result.now c.hold-tail.new.speeds c.deref_mut-2.ensures.value c.hold-tail.ensures.speeds_each in
+    let numbers_is = refilled c.lengthen.new.self.numbers c.deref_mut-3.result.now c.hold-tail.new.numbers c.deref_mut-3.ensures.value c.hold-tail.ensures.numbers_each in
     let places_is = refilled c.in_ok-places.places c.deref_mut-4.result.now c.find_places.new.places c.deref_mut-4.ensures.value c.find_places.ensures.long in
     let passes_is = refilled c.self.inside.counts.passes c.deref_mut-5.result.now c.clear_counts.new.passes c.deref_mut-5.ensures.value c.clear_counts.ensures.passes_each in
     let totals_is = refilled c.self.inside.counts.totals c.deref_mut-6.result.now c.clear_counts.new.totals c.deref_mut-6.ensures.value c.clear_counts.ensures.totals_each in
@@ -75,13 +132,15 @@ invariant_of-self c =
     let f = c.clear_counts.ensures.totals_each in
     let plan_is : c.args.self.now.plan ≡ arc_value c.self.inside.plan = sym (ap (λ (run : UnderWay). run.plan) c.self.view_is) in
     let on_road : c.args.stretch.end ≤ (arc_value c.self.inside.plan).cells = let old = c.requires.on_road in let same = ap (λ (p : Plan). p.cells) plan_is in omega arith in
-    let long_cells : length c.hold-tail.new.cells ≡ length c.self.inside.cars.cells.items = c.hold-tail.ensures.cells_each ∙ ap length c.deref_mut.ensures.value in
-    let long_speeds : length c.hold-tail.new.speeds ≡ length c.self.inside.cars.speeds.items = c.hold-tail.ensures.speeds_each ∙ ap length c.deref_mut-2.ensures.value in
-    let long_numbers : length c.hold-tail.new.numbers ≡ length c.self.inside.cars.numbers.items = c.hold-tail.ensures.numbers_each ∙ ap length c.deref_mut-3.ensures.value in
-    let size = c.self.invariant.running.standing.room.cells_each in
-    let size_speeds = c.self.invariant.running.standing.room.speeds_each in
-    let size_numbers = c.self.invariant.running.standing.room.numbers_each in
-    let size_rows = c.self.invariant.running.standing.room.rows_each in
+    let long_cells : length c.hold-tail.new.cells ≡ length c.lengthen.new.self.cells.items = c.hold-tail.ensures.cells_each ∙ ap length c.deref_mut.ensures.value in
+    let long_speeds : length c.hold-tail.new.speeds ≡ length c.lengthen.new.self.speeds.items = c.hold-tail.ensures.speeds_each ∙ ap length c.deref_mut-2.ensures.value in
+    let long_numbers : length c.hold-tail.new.numbers ≡ length c.lengthen.new.self.numbers.items = c.hold-tail.ensures.numbers_each ∙ ap length c.deref_mut-3.ensures.value in
+    let few = few_rising (exit_start (arc_value c.self.inside.plan)) c.cars-2.result.now c.cars-2.ensures.rise before in
+    let most = c.self.invariant.within.short_enough in
+    let many = ap length (c.cars-many.ensures.all ∙ sym c.cars-2.ensures.all) in
+    let short = c.lengthen.ensures.short c.self.invariant.running.standing.even.short (omega arith) in
+    let longer = c.lengthen.ensures.longer in
+    let long : length (with_items c.lengthen.new.self.cells c.hold-tail.new.cells).items ≡ length c.lengthen.new.self.cells.items = ap length cells_is ∙ long_cells in
     record {
       within = i.within;
       fits = transport (λ j. Fits (plan_is j) (arc_value c.args.settings)) c.requires.fits;
@@ -93,14 +152,12 @@ invariant_of-self c =
         on_road = on_road;
         standing = record {
           source_is = i.running.standing.source_is;
-          room = record {
-            cells_each = ap length cells_is ∙ long_cells ∙ size;
-            speeds_each = ap length speeds_is ∙ long_speeds ∙ size_speeds ∙ sym (ap length cells_is ∙ long_cells);
-            numbers_each = ap length numbers_is ∙ long_numbers ∙ size_numbers ∙ sym (ap length cells_is ∙ long_cells);
-            rows_each = size_rows ∙ ap (λ n. 64 * (n + 8)) (sym (ap length cells_is ∙ long_cells));
-            beside_each = i.running.standing.room.beside_each;
-            batches_each = i.running.standing.room.batches_each;
-            inlets_each = i.running.standing.room.inlets_each;
+          even = record {
+            short = omega arith;
+            speeds_each = ap length speeds_is ∙ long_speeds ∙ longer.speeds_each ∙ sym (ap length cells_is ∙ long_cells);
+            numbers_each = ap length numbers_is ∙ long_numbers ∙ longer.numbers_each ∙ sym (ap length cells_is ∙ long_cells);
+            batches_each = i.running.standing.even.batches_each;
+            inlets_each = i.running.standing.even.inlets_each;
           };
           from = omega arith;
           cars_are = subst (AreCarsInColumn (arc_value c.self.inside.plan) 8 c.hold-tail.result) (sym cells_is) cars;
@@ -118,9 +175,9 @@ invariant_of-self c =
 pub returns-clause-taken : goal.returns-clause-taken
 returns-clause-taken c _ =
     let x = c.self.inside in
-    let cells_is = refilled c.self.inside.cars.cells c.deref_mut.result.now c.hold-tail.new.cells c.deref_mut.ensures.value c.hold-tail.ensures.cells_each in
-    let speeds_is = refilled c.self.inside.cars.speeds c.deref_mut-2.result.now c.hold-tail.new.speeds c.deref_mut-2.ensures.value c.hold-tail.ensures.speeds_each in
-    let numbers_is = refilled c.self.inside.cars.numbers c.deref_mut-3.result.now c.hold-tail.new.numbers c.deref_mut-3.ensures.value c.hold-tail.ensures.numbers_each in
+    let cells_is = refilled c.lengthen.new.self.cells c.deref_mut.result.now c.hold-tail.new.cells c.deref_mut.ensures.value c.hold-tail.ensures.cells_each in
+    let speeds_is = refilled c.lengthen.new.self.speeds c.deref_mut-2.result.now c.hold-tail.new.speeds c.deref_mut-2.ensures.value c.hold-tail.ensures.speeds_each in
+    let numbers_is = refilled c.lengthen.new.self.numbers c.deref_mut-3.result.now c.hold-tail.new.numbers c.deref_mut-3.ensures.value c.hold-tail.ensures.numbers_each in
     let places_is = refilled c.in_ok-places.places c.deref_mut-4.result.now c.find_places.new.places c.deref_mut-4.ensures.value c.find_places.ensures.long in
     let passes_is = refilled c.self.inside.counts.passes c.deref_mut-5.result.now c.clear_counts.new.passes c.deref_mut-5.ensures.value c.clear_counts.ensures.passes_each in
     let totals_is = refilled c.self.inside.counts.totals c.deref_mut-6.result.now c.clear_counts.new.totals c.deref_mut-6.ensures.value c.clear_counts.ensures.totals_each in
