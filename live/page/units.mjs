@@ -8,7 +8,15 @@ export const ALWAYS = 65536;           // a chance of 1, in the plan's units
 export const LAST_STEP = 1048575;
 
 export const kmOf = (cell) => cell * METRES_A_CELL / 1000;
-export const kmText = (cell) => String(Number(kmOf(cell).toFixed(3)));
+
+/** A length in km to so many decimals, a half rounded up: 3.5025 is 3.503, although the binary
+    fraction that stands for it is a little less. */
+export function roundedKm(km, digits = 3) {
+  const power = 10 ** digits;
+  return Math.round(Number((km * power).toPrecision(12))) / power;
+}
+
+export const kmText = (cell) => String(roundedKm(kmOf(cell)));
 export const cellOfKm = (km) => Math.round(km * 1000 / METRES_A_CELL);
 export const metresText = (cells) => `${cells * METRES_A_CELL} m`;
 export const whole = (value) => Math.round(value).toLocaleString("en");

@@ -97,7 +97,7 @@ test("edits that are one rectangle have its shape, so that they can be changed",
   assert.equal(two.shape, null);
   assert.equal(new Words(road(), ADA).text(one),
                "Whole road closed 0.75\u20130.765 km, 0:10:00\u20130:11:40");
-  assert.equal(new Words(road(), ADA).text(two), "Whole road closed 0.75\u20130.757 km, from "
+  assert.equal(new Words(road(), ADA).text(two), "Whole road closed 0.75\u20130.758 km, from "
     + "0:10:00 on");
 });
 

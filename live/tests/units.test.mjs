@@ -5,14 +5,24 @@ import {readFileSync} from "node:fs";
 import {test} from "node:test";
 
 import {cellOfKm, chanceOfDemand, dayText, demandOfChance, durationText, kmText, limitText,
-        mostDemand, plural, signedText, stepOfText, timeText} from "../page/units.mjs";
+        mostDemand, plural, roundedKm, signedText, stepOfText, timeText} from "../page/units.mjs";
 
 test("a cell is 7.5 m, a cell a step 27 km/h", () => {
   assert.equal(kmText(400), "3");
-  assert.equal(kmText(1), "0.007");     // as 0.0075 is written with three digits
   assert.equal(cellOfKm(3), 400);
   assert.equal(cellOfKm(0.18), 24);
   assert.deepEqual([0, 2, 5].map(limitText), ["0 km/h", "54 km/h", "135 km/h"]);
+});
+
+test("a half of the last digit of km is rounded up", () => {
+  for (const [cell, text] of [[467, "3.503"], [1, "0.008"], [3, "0.023"], [400, "3"], [466, "3.495"],
+                              [468, "3.51"], [8191, "61.433"]]) {
+    assert.equal(kmText(cell), text);   // 7.5 m each
+  }
+  for (const [km, digits, wanted] of [[1.0005, 3, 1.001], [3.5025, 3, 3.503], [3.5024, 3, 3.502],
+                                      [0.015, 2, 0.02], [1.005, 2, 1.01], [61.4325, 2, 61.43]]) {
+    assert.equal(roundedKm(km, digits), wanted);
+  }
 });
 
 test("times of the clock are written and read alike", () => {
