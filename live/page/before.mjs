@@ -5,6 +5,7 @@ import {closeBefore, doIt} from "./acting.mjs";
 import {untaken, words} from "./changes.mjs";
 import {$, button, element, headCell, row} from "./elements.mjs";
 import {affectedBy, newestFirst, titlesOf} from "./listing.mjs";
+import {focusOnLists} from "./lists.mjs";
 import {store, when} from "./store.mjs";
 import {HOUR, kmText, plural, signedText, timeText} from "./units.mjs";
 
@@ -27,7 +28,7 @@ function showBefore() {
   if (!before) {
     const had = $("before").contains(document.activeElement);
     $("before").hidden = true;
-    if (had) $($("own").children.length ? "own" : "held").focus();
+    if (had) focusOnLists();
     return;
   }
   const {takes} = before;

@@ -50,13 +50,15 @@ export function stepOfText(text) {
   return parts ? parts[1] * HOUR + parts[2] * 60 + Number(parts[3] ?? 0) : NaN;
 }
 
+const TIME = new Intl.DateTimeFormat([], {hour: "2-digit", minute: "2-digit"});
+const DAY = new Intl.DateTimeFormat([], {day: "numeric", month: "short"});   // each takes long to make
+
 /** When a change was made: the time of day, and the day where it is not today. */
 export function dayText(seconds) {
   if (!seconds) return "";
   const at = new Date(seconds * 1000);
-  const time = at.toLocaleTimeString([], {hour: "2-digit", minute: "2-digit"});
-  return at.toDateString() === new Date().toDateString() ? time
-    : `${at.toLocaleDateString([], {day: "numeric", month: "short"})} ${time}`;
+  const isToday = at.toDateString() === new Date().toDateString();
+  return isToday ? TIME.format(at) : `${DAY.format(at)} ${TIME.format(at)}`;
 }
 
 export const limitText = (limit) => `${limit * KMH_A_CELL} km/h`;
