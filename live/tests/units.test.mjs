@@ -55,6 +55,25 @@ test("a day is told where it is not today", () => {
   assert.ok(dayText(now - 3 * 86400).length > dayText(now).length);
 });
 
+/** The seconds of a processor that something takes, the least of three times. */
+function taken(does) {
+  return Math.min(...[1, 2, 3].map(() => {
+    const before = process.cpuUsage();
+    does();
+    return process.cpuUsage(before).user;
+  }));
+}
+
+test("a time of day is written by formats that are kept: lists have hundreds, twice a gesture", () => {
+  const now = Math.floor(Date.now() / 1000);
+  const kept = new Intl.DateTimeFormat([], {hour: "2-digit", minute: "2-digit"});
+  const many = (write) => taken(() => { for (let each = 0; each < 500; each++) write(); });
+  const plain = many(() => [new Date().toDateString(), kept.format(new Date(now * 1000))]);
+  const made = many(() => new Date(now * 1000).toLocaleTimeString([], {hour: "2-digit"}));
+  const one = many(() => dayText(now - 60));
+  assert.ok(one - plain < 0.3 * (made - plain), `${one}, kept ${plain}, made anew ${made}`);
+});
+
 /** The rows of the table of docs/TRAFFIC of inflow chances: p, the chances, and the most cars an hour. */
 function tableOfTraffic() {
   const text = readFileSync(new URL("../../docs/TRAFFIC.md", import.meta.url), "utf8");
