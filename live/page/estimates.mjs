@@ -1,5 +1,5 @@
-// Means of days, each with how far its 95 % interval reaches to both sides: [mean, half]; of one day
-// half is null.
+// Means of days, each with how far its 95 % interval reaches to both sides: [mean, half]; of one
+// day half is null.
 
 import {signedText} from "./units.mjs";
 

@@ -12,7 +12,8 @@ import {isInForce} from "./layers.mjs";
 import {followIt, moveBy, moveTo, showRoad, zoomBy} from "./looking.mjs";
 import {cornersOf} from "./picture.mjs";
 import {isOwn, layersShown, store, tell, when, whoseShown} from "./store.mjs";
-import {KMH_A_CELL, durationText, kmOf, limitText, metresText, roundedKm, timeText} from "./units.mjs";
+import {KMH_A_CELL, durationText, kmOf, limitText, metresText, roundedKm, timeText}
+  from "./units.mjs";
 import {everyShown, strideNow, viewNow} from "./view.mjs";
 
 const NAMES = {mine: "mine", shared: "shared", before: "now", after: "then"};

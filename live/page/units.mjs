@@ -50,8 +50,9 @@ export function stepOfText(text) {
   return parts ? parts[1] * HOUR + parts[2] * 60 + Number(parts[3] ?? 0) : NaN;
 }
 
+// Formats are kept, since each takes long to make.
 const TIME = new Intl.DateTimeFormat([], {hour: "2-digit", minute: "2-digit"});
-const DAY = new Intl.DateTimeFormat([], {day: "numeric", month: "short"});   // each takes long to make
+const DAY = new Intl.DateTimeFormat([], {day: "numeric", month: "short"});
 
 /** When a change was made: the time of day, and the day where it is not today. */
 export function dayText(seconds) {
