@@ -4,7 +4,8 @@
 import {closeBefore, doIt} from "./acting.mjs";
 import {untaken, words} from "./changes.mjs";
 import {$, button, element, headCell, row} from "./elements.mjs";
-import {affectedBy, titlesOf} from "./listing.mjs";
+import {affectedBy, newestFirst, titlesOf} from "./listing.mjs";
+import {focusOnLists} from "./lists.mjs";
 import {store, when} from "./store.mjs";
 import {HOUR, kmText, plural, signedText, timeText} from "./units.mjs";
 
@@ -27,7 +28,7 @@ function showBefore() {
   if (!before) {
     const had = $("before").contains(document.activeElement);
     $("before").hidden = true;
-    if (had) $($("own").children.length ? "own" : "held").focus();
+    if (had) focusOnLists();
     return;
   }
   const {takes} = before;
@@ -51,7 +52,7 @@ function showPreview() {
   if (!store.before || !$("beforeFigures")) return;
   const {said, layers, figures} = store.before;
   if (layers) {
-    const lines = said.layers.map(({name}) => layers.line(name)).filter(Boolean);
+    const lines = newestFirst(said.layers.map(({name}) => layers.line(name)).filter(Boolean));
     $("beforeCovers").replaceChildren(...coversOf(lines, words(layers)));
   }
   const place = $("beforeFigures");

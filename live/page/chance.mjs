@@ -1,7 +1,7 @@
 // View: is it the change, or chance? What is compared is asked over many days: their progress, and
 // means with their intervals in the place of the figures of one day.
 
-import {askDays, daysAsked, daysShown, dropDays, dropOldDays} from "./days.mjs";
+import {askDays, daysAsked, daysShown, dropDays, dropOldDays, stopDays} from "./days.mjs";
 import {$, button, element, headCell, row} from "./elements.mjs";
 import {changeText, halfText, meanText, sureText} from "./estimates.mjs";
 import {store, when} from "./store.mjs";
@@ -9,9 +9,13 @@ import {ORDER} from "./tables.mjs";
 import {kmText, timeText} from "./units.mjs";
 
 const overText = () => `Over ${daysAsked()} days`;
-const readText = () => `Means of ${daysAsked()} days: each has drivers of its own, the same on `
-  + "both roads. \u00b1 reaches to both ends of the 95 % interval; where that of a difference has "
-  + "0 in it, the difference may be chance.";
+const daysText = ({days, stopped}) =>
+  (stopped ? `Over ${days} of ${daysAsked()} days, stopped` : overText());
+const READ_MEANS = "each has drivers of its own, the same on both roads. \u00b1 reaches to both "
+  + "ends of the 95 % interval; where that of a difference has 0 in it, the difference may be "
+  + "chance.";
+const readText = ({days}) => (days > 1 ? `Means of ${days} days: ${READ_MEANS}`
+  : "One day alone does not say what is chance.");
 const NAMES = {vehicle_hours: "Vehicle hours", lost: "Lost demand, cars"};
 
 function nameOf({name}) {
@@ -22,7 +26,8 @@ function nameOf({name}) {
 const cell = (text, small) => element("td", text, {}, element("small", small));
 
 /** The table, with the roads in the order of the one that it stands for. */
-function tableOf({from, to, figures}, isPreview) {
+function tableOf(said, isPreview) {
+  const {from, to, figures} = said;
   const order = ORDER[isPreview ? "preview" : "mine"];
   const sides = order.map(([side]) => side);
   const heads = [...order.map(([, head]) => head),
@@ -31,17 +36,25 @@ function tableOf({from, to, figures}, isPreview) {
     ...sides.map((side) => cell(meanText(one[side]), halfText(one[side]))),
     cell(changeText(one.difference), sureText(one.difference))));
   return element("table", "", {className: "over"},
-    element("caption", `${overText()}, ${timeText(from)} to ${timeText(to)}`),
+    element("caption", `${daysText(said)}, ${timeText(from)} to ${timeText(to)}`),
     element("thead", "", {}, row(element("td"), ...heads.map((head) => headCell(head)))),
     element("tbody", "", {}, ...lines));
 }
 
-/** One button that asks, stops and goes back, and beside it how far it is. */
+/** Asks, stops, or goes back. */
+function doNext() {
+  const days = daysShown();
+  if (!days) askDays();
+  else if (days.said) dropDays();
+  else stopDays();
+}
+
+/** One button that does so, and beside it how far it is. */
 function showAsking(place) {
   const days = daysShown();
   if (!place.children.length) {
     place.append(element("progress", "", {ariaLabel: "Days done"}), element("span"),
-      button("", () => (daysShown() ? dropDays() : askDays())));
+      button("", doNext));
   }
   const [progress, said, does] = place.children;
   const isRunning = Boolean(days && !days.said);
@@ -61,7 +74,7 @@ function showDays() {
   $(one).hidden = Boolean(said);
   $(table).replaceChildren(...(said ? [
     element("div", "", {className: "scrolled"}, tableOf(said, isPreview)),
-    element("p", readText(), {className: "hint"})] : []));
+    element("p", readText(said), {className: "hint"})] : []));
 }
 
 export function begin() {

@@ -2,7 +2,7 @@
 
 import {nextOf} from "./chain.mjs";
 import {privateOf} from "./layers.mjs";
-import {Words} from "./listing.mjs";
+import {Words, newestFirst} from "./listing.mjs";
 import {keyOf} from "./stamps.mjs";
 import {layersShown, store} from "./store.mjs";
 
@@ -22,8 +22,8 @@ function freshOf({name, operations}) {
 }
 
 /** The lines of the shared road of which the own one lacks something. */
-export const untaken = () => [...store.layers.shared.lines.values()]
-  .filter((line) => freshOf(line).length);
+export const untaken = () => newestFirst([...store.layers.shared.lines.values()]
+  .filter((line) => freshOf(line).length));
 
 /** Who made what is not taken. */
 export const makers = (lines) => [...new Set(lines.flatMap(freshOf)

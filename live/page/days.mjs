@@ -27,7 +27,7 @@ export async function askDays() {
   store.days = days;
   changed("days");
   const said = await ask({days: {at: store.me.at, of: days.of, from, to}},
-    {stands: () => store.days === days});
+    {quiet: ["stopped"], stands: () => store.days === days});
   if (store.days !== days) return;
   if (said && !said.refused) days.said = said;
   else store.days = null;
@@ -41,12 +41,15 @@ export function hearDays({done}) {
   changed("days");
 }
 
-/** Stops the question, or forgets its answer. */
+/** Stops the question: its answer is that of the days that are done. */
+export const stopDays = () => ask({days: {at: store.me.at, of: null}});
+
+/** Forgets the answer, or the question. */
 export function dropDays() {
   if (!store.days) return;
   const {said} = store.days;
   store.days = null;
-  if (!said) ask({days: {at: store.me.at, of: null}});
+  if (!said) stopDays();
   changed("days");
 }
 

@@ -44,22 +44,32 @@ export function showList(list, items) {
     Object.assign(made.dataset, {key, sign});
     return made;
   });
-  const {children} = list;
-  if (now.length !== children.length || now.some((one, index) => one !== children[index])) {
-    list.replaceChildren(...now);
-  }
+  put(list, now);
   if (active && !active.isConnected) refocus(list, at?.dataset.key, place, active.textContent);
   else if (active && document.activeElement !== active) active.focus();
 }
 
-/** The focus goes to the same button of the same line, else to the line in its place, else to the
-    list. */
+/** Lets a list have these children; those that stay where they are, are not touched. */
+function put(list, children) {
+  const stay = new Set(children);
+  for (const one of [...list.children]) if (!stay.has(one)) one.remove();
+  let there = list.firstElementChild;
+  for (const one of children) {
+    if (one === there) there = there.nextElementSibling;
+    else list.insertBefore(one, there);
+  }
+}
+
+/** The focus goes to the same button of the same line, else to the line itself, to the one in its
+    place, or to the list: there a key that is pressed once more does nothing. */
 function refocus(list, key, place, text) {
   const lines = [...list.children];
-  const line = lines.find((one) => one.dataset.key === key)
-    ?? lines[Math.min(place, lines.length - 1)];
-  const buttons = [...(line?.querySelectorAll("button") ?? [])];
-  (buttons.find((one) => one.textContent === text) ?? buttons[0] ?? list).focus();
+  const same = lines.find((one) => one.dataset.key === key);
+  const again = [...(same?.querySelectorAll("button") ?? [])]
+    .find((one) => one.textContent === text);
+  const line = same ?? lines[Math.min(place, lines.length - 1)] ?? list;
+  line.tabIndex = -1;
+  (again ?? line).focus();
 }
 
 export function download(lines, name, type) {

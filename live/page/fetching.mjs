@@ -103,11 +103,17 @@ export function hasDrawn() {
   }
   if (store.idle && store.clock.rate) return;
   clearTimeout(store.idle);
-  store.idle = setTimeout(() => {
-    store.idle = null;
-    fetchRows(true);
-    reckon();
-  }, store.clock.rate ? 1000 : IDLE);
+  store.idle = setTimeout(whenQuiet, store.clock.rate ? 1000 : IDLE);
+}
+
+/** Asks for what is not seen, and for figures: where the clock stands, once the picture waits for
+    nothing. */
+function whenQuiet() {
+  const waits = store.asking && !store.clock.rate;
+  store.idle = waits ? setTimeout(whenQuiet, IDLE) : null;
+  if (waits) return;
+  fetchRows(true);
+  reckon();
 }
 
 // Figures.
@@ -135,10 +141,17 @@ async function askFigures(period) {
   }
   if (came) reckon();
   else if (!store.clock.rate && periodShown().join() !== period.join()) reckon();
-  else if (!store.clock.rate) {
-    clearTimeout(figures.soon);
-    figures.soon = setTimeout(() => askExact(period), QUIET);
-  }
+  else if (!store.clock.rate) askExactSoon(period);
+}
+
+/** Asks for what is counted car by car a moment later, once no change waits for its picture. */
+function askExactSoon(period) {
+  const {figures} = store;
+  clearTimeout(figures.soon);
+  figures.soon = setTimeout(() => {
+    if (store.asking || store.pending.size) askExactSoon(period);
+    else askExact(period);
+  }, QUIET);
 }
 
 /** Whether the figures of a key, by what it is of, are of the present edits. */

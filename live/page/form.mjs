@@ -8,7 +8,7 @@ import {OF_ONE, OF_ZONES, cellsOf, objectsNearest} from "./geometry.mjs";
 import {slowAt, zonesText} from "./sentences.mjs";
 import {now, store, tell, when} from "./store.mjs";
 import {ALWAYS, LAST_STEP, cellOfKm, chanceOfDemand, chanceText, demandOfChance, kmText, limitText,
-        stepOfText, timeText} from "./units.mjs";
+        roundedKm, stepOfText, timeText} from "./units.mjs";
 
 const FASTEST = 9;              // cells a step of a limit
 const VERBS = {look: "Close", block: "Close", limit: "Limit", inflow: "Set demand",
@@ -103,7 +103,7 @@ const kmOfForm = () => ["kmFrom", "kmTo"].map((id) =>
 function takenText([kind, first, last]) {
   if (kind !== "block" && !OF_ZONES.includes(kind)) return "";
   const taken = cellsOf(store.plan, kind, first, last).map(kmText);
-  const written = kmOfForm().map((km) => String(Number(km.toFixed(3))));
+  const written = kmOfForm().map((km) => String(roundedKm(km)));
   return taken.join() === written.join() ? ""
     : ` In whole ${kind === "block" ? "cells" : "zones"}: ${taken.join("\u2013")} km.`;
 }

@@ -12,7 +12,8 @@ import {isInForce} from "./layers.mjs";
 import {followIt, moveBy, moveTo, showRoad, zoomBy} from "./looking.mjs";
 import {cornersOf} from "./picture.mjs";
 import {isOwn, layersShown, store, tell, when, whoseShown} from "./store.mjs";
-import {KMH_A_CELL, durationText, kmOf, limitText, metresText, timeText} from "./units.mjs";
+import {KMH_A_CELL, durationText, kmOf, limitText, metresText, roundedKm, timeText}
+  from "./units.mjs";
 import {everyShown, strideNow, viewNow} from "./view.mjs";
 
 const NAMES = {mine: "mine", shared: "shared", before: "now", after: "then"};
@@ -144,7 +145,7 @@ function textAt([cell, step]) {
   const limit = layersShown().valueAt("limit", Math.floor(at / zone), moment);
   const said = texts.length === 2
     ? roads.map((whose, which) => `${NAMES[whose]}: ${texts[which]}`).join("; ") : texts[0];
-  const place = `${kmOf(at).toFixed(2)} km, ${timeText(moment)}`;
+  const place = `${roundedKm(kmOf(at), 2).toFixed(2)} km, ${timeText(moment)}`;
   return `${place}: ${said}; limit ${limitText(limit)}`;
 }
 

@@ -126,14 +126,19 @@ function isListed(line, layers, number) {
   return privateOf(line).length > 0 || lostOf(line, number) !== null;
 }
 
-/** The lines of the lists, newest first, each with the list where it stands. */
+/** Lines in the order of each list of the page: what was done last, which is looked for most,
+    first. */
+export const newestFirst = (lines) => [...lines].sort((one, other) =>
+  byStamp(lastOf(other).stamp, lastOf(one).stamp));
+
+/** The lines of the lists, each with the list where it stands. */
 export function linesOf(layers, number) {
   const words = new Words(layers, number);
-  return [...layers.lines.values()].filter((line) => isListed(line, layers, number))
-    .map((line) => ({line, state: words.state(line), cover: words.cover(line),
-                     lost: words.lost(line), text: words.text(line), meta: words.meta(line),
-                     where: privateOf(line).length ? "own" : "held"}))
-    .sort((one, other) => byStamp(lastOf(other.line).stamp, lastOf(one.line).stamp));
+  const listed = [...layers.lines.values()].filter((line) => isListed(line, layers, number));
+  return newestFirst(listed).map((line) => ({
+    line, state: words.state(line), cover: words.cover(line), lost: words.lost(line),
+    text: words.text(line), meta: words.meta(line),
+    where: privateOf(line).length ? "own" : "held"}));
 }
 
 /** All that was done, newest first: who did what and when, with what covers it since. */

@@ -45,11 +45,17 @@ const pendingItem = ([key, {note}]) => ({key, sign: note, make: () => element("l
   element("p", note + " ", {className: "note"},
     element("span", "pending", {className: "state pending"})))});
 
+/** The focus goes to the first list that there is. */
+export const focusOnLists = () => $($("own").children.length ? "own" : "held").focus();
+
 function showLists() {
   const of = (where) => store.lines.filter((one) => one.where === where).map(itemOf);
   showList($("own"), [...[...store.pending].reverse().map(pendingItem), ...of("own")]);
   showList($("held"), of("held"));
+  const hadLast = [$("own"), $("held")].some((list) =>
+    list === document.activeElement && !list.children.length);
   for (const id of ["own", "held"]) $(id).parentElement.hidden = !$(id).children.length;
+  if (hadLast) focusOnLists();
   const {undo, redo} = next();
   $("undo").disabled = undo === null;
   $("redo").disabled = redo === null;

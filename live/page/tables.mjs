@@ -1,7 +1,7 @@
 // Tables of figures as they are saved: a head and lines, of mine beside the shared road, or of a
 // road before and after.
 
-import {kmText} from "./units.mjs";
+import {kmText, plural} from "./units.mjs";
 
 const sum = (numbers) => numbers.reduce((one, other) => one + other, 0);
 const plain = (value) => (typeof value === "number" ? String(Number(value.toFixed(4))) : "");
@@ -41,7 +41,7 @@ export function tableOfDays({detectors}, of, {figures, days}) {
   const [[one, first], [other, second]] = ORDER[of];
   const nameOf = (name) => ({vehicle_hours: "vehicle hours", lost: "lost demand in cars"}[name]
     ?? `cars at ${kmText(detectors[name.split(" ")[1]])} km`);
-  return [[`mean of ${days} days`, first, "\u00b1", second, "\u00b1", changeOf(of), "\u00b1"],
+  return [[`mean of ${plural(days, "day")}`, first, "\u00b1", second, "\u00b1", changeOf(of), "\u00b1"],
           ...figures.map((figure) => [nameOf(figure.name),
             ...[one, other, "difference"].flatMap((side) => figure[side].map(plain))])];
 }

@@ -8,7 +8,15 @@ export const ALWAYS = 65536;           // a chance of 1, in the plan's units
 export const LAST_STEP = 1048575;
 
 export const kmOf = (cell) => cell * METRES_A_CELL / 1000;
-export const kmText = (cell) => String(Number(kmOf(cell).toFixed(3)));
+
+/** A length in km to so many decimals, a half rounded up: 3.5025 is 3.503, although the binary
+    fraction that stands for it is a little less. */
+export function roundedKm(km, digits = 3) {
+  const power = 10 ** digits;
+  return Math.round(Number((km * power).toPrecision(12))) / power;
+}
+
+export const kmText = (cell) => String(roundedKm(kmOf(cell)));
 export const cellOfKm = (km) => Math.round(km * 1000 / METRES_A_CELL);
 export const metresText = (cells) => `${cells * METRES_A_CELL} m`;
 export const whole = (value) => Math.round(value).toLocaleString("en");
@@ -42,13 +50,16 @@ export function stepOfText(text) {
   return parts ? parts[1] * HOUR + parts[2] * 60 + Number(parts[3] ?? 0) : NaN;
 }
 
+// Formats are kept, since each takes long to make.
+const TIME = new Intl.DateTimeFormat([], {hour: "2-digit", minute: "2-digit"});
+const DAY = new Intl.DateTimeFormat([], {day: "numeric", month: "short"});
+
 /** When a change was made: the time of day, and the day where it is not today. */
 export function dayText(seconds) {
   if (!seconds) return "";
   const at = new Date(seconds * 1000);
-  const time = at.toLocaleTimeString([], {hour: "2-digit", minute: "2-digit"});
-  return at.toDateString() === new Date().toDateString() ? time
-    : `${at.toLocaleDateString([], {day: "numeric", month: "short"})} ${time}`;
+  const isToday = at.toDateString() === new Date().toDateString();
+  return isToday ? TIME.format(at) : `${DAY.format(at)} ${TIME.format(at)}`;
 }
 
 export const limitText = (limit) => `${limit * KMH_A_CELL} km/h`;

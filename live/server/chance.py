@@ -1,8 +1,8 @@
 """Is it the change, or chance? Two roads over many days, which are seeds, each with drivers of its own: of what is
 figured the mean and its 95 % interval, before, after, and of what a day has more after than before.
 
-As a program it reads {plan, before, after, first, last, program, days} from standard input, and prints {"done"} after each
-day, at the end {"figures"}, all of the steps `first` to `last` - 1; or {"fault"}.
+As a program it reads {plan, before, after, first, last, program, days} from standard input, and prints after each day
+{"done", "figures"}, those of the days that are done, all of the steps `first` to `last` - 1; or {"fault"}.
 """
 from __future__ import annotations
 
@@ -13,16 +13,15 @@ import json
 import os
 import signal
 import sys
-from typing import TYPE_CHECKING, Any, Callable
+from concurrent.futures import ProcessPoolExecutor, as_completed
+from typing import TYPE_CHECKING, Any, Callable, Iterator
 
 from . import LIVE, figures
 from .asked import Refused
 from .journal import packed
-from .program import import_lines
 
 if TYPE_CHECKING:
-    from days import Comparison, Day
-    from intervals import Estimate
+    from days import Day
 
 NICE = 10
 SIDES = "before", "after"
@@ -38,7 +37,7 @@ class Question:
         self.is_stopped = False
 
     async def answer(self, asked: dict[str, Any], progress: Callable[[], None]) -> dict[str, Any]:
-        """The figures; `progress` is called after each day."""
+        """The figures, of the days that were done where it was stopped; `progress` is called after each day."""
         self._process = await asyncio.create_subprocess_exec(
             *figures.gently(__name__, NICE), stdin=asyncio.subprocess.PIPE, stdout=asyncio.subprocess.PIPE,
             start_new_session=True, cwd=LIVE)
@@ -59,11 +58,11 @@ class Question:
         finally:
             self.stop(done=True)
             await self._process.wait()
-        if self.is_stopped:
-            raise Refused("stopped", "the question was stopped")
-        if "figures" not in told:
+        if self.is_stopped and not self.done:
+            raise Refused("stopped", "the question was stopped before a day was done")
+        if "fault" in told or self.done < self.days and not self.is_stopped:
             raise Refused("failed", told.get("fault", "the figures failed; the server's log says why"))
-        return {"days": self.days, "figures": told["figures"]}
+        return {"days": self.done, "stopped": self.done < self.days, "figures": told["figures"]}
 
     def stop(self, done: bool = False) -> None:
         """Ends it, with all that it has started."""
@@ -110,17 +109,26 @@ def main() -> None:
     asked = json.load(sys.stdin)
     os.environ["ROAD_LAB"] = asked["program"]
     leave_one_free()
-    from days import compared, over_days
     from scripts import Fault
-    before, after = ([asked["plan"], *import_lines("road", asked[side]), {"advance": {"at": "road", "to": asked["last"]}}]
-                     for side in SIDES)
+    found: list[Day] = []
     try:
-        days = over_days(before, after, asked["days"], progress=lambda done, _: tell({"done": done}),
-                         counted=functools.partial(of_day, asked))
+        for day in days_of(asked):
+            found.append(day)
+            tell({"done": len(found), "figures": told(found)})
     except Fault as fault:
         tell({"fault": str(fault)})
-    else:
-        tell({"figures": list(map(told, compared(days)))})
+
+
+def days_of(asked: dict[str, Any]) -> Iterator[Day]:
+    """The days, as they are done."""
+    from days import SEEDS, day_of, run_day
+    seeds = [(asked["plan"]["words"] + one) % SEEDS for one in range(asked["days"])]
+    with ProcessPoolExecutor(min(len(seeds), len(os.sched_getaffinity(0)))) as pool:
+        running = [pool.submit(run_day, [], None, seed, 1.0, functools.partial(of_day, asked)) for seed in seeds]
+        try:
+            yield from (day_of(ended.result()) for ended in as_completed(running))
+        finally:
+            pool.shutdown(cancel_futures=True)
 
 
 def tell(value: dict[str, Any]) -> None:
@@ -133,12 +141,15 @@ def leave_one_free() -> None:
     os.sched_setaffinity(0, processors[1:] or processors)
 
 
-def told(one: Comparison) -> dict[str, Any]:
-    """A figure, each mean with how far its interval reaches to both sides."""
-    def pair(of: Estimate) -> list[float]:
-        return [of.mean, of.half]
-    return {"name": one.name, "before": pair(one.before), "after": pair(one.after), "difference": pair(one.difference),
-            "others": one.others}
+def told(days: list[Day]) -> list[dict[str, Any]]:
+    """The figures, each mean with how far its interval reaches to both sides: of one day that is not known."""
+    from days import compared
+    if len(days) < 2:
+        (_, before, after), = days
+        return [{"name": name, "before": [before[name], None], "after": [after[name], None],
+                 "difference": [after[name] - before[name], None], "others": 0} for name in before]
+    return [{"name": one.name, "before": list(one.before), "after": list(one.after), "difference": list(one.difference),
+             "others": one.others} for one in compared(days)]
 
 
 def of_day(asked: dict[str, Any], _pairs: Any, _at: str | None, seed: int, _seconds: float) -> Day:

@@ -341,7 +341,7 @@ class Keeper:
         program.fed[index] = fed
         return False
 
-    def ask(self, turn: int, replicas: tuple[int, ...], body: Job) -> asyncio.Future[Any]:
+    def ask(self, turn: int, replicas: tuple[int, ...], body: Job, at_leisure: bool = False) -> asyncio.Future[Any]:
         """Does something in the turn of a seat, when these replicas hold and have run what they shall. Where a write
         fails before it has ended it is `NotKept`: what it has seen so far may not be so."""
         async def job() -> Any:
@@ -353,7 +353,7 @@ class Keeper:
                     return MORE
             return await body()
         failures: set[int] = set()
-        return self.turns.ask(turn, job)
+        return self.turns.ask(turn, job, at_leisure)
 
     def is_confirmed(self, gesture: Gesture) -> bool:
         """Whether a shared gesture is on the disk."""

@@ -110,7 +110,8 @@ class Questions:
     async def _piece(self, road: Road, steps: list[int], times: Times) -> list[bytes]:
         every = steps[1] - steps[0] if len(steps) > 1 else 1
         if every >= 8 or every >= 2 and self._length >= LONG_ROAD:
-            lines = [packed({"cells": {"at": road.name, "step": step}}).encode() for step in steps]
+            at = packed(road.name)
+            lines = [f'{{"cells":{{"at":{at},"step":{step}}}}}'.encode() for step in steps]
             return [rows.of_cells(reply) for reply in await road.say_all(lines, times)]
         found: list[bytes] = []
         for first, last in rows.spans(steps[0], steps[-1], MOST_ROWS // every * every):
@@ -129,7 +130,7 @@ class Questions:
             part = await self._piece(road, list(range(start, min(last + 1, start + self._rows_at_once()))), times)
             cars.extend(map(rows.cars_in, part))
             return MORE if len(cars) < last - first else None
-        await road.job(body)
+        await road.job(body, at_leisure=True)
         return {"sums": [sum(cars[begin:begin + MINUTE]) for begin in range(0, len(cars), MINUTE)]}
 
     async def counts(self, road: Road, times: Times, *, first: int, last: int, each: int | None) -> Reply:
@@ -156,7 +157,7 @@ class Questions:
             if len(found) < len(lines):
                 found.extend(await road.say_all(lines[len(found):len(found) + LINES_AT_ONCE], times))
             return MORE if len(found) < len(lines) else None
-        await road.job(body)
+        await road.job(body, at_leisure=True)
         return found
 
     # Lists

@@ -23,8 +23,8 @@ class Road(Protocol):
 
     name: str
 
-    async def job(self, body: Job) -> Any:
-        """Does a piece of work when the road has run as far as it shall."""
+    async def job(self, body: Job, at_leisure: bool = False) -> Any:
+        """Does a piece of work when the road has run as far as it shall; at leisure what a picture does not wait for."""
 
     async def say_all(self, lines: list[bytes], times: Times) -> list[bytes]:
         """The replies to lines that are sent at once; the first refusal is raised."""
@@ -40,8 +40,8 @@ class Replica:
         self._keeper, self._turn, self._index = keeper, turn, index
         self.name = keeper.state.seats[index].at
 
-    async def job(self, body: Job) -> Any:
-        return await self._keeper.ask(self._turn, (self._index,), body)
+    async def job(self, body: Job, at_leisure: bool = False) -> Any:
+        return await self._keeper.ask(self._turn, (self._index,), body, at_leisure)
 
     async def say_all(self, lines: list[bytes], times: Times) -> list[bytes]:
         return await self._keeper.say_all(lines, times)
@@ -125,7 +125,7 @@ class Side:
     def __init__(self, preview: Preview, side: str) -> None:
         self._preview, self.name = preview, side
 
-    async def job(self, body: Job) -> Any:
+    async def job(self, body: Job, at_leisure: bool = False) -> Any:
         return await self._preview.job(self.name, body)
 
     async def say_all(self, lines: list[bytes], times: Times) -> list[bytes]:

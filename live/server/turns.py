@@ -4,7 +4,8 @@
     result = await turns.ask(seat, job)     the seat's jobs are done in their order
 
 A job is an async function. What it gives is the answer; where it gives `MORE`, it is called again when all others
-have had their turn.
+have had their turn. One that is done at leisure waits, between its pieces too, while its seat asks anything else, for a
+second at the most.
 
 Before the turn of a seat whose turns are long, those who have used little time are done with first: what they ask
 now, and what follows from it, which a moment is waited for. So a gesture and its rows wait for one long turn, not two.
@@ -25,6 +26,7 @@ LITTLE = 0.25  # of what the seat of the long turn has used
 PUT_OFF = 0.25  # of a long turn: so much time others get before it
 WAITED = 1 / 12  # of a long turn: so much is lost to it at most where nobody asks
 MOST_WAITED = 0.01
+LEISURE = 1.0  # seconds that what is done at leisure waits for other jobs of its seat
 
 
 class More:
@@ -33,6 +35,7 @@ class More:
 
 MORE = More()
 Job = Callable[[], Awaitable[Any]]
+Queue = Deque["tuple[Job, asyncio.Future[Any], float]"]  # with the time when it was asked
 
 
 class Use:
@@ -55,22 +58,27 @@ class Turns:
                  most_waited: float = MOST_WAITED) -> None:
         """`around` calls a job; it may mend what the job stands on, and call it again."""
         self._around, self._clock, self._most_waited = around, clock, most_waited
-        self._queues: Dict[int, Deque[tuple[Job, asyncio.Future[Any]]]] = collections.defaultdict(collections.deque)
+        self._queues: Dict[int, Queue] = collections.defaultdict(collections.deque)
+        self._later: Dict[int, Queue] = collections.defaultdict(collections.deque)  # what is done at leisure
         self._turn: Deque[int] = collections.deque()
         self._work = asyncio.Event()
         self._uses: Dict[int, Use] = collections.defaultdict(Use)
         self._number = 0  # of the last turn of all
 
-    def ask(self, seat: int, job: Job) -> asyncio.Future[Any]:
+    def ask(self, seat: int, job: Job, at_leisure: bool = False) -> asyncio.Future[Any]:
         """A future with what the job gives, once it is its seat's turn."""
         future: asyncio.Future[Any] = asyncio.get_running_loop().create_future()
         future.add_done_callback(lambda one: one.cancelled() or one.exception())
-        queue = self._queues[seat]
-        if not queue:
+        if not self._first(seat):
             self._turn.append(seat)
-        queue.append((job, future))
+        (self._later if at_leisure else self._queues)[seat].append((job, future, self._clock()))
         self._work.set()
         return future
+
+    def _first(self, seat: int) -> Queue:
+        """The seat's jobs of which the next is done; empty where it asks nothing."""
+        queue, later = self._queues[seat], self._later[seat]
+        return later if later and (not queue or self._clock() - later[0][2] > LEISURE) else queue
 
     async def run(self) -> None:
         """Does all jobs, for ever."""
@@ -115,8 +123,8 @@ class Turns:
         return self._work.is_set()
 
     async def _one_turn(self, seat: int) -> None:
-        queue = self._queues[seat]
-        job, future = queue[0]
+        queue = self._first(seat)
+        job, future, _ = queue[0]
         began = self._clock()
         try:
             result = MORE if future.cancelled() else await self._around(job)
@@ -133,5 +141,5 @@ class Turns:
             queue.popleft()
             if not future.done():
                 future.set_result(result)
-        if queue:
+        if self._first(seat):
             self._turn.append(seat)

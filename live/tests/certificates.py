@@ -82,11 +82,17 @@ class Certificates(Case):
         for everywhere in ("0.0.0.0", "::"):
             self.refused(f"--listen {everywhere} wants --name", "--listen", everywhere, "--certificate", self.both)
 
-    def test_a_port_in_use_names_the_option(self) -> None:
+    def test_a_port_in_use_is_told_at_once_and_names_the_option(self) -> None:
+        """Before the road is opened, which may take long: here the program never answers. Nothing is left of a new folder."""
+        silent, folder = new_folder() / "road_lab", new_folder() / "new"
+        silent.write_text("#!/bin/sh\nsleep 600\n", encoding="utf-8")
+        silent.chmod(0o755)
         with socket.socket() as taken:
             taken.bind(("127.0.0.1", 0))
             taken.listen()
-            self.refused("Address already in use: another --port may be free", "--port", str(taken.getsockname()[1]))
+            self.refused("Address already in use: another --port may be free", "--port", str(taken.getsockname()[1]),
+                         "--program", str(silent), "--folder", str(folder))
+        self.assertFalse(folder.exists())
 
     def refused(self, why: str, *options: str) -> None:
         """A server that does not start, and says why."""

@@ -12,8 +12,14 @@ from running import SMALL, Case, new_folder, program, until
 from server.asked import Refused
 from server.settings import Settings
 
-T_OF_2 = 4.302653  # Student's t for 95 % and 2 degrees of freedom, from a printed table
+# Student's t for 95 % and so many degrees of freedom, from a printed table.
+T_OF = {1: 12.706205, 2: 4.302653}
 SPAN = {"from": 20, "to": 200}
+# A program that answers of the first days, which are the seeds from 1 on, and of no others.
+PROGRAM_OF_DAYS = """read -r plan
+seed=${{plan##*'"words":'}}
+[ "${{seed%%,*}}" -le {days} ] || sleep 600
+{{ printf '%s\\n' "$plan"; cat; }} | {program}"""
 
 
 def runs(process: int) -> bool:
@@ -46,32 +52,60 @@ class Days(Case):
         path.chmod(0o755)
         return str(path), wrote
 
-    async def test_means_and_intervals_are_those_of_the_days(self) -> None:
-        """Each day is a road of its own, with another seed, asked for its figures."""
-        days = []
-        for words in (1, 2, 3):
+    async def of_days(self, days: int) -> dict[str, list[list[float]]]:
+        """The figures of so many days, before and after: each is a road of its own, with another seed, asked for its figures."""
+        found = []
+        for words in range(1, days + 1):
             async with Here(plan={**SMALL, "words": words}) as here:
                 seat, = await here.join("Ada")
                 await self.change(here, seat)
-                days.append(await here.ask(seat, "figures", of="mine", **SPAN))
-        of_days = {"vehicle_hours": [[day[side]["vehicle_hours"] for day in days] for side in ("before", "after")],
-                   "lost": [[sum(day[side]["lost"]) for day in days] for side in ("before", "after")],
-                   **{f"cars {at}": [[day[side]["detectors"][at][0] for day in days] for side in ("before", "after")]
-                      for at in range(3)}}
+                found.append(await here.ask(seat, "figures", of="mine", **SPAN))
+        sides = ("before", "after")
+        return {"vehicle_hours": [[day[side]["vehicle_hours"] for day in found] for side in sides],
+                "lost": [[sum(day[side]["lost"]) for day in found] for side in sides],
+                **{f"cars {at}": [[day[side]["detectors"][at][0] for day in found] for side in sides] for at in range(3)}}
+
+    def are_means(self, said: Any, wanted: dict[str, list[list[float]]]) -> None:
+        """Whether the figures are the means of these days, with their intervals where there are two or more."""
+        self.assertEqual([one["name"] for one in said["figures"]], list(wanted))
+        for one in said["figures"]:
+            before, after = wanted[one["name"]]
+            days = len(before)
+            for side, values in (("before", before), ("after", after),
+                                 ("difference", [late - early for early, late in zip(before, after)])):
+                self.assertAlmostEqual(one[side][0], statistics.mean(values), 6, (one["name"], side))
+                if days == 1:
+                    self.assertIsNone(one[side][1])
+                else:
+                    half = T_OF[days - 1] * statistics.stdev(values) / days ** 0.5
+                    self.assertAlmostEqual(one[side][1], half, 4, (one["name"], side))
+
+    async def test_means_and_intervals_are_those_of_the_days(self) -> None:
+        of_days = await self.of_days(3)
         await self.change(self.here, self.ada)
         self.over(3)
         said = await soon(self.here.ask(self.ada, "days", of="mine", **SPAN))
-        self.assertEqual((said["from"], said["to"], said["days"]), (20, 200, 3))
-        self.assertEqual([one["name"] for one in said["figures"]], list(of_days))
+        self.assertEqual((said["from"], said["to"], said["days"], said["stopped"]), (20, 200, 3, False))
         self.assertGreater(sum(of_days["lost"][1]), sum(of_days["lost"][0]))
-        for one in said["figures"]:
-            before, after = of_days[one["name"]]
-            for side, values in (("before", before), ("after", after),
-                                 ("difference", [late - early for early, late in zip(before, after)])):
-                half = T_OF_2 * statistics.stdev(values) / 3 ** 0.5
-                self.assertAlmostEqual(one[side][0], statistics.mean(values), 6, (one["name"], side))
-                self.assertAlmostEqual(one[side][1], half, 4, (one["name"], side))
+        self.are_means(said, of_days)
         self.assertEqual(self.heard, [(self.ada, done, 3) for done in (1, 2, 3)])
+
+    async def test_where_it_is_stopped_the_days_that_are_done_are_told(self) -> None:
+        """Days behind the first ones never end."""
+        await self.change(self.here, self.ada)
+        for days in (1, 2):
+            self.here.keeper.path, _ = self.program_that(PROGRAM_OF_DAYS.format(days=days, program=program()))
+            self.over(4)
+            self.heard.clear()
+            question = asyncio.ensure_future(self.here.ask(self.ada, "days", of="mine", **SPAN))
+
+            async def done() -> bool:
+                return (self.ada, days, 4) in self.heard
+            await until(done, "so many are done", 60)
+            self.assertEqual(await soon(self.here.ask(self.ada, "days", of=None)), {"stopped": True})
+            said = await soon(question)
+            self.assertEqual((said["days"], said["stopped"]), (days, True))
+            self.are_means(said, await self.of_days(days))
 
     async def test_a_preview_is_compared_too_and_nothing_is_written(self) -> None:
         await self.change(self.here, self.ada)

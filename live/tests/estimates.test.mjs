@@ -22,3 +22,8 @@ test("a difference may be chance where its interval has 0 in it, and only there"
 test("what is the same each day is no chance", () => {
   assert.equal(sureText([0, 0]), "the same each day");
 });
+
+test("of one day it is not known how sure it is", () => {
+  assert.deepEqual([meanText([5, null]), halfText([5, null]), changeText([-2, null]),
+                    sureText([-2, null]), sureText([0, null])], ["5.0", "", "\u22122.0", "", ""]);
+});

@@ -6,6 +6,8 @@ import random
 import unittest
 from typing import Any
 
+from faulty import Here
+from running import PATIENCE, Case
 from server.turns import MORE, Job, Turns
 
 
@@ -45,6 +47,24 @@ class FairTurns(unittest.IsolatedAsyncioTestCase):
         await self.turns.ask(2, self.job("x"))
         self.assertLess(self.done.index("x"), 4)
         await asyncio.gather(*many)
+
+    async def test_what_is_done_at_leisure_waits_for_all_else_of_its_seat(self) -> None:
+        figures = self.turns.ask(1, self.job("f", 3), at_leisure=True)
+        while not self.done:
+            await asyncio.sleep(0)
+        await asyncio.gather(*(self.turns.ask(1, self.job(name)) for name in "gr"), figures)
+        self.assertEqual("".join(self.done), "fgrff")
+
+    async def test_what_is_done_at_leisure_waits_for_a_second_at_the_most(self) -> None:
+        await self.beside()
+        rows = [asyncio.create_task(self.always(1, "r", 0.15)) for _ in range(2)]
+        while not self.done:
+            await asyncio.sleep(0)
+        self.done.clear()
+        await asyncio.wait_for(self.turns.ask(1, self.job("f"), at_leisure=True), PATIENCE)
+        self.assertIn(self.done.count("r"), range(6, 9))  # of 0.15 seconds each
+        for one in rows:
+            one.cancel()
 
     async def asks(self, seat: int, name: str, cost: float) -> None:
         """Asks once, for a turn that takes so many seconds of the test's clock."""
@@ -129,3 +149,17 @@ class FairTurns(unittest.IsolatedAsyncioTestCase):
         self.assertEqual(await first, "a")
         self.assertEqual(await self.turns.ask(1, self.job("c")), "c")
         self.assertEqual("".join(self.done), "aac")
+
+
+class Figures(Case):
+    async def test_a_picture_waits_for_one_piece_of_its_seats_figures(self) -> None:
+        async with Here() as here:
+            seat, = await here.join("Ada")
+            await here.lab.set_clock(to=7_200)
+            await here.ask(seat, "advance", to=7_200)
+            for verb, more in (("sums", {}), ("counts", {"each": 10})):
+                figures = asyncio.ensure_future(here.ask(seat, verb, **{"from": 0, "to": 7_200}, **more))
+                await asyncio.sleep(0)
+                await here.ask(seat, "diagram", **{"from": 0, "to": 60})
+                self.assertFalse(figures.done())
+                await figures

@@ -5,8 +5,10 @@ import assert from "node:assert/strict";
 import {readFileSync} from "node:fs";
 import {test} from "node:test";
 
+import {untaken, unshared} from "../page/changes.mjs";
 import {Layers, caughtIn, isInForce, lostOf, privateOf} from "../page/layers.mjs";
 import {Words, affectedBy, historyOf, linesOf} from "../page/listing.mjs";
+import {store} from "../page/store.mjs";
 
 const PLAN = JSON.parse(readFileSync(new URL("../plan.json", import.meta.url), "utf8"));
 const [ADA, BEN] = [65, 66];
@@ -97,7 +99,7 @@ test("edits that are one rectangle have its shape, so that they can be changed",
   assert.equal(two.shape, null);
   assert.equal(new Words(road(), ADA).text(one),
                "Whole road closed 0.75\u20130.765 km, 0:10:00\u20130:11:40");
-  assert.equal(new Words(road(), ADA).text(two), "Whole road closed 0.75\u20130.757 km, from "
+  assert.equal(new Words(road(), ADA).text(two), "Whole road closed 0.75\u20130.758 km, from "
     + "0:10:00 on");
 });
 
@@ -227,4 +229,15 @@ test("before it is done it is said what would be covered, and what would be in f
   assert.match(effect(ada([[1200, 2400, null]])), /then: in force whole\.$/);
   assert.match(effect({...ada([]), standing: false}), /then: withdrawn by you\.$/);
   assert.deepEqual(affectedBy([{...ada([]), shown: was, was}]), []);
+});
+
+test("what is to be shared and what is to be taken is listed newest first", () => {
+  const made = [3, 1, 2].map((count) => line([count, BEN], "Ben", BS, [[1500, 1800, null]]));
+  const own = made.map((one) => ({...one, operations: [{...one.operations[0], shared: false}]}));
+  const [mine, shared] = [road(...own), road(...made)];
+  const counts = (lines) => lines.map(({name: [count]}) => count);
+  Object.assign(store, {layers: {mine, shared}, lines: linesOf(mine, BEN)});
+  assert.deepEqual([counts(unshared()), counts(untaken())], [[3, 2, 1], []]);
+  Object.assign(store.layers, {mine: road()});
+  assert.deepEqual(counts(untaken()), [3, 2, 1]);
 });

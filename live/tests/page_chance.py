@@ -8,7 +8,8 @@ from typing import Any
 from unittest import mock
 
 from browsers import FREE_ROAD, TOP, BrowserCase, Tab, before_rows
-from running import new_folder
+from chances import PROGRAM_OF_DAYS
+from running import new_folder, program
 
 # 1.5 km, a car in some three steps, drivers who dawdle by a seed.
 SEEDED = {**FREE_ROAD, "length": 200, "zone": 200, "words": 1, "zones": [[3, 6_554]], "inlets": [[0, 30_000]]}
@@ -36,9 +37,9 @@ def numbers(cell: str) -> list[float]:
 class TwoTabs(BrowserCase):
     """Two browsers."""
 
-    def over_three(self, plan: dict[str, Any]) -> list[Tab]:
+    def over_three(self, plan: dict[str, Any], *more: str) -> list[Tab]:
         with mock.patch.dict(os.environ, {"LIVE_DAYS": "3"}):
-            return self.open(plan)
+            return self.open(plan, None, *more)
 
     def run_a_quarter(self, tab: Tab) -> None:
         tab.script("ask({clock: {to: 900}})")
@@ -88,10 +89,29 @@ class TwoTabs(BrowserCase):
         ben.until(lambda: "Ada asks about 3 days just now" in ben.text("said"), "he is told who asks")
         self.assertEqual(ben.text("days"), "Over 3 days")
         ada.press("Stop")
-        ada.until(lambda: ada.text("days") == "Over 3 days", "it is stopped")
+        ada.until(lambda: ada.text("days") in ("Over 3 days", "One day"), "it is stopped")  # one may be done
         self.assertNotIn("stopped", ada.text("said"))
         ben.press("Over 3 days")
         self.assertEqual(over_days(ben, "#over")["Vehicle hours"][2], "0 the same each day")
+
+    def test_where_it_is_stopped_the_days_that_are_done_are_shown(self) -> None:
+        """The third day never ends."""
+        path = new_folder() / "road_lab"
+        path.write_text("#!/bin/sh\n" + PROGRAM_OF_DAYS.format(days=2, program=program()), encoding="utf-8")
+        path.chmod(0o755)
+        ada, _ = self.over_three(SEEDED, "--program", str(path))
+        self.run_a_quarter(ada)
+        self.closed(ada)
+        ada.press("Over 3 days")
+        ada.until(lambda: "2 of 3 days" in ada.text("days"), "two are done")
+        ada.press("Stop")
+        mine, shared, more = map(numbers, over_days(ada, "#over")["Vehicle hours"])
+        self.assertAlmostEqual(more[0], mine[0] - shared[0], delta=0.11)
+        self.assertIn("Over 2 of 3 days, stopped, 0:00:00 to 0:15:00", ada.text("over"))
+        self.assertIn("Means of 2 days: ", ada.text("over"))
+        self.assertTrue(ada.save("Figures", "figures_2_days.csv").read_text(encoding="utf-8").startswith("mean of 2 days,"))
+        ada.press("One day", "#days")
+        self.assertTrue(ada.part("oneDay").is_displayed())
 
     def test_what_is_saved_of_both_roads_is_compared_as_it_is(self) -> None:
         ada, = self.over_three(SEEDED)[:1]

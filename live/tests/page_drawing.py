@@ -278,9 +278,9 @@ class OneFreeway(BrowserCase):
         tab.run_an_hour()
         tab.tool("block")
         tab.in_figures(kmFrom="30", kmTo="30.2", timeFrom="0:20", timeTo="0:40")
-        # Behind the closed cells the road is empty for as long as they are closed: white.
+        # Behind the closed cells, and the boxes of mean speeds in which they are, the road is empty meanwhile: white.
         tab.script("store.layers.mine.frames = []; draw()")
         tab.settled()
         self.assertEqual(tab.pixel(4013, 2100), COLOURS["#"])
-        self.assertEqual(tab.pixel(4060, 2300), COLOURS["."])
+        self.assertEqual(tab.pixel(4160, 2300), COLOURS["."])
         self.assertNotIn("not computed", tab.point(8000, 3500))

@@ -105,6 +105,26 @@ class OneFreeway(BrowserCase):
         self.assertEqual(more, mine - shared)
         self.assertRegex(tab.text("warnings"), r"The inlet at 0 km lets in [\d,]+ of the [\d,]+ cars that it is asked for, and \d+ are lost")
 
+    def test_figures_wait_for_the_picture(self) -> None:
+        """Nothing else is asked for while rows that are seen are on their way, here for a second."""
+        tab, = self.open(FREEWAY)
+        tab.run_an_hour()
+        self.exact(tab)
+        tab.script("""
+            window.beside = [];
+            const {line} = store, {socket} = line;
+            const take = line.take.bind(line), send = socket.send.bind(socket);
+            line.take = (value) => (value.rows ? setTimeout(() => take(value), 1000) : take(value));
+            socket.send = (text) => {
+              if (store.asking) beside.push(Object.keys(JSON.parse(text))[1]);
+              send(text);
+            };""")
+        tab.tool("block")
+        tab.in_figures(kmFrom="3", kmTo="3.15", timeFrom="0:20", timeTo="0:30")
+        self.exact(tab)
+        self.assertEqual(set(tab.script("return beside")) - {"gesture", "diagram"}, set())
+        self.assertNotEqual(self.figures(tab, "Vehicle hours")[2], 0)
+
     def test_a_demand_that_is_lowered_is_not_lost(self) -> None:
         tab, = self.open(FREEWAY)
         tab.run_an_hour()

@@ -125,6 +125,23 @@ class ForAll(BrowserCase):
             self.assertLessEqual(boxes["all"][0][3], height)  # the page itself does not scroll
             self.assertLess(top, 160)
 
+    def test_figures_are_in_sight_beneath_a_warning(self) -> None:
+        """In what a browser's own bars leave of 1366 x 768."""
+        tab, = self.open(FREEWAY)
+        tab.run_an_hour()
+        tab.tool("block")
+        tab.in_figures(kmFrom="3", kmTo="3.15", timeFrom="0:20", timeTo="0:30")
+        tab.script("store.standing = arguments[0]; changed('stays')", "road_lab_unproved is unproved, made without a proof, with "
+                   "the compiler's checks in it, which make it slower: `tools/prove-program` proves it")
+        self.addCleanup(tab.driver.execute_cdp_cmd, "Emulation.clearDeviceMetricsOverride", {})
+        tab.driver.execute_cdp_cmd("Emulation.setDeviceMetricsOverride",
+                                   {"width": 1366, "height": 629, "deviceScaleFactor": 1, "mobile": False})
+        tab.until(lambda: "…" not in tab.text("figures"), "the lost demand")
+        tab.settled()
+        for ident in ("stays", "diagram", "figures", "figuresNote"):
+            top, bottom = tab.script("const {top, bottom} = $(arguments[0]).getBoundingClientRect(); return [top, bottom]", ident)
+            self.assertTrue(0 <= top < bottom <= 629, (ident, top, bottom))
+
     def test_what_is_said_is_seen_beside_the_diagram(self) -> None:
         tab, = self.open(FREEWAY)
         tab.run_an_hour()

@@ -6,7 +6,7 @@ import os
 from pathlib import Path
 from unittest import mock
 
-from browsers import FREEWAY, BrowserCase, Tab
+from browsers import FREE_ROAD, FREEWAY, BrowserCase, Tab
 from selenium.webdriver.common.action_chains import ActionChains
 
 
@@ -103,6 +103,24 @@ class TwoTabs(BrowserCase):
         covered = [row["covered"] for row in rows if row["covered"]]
         self.assertEqual(len(covered), 1)
         self.assertIn("0:25:00 to 0:30:00 by Ben: ", covered[0])
+
+    def test_of_a_list_what_stays_is_not_touched(self) -> None:
+        """Else each gesture lays out all lines anew, which with a hundred takes longer than the picture."""
+        ada, = self.open(FREE_ROAD, ("Ada",))
+        for limit, begin, end in (("2", "0:10", "0:15"), ("1", "0:20", "0:25"), ("2", "0:30", "0:35")):
+            ada.limit(limit, begin, end)
+        ada.script("""
+            window.touched = [];
+            const stays = [...$("own").children];
+            new MutationObserver((records) => touched.push(...records.flatMap(({addedNodes, removedNodes}) =>
+              [...addedNodes, ...removedNodes]).filter((node) => stays.includes(node)).map((node) => stays.indexOf(node))))
+              .observe($("own"), {childList: true});""")
+        ada.limit("0", "0:40", "0:45")
+        self.assertEqual(ada.script("return touched"), [])
+        ada.press("Withdraw: 54 km/h, 0–0.3 km, 0:10:00")
+        ada.settled()
+        self.assertEqual(ada.script("return touched"), [2])
+        self.assertEqual([line[:6] for line in ada.lines("own")], ["0 km/h", "54 km/", "27 km/"])
 
     def test_figures_are_whole_beside_the_picture(self) -> None:
         """Four digits on both roads, a warning that makes the column scroll, and over many days."""

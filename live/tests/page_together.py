@@ -145,6 +145,24 @@ class TwoTabs(BrowserCase):
         type_in(ada, Keys.ENTER)
         ada.until(lambda: "Withdrew: Whole road closed" in "".join(ada.lines("own")), "withdrawn")
 
+    def test_after_a_withdrawal_a_second_press_does_no_harm(self) -> None:
+        ada, = self.open(FREE_ROAD, ("Ada",))
+        ada.limit("2", "0:10", "0:20")
+        ada.limit("1", "0:30", "0:40")
+        ada.share_all()
+        tab_to(ada, "Withdraw: 27 km/h")
+        for held in (["54 km/h, 0–0.3 km, 0:10:00–0:20:00 shared"], []):
+            type_in(ada, Keys.ENTER)
+            ada.until(lambda: ada.lines("held") == held, "withdrawn")
+            ada.settled()
+            focus = ada.script("const {id, parentElement: list} = document.activeElement; return [id, list.id]")
+            self.assertEqual(focus, ["", "held"] if held else ["own", focus[1]])
+            type_in(ada, Keys.ENTER)
+            ada.settled()
+            self.assertEqual(ada.lines("held"), held)
+            if held:
+                tab_to(ada, "Withdraw: 54 km/h")
+
     def test_a_server_that_died(self) -> None:
         ada, _ = self.open(FREE_ROAD)
         ada.run_an_hour()

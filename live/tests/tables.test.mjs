@@ -42,3 +42,10 @@ test("many days are saved with their intervals", () => {
     ["cars at 0.375 km", "1", "1", "2", "1", "-1", "0"]]);
   assert.equal(tableOfDays(PLAN, "preview", {days: 20, figures})[1][1], "29.75");
 });
+
+test("of one day, where it was stopped, no interval is known", () => {
+  const lost = {name: "lost", before: [30, null], after: [91, null], difference: [61, null]};
+  assert.deepEqual(tableOfDays(PLAN, "mine", {days: 1, figures: [lost]}), [
+    ["mean of 1 day", "mine", "±", "shared", "±", "mine less shared", "±"],
+    ["lost demand in cars", "91", "", "30", "", "61", ""]]);
+});

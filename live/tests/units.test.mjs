@@ -5,14 +5,24 @@ import {readFileSync} from "node:fs";
 import {test} from "node:test";
 
 import {cellOfKm, chanceOfDemand, dayText, demandOfChance, durationText, kmText, limitText,
-        mostDemand, plural, signedText, stepOfText, timeText} from "../page/units.mjs";
+        mostDemand, plural, roundedKm, signedText, stepOfText, timeText} from "../page/units.mjs";
 
 test("a cell is 7.5 m, a cell a step 27 km/h", () => {
   assert.equal(kmText(400), "3");
-  assert.equal(kmText(1), "0.007");     // as 0.0075 is written with three digits
   assert.equal(cellOfKm(3), 400);
   assert.equal(cellOfKm(0.18), 24);
   assert.deepEqual([0, 2, 5].map(limitText), ["0 km/h", "54 km/h", "135 km/h"]);
+});
+
+test("a half of the last digit of km is rounded up", () => {
+  for (const [cell, text] of [[467, "3.503"], [1, "0.008"], [3, "0.023"], [400, "3"], [466, "3.495"],
+                              [468, "3.51"], [8191, "61.433"]]) {
+    assert.equal(kmText(cell), text);   // 7.5 m each
+  }
+  for (const [km, digits, wanted] of [[1.0005, 3, 1.001], [3.5025, 3, 3.503], [3.5024, 3, 3.502],
+                                      [0.015, 2, 0.02], [1.005, 2, 1.01], [61.4325, 2, 61.43]]) {
+    assert.equal(roundedKm(km, digits), wanted);
+  }
 });
 
 test("times of the clock are written and read alike", () => {
@@ -43,6 +53,25 @@ test("a day is told where it is not today", () => {
   const now = Math.floor(Date.now() / 1000);
   assert.ok(!dayText(now).includes(" ") || /[AP]M$/.test(dayText(now)));
   assert.ok(dayText(now - 3 * 86400).length > dayText(now).length);
+});
+
+/** The seconds of a processor that something takes, the least of three times. */
+function taken(does) {
+  return Math.min(...[1, 2, 3].map(() => {
+    const before = process.cpuUsage();
+    does();
+    return process.cpuUsage(before).user;
+  }));
+}
+
+test("a time of day is written by formats that are kept: lists have hundreds, twice a gesture", () => {
+  const now = Math.floor(Date.now() / 1000);
+  const kept = new Intl.DateTimeFormat([], {hour: "2-digit", minute: "2-digit"});
+  const many = (write) => taken(() => { for (let each = 0; each < 500; each++) write(); });
+  const plain = many(() => [new Date().toDateString(), kept.format(new Date(now * 1000))]);
+  const made = many(() => new Date(now * 1000).toLocaleTimeString([], {hour: "2-digit"}));
+  const one = many(() => dayText(now - 60));
+  assert.ok(one - plain < 0.3 * (made - plain), `${one}, kept ${plain}, made anew ${made}`);
 });
 
 /** The rows of the table of docs/TRAFFIC of inflow chances: p, the chances, and the most cars an hour. */
