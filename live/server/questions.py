@@ -14,13 +14,14 @@ from .lines import clock, line_of, shown_of, table
 from .program import LONG_ROAD
 from .roads import SIDES, Preview, Previews, Replica, Road, Side
 from .state import Seat
-from .turns import MORE
+from .turns import MORE, Job
 
 MOST_ROWS, MOST_BYTES = 1_024, 1_100_000  # of the rows in a reply
 MOST_COUNTS = 4_096
 MINUTE = 60  # steps
 MOST_MINUTES = 120  # of a question for sums
 LINES_AT_ONCE = 128
+MOST_ANEW = 16  # times that a question is begun anew since its road has become another
 PIECE_OF_LIST = 1_000_000  # bytes, about, of a list of gestures
 
 Reply = Union[bytes, "dict[str, Any]"]
@@ -130,7 +131,7 @@ class Questions:
             part = await self._piece(road, list(range(start, min(last + 1, start + self._rows_at_once()))), times)
             cars.extend(map(rows.cars_in, part))
             return MORE if len(cars) < last - first else None
-        await road.job(body, at_leisure=True)
+        await self._of_one_road(road, cars, body)
         return {"sums": [sum(cars[begin:begin + MINUTE]) for begin in range(0, len(cars), MINUTE)]}
 
     async def counts(self, road: Road, times: Times, *, first: int, last: int, each: int | None) -> Reply:
@@ -157,8 +158,21 @@ class Questions:
             if len(found) < len(lines):
                 found.extend(await road.say_all(lines[len(found):len(found) + LINES_AT_ONCE], times))
             return MORE if len(found) < len(lines) else None
-        await road.job(body, at_leisure=True)
+        await self._of_one_road(road, found, body)
         return found
+
+    async def _of_one_road(self, road: Road, found: list[Any], body: Job) -> None:
+        """Does at leisure what adds to what is found, from the beginning where the road has become another between."""
+        marks: list[Any] = []
+
+        async def part() -> Any:
+            if marks[-1:] != [road.mark()]:
+                if len(marks) > MOST_ANEW:
+                    raise Refused("busy", "the road is changed all the time: ask again later")
+                marks.append(road.mark())
+                found.clear()
+            return await body()
+        await road.job(part, at_leisure=True)
 
     # Lists
 

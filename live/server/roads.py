@@ -26,6 +26,9 @@ class Road(Protocol):
     async def job(self, body: Job, at_leisure: bool = False) -> Any:
         """Does a piece of work when the road has run as far as it shall; at leisure what a picture does not wait for."""
 
+    def mark(self) -> Any:
+        """What is another once the road is another."""
+
     async def say_all(self, lines: list[bytes], times: Times) -> list[bytes]:
         """The replies to lines that are sent at once; the first refusal is raised."""
 
@@ -42,6 +45,10 @@ class Replica:
 
     async def job(self, body: Job, at_leisure: bool = False) -> Any:
         return await self._keeper.ask(self._turn, (self._index,), body, at_leisure)
+
+    def mark(self) -> Any:
+        seat = self._keeper.state.seats[self._index]
+        return seat.version, len(seat.gestures)
 
     async def say_all(self, lines: list[bytes], times: Times) -> list[bytes]:
         return await self._keeper.say_all(lines, times)
@@ -127,6 +134,9 @@ class Side:
 
     async def job(self, body: Job, at_leisure: bool = False) -> Any:
         return await self._preview.job(self.name, body)
+
+    def mark(self) -> Any:
+        return None
 
     async def say_all(self, lines: list[bytes], times: Times) -> list[bytes]:
         return await self._preview.say_all(lines, times)

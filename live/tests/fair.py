@@ -163,3 +163,20 @@ class Figures(Case):
                 await here.ask(seat, "diagram", **{"from": 0, "to": 60})
                 self.assertFalse(figures.done())
                 await figures
+
+    async def test_figures_are_of_one_road_though_a_gesture_comes_between_their_pieces(self) -> None:
+        for verb, more in ("sums", {}), ("counts", {"each": 10}):
+            async with Here() as here:
+                seat, = await here.join("Ada")
+                await here.lab.set_clock(to=7_200)
+                await here.ask(seat, "advance", to=7_200)
+                span = {"from": 0, "to": 7_200, **more}
+                before = await here.ask(seat, verb, **span)
+                figures, lines = asyncio.ensure_future(here.ask(seat, verb, **span)), here.keeper.program.lines
+                while here.keeper.program.lines == lines:
+                    await asyncio.sleep(0)
+                await here.put(seat, ["block", 30, 100, 1])
+                self.assertFalse(figures.done())
+                after, said = await here.ask(seat, verb, **span), await figures
+                self.assertFalse(before == after)
+                self.assertTrue(said in (before, after), f"the {verb} are of no road")
