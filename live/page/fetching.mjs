@@ -165,7 +165,7 @@ async function askCounts(period) {
   if (key === figures.key) return false;
   for (const road of [roads.mine, roads.shared]) if (!await computed(road, to)) return false;
   const said = await Promise.all([store.me.at, "shared"].map((at) =>
-    ask({counts: {at, from, to}})));
+    ask({counts: {at, from, to}}, {quiet: ["busy"]})));
   if (said.some((one) => !one || one.refused)) return false;
   Object.assign(figures, {key, period, counts: said.map(({counts}) => counts)});
   return true;
@@ -177,7 +177,7 @@ async function askSums(whose, period) {
   const wanted = road.minutes.wanted(period, MINUTES_AT_ONCE);
   if (!wanted || !await computed(road, wanted[1])) return false;
   const {version, at} = road;
-  const said = await ask({sums: {at, from: wanted[0], to: wanted[1]}});
+  const said = await ask({sums: {at, from: wanted[0], to: wanted[1]}}, {quiet: ["busy"]});
   if (!said || said.refused) return false;
   if (road.version === version) road.minutes.take(wanted[0], said.sums);
   return true;
