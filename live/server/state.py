@@ -461,7 +461,7 @@ class State:
         self._came, self._stretches, self._lines = {}, {}, {}
         try:
             read(self, value)
-        except (KeyError, IndexError, TypeError, ValueError) as fault:
+        except (KeyError, IndexError, TypeError, ValueError, OverflowError) as fault:
             raise Broken(f"no entry `{kind}`: {fault!r}") from None
 
     def make(self, entry: Entry) -> None:
