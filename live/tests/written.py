@@ -91,6 +91,18 @@ class Written(Case):
         self.assertEqual(await self.refused(keeper.ask(self.ben, (), piece)), "not written")
         self.assertEqual(rounds, 2)
 
+    async def test_nothing_is_written_upon_what_the_disk_refused(self) -> None:
+        """A job beside which a write fails may stand on that: it is refused, though the disk takes more."""
+        keeper = self.here.keeper
+
+        async def body() -> None:
+            self.goes_on(errno.EIO)
+            await asyncio.wait([keeper.record({"left": {"seat": 1, "when": 0}})])
+            self.goes_on()
+            await keeper.writable()
+        self.assertEqual(await self.refused(keeper.ask(self.ben, (), body)), "not written")
+        await self.here.put(self.ben, [*LIMIT, 3])
+
     async def test_what_is_on_the_disk_was_done_whatever_becomes_of_anothers_write(self) -> None:
         """The program is given the rest of it later, by way of another."""
         keeper, is_free = self.here.keeper, asyncio.Event()
