@@ -21,9 +21,9 @@ function showLine() {
   $("line").className = away ? "away" : "";
 }
 
-/** What is wrong, as long as it is. */
+/** What is wrong, as long as it is, or for a while. */
 function showStays() {
-  const texts = [store.standing, store.trouble, ...store.stays].filter(Boolean);
+  const texts = [store.standing, store.trouble, store.replaced, ...store.stays].filter(Boolean);
   showList($("stays"), texts.map((text) =>
     ({key: text, sign: text, make: () => element("li", text)})));
 }

@@ -12,6 +12,7 @@ import {titlesOf} from "./listing.mjs";
 import {plural} from "./units.mjs";
 
 const FORM = 2;                 // of what is spoken with the server
+const STANDS = 60_000;          // milliseconds that it is said that the program was replaced
 const stored = (name) => sessionStorage.getItem(name) ?? "";
 
 /** The token of the address, which leaves the address bar. */
@@ -169,9 +170,23 @@ const HEARD = {
     changed("stays");
   },
   program({why}) {
-    if (why) tell(`The program was replaced: ${why}`, true);
+    if (why) tellReplaced(`The program was replaced: ${why}`);
   },
 };
+
+let replacedGoes = null;
+
+/** Says it for a while: what the next program has done is told at once. */
+function tellReplaced(text) {
+  const says = (replaced) => {
+    store.replaced = replaced;
+    changed("stays");
+  };
+  tell(text, true);
+  says(text);
+  clearTimeout(replacedGoes);
+  replacedGoes = setTimeout(says, STANDS, "");
+}
 
 /** What others shared and this tab has not taken, with a sentence that is told once. */
 function hearNews(news) {

@@ -16,6 +16,7 @@ export const store = {
   sites: [],                    // other sites with which what is shared is exchanged: {site, when}
   standing: "",                 // what is to be known of the program: that it is unproved
   trouble: "", stays: [],       // what is wrong with the disk, and with sites, as long as it is
+  replaced: "",                 // why the program was replaced, for a while
   said: ["", false],            // the sentence of the page's live region, and whether it is bad
 
   // The road.

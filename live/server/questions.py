@@ -7,7 +7,7 @@ from typing import Any, Union
 from . import chance, figures, rows, saving
 from .asked import Refused
 from .journal import packed
-from .keeper import LAST_STEP, Times
+from .keeper import LAST_STEP, SHARED, Times
 from .lab import AHEAD, Lab
 from .layers import Stamp
 from .lines import clock, line_of, shown_of, table
@@ -201,24 +201,27 @@ class Questions:
 
     # What would be
 
-    async def preview(self, index: int, own: Seat, what: str | None, stamps: set[Stamp] | None) -> Reply:
-        """What sharing or taking would change: keeps both roads, to be asked, and tells which lines would be other."""
+    async def preview(self, index: int, _own: Seat, what: str | None, stamps: set[Stamp] | None) -> Reply:
+        """What sharing or taking would change: keeps both roads, to be asked once they are on the disk, and tells which lines
+        would be other."""
         if what is None:
             self._previews.put(index, None)
             return {}
-        state = self._keeper.state
-        at = state.shared if what == "share" else own
 
-        async def body() -> Reply:
-            added = state.shareable(own, stamps) if what == "share" else [
-                one for one in state.fresh(at) if not one.is_mending]
+        async def body() -> tuple[Preview, Reply]:
+            state = self._keeper.state
+            own = state.seats[index]
+            at, added = (state.shared, state.shareable(own, stamps)) if what == "share" else (
+                own, [one for one in state.fresh(own) if not one.is_mending])
             lines, edits = changes_by(self._lab, at, added)
             stamp = [1 << 48, 64]  # above all
             more = [[*key, *stamp, value] for key, value in edits.items()]
-            self._previews.put(index, Preview(self._keeper, at.scenario(), more))
-            return {"what": what, "size": len(added), "layers": lines,
-                    "touched": min((key[2] for key in edits), default=None)}
-        reply: Reply = await self._keeper.ask(index, (at.index,), body)
+            return Preview(self._keeper, at.scenario(), more), {
+                "what": what, "size": len(added), "layers": lines, "touched": min((key[2] for key in edits), default=None)}
+        fed = SHARED if what == "share" else index
+        found: tuple[Preview, Reply] = await self._keeper.truly(lambda: self._keeper.ask(index, (fed,), body), "shared")
+        preview, reply = found
+        self._previews.put(index, preview)
         return reply
 
     async def figures(self, index: int, own: Seat, of: str, first: int, last: int) -> Reply:

@@ -12,8 +12,9 @@ from __future__ import annotations
 
 import contextlib
 import sys
+from array import array
 from dataclasses import dataclass, field
-from typing import Any, Callable, Collection, Iterable, Iterator
+from typing import Any, Callable, Collection, Iterable, Iterator, Sequence
 
 from .journal import Broken, Entry
 from .layers import (MANY, NOTHING, SITE, Edits, Key, Laid, Lays, Name, Road, Shape, Stamp, Stretch, common, is_raw, stretch_of,
@@ -22,6 +23,9 @@ from .layers import (MANY, NOTHING, SITE, Edits, Key, Laid, Lays, Name, Road, Sh
 SEATS = 64
 FORM, FORMER = 2, 1
 MENDED = "mended"
+
+NO_VALUE = -1
+KINDS: dict[str, int] = {}  # that packed edits have, by their numbers
 
 Edit = tuple[str, int, int, "int | None"]
 Rank = tuple[int, int, bool, int]  # of an edit: its stamp, whether it has a number, and that
@@ -35,7 +39,7 @@ class Gesture:
     stamp: Stamp
     lays: Lays
     was: Lays  # what an undo lays
-    edits: tuple[Edit, ...]
+    edits: Sequence[Edit]  # packed, once it is held
     who: str
     note: str
     when: float
@@ -67,7 +71,7 @@ class Gesture:
         more = {"shape": self.shape, "undoes": self.undoes, "title": self.title or None}
         operation: dict[str, Any] = {"lays": lays} if self.known is None else {"known": self.known}
         return {"stamp": self.stamp, **operation,
-                "edits": self.edits, "who": self.who, "note": self.note, "when": self.when,
+                "edits": tuple(self.edits), "who": self.who, "note": self.note, "when": self.when,
                 **{name: value for name, value in more.items() if value is not None}}
 
     def imported(self) -> list[list[Any]]:
@@ -137,19 +141,50 @@ def planned(plan: dict[str, Any], kind: str, index: int) -> int | None:
     return int(plan["zones"][index][kind == "slow"])
 
 
+class Packed(Sequence[Edit]):
+    """Edits in 16 bytes each, where tuples have 90."""
+
+    __slots__ = ("_numbers",)
+
+    def __init__(self, edits: Iterable[Edit]) -> None:
+        self._numbers = array("i", [number for kind, index, step, value in edits for number in (
+            KINDS.setdefault(kind, len(KINDS)), index, step, NO_VALUE if value is None else value)])
+
+    def __iter__(self) -> Iterator[Edit]:
+        kinds, numbers = list(KINDS), iter(self._numbers)
+        for kind, index, step, value in zip(numbers, numbers, numbers, numbers):
+            yield kinds[kind], index, step, None if value == NO_VALUE else value
+
+    def __len__(self) -> int:
+        return len(self._numbers) // 4
+
+    def __getitem__(self, place: Any) -> Any:
+        return tuple(self)[place]
+
+    def __eq__(self, other: object) -> bool:
+        return isinstance(other, Sequence) and tuple(self) == tuple(other)
+
+
 class Index:
-    """Edits by their objects."""
+    """Edits by their objects: of each the step, the value and the gesture, one behind the other."""
 
     def __init__(self) -> None:
-        self._of: dict[tuple[str, int], list[tuple[int, Rank, Gesture]]] = {}
+        self._of: dict[tuple[str, int], list[Any]] = {}
 
     def add(self, gesture: Gesture) -> None:
+        once: dict[Any, Any] = {}
         for kind, index, step, value in gesture.edits:
-            rank = *gesture.stamp, value is not None, value or 0
-            self._of.setdefault((kind, index), []).append((step, rank, gesture))
+            self._of.setdefault((kind, index), []).extend((once.setdefault(step, step), once.setdefault(value, value), gesture))
 
-    def of(self, kind: str, index: int) -> Collection[tuple[int, Rank, Gesture]]:
-        return self._of.get((kind, index), ())
+    def drop(self, gesture: Gesture) -> None:
+        for thing in {edit[:2] for edit in gesture.edits}:
+            self._of[thing] = [part for one in self.of(*thing) if one[2] is not gesture for part in one]
+            if not self._of[thing]:
+                del self._of[thing]
+
+    def of(self, kind: str, index: int) -> Iterator[tuple[int, int | None, Gesture]]:
+        parts = iter(self._of.get((kind, index), ()))
+        return zip(parts, parts, parts)
 
     def objects(self) -> Collection[tuple[str, int]]:
         return self._of
@@ -173,7 +208,7 @@ class Seat:
         self.arrived = 0
         self.done: dict[str, Stamp] = {}  # its gestures by their keys
         self.road = Road(lambda kind, at: planned(state.plan, kind, at), self.numbers)
-        self.lines: dict[Stamp, list[Gesture]] = {}  # of each line of the list what was done to it
+        self.lines: dict[Stamp, tuple[Gesture, ...]] = {}  # of each line of the list what was done to it
         self.marks: dict[Stamp, int] = {}  # of each line the version in which it was changed last
         self.begun = self.version = state.begun
         self.operations = 0
@@ -204,6 +239,8 @@ class Seat:
             gesture.was.update((name, self.road.laid(name)) for name in gesture.lays)
         if self.index == 0 or gesture not in self._state.shared.holds:
             self.edits.add(gesture)
+        if not isinstance(gesture.edits, Packed):
+            gesture.edits = Packed(gesture.edits)
         if gesture.is_mending:
             return set(), set()
         self.operations += 1
@@ -216,7 +253,7 @@ class Seat:
             lines |= {line for line in (there, line_by(name, laid, None if there else gesture.stamp))
                       if line is not None and line <= gesture.stamp}
         for line in lines:
-            self.lines.setdefault(line, []).append(gesture)
+            self.lines[line] = *self.lines.get(line, ()), gesture
         if is_of_sites(gesture):
             self.of_sites = [*self.of_sites, gesture]
             outs = outs_of(self.of_sites)
@@ -246,7 +283,7 @@ class Seat:
         """For a while the layers are as if these operations were held; where that changes something, and which lines."""
         stretches, lines = set[Stretch](), set[Stamp]()
         before = self.road, self.lines, self.outs, self.of_sites
-        self.road, self.lines = self.road.copy(), {line: [*some] for line, some in self.lines.items()}
+        self.road, self.lines = self.road.copy(), dict(self.lines)
         try:
             for gesture in gestures:
                 self._tried.append(gesture)
@@ -277,9 +314,11 @@ class Seat:
         best: dict[int, Rank] = {}
         holds, shared = self.holds, self._state.shared
         for edits in ((shared.edits,) if self is shared else (self.edits, shared.edits)):
-            for step, rank, gesture in edits.of(kind, index):
-                if gesture in holds and (step not in best or best[step] < rank):
-                    best[step] = rank
+            for step, value, gesture in edits.of(kind, index):
+                if gesture in holds:
+                    rank = *gesture.stamp, value is not None, value or 0
+                    if step not in best or best[step] < rank:
+                        best[step] = rank
         return best
 
     def numbers(self, kind: str, index: int) -> dict[int, int]:
@@ -303,8 +342,8 @@ class Seat:
             if not self.is_out(gesture):
                 self.road.lay(gesture.stamp, {name: gesture.lays[name] for name in gesture.lays.keys() & names})
         self.of_sites = [gesture for gesture in self.of_sites if gesture not in gone]
-        self.lines = {line: [one for one in some if one not in gone] for line, some in self.lines.items()}
-        self.lines = {line: some for line, some in self.lines.items() if some}
+        left = {line: tuple(one for one in some if one not in gone) for line, some in self.lines.items()}
+        self.lines = {line: some for line, some in left.items() if some}
         self.marks = {line: version for line, version in self.marks.items() if line in self.lines}
         self.operations = sum(not gesture.is_mending for gesture in self.gestures)
         self.edits = Index()
@@ -422,7 +461,7 @@ class State:
         self._came, self._stretches, self._lines = {}, {}, {}
         try:
             read(self, value)
-        except (KeyError, IndexError, TypeError, ValueError) as fault:
+        except (KeyError, IndexError, TypeError, ValueError, OverflowError) as fault:
             raise Broken(f"no entry `{kind}`: {fault!r}") from None
 
     def make(self, entry: Entry) -> None:
@@ -484,6 +523,7 @@ class State:
         for gesture in shared:
             gesture.title = value.get("title", "")
             self._hold(self.shared, gesture)
+            seat.edits.drop(gesture)
             self.unsent[gesture] = None
         seat.mark(line for line, some in seat.lines.items() if any(one.stamp in wanted for one in some))
         self._mended(value)

@@ -271,7 +271,7 @@ VERBS: dict[str, Verb] = {
     # Lists, and what would be
     "layers": Verb(KEPT, lambda asked: {"version": asked.version("from")}, of_seat("layers"), SHARED_ROAD),
     "gestures": Verb(KEPT, lambda asked: {"first": asked.whole("from", default=0)}, of_seat("gestures"), SHARED_ROAD),
-    "preview": Verb(OWN, a_preview, of_seat("preview"), OWN),
+    "preview": Verb(OWN, a_preview, of_seat("preview")),  # (which waits itself, before it keeps the two roads)
     "figures": Verb(OWN, a_comparison, of_seat("figures"), OWN),
     "days": Verb(OWN, many_days, of_seat("days"), OWN),
     # What is saved

@@ -11,6 +11,7 @@ from typing import Any
 import aiohttp
 
 from server.client import Seat
+from server.strangers import Strangers
 from running import PATIENCE, Case, Server, until
 
 
@@ -205,7 +206,38 @@ class Frames(Case):
         return replies[1]
 
 
+class Connection:
+    """One from an address, until it is cut."""
+
+    def __init__(self, address: str) -> None:
+        self.transport: Connection | None = self
+        self._address = address
+
+    def get_extra_info(self, _name: str) -> tuple[str, int]:
+        return self._address, 50_000
+
+    def abort(self) -> None:
+        self.transport = None
+
+
 class Crowds(Case):
+    def test_strangers_are_64_of_an_address_and_512_of_all_for_a_minute(self) -> None:
+        """The oldest are cut; who has shown the token is none."""
+        ones: list[Connection] = []
+        strangers = Strangers(lambda: ones, lambda: set(ones[:2]))
+
+        def come(addresses: list[str], now: float) -> list[bool]:
+            """Who is still there when these have come, one after the other within a second."""
+            for place, address in enumerate(addresses):
+                ones.append(Connection(address))
+                strangers.look(now + place / len(addresses))
+            return [one.transport is not None for one in ones]
+        self.assertEqual(come(["a"] * 67, 0), [True] * 2 + [False] * 1 + [True] * 64)
+        there = come([f"b{number}" for number in range(449)], 30)
+        self.assertEqual(there, [True] * 2 + [False] * 2 + [True] * (63 + 449))
+        self.assertEqual(come(["c"], 62).count(True), 2 + 449 + 1)  # of the first none is left
+        self.assertEqual(come(["c"], 123).count(True), 2 + 1)
+
     async def test_sockets_without_a_token_lock_nobody_out(self) -> None:
         """Many that ask nothing, that never end what they ask, and that never say hello; tabs that were there stay."""
         server = self.server()

@@ -204,9 +204,10 @@ class Folders(Case):
         server.kill()
         path = server.folder / "journal.jsonl"
         good = path.read_bytes()
-        for broken in (b"good morning\n", b'{"gesture":{"seat":99}}\n', b'{"what":{}}\n'):
+        beyond = {"seat": 1, "stamp": [1, 65], "lays": [], "edits": [["limit", 2, 1 << 32, 3]]}
+        for broken in (b"good morning\n", b'{"gesture":{"seat":99}}\n', b'{"what":{}}\n', line_of({"gesture": beyond})):
             path.write_bytes(good + broken + line_of({"clock": {"rate": 0, "now": 5}}))
-            with self.assertRaisesRegex(RuntimeError, "line 2"):
+            with self.assertRaisesRegex(RuntimeError, r"live/serve: [^\n]*journal\.jsonl, line 2[,:][^\n]*\n\Z"):
                 server.start()
             self.assertEqual(path.read_bytes(), good + broken + line_of({"clock": {"rate": 0, "now": 5}}))
 

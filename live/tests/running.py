@@ -112,6 +112,8 @@ async def until(holds: Callable[[], Awaitable[Any]], what: str, patience: float 
 class Server:
     """A server in a folder, at a port of its own."""
 
+    serve = LIVE / "serve"
+
     def __init__(self, folder: Path | None = None, plan: dict[str, Any] | None = None, *more: str, **environment: str):
         self.folder = folder or new_folder()
         self.arguments, self.environment = list(more), environment
@@ -123,7 +125,7 @@ class Server:
         """Starts it, and waits until it answers."""
         with open(self.log, "ab") as log:
             self.process = started(
-                [sys.executable, str(LIVE / "serve"), "--folder", str(self.folder), "--port", "0", *self.arguments,
+                [sys.executable, str(self.serve), "--folder", str(self.folder), "--port", "0", *self.arguments,
                  str(self.folder / "plan.json")], stdout=subprocess.PIPE, stderr=log, text=True,
                 env={**os.environ, **FIXED, **self.environment})
         assert self.process.stdout is not None

@@ -83,7 +83,7 @@ class Seats(Case):
         """How far a clock of this rate goes in some seconds."""
         keeper, lab = self.here.keeper, self.here.lab
         with mock.patch("server.keeper.time.monotonic", lambda: self.time):
-            await lab.set_clock(rate=rate)
+            await verbs.answer(lab, self.here.questions, 1, Asked("clock", {"rate": rate}), {})
             before = keeper.now()
             for _ in range(int(seconds)):
                 self.time += 1

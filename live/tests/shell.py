@@ -24,10 +24,11 @@ class Shell(Case):
         return process.returncode or 0, out.decode().strip(), said.decode().strip()
 
     async def test_names_of_64_signs_in_any_script_have_seats_of_their_own(self) -> None:
-        names = ["a b", "a_b", "a/b", "\U00013000" * 63 + "a", "\U00013000" * 63 + "b", "語" * 64]
+        names = ["a b", "a_b", "a/b", "../a", "\U00013000" * 64, "\U00013000" * 63 + "b", "語" * 64]
         for _ in range(2):  # the second time by the key that was kept
             said = await asyncio.gather(*(self.road(name, "ask", '{"scenario":{}}') for name in names))
-            self.assertEqual([status for status, _, _ in said], [0] * 6)
+            self.assertEqual([status for status, _, _ in said], [0] * len(names))
+        self.assertEqual([path.is_file() for path in (self.a6.folder / "keys").iterdir()], [True] * len(names))
         async with self.a6.seat("Ada") as ada:
             self.assertEqual({one["name"] for one in (await ada.say("seats"))["seats"]}, {*names, "Ada"})
         async with self.a6.seat("é" * 65) as long:

@@ -2,16 +2,19 @@
 from __future__ import annotations
 
 import asyncio
+import contextlib
 import errno
 import json
 import threading
-from typing import Any, Coroutine
+from typing import Any, Coroutine, Iterator
 from unittest import mock
 
 from faulty import Bus, Disk, Here, soon
 from running import Case, until
+from server import chance, figures
 from server.asked import Refused
 from server.program import Program
+from server.settings import Settings
 from server.turns import MORE
 
 LIMIT = ["limit", 2, 50]
@@ -88,6 +91,18 @@ class Written(Case):
         self.assertEqual(await self.refused(keeper.ask(self.ben, (), piece)), "not written")
         self.assertEqual(rounds, 2)
 
+    async def test_nothing_is_written_upon_what_the_disk_refused(self) -> None:
+        """A job beside which a write fails may stand on that: it is refused, though the disk takes more."""
+        keeper = self.here.keeper
+
+        async def body() -> None:
+            self.goes_on(errno.EIO)
+            await asyncio.wait([keeper.record({"left": {"seat": 1, "when": 0}})])
+            self.goes_on()
+            await keeper.writable()
+        self.assertEqual(await self.refused(keeper.ask(self.ben, (), body)), "not written")
+        await self.here.put(self.ben, [*LIMIT, 3])
+
     async def test_what_is_on_the_disk_was_done_whatever_becomes_of_anothers_write(self) -> None:
         """The program is given the rest of it later, by way of another."""
         keeper, is_free = self.here.keeper, asyncio.Event()
@@ -140,6 +155,51 @@ class Written(Case):
             else:
                 await soon(share)
             self.assertEqual((lab.news(cleo, 9)["size"], (await soon(first))["size"], await self.edits(cleo)), (edits,) * 3)
+
+    async def test_figures_are_of_what_is_on_the_disk(self) -> None:
+        """Of a share by which nobody enters at the first inlet: the first detector counts the cars of this one alone."""
+        span = {"from": 0, "to": 60}
+        self.here.keeper.settings = Settings(days=2)
+        await self.here.put(self.ada, ["inflow", 0, 0, 0])
+        for fault in (errno.EIO, None):
+            self.goes_on()
+            await self.here.keeper.until_writable()
+            share = await self.begun(self.here.share(self.ada))
+            with counted() as computed:
+                looks = [asyncio.create_task(self.here.ask(self.ben, verb, of="mine", **span)) for verb in ("figures", "days")]
+
+                async def both() -> bool:
+                    return len(computed) == len(looks)
+                await until(both, "they are computed")
+                await asyncio.sleep(0.2)
+                self.assertEqual([look for look in looks if look.done()], [])
+                self.goes_on(fault)
+                day, days = [await soon(look) for look in looks]
+            before, after = (day[side]["detectors"][0][0] for side in ("before", "after"))
+            cars = next(one for one in days["figures"] if one["name"] == "cars 0")
+            if fault:
+                self.assertEqual(await self.refused(share), "not written")
+                self.assertEqual((before, cars["before"]), (after, cars["after"]))
+            else:
+                await soon(share)
+                self.assertEqual((before, cars["before"]), (0, [0, 0]))
+            self.assertGreater(min(after, cars["after"][0]), 0)
+
+    async def test_the_roads_of_a_preview_are_asked_once_they_are_on_the_disk(self) -> None:
+        await self.here.put(self.ada, [*LIMIT, 3])
+        for fault, size in ((errno.EIO, 0), (None, 1)):
+            self.goes_on()
+            await self.here.keeper.until_writable()
+            share = await self.begun(self.here.share(self.ada))
+            preview = asyncio.create_task(self.first(self.ben))
+            await asyncio.sleep(0.2)
+            self.assertFalse(preview.done())
+            self.assertEqual(await self.refused(self.here.ask(self.ben, "advance", at="after", to=60)), "no preview")
+            self.goes_on(fault)
+            self.assertEqual((await soon(preview))["size"], size)
+            await soon(asyncio.gather(share, return_exceptions=True))
+            await soon(self.here.ask(self.ben, "advance", at="after", to=60))
+            await self.here.ask(self.ben, "preview", what=None)
 
     async def edits(self, seat: int) -> int:
         """How many win on the shared road."""
@@ -197,6 +257,21 @@ class Written(Case):
         self.assertEqual(keeper.changes, 1)
         self.assertEqual(await soon(lab.join("", self.here.keys[self.ada], None)), (self.ada, self.here.keys[self.ada]))
         self.assertEqual(await self.refused(lab.join("Cleo", "", None)), "not written")
+
+
+@contextlib.contextmanager
+def counted() -> Iterator[list[Any]]:
+    """What programs that run both roads beside have computed so far."""
+    computed: list[Any] = []
+
+    def kept(does: Any) -> Any:
+        async def also(*given: Any) -> Any:
+            computed.append(found := await does(*given))
+            return found
+        return also
+    with mock.patch.object(figures, "of", kept(figures.of)), mock.patch.object(
+            chance.Question, "answer", kept(chance.Question.answer)):
+        yield computed
 
 
 class Stalled(Case):

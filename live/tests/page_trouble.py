@@ -1,0 +1,67 @@
+"""What the page says of a program that hangs, and of a disk that does not answer."""
+from __future__ import annotations
+
+import os
+import signal
+import time
+from unittest import mock
+
+from browsers import FREE_ROAD, LIVE, BrowserCase, Tab
+from running import Server
+from selenium.webdriver.common.keys import Keys
+
+HANGS, STALLS = 10, 5  # seconds, as live/README says them
+SOONER = """
+    const later = setTimeout;
+    window.setTimeout = (does, wait, ...more) => later(does, wait >= 30_000 ? 3_000 : wait, ...more);"""
+
+
+class OneTab(BrowserCase):
+    """One tab on a short road."""
+
+    names = ("Ada",)
+
+    def begin_limit(self, tab: Tab, limit: str) -> None:
+        """Puts a limit on the whole road, and does not wait until it is there."""
+        tab.tool("limit")
+        tab.choose("limit", limit)
+        tab.fill(kmFrom="0", kmTo="0.3", timeFrom="0:20", timeTo="0:30")
+        tab.press_in("#apply")
+
+    def test_a_program_that_was_replaced_is_told_with_why_and_stands_for_a_while(self) -> None:
+        ada, = self.open(FREE_ROAD)
+        ada.run_an_hour()
+        began = time.monotonic()
+        os.kill(self.server.program, signal.SIGSTOP)
+        self.begin_limit(ada, "1")
+        sentence = f"The program was replaced: the program owed an answer and used no processor for {HANGS} seconds"
+        ada.until(lambda: sentence in ada.text("stays"), "it is told")
+        self.assertGreater(time.monotonic() - began, HANGS * 0.8)
+        ada.until(lambda: ada.lines("own") == ["27 km/h, 0–0.3 km, 0:20:00–0:30:00 private"], "done by the next program")
+        ada.settled()
+        self.assertTrue(ada.text("said").endswith(": done."), ada.text("said"))
+        self.assertIn(sentence, ada.text("stays"))
+        ada.script(SOONER)
+        os.kill(self.server.program, signal.SIGKILL)
+        self.begin_limit(ada, "2")
+        ada.until(lambda: "The program was replaced: the program ended with status -9" in ada.text("stays"), "the next one, too")
+        self.assertNotIn(sentence, ada.text("stays"))
+        ada.until(lambda: "replaced" not in ada.text("stays"), "it has been read")
+
+    def test_a_disk_that_does_not_answer_is_told_until_it_does(self) -> None:
+        with mock.patch.object(Server, "serve", LIVE / "tests" / "stalling.py"):
+            ada, = self.open(FREE_ROAD)
+        ada.run_an_hour()
+        stalled = self.server.folder / "stalled"
+        stalled.touch()
+        began = time.monotonic()
+        self.begin_limit(ada, "1")
+        ada.until(lambda: "the disk has not answered for 5 seconds: what is put is pending" in ada.text("stays"), "it is told")
+        self.assertGreater(time.monotonic() - began, STALLS)
+        self.assertEqual(ada.lines("own"), ["27 km/h, 0–0.3 km, 0:20:00–0:30:00 pending"])
+        ada.choose("span", "60")
+        ada.keys(Keys.HOME)
+        ada.until(lambda: "?" not in "".join(ada.signs(0, 30, 40)), "what was confirmed can be looked at")
+        stalled.unlink()
+        ada.until(lambda: ada.lines("own") == ["27 km/h, 0–0.3 km, 0:20:00–0:30:00 private"], "it is confirmed")
+        ada.until(lambda: "disk" not in ada.text("stays"), "the trouble is over")

@@ -1,0 +1,32 @@
+"""`live/serve` on a disk that does not answer as long as a file `stalled` stands in the folder."""
+from __future__ import annotations
+
+import os
+import runpy
+import sys
+import time
+from pathlib import Path
+from typing import Any
+
+LIVE = Path(__file__).resolve().parent.parent
+sys.path[:0] = [str(LIVE), str(LIVE.parent / "recipes" / "python")]
+from server import journal  # noqa: E402
+
+
+class Stalling:
+    """In the place of `os` in the journal."""
+
+    def __getattr__(self, name: str) -> Any:
+        return getattr(os, name)
+
+    @staticmethod
+    def fsync(file: int) -> None:
+        folder = Path(os.readlink(f"/proc/self/fd/{file}")).parent
+        while (folder / "stalled").exists():
+            time.sleep(0.05)
+        os.fsync(file)
+
+
+if __name__ == "__main__":
+    setattr(journal, "os", Stalling())
+    runpy.run_path(str(LIVE / "serve"), run_name="__main__")
