@@ -82,17 +82,18 @@ class Sharing(BrowserCase):
 
     def test_news_are_in_sight_beside_long_figures(self) -> None:
         ada, ben = self.open(FREEWAY)
+        height = 560
         ben.driver.execute_cdp_cmd("Emulation.setDeviceMetricsOverride",
-                                   {"width": 1366, "height": 625, "deviceScaleFactor": 1, "mobile": False})
+                                   {"width": 1366, "height": height, "deviceScaleFactor": 1, "mobile": False})
         self.addCleanup(ben.driver.execute_cdp_cmd, "Emulation.clearDeviceMetricsOverride", {})
         ada.run_an_hour()
         ada.limit("1", "0:20", "0:30")
         ada.share_all()
         ben.until(lambda: ben.text("news").startswith("Ada shared 1 change."), "news")
         ben.settled()
-        self.assertGreater(ben.script("return $('figuresPart').getBoundingClientRect().bottom"), 600)
+        self.assertGreater(ben.script("return $('figuresPart').getBoundingClientRect().bottom"), height)
         top, bottom = ben.script("const {top, bottom} = $('news').getBoundingClientRect(); return [top, bottom];")
-        self.assertTrue(0 <= top < bottom <= 625, (top, bottom))
+        self.assertTrue(0 <= top < bottom <= height, (top, bottom))
 
     def test_what_is_pressed_stays_until_it_is_let_go(self) -> None:
         ada, ben = self.open(FREE_ROAD)
