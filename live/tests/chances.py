@@ -147,7 +147,7 @@ class Days(Case):
 
         async def begun() -> bool:
             return wrote.exists() and wrote.read_text().endswith("\n")
-        await until(begun, "it runs", 20)
+        await until(begun, "it runs")
         return question, list(map(int, wrote.read_text().split()))
 
     async def ended(self, question: asyncio.Future[Any], processes: list[int]) -> None:
