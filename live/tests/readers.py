@@ -132,7 +132,7 @@ class Reader:
         return next(((name, shape) for _, name, shape in self.standing_now if shape[0] == kind
                      and shape[1] <= index <= shape[2] and shape[3] <= step and (shape[4] is None or step < shape[4])), None)
 
-    async def look(self, case: Case) -> list[str]:
+    async def look(self, case: Case) -> None:
         """The road, and the list, beside what stands."""
         self.standing_now = self.standing()
         tops = {(kind, index, step): self.covering(kind, index, step) for kind, there in THERE.items() for index in range(there)
@@ -144,8 +144,7 @@ class Reader:
                 if value != (before[1][5] if before else BASE[kind]):
                     lab.edit("A", (kind, index), step, value)
             lab.advance("A", LAST)
-            rows = await self.rows(self.seat.at)
-            case.assertEqual(rows, lab.diagram("A", 0, LAST), self.seat.at)
+            case.assertEqual(await self.rows(self.seat.at), lab.diagram("A", 0, LAST), self.seat.at)
         lines = {tuple(one["name"]): one for one in await self.list()}
         case.assertEqual({name for name, one in lines.items() if one.get("standing")}, {one[1] for one in self.standing_now})
         for name, line in lines.items():
@@ -158,7 +157,6 @@ class Reader:
                         top = tops[kind, index, step]
                         wanted[kind, index, step] = None if top is None or top[0] == name else list(top[0])
             case.assertEqual(found, wanted, f"{self.seat.at}: the line {name}")
-        return rows
 
     async def list(self) -> list[Any]:
         found: list[Any] = []
@@ -216,9 +214,13 @@ class Readers(Case):
         await until(are_same, "both sites have the same")
         for reader in readers:
             await reader.takes()
-        roads = [await reader.look(self) for reader in readers]
-        roads += [await reader.rows("shared") for reader in readers[::2]]
-        self.assertEqual(roads, [roads[0]] * len(roads))
+        for reader in readers:
+            await reader.look(self)
+
+        async def is_one_road() -> bool:
+            roads = [await reader.rows(at) for reader in readers for at in (reader.seat.at, "shared")]
+            return roads == [roads[0]] * len(roads)
+        await until(is_one_road, "one road, once each site has heard that the other holds what it mends")
 
     async def unsent(self, reader: Reader) -> int:
         told = [one["broker"] for one in reader.seat.told if one.get("broker")]
