@@ -114,21 +114,10 @@ pub fn insert<T: Copy>(column: &mut Vec<T>, place: usize, tail: usize, value: T)
     ensures long { length column.new.items ≡ length column.old.items }
     ensures put_in { (d : T) → IsPutIn column.old.items column.new.items place tail value d }
 {
-    move_up(&mut column[place..tail + 1]);
-    column[place] = value;
-}
-
-// Moves each value but the last one place further. (Counted up, it is compiled to one move of memory.)
-#[inline(always)]
-fn move_up<T: Copy>(values: &mut [T])
-    ensures long { length values.new ≡ length values.old }
-    ensures moved { (k : ℕ) (d : T) → 0 < k → k < length values.old
-        → slice_index_or values.new k d ≡ slice_index_or values.old (k - 1) d }
-{
-    for moved in 1..values.len() {
-        let to = values.len() - moved;
-        values[to] = values[to - 1];
+    if place < tail {
+        column.copy_within(place..tail, place + 1);
     }
+    column[place] = value;
 }
 
 // Moves the kept places of sites on, where a car enters at a cell.
