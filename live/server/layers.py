@@ -244,10 +244,6 @@ class Road:
             self._put(name, old)
         return edits
 
-    def undoing(self, stamp: Stamp, was: Lays) -> Lays:
-        """What takes a gesture back, without the layers that somebody has laid since."""
-        return {name: laid for name, laid in was.items() if name in self.layers and self.layers[name][0] == stamp}
-
     def forget(self, names: Iterable[Name]) -> None:
         """As if nothing had ever been laid there."""
         for name in names:

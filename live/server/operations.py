@@ -37,7 +37,7 @@ def raised(seat: Seat, stamp: Stamp, line: Stamp) -> Lays:
 
 def undoing(seat: Seat, gesture: Gesture) -> Lays:
     """What takes a gesture back, without what somebody has laid since."""
-    return seat.road.undoing(gesture.stamp, gesture.was)
+    return {name: gesture.was[name] for name in seat.lying_as(gesture)}
 
 
 def again(stamp: Stamp, gesture: Gesture) -> Lays:

@@ -302,6 +302,28 @@ class Seat:
         stamp, laid = self.road.layers[name]
         return line_by(name, laid, stamp)
 
+    def lying_as(self, gesture: Gesture) -> list[Name]:
+        """The layers that are as an operation laid them: nothing was laid there since, or what was has been taken back."""
+        latest = {name: self.road.layers[name][0] for name in gesture.lays if name in self.road.layers}
+        later = {name for name, stamp in latest.items() if gesture.stamp < stamp and self._is_taking_back(stamp)}
+        done = [one for one in self.gestures if not (later.isdisjoint(one.lays) or self.is_out(one))] if later else []
+        done.sort(key=lambda one: one.stamp)
+        return [name for name, stamp in latest.items()
+                if stamp == gesture.stamp or name in later and gesture in self._laying(name, done)]
+
+    def _is_taking_back(self, stamp: Stamp) -> bool:
+        return any(one.undoes is not None for one in self._state.by_stamp.get(stamp, ()))
+
+    def _laying(self, name: Name, done: list[Gesture]) -> Iterator[Gesture]:
+        """Of operations in their order the latest on a layer; where that took one back and left the layer as it was before,
+        the latest of then; and so on."""
+        laid, left = self.road.laid(name), [one for one in done if name in one.lays]
+        while left and left[-1].lays[name] == laid:
+            last = left[-1]
+            yield last
+            undone = next((place for place, one in enumerate(left) if one.stamp == last.undoes), None)
+            left = left[:undone] if undone is not None and left[undone].was.get(name) == laid else []
+
     def since(self, place: int) -> list[Gesture]:
         """The gestures that arrived at this place or later."""
         first = len(self.gestures)

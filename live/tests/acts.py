@@ -143,15 +143,47 @@ class Acts(Case):
         await self.ada.ask("undo", key="last", stamp=undo)
         self.assertEqual(await numbers(self.ada), states[3])
 
+    async def test_z_takes_back_all_that_was_done_to_one_line(self) -> None:
+        line = await lay(self.ada, "under", ["limit", 2, 2, 40, 90, 1])
+        states = [await numbers(self.ada)]
+        for key, fields in (("put", {"shape": ["limit", 2, 3, 20, 50, 2]}), ("change", {"shape": ["limit", 2, 3, 20, 70, 2]}),
+                            ("longer", {"shape": ["limit", 2, 3, 20, 80, 3]}), ("gone", {"shape": None}),
+                            ("back", {"shape": ["limit", 1, 3, 20, 80, 3]}), ("top", {"top": True})):
+            said = await self.ada.ask("gesture", key=key, **fields, **({} if key == "put" else {"layer": "put"}))
+            states.append(await numbers(self.ada))
+        for walk in ("undo", "redo", "undo", "redo"):
+            for count in range(1, 7):
+                self.assertIsNotNone(said[walk], f"{walk} {count}")
+                said = await self.ada.ask("undo", key=f"{walk} {said[walk]}", stamp=said[walk])
+                self.assertEqual(await numbers(self.ada), states[-1 - count if walk == "undo" else count], f"{walk} {count}")
+            self.assertEqual(said[walk], line if walk == "undo" else None)
+
+    async def test_what_another_took_back_again_hinders_nobody(self) -> None:
+        mine = await lay(self.ada, "1", CLOSED)
+        await self.ada.ask("send", name="shared")
+        await self.ben.ask("take", message="shared")
+        change = await lay(self.ben, "1", ["block", 60, 69, 30, 70, 1], layer=mine)
+        await self.ben.ask("send", name="shared")
+        await self.ada.ask("take", message="shared")
+        with self.assertRaisesRegex(Refused, "Ben changed it since"):
+            await self.ada.ask("undo", key="2", stamp=mine)
+        await self.ben.ask("undo", key="2", stamp=change)
+        await self.ben.ask("send", name="shared")
+        took = await self.ada.ask("take", message="shared")
+        self.assertEqual((took["undo"], await numbers(self.ada)), (mine, closed(60, 69, 30, 60)))
+        await self.ada.ask("undo", key="3", stamp=mine)
+        self.assertEqual(await numbers(self.ada), {})
+        await self.ada.ask("send", name="shared")
+        await self.ben.ask("take", message="shared")
+        self.assertEqual(await numbers(self.ben), {})
+
     async def test_what_is_pending_is_named_by_its_key(self) -> None:
         asked = [("gesture", {"key": "a", "shape": CLOSED}), ("gesture", {"key": "b", "layer": "a", "shape": SLOW}),
                  ("gesture", {"key": "c", "layer": "a", "top": True}), ("undo", {"key": "d", "stamp": "b"}),
                  ("undo", {"key": "e", "stamp": "c"}), ("undo", {"key": "f", "stamp": "b"})]
         said = await asyncio.gather(*(self.ada.reply(verb, at=self.ada.at, **fields) for verb, fields in asked))
-        self.assertEqual([one.get("refused") for one in said], [None, None, None, "nothing to take back", None,
-                                                                "nothing to take back"])
-        self.assertEqual(await numbers(self.ada), {("limit", zone, step): value for zone in (1, 2, 3)
-                                                   for step, value in ((20, 2), (80, 5))})
+        self.assertEqual([one.get("refused") for one in said], [None, None, None, "nothing to take back", None, None])
+        self.assertEqual(await numbers(self.ada), closed(60, 69, 30, 60))
         self.a6.again()
         async with self.a6.seat(key=self.ada.key) as ada:  # keys are known after a restart, too
             await ada.ask("gesture", key="g", layer="a", shape=None)

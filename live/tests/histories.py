@@ -7,7 +7,7 @@ import unittest
 from typing import Any, Iterable
 
 from server.layers import Laid, Lays, Shape, is_raw
-from server.operations import again, changed, gesture_of, put, raised, undoing
+from server.operations import again, changed, gesture_of, put, raised, undoable, undoing
 from server.state import Gesture, Seat, State, raw_lays
 from running import ALL
 
@@ -278,6 +278,45 @@ class Histories(unittest.TestCase):
         for seed in range(HISTORIES):
             with self.subTest(seed=seed):
                 self.history(seed)
+
+
+class Presses(unittest.TestCase):
+    """What one seat does, and its presses of Z and Redo: as many as it did things, each gives the road of then."""
+
+    def press(self, site: Site, seat: Seat, stamp: tuple[int, int]) -> None:
+        pressed = next(one for one in seat.gestures if one.stamp == stamp)
+        site.does(seat, undoing(seat, pressed), undoes=stamp)
+
+    def walk(self, seed: int) -> None:
+        r = random.Random(seed)
+        site = Site(1, 1)
+        seat, = site.seats
+        past, future = [by_edits(())], list[Values]()
+        for _ in range(r.randrange(5, 40)):
+            undo, redo = undoable(seat)
+            self.assertEqual((undo is not None, redo is not None), (len(past) > 1, bool(future)), seed)
+            what = r.random()
+            if what < 0.35:
+                lays = random_lays(r, site, seat)
+                if not lays:
+                    continue
+                site.does(seat, lays)
+                past.append(by_layers(seat.gestures))
+                future.clear()
+            elif what < 0.75 and undo is not None:
+                self.press(site, seat, undo.stamp)
+                future.append(past.pop())
+            elif redo is not None:
+                self.press(site, seat, redo.stamp)
+                past.append(future.pop())
+            self.assertEqual(by_layers(seat.gestures), past[-1], seed)
+            self.assertEqual(by_edits(seat.gestures), past[-1], seed)
+            if r.random() < 0.1:
+                site.shares(seat, site.state.shareable(seat, None))
+
+    def test_z_and_redo(self) -> None:
+        for seed in range(HISTORIES):
+            self.walk(seed)
 
 
 class Orders(unittest.TestCase):

@@ -61,6 +61,19 @@ class OnePicture(BrowserCase):
         self.assertNotIn("#", free)
         self.assertEqual(tab.point(24.5, 20.3), "0.18 km, 0:00:20: no car; limit 81 km/h")
 
+    def test_z_takes_back_one_drag_after_the_other(self) -> None:
+        tab = self.closed_by_a_drag()
+        tab.tool("look")
+        tab.drag((24.5, 24), (24.5, 30.1))
+        first, second = (f"Whole road closed 0.18–0.188 km, 0:00:12–0:00:{end} private" for end in (24, 30))
+        for name, lines in (("Undo", [first]), ("Undo", []), ("Redo", [first]), ("Redo", [second])):
+            tab.press(name)
+            tab.settled()
+            self.assertEqual(tab.lines("own"), lines, name)
+        tab.keys("z", "z")  # at once
+        tab.settled()
+        self.assertEqual(tab.lines("own"), [])
+
     def test_cars_in_a_closure_are_told(self) -> None:
         tab, = self.open(FREE_ROAD)
         tab.run_an_hour()
