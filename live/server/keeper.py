@@ -132,7 +132,8 @@ class Keeper:
         """Makes it so, here at once; the future is done when it is on the disk."""
         self._check_disk()
         self.state.make(entry)
-        self.undone += any(lay[1] is None for lay in entry.get("gesture", {}).get("lays", ()))
+        gesture = entry.get("gesture", {})
+        self.undone += "undoes" in gesture or any(lay[1] is None for lay in gesture.get("lays", ()))
         upto = len(self.state.shared.gestures)
 
         def is_there() -> None:

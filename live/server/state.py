@@ -365,8 +365,10 @@ class Seat:
                 self.road.lay(gesture.stamp, {name: gesture.lays[name] for name in gesture.lays.keys() & names})
         self.of_sites = [gesture for gesture in self.of_sites if gesture not in gone]
         left = {line: tuple(one for one in some if one not in gone) for line, some in self.lines.items()}
+        shorter = [line for line, some in left.items() if some and len(some) < len(self.lines[line])]
         self.lines = {line: some for line, some in left.items() if some}
         self.marks = {line: version for line, version in self.marks.items() if line in self.lines}
+        self.mark(shorter)
         self.operations = sum(not gesture.is_mending for gesture in self.gestures)
         self.edits = Index()
         for gesture in self.gestures:

@@ -414,6 +414,25 @@ class Acts(Case):
                 os.kill(server.program, signal.SIGKILL)  # another program: the same
             self.assertEqual((await ada.ask("send", name="shared"))["stamps"], [first, last])
 
+    async def test_what_is_forgotten_is_not_listed_any_more(self) -> None:
+        server = self.server(LIVE_MOST_UNDONE="30")
+        async with server.seat() as ada:
+            gone = await lay(ada, "gone", ["limit", 2, 2, 20, 60, 1])
+            await lay(ada, "withdrawn", None, layer=gone)
+            line = tuple(await lay(ada, "line", CLOSED))
+            for count in range(29):
+                stamp = await lay(ada, f"c{count}", ["block", 60, 69, 30, 70 + count, 1], layer=list(line))
+                said = await ada.ask("undo", key=f"u{count}", stamp=stamp)
+
+            async def is_shorter() -> bool:
+                return len((await ada.ask("gestures"))["gestures"]) < 30
+            await until(is_shorter, "the oldest are forgotten")
+            fresh = (await lines(ada))[line]
+            self.assertEqual([one["does"] for one in fresh["operations"]], ["put", *["change", "undo"] * 10])
+            self.assertEqual((await ada.ask("layers", **{"from": said["next"]}))["layers"], [fresh])
+            with self.assertRaisesRegex(Refused, "you hold no change of the name"):
+                await ada.ask("gesture", key="late", layer=gone, top=True)
+
     # Lists
 
     async def test_the_list_comes_in_pieces_and_what_changed_alone(self) -> None:

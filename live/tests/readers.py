@@ -25,11 +25,16 @@ Lays = dict[Stamp, Laid]
 NOTHING: Laid = (None, (0, 0))
 
 
+KEPT = 20  # of its own operations that are not shared the newest, after a restart too
+NOT_THERE = "no such change"
+
+
 class Made(NamedTuple):
-    """What an operation laid, and what was there before."""
+    """What an operation laid, what was there before, and which one it took back."""
 
     lays: Lays
     was: Lays
+    undoes: Stamp | None
 
 
 class Reader:
@@ -38,6 +43,8 @@ class Reader:
     def __init__(self, server: Server, seat: Seat, chance: random.Random, made: dict[Stamp, Made]) -> None:
         self.server, self.seat, self.chance, self.made = server, seat, chance, made
         self.held: set[Stamp] = set()
+        self.private: list[Stamp] = []  # own operations that are not shared, in their order
+        self.old: set[Stamp] = set()  # of these what a server that was started again need not have
         self.count = 0
 
     def layers(self) -> dict[Stamp, tuple[Stamp, Laid]]:
@@ -47,6 +54,17 @@ class Reader:
     def standing(self) -> list[tuple[Stamp, Stamp, list[Any]]]:
         """Height, name and shape of what stands, the highest first."""
         return sorted(((height, name, shape) for name, (_, (shape, height)) in self.layers().items() if shape), reverse=True)
+
+    def lies_as(self, name: Stamp, stamp: Stamp) -> bool:
+        """Whether a layer is as an operation laid it: nothing was laid there since, or what was has been taken back."""
+        done = [one for one in sorted(self.held) if name in self.made[one].lays]
+        laid = self.made[done[-1]].lays[name]
+        while done and self.made[done[-1]].lays[name] == laid:
+            if done[-1] == stamp:
+                return True
+            undone = self.made[done[-1]].undoes
+            done = done[:done.index(undone)] if undone in done and self.made[undone].was.get(name) == laid else []
+        return False
 
     # What it does
 
@@ -77,10 +95,21 @@ class Reader:
     async def lays(self, verb: str, lays: Any, **fields: Any) -> None:
         before = self.layers()
         key = f"{self.seat.at}-{self.count}"
-        stamp = tuple((await self.seat.ask(verb, key=key, **fields))["stamp"])
+        try:
+            stamp = tuple((await self.seat.ask(verb, key=key, **fields))["stamp"])
+        except Refused as fault:
+            if fault.reply["refused"] == NOT_THERE and self.is_forgotten(fields.get("layer"), fields.get("stamp")):
+                return
+            raise
         laid = lays(stamp)
-        self.made[stamp] = Made(laid, {name: before[name][1] if name in before else NOTHING for name in laid})
+        self.made[stamp] = Made(laid, {name: before[name][1] if name in before else NOTHING for name in laid},
+                                fields["stamp"] if verb == "undo" else None)
         self.held.add(stamp)
+        self.private.append(stamp)
+
+    def is_forgotten(self, name: Stamp | None, stamp: Stamp | None) -> bool:
+        """Whether a line may be forgotten, since it was put in private and withdrawn long ago; or an operation."""
+        return stamp in self.old if name is None else name in self.old and self.layers()[name][1][0] is None
 
     async def acts_on(self, name: Stamp | None) -> None:
         """Something that is done to what is there."""
@@ -99,8 +128,7 @@ class Reader:
             await self.lays("gesture", lambda stamp: {name: (shape, stamp)}, layer=name, top=True)
         else:
             old = self.chance.choice(sorted(self.held))
-            before = self.layers()
-            back = {one: laid for one, laid in self.made[old].was.items() if before[one][0] == old}
+            back = {one: laid for one, laid in self.made[old].was.items() if self.lies_as(one, old)}
             again = {one: laid for one, (laid, _) in self.made[old].lays.items()}
             await self.lays(what, lambda stamp: back if what == "undo" else {one: (laid, stamp) for one, laid in again.items()},
                             stamp=old)
@@ -108,7 +136,14 @@ class Reader:
     async def shares(self) -> None:
         own = [stamp for stamp in self.held if stamp[1] == self.seat.welcome["number"]]
         some = [one for one in own if self.chance.random() < 0.5][:50]
-        await self.seat.ask("send", name="shared", **({} if self.chance.random() < 0.6 else {"stamps": some}))
+        await self.sends(**({} if self.chance.random() < 0.6 else {"stamps": some}))
+
+    async def sends(self, **some: Any) -> int:
+        """How many operations were shared."""
+        said = await self.seat.ask("send", name="shared", **some)
+        given = set(map(tuple, said["stamps"]))
+        self.private = [stamp for stamp in self.private if stamp not in given]
+        return len(given)
 
     async def takes(self) -> None:
         looked, after = None, None
@@ -200,6 +235,7 @@ class Readers(Case):
         for reader in readers:
             if reader.server is site:
                 reader.seat = await self.enterAsyncContext(site.seat(key=reader.seat.key))
+                reader.old.update(reader.private[:-KEPT])
 
     async def all_have_all(self, readers: list[Reader]) -> None:
         """All is shared, exchanged and taken, until nothing is left to share: there is one road. (What laid what was so
@@ -207,7 +243,7 @@ class Readers(Case):
         async def are_same() -> bool:
             one, other = [(await reader.seat.ask("scenario", at="shared"))["edits"] for reader in readers[::2]]
             return bool(one == other) and not any([await self.unsent(reader) for reader in readers[::2]])
-        while any([(await reader.seat.ask("send", name="shared"))["size"] for reader in readers]):
+        while any([await reader.sends() for reader in readers]):
             await until(are_same, "both sites have the same")
             for reader in readers:
                 await reader.takes()
