@@ -696,9 +696,11 @@ class State:
         newest operations; and the seat's mendings. No layer is another by it, and where any of their edits wins, a mending
         has it. What the program holds need not be known any more."""
         private = self.private(seat)
-        there, gone = self.shared.road.layers, self.cancelled(seat)
-        old = {gesture for gesture in private[:max(0, len(private) - kept)] if gesture in gone or all(
-            name not in there and seat.road.laid(name).shape is None for name in gesture.lays)}
+        newest = max(0, len(private) - kept)
+        left = self.shared.road.layers.keys() | {name for gesture in private[newest:] for name in gesture.lays}
+        gone = self.cancelled(seat)
+        old = {gesture for gesture in private[:newest] if gesture in gone or all(
+            name not in left and seat.road.laid(name).shape is None for name in gesture.lays)}
         gone = unneeded(seat, old) | {one for one in seat.gestures if one.is_mending and one not in self.shared.holds}
         if not gone:
             return gone
@@ -776,19 +778,23 @@ def differ(one: Laid, other: Laid) -> bool:
 
 
 def unneeded(seat: Seat, old: set[Gesture]) -> set[Gesture]:
-    """Those of these operations without which all layers of a seat are what they are."""
+    """Those of these operations without which all layers of a seat are what they are, and which nothing takes back that stays."""
     gone = set(old)
     while gone:
         names = {name for gesture in gone for name in gesture.lays}
         then: dict[Name, tuple[Stamp, Laid]] = {}
+        undone = set[Stamp | None]()
         for gesture in seat.gestures:
-            for name in gesture.lays.keys() & names if gesture not in gone else ():
-                then[name] = max(then.get(name, ((0, 0), NOTHING)), (gesture.stamp, gesture.lays[name]),
-                                 key=lambda one: one[0])
+            if gesture not in gone:
+                undone.add(gesture.undoes)
+                for name in gesture.lays.keys() & names:
+                    then[name] = max(then.get(name, ((0, 0), NOTHING)), (gesture.stamp, gesture.lays[name]),
+                                     key=lambda one: one[0])
         needed = {name for name in names if differ(seat.road.laid(name), then.get(name, ((0, 0), NOTHING))[1])}
-        if not needed:
+        left = {gesture for gesture in gone if gesture.stamp not in undone and not needed & gesture.lays.keys()}
+        if left == gone:
             break
-        gone = {gesture for gesture in gone if not needed & gesture.lays.keys()}
+        gone = left
     return gone
 
 

@@ -433,6 +433,33 @@ class Acts(Case):
             with self.assertRaisesRegex(Refused, "you hold no change of the name"):
                 await ada.ask("gesture", key="late", layer=gone, top=True)
 
+    async def test_z_is_the_same_after_what_a_start_forgets(self) -> None:
+        """Of the newest operations one takes back one that is older."""
+        line = await lay(self.ada, "line", CLOSED)
+        stamp = await lay(self.ada, "change", ["block", 60, 69, 30, 70, 1], layer=line)
+        await self.ada.ask("undo", key="undo", stamp=stamp)
+        for count in range(19):
+            undo = await lay(self.ada, f"g{count}", ["limit", 2, 2, 20 + count, 60, 1])
+        self.a6.again()
+        async with self.a6.seat(key=self.ada.key) as ada:
+            for count in range(20):
+                said = await ada.ask("undo", key=f"u{count}", stamp=undo)
+                undo = said["undo"]
+                self.assertEqual(closed(60, 69, 30, 60).items() <= (await numbers(ada)).items(), count < 19)
+            self.assertEqual((undo, await numbers(ada)), (None, {}))
+
+    async def test_a_line_is_forgotten_whole(self) -> None:
+        line = await lay(self.ada, "line", CLOSED, note="works")
+        for count in range(20):
+            await lay(self.ada, f"g{count}", ["limit", 2, 2, 20 + count, 60, 1])
+        gone = await lay(self.ada, "gone", None, layer=line, note="open")
+        self.a6.again()
+        async with self.a6.seat(key=self.ada.key) as ada:
+            back = await ada.ask("undo", key="back", stamp=gone)
+            self.assertEqual([(one["name"], one["note"]) for one in back["layers"]], [(line, "works")])
+            await ada.ask("undo", key="none", stamp=line)
+            self.assertEqual({kind for kind, _, _ in await numbers(ada)}, {"limit"})
+
     # Lists
 
     async def test_the_list_comes_in_pieces_and_what_changed_alone(self) -> None:
