@@ -55,9 +55,8 @@ def undoable(seat: Seat) -> tuple[Gesture | None, Gesture | None]:
     """The seat's operation that would be taken back next, and the taking back that would be taken back."""
     done: dict[Stamp, Gesture] = {}
     undone: dict[Stamp, Gesture] = {}
-    for gesture in seat.gestures:
-        if gesture.stamp[1] != seat.number or gesture.is_mending:
-            continue
+    own = (gesture for gesture in seat.gestures if gesture.stamp[1] == seat.number and not gesture.is_mending)
+    for gesture in sorted(own, key=lambda one: one.stamp):
         if gesture.undoes in done:
             del done[gesture.undoes]
             undone[gesture.stamp] = gesture

@@ -287,6 +287,16 @@ class Presses(unittest.TestCase):
         pressed = next(one for one in seat.gestures if one.stamp == stamp)
         site.does(seat, undoing(seat, pressed), undoes=stamp)
 
+    def next_of(self, seat: Seat) -> Any:
+        return [one and one.stamp for one in undoable(seat)]
+
+    def shortened(self, site: Site) -> Seat:
+        """The seat after a start by the shortened journal."""
+        state = State()
+        for entry in json.loads(json.dumps(list(site.state.entries()))):
+            state.apply(entry)
+        return state.seats[1]
+
     def walk(self, seed: int) -> None:
         r = random.Random(seed)
         site = Site(1, 1)
@@ -312,7 +322,8 @@ class Presses(unittest.TestCase):
             self.assertEqual(by_layers(seat.gestures), past[-1], seed)
             self.assertEqual(by_edits(seat.gestures), past[-1], seed)
             if r.random() < 0.1:
-                site.shares(seat, site.state.shareable(seat, None))
+                site.shares(seat, [one for one in site.state.private(seat) if r.random() < 0.5])
+                self.assertEqual(self.next_of(seat), self.next_of(self.shortened(site)), seed)
 
     def test_z_and_redo(self) -> None:
         for seed in range(HISTORIES):
