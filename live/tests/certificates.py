@@ -76,7 +76,10 @@ class Certificates(Case):
 
     def test_without_a_certificate_nobody_else_is_let_in(self) -> None:
         self.refused("--listen wants --certificate", "--listen", "0.0.0.0")
-        self.refused("no certificate", "--listen", "0.0.0.0", "--name", "x", "--certificate", str(LIVE / "serve"))
+        folder = new_folder() / "new"
+        self.refused("no certificate", "--listen", "0.0.0.0", "--name", "x", "--certificate", str(LIVE / "serve"),
+                     "--folder", str(folder))
+        self.assertFalse(folder.exists())
 
     def test_who_listens_everywhere_says_by_which_name(self) -> None:
         for everywhere in ("0.0.0.0", "::"):
