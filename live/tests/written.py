@@ -13,6 +13,7 @@ from faulty import Bus, Disk, Here, soon
 from running import Case, until
 from server import chance, figures
 from server.asked import Refused
+from server.journal import Journal
 from server.program import Program
 from server.settings import Settings
 from server.turns import MORE
@@ -155,6 +156,30 @@ class Written(Case):
             else:
                 await soon(share)
             self.assertEqual((lab.news(cleo, 9)["size"], (await soon(first))["size"], await self.edits(cleo)), (edits,) * 3)
+
+    async def test_what_is_being_forgotten_is_told_to_nobody(self) -> None:
+        """Who asks while the journal is read again, since a write failed, is told what is there."""
+        await self.here.put(self.ada, [*LIMIT, 3])
+        share = await self.begun(self.here.share(self.ada))
+        reads, is_read, may_read = Journal.confirmed, threading.Event(), threading.Event()
+        self.addCleanup(may_read.set)
+
+        def held_up(journal: Journal) -> list[Any]:
+            is_read.set()
+            may_read.wait()
+            return reads(journal)
+        with mock.patch.object(Journal, "confirmed", held_up):
+            self.goes_on(errno.EIO)
+            await asyncio.get_running_loop().run_in_executor(None, is_read.wait)
+            looks = [asyncio.create_task(self.here.ask(self.ben, verb, **fields)) for verb, fields in (
+                ("layers", {"at": "shared"}), ("gestures", {"at": "shared"}), ("csv", {"at": "shared", "what": "changes"}),
+                ("figures", {"of": "mine", "from": 0, "to": 60}))]
+            await asyncio.sleep(0.2)
+            may_read.set()
+            layers, gestures, table, figures_of = [await soon(look) for look in looks]
+        self.assertEqual((layers["layers"], gestures["gestures"], table["csv"].count("\n")), ([], [], 1))
+        self.assertEqual(figures_of["before"], figures_of["after"])
+        self.assertEqual(await self.refused(share), "not written")
 
     async def test_figures_are_of_what_is_on_the_disk(self) -> None:
         """Of a share by which nobody enters at the first inlet: the first detector counts the cars of this one alone."""
