@@ -41,12 +41,12 @@ def digest(key: str) -> str:
 
 
 async def confirmed(done: Awaitable[None] | None, times: Times) -> None:
-    """Waits until it is on the disk, or is `Refused`."""
+    """Waits until it is on the disk, or is `Refused`. Who waits may go, and others wait on."""
     if done is None:
         return
     began = time.perf_counter()
     try:
-        await done
+        await asyncio.shield(done)
     except NotWritten as fault:
         raise NotKept(fault) from None
     times["sync"] = times.get("sync", 0) + time.perf_counter() - began
@@ -203,7 +203,7 @@ class Lab:
             await self.keeper.turns.ask(SHARED, self.keeper.writable)
             seat = {"seat": index, "name": name, "key": digest(key), "when": int(time.time())}
             await confirmed(self.keeper.record_late({"seat": seat}, lambda: None), {})
-        except Refused:
+        except BaseException:  # also where its tab went meanwhile
             self.keeper.here.discard(index)
             raise
         return index, key

@@ -157,6 +157,22 @@ class Written(Case):
                 await soon(share)
             self.assertEqual((lab.news(cleo, 9)["size"], (await soon(first))["size"], await self.edits(cleo)), (edits,) * 3)
 
+    async def test_who_goes_while_a_seat_is_given_harms_nobody(self) -> None:
+        """Others, who wait for the same write, are answered, and the seat can be taken over."""
+        join = await self.begun(self.here.lab.join("Cleo", "", None))
+        looks = [asyncio.create_task(self.here.lab.seats_kept(turn)) for turn in (self.ben, None)]
+        await asyncio.sleep(0.1)
+        join.cancel()
+        looks.append(asyncio.create_task(self.here.lab.seats_kept()))
+        await asyncio.sleep(0.1)
+        self.goes_on()
+        for look in looks:
+            self.assertEqual([one["name"] for one in await soon(look)][:2], ["Ada", "Ben"])
+        seats = {one["name"]: one for one in await soon(self.here.lab.seats_kept())}
+        self.assertEqual([seats[name]["here"] for name in ("Ada", "Ben", "Cleo")], [True, True, False])
+        index, _ = await soon(self.here.lab.join("", "", seats["Cleo"]["seat"]))
+        await soon(self.here.put(index, [*LIMIT, 3]))
+
     async def test_what_is_being_forgotten_is_told_to_nobody(self) -> None:
         """Who asks while the journal is read again, since a write failed, is told what is there."""
         await self.here.put(self.ada, [*LIMIT, 3])
