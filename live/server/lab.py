@@ -340,11 +340,11 @@ class Lab:
         return await self._kept(index, index, body, dones, times) or made[0]
 
     async def _kept(self, index: int, at: int, body: Job, dones: list[asyncio.Future[None]], times: Times) -> Any:
-        """Does what is written, and waits until it is on the disk. Where it was begun, and another's write failed, it ends as
-        its own did; the program is given it later."""
+        """Does what is written, and waits until it is on the disk. Where it was begun, and another's write failed, or there
+        is no program, it ends as its own did; the program is given it later."""
         try:
             reply = await self.keeper.ask(index, (at,), body)
-        except NotKept:
+        except Refused:
             if not dones:
                 raise
             reply = None
@@ -485,9 +485,7 @@ class Lab:
                 before.append(len(shared.gestures))
                 dones.append(self.keeper.record({"answer": {}}))
             return None if await self.keeper.feeds(SHARED, {}) else MORE
-        await self.keeper.ask(SHARED, (SHARED,), body)
-        for done in dones:
-            await confirmed(done, {})
+        await self._kept(SHARED, SHARED, body, dones, {})
         mended = self.state.shared.gestures[before[0]:] if before else []
         if mended:
             self.keeper.listeners.tell("shared", first_step(mended))

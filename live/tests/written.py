@@ -14,7 +14,7 @@ from running import Case, until
 from server import chance, figures
 from server.asked import Refused
 from server.journal import Journal
-from server.program import Program
+from server.program import Gone, Program
 from server.settings import Settings
 from server.turns import MORE
 
@@ -127,6 +127,22 @@ class Written(Case):
             self.assertEqual(len((await soon(share))["stamps"]), 3)
         self.goes_on()
         self.assertEqual((await self.here.take(self.ben))["size"], 3)
+
+    async def test_what_is_on_the_disk_was_done_though_there_is_no_program(self) -> None:
+        """It ended, and none can be started for a while: the next one is given it."""
+        async def none(*_: Any) -> Program:
+            raise Gone("the program cannot be started")
+        await self.here.put(self.ben, ["limit", 1, 50, 4])
+        for act in (self.here.put(self.ada, [*LIMIT, 3]), self.here.share(self.ben), self.here.take(self.ada)):
+            for seat, at in ((self.ada, "seat1"), (self.ben, "seat2"), (self.ben, "shared")):  # it has what they hold so far
+                await self.here.ask(seat, "scenario", at=at)
+            self.here.keeper.program.kill()
+            with mock.patch("server.keeper.start", none):
+                await soon(act)
+                self.assertEqual(await self.refused(self.here.ask(self.ben, "scenario", at="shared")), "no program")
+        self.assertEqual([next(iter(one)) for one in self.here.entries()][-3:], ["gesture", "share", "take"])
+        self.assertEqual(self.here.heard[-1:], [50])
+        self.assertEqual((await self.edits(self.ben), len((await self.here.ask(self.ada, "scenario"))["edits"])), (1, 2))
 
     async def test_nobody_is_told_before_it_is_on_the_disk(self) -> None:
         lab, keeper = self.here.lab, self.here.keeper
