@@ -189,6 +189,18 @@ class Written(Case):
         index, _ = await soon(self.here.lab.join("", "", seats["Cleo"]["seat"]))
         await soon(self.here.put(index, [*LIMIT, 3]))
 
+    async def test_the_list_is_whole_after_a_failed_write(self) -> None:
+        """Who was told of a change that was pending shall not go on from there."""
+        await self.here.put(self.ada, ["limit", 1, 40, 3])
+        put = await self.begun(self.here.put(self.ada, [*LIMIT, 3]))
+        pending = await soon(self.here.ask(self.ada, "layers"))
+        self.goes_on(errno.EIO)
+        self.assertEqual(await self.refused(put), "not written")
+        said = await soon(self.here.ask(self.ada, "layers", **{"from": pending["next"]}))
+        self.assertEqual((len(pending["layers"]), len(said["layers"]), said["since"]), (2, 1, 0))
+        said = await soon(self.here.ask(self.ada, "layers", **{"from": said["next"]}))
+        self.assertEqual((said["layers"], said["since"]), ([], said["next"]))
+
     async def test_what_is_being_forgotten_is_told_to_nobody(self) -> None:
         """Who asks while the journal is read again, since a write failed, is told what is there."""
         await self.here.put(self.ada, [*LIMIT, 3])
