@@ -53,10 +53,11 @@ async def confirmed(done: Awaitable[None] | None, times: Times) -> None:
 
 
 class Early(Refused):
-    """A stamp of another site that is taken later."""
+    """A gesture of another site that is taken later."""
 
-    def __init__(self, why: str) -> None:
-        super().__init__("Count", why)
+    def __init__(self, gesture: Gesture) -> None:
+        super().__init__("Count", f"the stamp {list(gesture.stamp)} of {gesture.who} is more than a day ahead of the clock: it "
+                         f"is taken when its day has come")
 
 
 def first_step(gestures: Iterable[Gesture]) -> int | None:
@@ -440,8 +441,9 @@ class Lab:
             if not dones:
                 fresh = [gesture for gesture in gestures if not self._is_known(gesture)]
                 for gesture in fresh:
-                    self._check_count(gesture)
-                    self._checks.gesture(gesture)
+                    self.check(gesture)
+                    if is_early(gesture.stamp[0]):
+                        raise Early(gesture)
                 if not fresh:
                     return None
                 await self.keeper.writable()
@@ -464,10 +466,9 @@ class Lab:
         edits = {edit for one in known for edit in one.edits}
         return any(one.lays == gesture.lays for one in known) and all(edit in edits for edit in gesture.edits)
 
-    def _check_count(self, gesture: Gesture) -> None:
-        if is_early(gesture.stamp[0]):
-            raise Early(f"the stamp {list(gesture.stamp)} of {gesture.who} is more than a day ahead of the clock: it is "
-                        f"taken when its day has come")
+    def check(self, gesture: Gesture) -> None:
+        """One of another site is of this plan, or `Refused`."""
+        self._checks.gesture(gesture)
 
     async def bind(self, number: int, folder: str) -> None:
         """Writes down that a site's number is this folder's."""

@@ -192,14 +192,42 @@ class Strangers(Case):
             self.assertEqual([len(await self.shared(here)) for here in (one, two)], [2, 2])
             for site in (first, second):
                 self.assertIn("of number 70 is more than a day ahead of the clock", told(site))
-                self.assertIn("1 messages are more than a day ahead", told(site))
+                self.assertIn("1 changes are more than a day ahead", told(site))
             clock[0] += 1_000
             await self.bus.rounds()
             self.assertEqual([len(await self.shared(here)) for here in (one, two)], [2, 2])
             clock[0] += 2_000
             await self.bus.rounds()
             self.assertEqual([len(await self.shared(here)) for here in (one, two)], [3, 3])
-            self.assertNotIn("1 messages are more than a day ahead", told(first))
+            self.assertNotIn("1 changes are more than a day ahead", told(first))
+
+    async def test_what_is_early_keeps_nothing_else_and_waits_once(self) -> None:
+        """Another change of the same message is taken at once; what is sent again and again waits once, and not much waits."""
+        now = stamps.milliseconds()
+        with mock.patch("server.stamps.milliseconds", lambda: clock[0]):
+            clock = [now]
+            here, site = await self.here(1)
+
+            async def comes(*gestures: tuple[int, int]) -> None:
+                """Gestures of so many milliseconds ahead, each with a limit from a step on."""
+                body = {"form": 2, "gestures": [{
+                    "stamp": [32 * (now + ahead), 70], "edits": [["limit", 2, step, 3]], "who": "Eve",
+                    "lays": [[["limit", 2, step], 3, [32 * (now + ahead), 70], None, [0, 0]]]} for ahead, step in gestures]}
+                await self.bus.give(site, Message(f"road/{site._road}/layers", json.dumps(body).encode()))
+            for _ in range(3):
+                await comes((0, 1), (DAY + 1_000, 2), (DAY + 2_000, 3))
+            self.assertEqual([edit[2] for edit in await self.shared(here)], [1])
+            self.assertIn("2 changes are more than a day ahead", told(site))
+            await comes((DAY + 1_000, 1 << 20))
+            self.assertIn("2 changes are more than a day ahead", told(site))  # what is not of the plan does not wait
+            with mock.patch("server.sites.MOST_EARLY", 9), mock.patch("server.sites.LONGEST_EARLY", 16):
+                await comes(*((DAY + 3_000, step) for step in range(4, 30)))
+                self.assertIn("8 changes are more than a day ahead", told(site))
+            await comes((DAY + 1_000, 2), (DAY + 2_000, 3))
+            clock[0] += 1_500
+            await self.bus.rounds()
+            self.assertEqual([edit[2] for edit in await self.shared(here)], [1, 2])
+            self.assertIn("9 changes are more than a day ahead", told(site))
 
     # Roads
 
