@@ -49,6 +49,7 @@ PIECE = 500_000  # bytes, about, of gestures that are sent together
 AT_ONCE = 500  # gestures that are sent without a pause
 TOLD, MOST_STAY = 5, 20  # sentences
 MOST_FOLDERS = 256  # that are remembered
+LONGEST_HASH = 40
 MOST_EARLY, LONGEST_EARLY = 1_000, 100_000  # gestures that wait until their day has come, and edits and layers of them
 BURST, A_SECOND = 6_000, 500  # messages of a site that are taken at once, and each second
 FLOOD = 30.0  # seconds for which a site that sends more is not heard
@@ -593,9 +594,10 @@ def site_of(folder: str, value: Any) -> tuple[str, str, int, str]:
 
 def sum_of(folder: str, value: Any) -> tuple[str, str, dict[str, str]]:
     said, theirs, numbers = fields_of(value, "folder", "sum", "numbers")
-    if type(said) is not str or type(theirs) is not str or type(numbers) is not dict:
+    if type(said) is not str or type(theirs) is not str or type(numbers) is not dict or not all(
+            type(one) is str and len(one) <= LONGEST_HASH for one in numbers.values()):
         raise Bad("it is no hash of what a site holds")
-    return token_of(folder or said), words(theirs, 40), numbers
+    return token_of(folder or said), words(theirs, LONGEST_HASH), numbers
 
 
 def token_of(folder: str) -> str:

@@ -169,10 +169,12 @@ class Bounds(Case):
         for number in range(1_100):
             name = f"{number}" + "x" * 5_000
             for topic, value in (("road/sites", {"site": number % 1_000 + 2, "road": name, "run": name}),
-                                 (f"road/{site._road}/sum", {"sum": name, "numbers": {}})):
+                                 (f"road/{site._road}/sum", {"sum": name, "numbers": {}}),
+                                 (f"road/{site._road}/sum", {"sum": name, "numbers": {"operations": name}})):
                 await site._came(topic, "", json.dumps({"folder": name, **value}).encode())
         for kept in (site._sites, site._sums, site._operations, site._pauses, here.lab.state.bound):
             self.assertLessEqual(len(kept), 1_024)
+            self.assertLess(len(str(kept)), 200_000)
         self.assertLess(len(json.dumps(site.state())), 100_000)
         for number in (0, -1, 1_024, True, "7", None, 1 << 70):
             await site._came("road/sites", "", json.dumps({"folder": "f", "site": number, "road": "r"}).encode())
