@@ -375,9 +375,10 @@ def is_of_sites(gesture: Gesture) -> bool:
 
 
 def outs_of(gestures: Iterable[Gesture]) -> frozenset[int]:
-    """The sites of which nothing counts, by gestures of sites that count: of any two the older one comes first."""
+    """The sites of which nothing counts, by gestures of sites that count: of any two the older one comes first, of two of one
+    stamp always the same."""
     outs: set[int] = set()
-    for gesture in sorted(gestures, key=lambda one: one.stamp):
+    for gesture in sorted(gestures, key=lambda one: (one.stamp, sorted(map(repr, one.lays.items())))):
         for (kind, site, *_), laid in gesture.lays.items() if site_of(gesture) not in outs else ():
             if kind == SITE:
                 (outs.discard if laid.shape is None else outs.add)(site)
