@@ -71,7 +71,7 @@ class Lab:
     def __init__(self, keeper: Keeper) -> None:
         self.keeper = keeper
         self._clocks: set[asyncio.Future[None]] = set()  # that are being written
-        self._joins = asyncio.Lock()
+        self._joins, self._setting = asyncio.Lock(), asyncio.Lock()
         self._kept_seats: list[dict[str, Any]] = []
         self._pending: dict[tuple[int, str], list[asyncio.Future[None]]] = {}  # by seat and key: what is being written
 
@@ -89,17 +89,18 @@ class Lab:
     # The clock
 
     async def set_clock(self, rate: float | None = None, to: int | None = None) -> Reply:
-        """Lets the clock go on at a rate, or sets it, forward."""
+        """Lets the clock go on at a rate, or sets it, forward; of several who do so at once each what the others left."""
         now = self.keeper.now()
         if to is not None and not now <= to <= min(LAST_STEP, now + AHEAD):
             raise Refused("Range", f"`to` is {now} to {min(LAST_STEP, now + AHEAD)}, not {to}")
-        await self.keeper.turns.ask(SHARED, self.keeper.writable)
-        clock = self.keeper.clock() if rate is None else {"rate": rate, "now": self.keeper.now()}
-        if to is not None:
-            clock["now"] = to
-        if clock["rate"] > FAST:
-            clock["stop"] = min(LAST_STEP, clock["now"] + HOUR)
-        await confirmed(self._put_clock(clock), {})
+        async with self._setting:
+            await self.keeper.turns.ask(SHARED, self.keeper.writable)
+            clock = self.keeper.clock() if rate is None else {"rate": rate, "now": self.keeper.now()}
+            if to is not None:
+                clock["now"] = max(to, clock["now"])
+            if clock["rate"] > FAST:
+                clock["stop"] = min(LAST_STEP, clock["now"] + HOUR)
+            await confirmed(self._put_clock(clock), {})
         self.keeper.listeners.tell("clock")
         return {"now": clock["now"]}
 

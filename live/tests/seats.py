@@ -92,6 +92,21 @@ class Seats(Case):
                 await asyncio.sleep(0)
             return keeper.now() - before
 
+    async def test_a_clock_goes_forward_alone_and_keeps_what_others_set_at_once(self) -> None:
+        keeper, lab, is_free = self.here.keeper, self.here.lab, asyncio.Event()
+        await soon(asyncio.gather(lab.set_clock(rate=60), lab.set_clock(to=3_600), lab.set_clock(to=3_500)))
+        self.assertEqual(keeper.clock()["rate"], 60)
+        self.assertGreaterEqual(keeper.now(), 3_600)
+        await lab.set_clock(rate=600)
+        busy = keeper.turns.ask(0, is_free.wait)
+        sets = asyncio.create_task(lab.set_clock(to=keeper.now() + 1))
+        await asyncio.sleep(0.2)
+        before = keeper.now()
+        is_free.set()
+        await soon(busy)
+        self.assertGreaterEqual((await soon(sets))["now"], before)
+        self.assertGreaterEqual(keeper.now(), before)
+
     async def test_rates_may_have_a_fraction(self) -> None:
         for rate, steps in ((0.3, 30), (0.5, 50), (1.5, 150), (0.01, 1)):
             self.assertAlmostEqual(await self.clock(rate, 100), steps, delta=1)
