@@ -29,6 +29,7 @@ FASTEST, FAST = 600, 60  # steps a second; a clock that is faster stops in an ho
 HOUR = 3_600
 MOST_TOLD = 200
 LOOKED_AT = 500
+NOTED = 1 / 24  # of the time after which a seat that nobody uses is free
 LIST_AT_ONCE = 0.02  # seconds for the lines of a reply; a page asks for the rest
 
 Reply = dict[str, Any]
@@ -214,7 +215,10 @@ class Lab:
         """Its tab has gone."""
         self.keeper.here.discard(index)
         if self.keeper.journal.fault is None and self.state.seats[index].key:
-            self.keeper.record({"left": {"seat": index, "when": int(time.time())}})
+            self._note_use(index)
+
+    def _note_use(self, index: int) -> None:
+        self.keeper.record({"left": {"seat": index, "when": int(time.time())}})
 
     async def give_back(self, index: int) -> None:
         """Frees a seat that holds nothing private, when what it was asked before is done."""
@@ -240,11 +244,14 @@ class Lab:
         return self.keeper.record({"free": {"seat": index}})
 
     def free_unused(self) -> None:
-        """Frees the seats that nobody used for a day and that hold nothing private."""
-        before = time.time() - self.keeper.settings.day
-        for seat in self.state.seats[1:]:
-            is_unused = seat.key and seat.index not in self.keeper.here and seat.seen < before
-            if is_unused and not self.state.shareable(seat, None):
+        """Frees the seats that nobody used for a day and that hold nothing private; and notes now and then which are used,
+        since after a kill that is not known."""
+        now, day = time.time(), self.keeper.settings.day
+        for seat in [one for one in self.state.seats[1:] if one.key]:
+            if seat.index in self.keeper.here:
+                if seat.seen < now - day * NOTED:
+                    self._note_use(seat.index)
+            elif seat.seen < now - day and not self.state.shareable(seat, None):
                 logging.info("seat %d of %s is free again", seat.index, seat.name)
                 self._free(seat.index)
                 self.keeper.listeners.tell("seats")

@@ -2,13 +2,19 @@
 from __future__ import annotations
 
 import asyncio
+import shutil
+from pathlib import Path
 from typing import Any
 from unittest import mock
 
 from faulty import Here, soon
-from running import Case
+from running import Case, new_folder
 from server import verbs
 from server.asked import Asked, Refused
+
+
+def copied(folder: Path) -> Path:
+    return Path(shutil.copytree(folder, new_folder() / "copy"))
 
 
 class Seats(Case):
@@ -38,6 +44,24 @@ class Seats(Case):
         lab = self.here.lab
         said = await asyncio.gather(*(lab.join("", "", index) for _ in range(2)), return_exceptions=True)
         self.assertEqual([getattr(one, "text", "seat") for one in said], ["seat", "seat is connected"])
+
+    async def test_a_seat_that_was_used_until_a_kill_is_not_free_after_it(self) -> None:
+        """Though its tab came days ago, and never left."""
+        now = [1_000_000.0]
+        with mock.patch("server.lab.time.time", lambda: now[0]):
+            ada, ben = await self.here.join("Ada", "Ben")
+            self.here.lab.leave(ben)
+            for _ in range(2 * 24 * 6):
+                now[0] += 600
+                self.here.lab.free_unused()
+            await self.here.keeper.journal.settled()
+            self.assertLess(len(self.here.entries()), 60)
+            again = await self.enterAsyncContext(Here(copied(self.here.folder)))  # as it is when the server is killed
+            now[0] += 22 * 3_600
+            again.lab.free_unused()
+            self.assertEqual((await again.lab.join("", self.here.keys[ada], None))[0], ada)
+            with self.assertRaisesRegex(Refused, "unknown key"):
+                await again.lab.join("", self.here.keys[ben], None)
 
     async def test_a_freed_seats_changes_bear_the_name_of_who_made_them(self) -> None:
         ada, = await self.here.join("Ada")
