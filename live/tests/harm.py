@@ -60,7 +60,12 @@ class Bounds(Case):
             await two.share(1)
             await bus.carry()
             self.assertEqual(len(one.lab.state.shared.gestures), 0)
-            now[0] += 31
+            now[0] += 29
+            first._sites.clear()
+            second._present()
+            await bus.carry()
+            self.assertEqual(first._sites, {})
+            now[0] += 2
             second._sent.clear()
             await bus.rounds(3)
             self.assertEqual(len(one.lab.state.shared.gestures), 1)

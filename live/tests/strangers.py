@@ -301,6 +301,13 @@ class Keys(Case):
         await self.bus.rounds(3)  # what it told comes again
         self.assertEqual(self.held(self.two), 1)
 
+    async def test_what_is_of_a_clock_far_ahead_is_left_out(self) -> None:
+        """Else it could be played again for longer."""
+        with mock.patch.object(self.first._seal, "_clock", lambda: seals.time.time() + 900):
+            await self.share(50)
+        self.assertEqual(self.held(self.two), 0)
+        self.assertIn("more than 10 minutes old, by this site's clock", told(self.second))
+
     async def test_without_a_key_the_page_says_so(self) -> None:
         here = await self.enterAsyncContext(Here(site=3))
         site = Bus().site(here)
@@ -321,6 +328,11 @@ class Counting(unittest.TestCase):
         self.assertEqual(stamps.next_count(32_005, 1_000, 31), 32_031)
         self.assertEqual(stamps.next_count(40_000, 1_000, 31), 40_001)
         self.assertLess(stamps.next_count(0, 4_102_444_800_000, 31), 1 << 48)  # in the year 2100, too
+
+    def test_clones_that_stamp_in_one_millisecond_differ_by_five_bits(self) -> None:
+        with mock.patch("server.stamps.milliseconds", lambda: 1_000):
+            counts = {stamps.count_after(7) for _ in range(2_000)}
+        self.assertEqual(counts, set(range(32_000, 32_032)))
 
     def test_the_numbers_of_a_window_count_once(self) -> None:
         seen = seals.Seen()
