@@ -144,7 +144,7 @@ async function takeLayers(whose, said) {
   else await refresh(whose);
 }
 
-/** Asks for what a road has got since. */
+/** Asks for what a road has got since; or for all, where the list is another one. */
 export async function refresh(whose) {
   const layers = store.layers[whose];
   const at = whose === "mine" ? store.me.at : "shared";
@@ -152,7 +152,10 @@ export async function refresh(whose) {
     const from = layers.next;
     const said = await ask({layers: {at, from}});
     if (!said || said.refused) return;
-    if (from === 0) layers.lines.clear();
+    if (said.since === 0) {
+      layers.lines.clear();
+      if (from !== 0) store.roads[whose].stale(0);
+    }
     layers.take(said);
     more = said.more;
   }

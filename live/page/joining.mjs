@@ -169,8 +169,10 @@ const HEARD = {
     store.trouble = text;
     changed("stays");
   },
-  program({why}) {
+  async program({why}) {
     if (why) tellReplaced(`The program was replaced: ${why}`);
+    await refresh("mine");  // what was pending, and the disk refused, may have been in the list
+    look();
   },
 };
 

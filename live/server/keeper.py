@@ -364,7 +364,7 @@ class Keeper:
         """What `look` gives, once what it may have seen of others is on the disk: nothing, what was `shared`, or `all`; it
         looks anew where that was not taken."""
         while True:
-            failures = self.journal.failures
+            failures = self._forgotten  # not those of the journal: what is forgotten just now may still be looked at
             try:
                 found = await look()
                 if may_see == "all" or may_see == "shared" and self.confirmed < len(self.state.shared.gestures):

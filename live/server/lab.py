@@ -29,6 +29,7 @@ FASTEST, FAST = 600, 60  # steps a second; a clock that is faster stops in an ho
 HOUR = 3_600
 MOST_TOLD = 200
 LOOKED_AT = 500
+NOTED = 1 / 24  # of the time after which a seat that nobody uses is free
 LIST_AT_ONCE = 0.02  # seconds for the lines of a reply; a page asks for the rest
 
 Reply = dict[str, Any]
@@ -41,22 +42,23 @@ def digest(key: str) -> str:
 
 
 async def confirmed(done: Awaitable[None] | None, times: Times) -> None:
-    """Waits until it is on the disk, or is `Refused`."""
+    """Waits until it is on the disk, or is `Refused`. Who waits may go, and others wait on."""
     if done is None:
         return
     began = time.perf_counter()
     try:
-        await done
+        await asyncio.shield(done)
     except NotWritten as fault:
         raise NotKept(fault) from None
     times["sync"] = times.get("sync", 0) + time.perf_counter() - began
 
 
 class Early(Refused):
-    """A stamp of another site that is taken later."""
+    """A gesture of another site that is taken later."""
 
-    def __init__(self, why: str) -> None:
-        super().__init__("Count", why)
+    def __init__(self, gesture: Gesture) -> None:
+        super().__init__("Count", f"the stamp {list(gesture.stamp)} of {gesture.who} is more than a day ahead of the clock: it "
+                         f"is taken when its day has come")
 
 
 def first_step(gestures: Iterable[Gesture]) -> int | None:
@@ -70,7 +72,7 @@ class Lab:
     def __init__(self, keeper: Keeper) -> None:
         self.keeper = keeper
         self._clocks: set[asyncio.Future[None]] = set()  # that are being written
-        self._joins = asyncio.Lock()
+        self._joins, self._setting = asyncio.Lock(), asyncio.Lock()
         self._kept_seats: list[dict[str, Any]] = []
         self._pending: dict[tuple[int, str], list[asyncio.Future[None]]] = {}  # by seat and key: what is being written
 
@@ -88,17 +90,18 @@ class Lab:
     # The clock
 
     async def set_clock(self, rate: float | None = None, to: int | None = None) -> Reply:
-        """Lets the clock go on at a rate, or sets it, forward."""
+        """Lets the clock go on at a rate, or sets it, forward; of several who do so at once each what the others left."""
         now = self.keeper.now()
         if to is not None and not now <= to <= min(LAST_STEP, now + AHEAD):
             raise Refused("Range", f"`to` is {now} to {min(LAST_STEP, now + AHEAD)}, not {to}")
-        await self.keeper.turns.ask(SHARED, self.keeper.writable)
-        clock = self.keeper.clock() if rate is None else {"rate": rate, "now": self.keeper.now()}
-        if to is not None:
-            clock["now"] = to
-        if clock["rate"] > FAST:
-            clock["stop"] = min(LAST_STEP, clock["now"] + HOUR)
-        await confirmed(self._put_clock(clock), {})
+        async with self._setting:
+            await self.keeper.turns.ask(SHARED, self.keeper.writable)
+            clock = self.keeper.clock() if rate is None else {"rate": rate, "now": self.keeper.now()}
+            if to is not None:
+                clock["now"] = max(to, clock["now"])
+            if clock["rate"] > FAST:
+                clock["stop"] = min(LAST_STEP, clock["now"] + HOUR)
+            await confirmed(self._put_clock(clock), {})
         self.keeper.listeners.tell("clock")
         return {"now": clock["now"]}
 
@@ -203,7 +206,7 @@ class Lab:
             await self.keeper.turns.ask(SHARED, self.keeper.writable)
             seat = {"seat": index, "name": name, "key": digest(key), "when": int(time.time())}
             await confirmed(self.keeper.record_late({"seat": seat}, lambda: None), {})
-        except Refused:
+        except BaseException:  # also where its tab went meanwhile
             self.keeper.here.discard(index)
             raise
         return index, key
@@ -212,7 +215,10 @@ class Lab:
         """Its tab has gone."""
         self.keeper.here.discard(index)
         if self.keeper.journal.fault is None and self.state.seats[index].key:
-            self.keeper.record({"left": {"seat": index, "when": int(time.time())}})
+            self._note_use(index)
+
+    def _note_use(self, index: int) -> None:
+        self.keeper.record({"left": {"seat": index, "when": int(time.time())}})
 
     async def give_back(self, index: int) -> None:
         """Frees a seat that holds nothing private, when what it was asked before is done."""
@@ -238,11 +244,14 @@ class Lab:
         return self.keeper.record({"free": {"seat": index}})
 
     def free_unused(self) -> None:
-        """Frees the seats that nobody used for a day and that hold nothing private."""
-        before = time.time() - self.keeper.settings.day
-        for seat in self.state.seats[1:]:
-            is_unused = seat.key and seat.index not in self.keeper.here and seat.seen < before
-            if is_unused and not self.state.shareable(seat, None):
+        """Frees the seats that nobody used for a day and that hold nothing private; and notes now and then which are used,
+        since after a kill that is not known."""
+        now, day = time.time(), self.keeper.settings.day
+        for seat in [one for one in self.state.seats[1:] if one.key]:
+            if seat.index in self.keeper.here:
+                if seat.seen < now - day * NOTED:
+                    self._note_use(seat.index)
+            elif seat.seen < now - day and not self.state.shareable(seat, None):
                 logging.info("seat %d of %s is free again", seat.index, seat.name)
                 self._free(seat.index)
                 self.keeper.listeners.tell("seats")
@@ -340,11 +349,11 @@ class Lab:
         return await self._kept(index, index, body, dones, times) or made[0]
 
     async def _kept(self, index: int, at: int, body: Job, dones: list[asyncio.Future[None]], times: Times) -> Any:
-        """Does what is written, and waits until it is on the disk. Where it was begun, and another's write failed, it ends as
-        its own did; the program is given it later."""
+        """Does what is written, and waits until it is on the disk. Where it was begun, and another's write failed, or there
+        is no program, it ends as its own did; the program is given it later."""
         try:
             reply = await self.keeper.ask(index, (at,), body)
-        except NotKept:
+        except Refused:
             if not dones:
                 raise
             reply = None
@@ -440,8 +449,9 @@ class Lab:
             if not dones:
                 fresh = [gesture for gesture in gestures if not self._is_known(gesture)]
                 for gesture in fresh:
-                    self._check_count(gesture)
-                    self._checks.gesture(gesture)
+                    self.check(gesture)
+                    if is_early(gesture.stamp[0]):
+                        raise Early(gesture)
                 if not fresh:
                     return None
                 await self.keeper.writable()
@@ -464,10 +474,9 @@ class Lab:
         edits = {edit for one in known for edit in one.edits}
         return any(one.lays == gesture.lays for one in known) and all(edit in edits for edit in gesture.edits)
 
-    def _check_count(self, gesture: Gesture) -> None:
-        if is_early(gesture.stamp[0]):
-            raise Early(f"the stamp {list(gesture.stamp)} of {gesture.who} is more than a day ahead of the clock: it is "
-                        f"taken when its day has come")
+    def check(self, gesture: Gesture) -> None:
+        """One of another site is of this plan, or `Refused`."""
+        self._checks.gesture(gesture)
 
     async def bind(self, number: int, folder: str) -> None:
         """Writes down that a site's number is this folder's."""
@@ -485,9 +494,7 @@ class Lab:
                 before.append(len(shared.gestures))
                 dones.append(self.keeper.record({"answer": {}}))
             return None if await self.keeper.feeds(SHARED, {}) else MORE
-        await self.keeper.ask(SHARED, (SHARED,), body)
-        for done in dones:
-            await confirmed(done, {})
+        await self._kept(SHARED, SHARED, body, dones, {})
         mended = self.state.shared.gestures[before[0]:] if before else []
         if mended:
             self.keeper.listeners.tell("shared", first_step(mended))

@@ -5,7 +5,7 @@ from __future__ import annotations
 import time
 from typing import Any, Iterable
 
-from .layers import END, NOTHING, Name, Rectangle, Stamp, is_raw
+from .layers import END, NOTHING, Laid, Name, Rectangle, Stamp, is_raw
 from .operations import raws
 from .state import Gesture, Seat, State
 
@@ -22,10 +22,11 @@ def line_of(state: State, seat: Seat, line: Stamp) -> dict[str, Any]:
     edits = [[*name, laid_at(seat, name).value] for name in raws(seat, line)]
     laid = seat.road.laid(line)
     shape = first.shape if edits and is_whole(first, edits) else laid.shape
+    lost = lost_of(done, line)
     return {"name": line, "kind": kind_of(done, line), "shape": shape, "who": first.who, "note": first.note,
             "when": first.when, "height": laid.height if line in seat.road.layers else line,
             "standing": bool(shown), "shared": done[-1] in state.shared.holds, "shown": shown,
-            "operations": [operation_of(state, one, line, done[at + 1:]) for at, one in enumerate(done)],
+            "operations": [operation_of(state, one, line, lost.get(one)) for one in done],
             **({"edits": edits} if edits else {})}
 
 
@@ -75,23 +76,25 @@ def rectangle_of(seat: Seat, line: Stamp, rectangle: Rectangle) -> list[Any]:
     return [*where, since, None if until == END else until, value, None if over == line else over]
 
 
-def operation_of(state: State, gesture: Gesture, line: Stamp | None, later: Iterable[Gesture] = ()) -> dict[str, Any]:
+def operation_of(state: State, gesture: Gesture, line: Stamp | None, lost: Stamp | None = None) -> dict[str, Any]:
     """What was done to a line (or to what lines), and by whom; `lost` is who laid the layer at the same time and won."""
     return {"stamp": gesture.stamp, "who": gesture.who, "note": gesture.note, "when": gesture.when,
-            "does": does(gesture, line), "shared": gesture in state.shared.holds, "undoes": gesture.undoes,
-            "lost": lost_to(gesture, line, later) if line in gesture.lays else None}
+            "does": does(gesture, line), "shared": gesture in state.shared.holds, "undoes": gesture.undoes, "lost": lost}
 
 
-def lost_to(gesture: Gesture, line: Stamp, later: Iterable[Gesture]) -> Stamp | None:
-    """The first gesture above this one on a layer whose maker held neither it nor what was made of it, and laid neither;
-    None where none is."""
-    known = [gesture.lays[line]]
-    for one in later:
-        if line in one.lays:
-            if one.was.get(line, NOTHING) not in known and one.lays[line] not in known:
-                return one.stamp
-            known.append(one.lays[line])
-    return None
+def lost_of(done: Iterable[Gesture], line: Stamp) -> dict[Gesture, Stamp]:
+    """Of a line's operations, the oldest first, those that lost: each with the first one above it whose maker held neither it
+    nor what was made of it, and laid neither."""
+    found: dict[Gesture, Stamp] = {}
+    last: dict[Laid, int] = {}  # which of them laid this last
+    standing: list[tuple[int, Gesture]] = []
+    for place, one in enumerate(one for one in done if line in one.lays):
+        known = max(last.get(laid, -1) for laid in (one.was.get(line, NOTHING), one.lays[line]))
+        while standing and standing[-1][0] > known:
+            found[standing.pop()[1]] = one.stamp
+        standing.append((place, one))
+        last[one.lays[line]] = place
+    return found
 
 
 def does(gesture: Gesture, line: Stamp | None) -> str:

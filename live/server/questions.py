@@ -177,9 +177,10 @@ class Questions:
     # Lists
 
     async def layers(self, index: int, seat: Seat, version: int) -> Reply:
-        """The lines of a seat's list that were changed behind a version, and what it would take back next."""
+        """The lines of a seat's list that were changed behind a version, and what it would take back next; behind one of
+        another list, before a start or a failed write, the whole list."""
         async def body() -> Reply:
-            return self._lab.list_of(seat, version if version <= seat.version else 0)
+            return self._lab.list_of(seat, version if seat.begun <= version <= seat.version else 0)
         reply: Reply = await self._keeper.ask(index, (seat.index,), body)
         return reply
 

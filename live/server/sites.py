@@ -49,7 +49,8 @@ PIECE = 500_000  # bytes, about, of gestures that are sent together
 AT_ONCE = 500  # gestures that are sent without a pause
 TOLD, MOST_STAY = 5, 20  # sentences
 MOST_FOLDERS = 256  # that are remembered
-MOST_EARLY = 1_000  # messages that wait until their day has come
+LONGEST_HASH = 40
+MOST_EARLY, LONGEST_EARLY = 1_000, 100_000  # gestures that wait until their day has come, and edits and layers of them
 BURST, A_SECOND = 6_000, 500  # messages of a site that are taken at once, and each second
 FLOOD = 30.0  # seconds for which a site that sends more is not heard
 NUMBERS = range(1, 1_024)
@@ -98,7 +99,7 @@ class Sites:
         self._operations: dict[str, str | None] = {}  # of a folder: a hash of the operations that it holds
         self._pauses: dict[str, Pause] = {}  # of a folder
         self._disputed: dict[int, str] = {}  # numbers that a folder has that they are not bound to, and their own
-        self._early: list[Any] = []  # messages that are taken when their day has come
+        self._early: dict[str, Gesture] = {}  # that are taken when their day has come
         self._taking: asyncio.Future[None] | None = None
         self._floods = Floods()
         self._left_out = 0  # messages without a seal
@@ -166,7 +167,7 @@ class Sites:
         for folder in self._floods.paused():
             yield f"{self._named(folder)} sends too much: it is not heard for {FLOOD:.0f} seconds"
         if self._early:
-            yield f"{len(self._early)} messages are more than a day ahead of the clock: they wait until their day has come"
+            yield f"{len(self._early)} changes are more than a day ahead of the clock: they wait until their day has come"
         if self._left_out:
             yield f"{self._left_out} messages without the sites' seal were left out"
         for site in self._sites.values():
@@ -354,10 +355,12 @@ class Sites:
             elif topic.endswith("/sum"):
                 await self._heard_sum(folder, value)
             else:
-                await self._heard(gestures_of(value), value)
+                await self._heard(gestures_of(value))
         except (Bad, Refused) as fault:
-            why = fault.why if isinstance(fault, Refused) else str(fault)
-            self._say(f"A message from the broker was left out: {why}")
+            self._say_left_out(fault)
+
+    def _say_left_out(self, fault: Bad | Refused) -> None:
+        self._say(f"A message from the broker was left out: {fault.why if isinstance(fault, Refused) else fault}")
 
     async def _heard_site(self, folder: str, value: Any) -> None:
         folder, run, number, road = site_of(folder, value)
@@ -405,14 +408,28 @@ class Sites:
         return next((site for site in self._sites.values() if site.number == self._keeper.state.site
                      and not site.is_silent and site.road == self._road), None)
 
-    async def _heard(self, gestures: list[Gesture], value: Any) -> None:
+    async def _heard(self, gestures: list[Gesture]) -> None:
+        """Takes gestures; those that are early wait, and keep no others."""
         if self._twin() is not None:
             raise Bad("another folder has this site's number")
-        try:
-            is_new = await self._lab.came(gestures, {})
-        except Early:
-            self._early = [*self._early, value][-MOST_EARLY:]
-            raise
+        early = [gesture for gesture in gestures if is_early(gesture.stamp[0])]
+        if len(early) < len(gestures):
+            await self._take([gesture for gesture in gestures if gesture not in early])
+        for gesture in early:
+            self._lab.check(gesture)
+            self._wait(gesture)
+        if early:
+            raise Early(early[0])
+
+    def _wait(self, gesture: Gesture) -> None:
+        """Keeps one that is early once, however often it comes; of too many the oldest go, which come again."""
+        key = packed([gesture.stamp, list(gesture.edits), sorted(map(str, gesture.lays.items()))])
+        self._early[hashlib.sha256(key.encode()).hexdigest()] = gesture
+        while len(self._early) > MOST_EARLY or sum(map(size_of, self._early.values())) > LONGEST_EARLY:
+            del self._early[next(iter(self._early))]
+
+    async def _take(self, gestures: list[Gesture]) -> None:
+        is_new = await self._lab.came(gestures, {})
         for gesture in gestures:
             self._tell_if_twice(gesture)
         if is_new:
@@ -436,10 +453,12 @@ class Sites:
 
     async def _take_early(self) -> None:
         """What waited until its day has come."""
-        due = [value for value in self._early if not any(is_early(one.stamp[0]) for one in gestures_of(value))]
-        self._early = [value for value in self._early if value not in due]
-        for value in due:
-            await self._came("edits", "", packed(value).encode())
+        due = {key: gesture for key, gesture in self._early.items() if not is_early(gesture.stamp[0])}
+        self._early = {key: gesture for key, gesture in self._early.items() if key not in due}
+        try:
+            await self._heard(list(due.values()))
+        except (Bad, Refused) as fault:
+            self._say_left_out(fault)
 
     async def _heard_sum(self, folder: str, value: Any) -> None:
         folder, theirs, numbers = sum_of(folder, value)
@@ -521,6 +540,11 @@ class Floods:
         return [folder for folder, until in list(self._until.items()) if now < until]
 
 
+def size_of(gesture: Gesture) -> int:
+    """Its edits and layers."""
+    return len(gesture.edits) + len(gesture.lays)
+
+
 def only_newest(some: dict[str, Any]) -> None:
     """Of too many the oldest one goes."""
     if len(some) > MOST_FOLDERS:
@@ -570,9 +594,10 @@ def site_of(folder: str, value: Any) -> tuple[str, str, int, str]:
 
 def sum_of(folder: str, value: Any) -> tuple[str, str, dict[str, str]]:
     said, theirs, numbers = fields_of(value, "folder", "sum", "numbers")
-    if type(said) is not str or type(theirs) is not str or type(numbers) is not dict:
+    if type(said) is not str or type(theirs) is not str or type(numbers) is not dict or not all(
+            type(one) is str and len(one) <= LONGEST_HASH for one in numbers.values()):
         raise Bad("it is no hash of what a site holds")
-    return token_of(folder or said), words(theirs, 40), numbers
+    return token_of(folder or said), words(theirs, LONGEST_HASH), numbers
 
 
 def token_of(folder: str) -> str:

@@ -399,9 +399,10 @@ def is_of_sites(gesture: Gesture) -> bool:
 
 
 def outs_of(gestures: Iterable[Gesture]) -> frozenset[int]:
-    """The sites of which nothing counts, by gestures of sites that count: of any two the older one comes first."""
+    """The sites of which nothing counts, by gestures of sites that count: of any two the older one comes first, of two of one
+    stamp always the same."""
     outs: set[int] = set()
-    for gesture in sorted(gestures, key=lambda one: one.stamp):
+    for gesture in sorted(gestures, key=lambda one: (one.stamp, sorted(map(repr, one.lays.items())))):
         for (kind, site, *_), laid in gesture.lays.items() if site_of(gesture) not in outs else ():
             if kind == SITE:
                 (outs.discard if laid.shape is None else outs.add)(site)
@@ -636,12 +637,11 @@ class State:
 
     def _to_answer(self) -> set[Stretch]:
         """Where the shared road may be to mend. Others' mendings are answered where they were made from fewer operations,
-        so that no two answer each other for ever; until then they are doubted."""
+        so that no two answer each other for ever, or do not count; until then they are doubted."""
         shared = self.shared
         came = [one for one in self._came.get(0, ()) if one.is_mending and one.stamp[1] != shared.number]
-        shared.doubts += [one for one in came if not shared.is_out(one)]
-        answered = [one for one in came if shared.is_out(one)]
-        answered += [one for one in shared.doubts if one.known is None or one.known < shared.operations]
+        shared.doubts += came
+        answered = [one for one in shared.doubts if one.known is None or one.known < shared.operations or shared.is_out(one)]
         shared.doubts = [one for one in shared.doubts if one not in answered]
         return self._stretches.get(0, set[Stretch]()).union(*(one.where for one in answered))
 

@@ -60,7 +60,12 @@ class Bounds(Case):
             await two.share(1)
             await bus.carry()
             self.assertEqual(len(one.lab.state.shared.gestures), 0)
-            now[0] += 31
+            now[0] += 29
+            first._sites.clear()
+            second._present()
+            await bus.carry()
+            self.assertEqual(first._sites, {})
+            now[0] += 2
             second._sent.clear()
             await bus.rounds(3)
             self.assertEqual(len(one.lab.state.shared.gestures), 1)
@@ -169,10 +174,12 @@ class Bounds(Case):
         for number in range(1_100):
             name = f"{number}" + "x" * 5_000
             for topic, value in (("road/sites", {"site": number % 1_000 + 2, "road": name, "run": name}),
-                                 (f"road/{site._road}/sum", {"sum": name, "numbers": {}})):
+                                 (f"road/{site._road}/sum", {"sum": name, "numbers": {}}),
+                                 (f"road/{site._road}/sum", {"sum": name, "numbers": {"operations": name}})):
                 await site._came(topic, "", json.dumps({"folder": name, **value}).encode())
         for kept in (site._sites, site._sums, site._operations, site._pauses, here.lab.state.bound):
             self.assertLessEqual(len(kept), 1_024)
+            self.assertLess(len(str(kept)), 200_000)
         self.assertLess(len(json.dumps(site.state())), 100_000)
         for number in (0, -1, 1_024, True, "7", None, 1 << 70):
             await site._came("road/sites", "", json.dumps({"folder": "f", "site": number, "road": "r"}).encode())

@@ -3,10 +3,12 @@ from __future__ import annotations
 
 import json
 import random
+import time
 import unittest
 from typing import Any, Iterable
 
-from server.layers import Laid, Lays, Shape, is_raw
+from server.layers import Laid, Lays, Shape, Stamp, is_raw
+from server.lines import lost_of
 from server.operations import again, changed, gesture_of, put, raised, undoable, undoing
 from server.state import Gesture, Seat, State, raw_lays
 from running import ALL
@@ -541,3 +543,38 @@ class Cases(unittest.TestCase):
 
 if __name__ == "__main__":
     unittest.main()
+
+
+def operation(count: int, was: Laid, laid: Laid) -> Gesture:
+    """One on the line (1, 65)."""
+    return Gesture((count, 65), {(1, 65): laid}, {(1, 65): was}, (), "", "", 0, "", None, None, None)
+
+
+def lost_to(done: list[Gesture], place: int) -> Stamp | None:
+    """The same by the rule alone: the first one above whose maker held neither this one nor what was made of it, and laid
+    neither."""
+    known = [done[place].lays[1, 65]]
+    for one in done[place + 1:]:
+        if one.was[1, 65] not in known and one.lays[1, 65] not in known:
+            return one.stamp
+        known.append(one.lays[1, 65])
+    return None
+
+
+class Lost(unittest.TestCase):
+    """Of who lay one line at once those who lost."""
+
+    def test_it_is_who_was_not_known_to_who_came_later(self) -> None:
+        for seed in range(300):
+            chance, kinds = random.Random(seed), range(1 + seed % 7)
+            laid = [Laid(Shape("block", 1, 1, kind, None, 1), (1, 65)) for kind in kinds]
+            done = [operation(count, chance.choice(laid), chance.choice(laid)) for count in range(1, 14)]
+            wanted = {one: lost for place, one in enumerate(done) for lost in [lost_to(done, place)] if lost is not None}
+            self.assertEqual(lost_of(done, (1, 65)), wanted, seed)
+
+    def test_a_line_that_was_changed_very_often_is_told_as_soon(self) -> None:
+        laid = [Laid(Shape("block", 1, 1, kind, None, 1), (1, 65)) for kind in range(20_001)]
+        done = [operation(count, *pair) for count, pair in enumerate(zip(laid, laid[1:]), 1)]
+        began = time.process_time()
+        self.assertEqual(lost_of(done, (1, 65)), {})
+        self.assertLess(time.process_time() - began, 5)

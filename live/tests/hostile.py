@@ -7,11 +7,13 @@ import os
 import statistics
 import time
 from typing import Any
+from unittest import mock
 
 import aiohttp
 
 from server.client import Seat
 from server.strangers import Strangers
+from server.tabs import Tab
 from running import PATIENCE, Case, Server, until
 
 
@@ -99,6 +101,14 @@ class Frames(Case):
         await known.send_json({"id": 2, "hello": {"token": self.token, "name": "Ada"}})
         self.assertEqual((await known.receive_json())["welcome"]["name"], "Ada")
         await known.close()
+
+    async def test_who_never_says_a_name_is_let_go_at_last(self) -> None:
+        """Though it has shown the token: there are 200 such sockets."""
+        self.enterContext(mock.patch("server.tabs.NAMED", 0.1))
+        tab = Tab(mock.Mock(**{"lab.keeper.settings.hello": 0.1}), mock.Mock(), None)
+        tab.has_token = True
+        await asyncio.wait_for(tab._hello_in_time(), PATIENCE)
+        self.assertEqual(tab.bye, (1008, "no hello"))
 
     async def test_frames_that_are_none(self) -> None:
         for number, frame in enumerate((

@@ -165,8 +165,9 @@ class Writing(unittest.IsolatedAsyncioTestCase):
 
 def seen(state: State) -> Any:
     """What a state says, in a form that can be compared."""
-    return (state.plan, state.site, state.folder, state.rate, state.now, sorted(one.stamp for one in state.unsent),
-            [(seat.name, seat.key, seat.count, seat.upto, dict(seat.done),
+    return (state.plan, state.site, state.folder, state.rate, state.now, state.stop, state.bound, state.shares,
+            sorted(one.stamp for one in state.unsent),
+            [(seat.name, seat.key, seat.count, seat.upto, dict(seat.done), seat.seen * bool(seat.key),
               sorted((one.stamp, one.edits, one.who, one.note, one.undoes, one.title) for one in seat.gestures))
              for seat in state.seats])
 
@@ -337,14 +338,14 @@ class Folders(Case):
             await ben.ask("take", message="shared")
             await ben.ask("undo", stamp=[1, 65], key="u")
             await ben.ask("send", name="shared")
-            await ada.say("clock", rate=7)
+            await ada.say("clock", rate=70)
             async with server.seat("Cleo") as cleo:  # who leaves before what she shared has come back
                 await self.shared(cleo, 1)
                 await cleo.ask("send", name="shared", title="of one who left")
                 await cleo.reply("leave", at=cleo.at)
         server.kill()
         first, second = State(), State()
-        for entry in server.journal():
+        for entry in [*server.journal(), {"bound": {"site": 7, "folder": "of site 7"}}]:
             first.apply(entry)
         for entry in json.loads(json.dumps(list(first.entries()))):
             second.apply(entry)

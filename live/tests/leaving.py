@@ -203,3 +203,44 @@ class LeftOut(Case):
             body = json.dumps({"form": 2, "gestures": [{"stamp": [9, 70], "lays": lays, "edits": []}]}).encode()
             await self.bus.give(self.sites[0], Message(f"road/{self.sites[0]._road}/layers", body))
             self.assertNotIn((9, 70), self.here[0].lab.state.by_stamp)
+
+    async def test_of_two_of_one_stamp_the_same_counts_at_all_sites(self) -> None:
+        """One leaves a site out, the other lets it in; they come in one order or the other."""
+        await self.shape(2, "block", 60, 60, 30, None, 1)
+        stamp = [stamps.next_count(0, stamps.milliseconds(), 0), 70 * 64 + 1]
+        twins = [Message(f"road/{self.sites[0]._road}/layers", json.dumps({"form": 2, "gestures": [{
+            "stamp": stamp, "who": "Eve", "edits": [], "lays": [[["site", 3, 0], out, stamp, None, [0, 0]]]}]}).encode())
+                 for out in (1, None)]
+        for place, site in enumerate(self.sites):
+            for message in twins[::-1] if place else twins:
+                await self.bus.give(site, message)
+        await self.bus.rounds(3)
+        roads = [await self.rows(here) for here in self.here]
+        self.assertEqual(roads, [roads[0]] * 3)
+        self.bus.seen.clear()
+        await self.bus.rounds(3)  # and no two mend each other
+        self.assertEqual([one for one in self.bus.seen if one.topic.endswith("layers")], [])
+
+    async def test_what_a_site_mended_before_it_is_left_out_does_not_count(self) -> None:
+        """Though it says that it held far more, and holds something else."""
+        await self.shape(0, "limit", 1, 1, 20, None, 2)
+        del self.bus.sites[2]
+        road = self.sites[0]._road
+        sums = {"folder": "c3", "sum": "of others", "numbers": {"operations": "of others"}}
+        mending = {"stamp": [stamps.next_count(0, stamps.milliseconds(), 0), 3 * 64], "known": 10 ** 9,
+                   "edits": [["block", 20, 5, 1]], "who": "mended", "note": "", "when": 1}
+
+        async def is_there(*gestures: Any) -> None:
+            for topic, value in (("road/sites", {"folder": "c3", "run": "r", "site": 3, "road": road, "form": 2}),
+                                 (f"road/{road}/layers", {"form": 2, "gestures": list(gestures)}), (f"road/{road}/sum", sums)):
+                for site in self.sites[:2]:
+                    await self.bus.give(site, Message(topic, json.dumps(value).encode()))
+            await self.bus.rounds()
+        await is_there(mending)
+        await is_there()
+        self.assertEqual([await self.rows(here) for here in self.here[:2]],
+                         [self.road(("limit", 1, 20, 2), ("block", 20, 5, 1))] * 2)
+        await self.here[1].ask(1, "site", key="out", site=3, out=True)
+        await self.share(1)
+        await is_there()
+        self.assertEqual([await self.rows(here) for here in self.here[:2]], [self.road(("limit", 1, 20, 2))] * 2)

@@ -21,11 +21,11 @@ class OneTab(BrowserCase):
 
     names = ("Ada",)
 
-    def begin_limit(self, tab: Tab, limit: str) -> None:
+    def begin_limit(self, tab: Tab, limit: str, begin: str = "0:20", end: str = "0:30") -> None:
         """Puts a limit on the whole road, and does not wait until it is there."""
         tab.tool("limit")
         tab.choose("limit", limit)
-        tab.fill(kmFrom="0", kmTo="0.3", timeFrom="0:20", timeTo="0:30")
+        tab.fill(kmFrom="0", kmTo="0.3", timeFrom=begin, timeTo=end)
         tab.press_in("#apply")
 
     def test_a_program_that_was_replaced_is_told_with_why_and_stands_for_a_while(self) -> None:
@@ -65,3 +65,27 @@ class OneTab(BrowserCase):
         stalled.unlink()
         ada.until(lambda: ada.lines("own") == ["27 km/h, 0–0.3 km, 0:20:00–0:30:00 private"], "it is confirmed")
         ada.until(lambda: "disk" not in ada.text("stays"), "the trouble is over")
+
+    def test_what_a_disk_refused_at_last_is_neither_listed_nor_drawn(self) -> None:
+        """Though the page was loaded anew while it was pending."""
+        with mock.patch.object(Server, "serve", LIVE / "tests" / "stalling.py"):
+            ada, = self.open(FREE_ROAD)
+        ada.run_an_hour()
+        stalled, failing = (self.server.folder / name for name in ("stalled", "failing"))
+        stalled.touch()
+        self.begin_limit(ada, "1", "0:00:20", "0:00:40")
+        ada.driver.refresh()
+        ada.until(lambda: ada.lines("own") and "1" in self.signs_at_35(ada), "it is seen")
+        failing.touch()
+        stalled.unlink()
+        ada.until(lambda: "the disk does not take it" in ada.text("stays"), "it is told")
+        ada.until(lambda: not ada.lines("own") and set(self.signs_at_35(ada)) == {"3", "."}, "it is gone")
+        failing.unlink()
+        ada.until(lambda: "disk" not in ada.text("stays"), "the trouble is over")
+        self.assertEqual((ada.lines("own"), set(self.signs_at_35(ada))), ([], {"3", "."}))
+
+    def signs_at_35(self, tab: Tab) -> str:
+        """What is drawn of step 35 behind the inlet, where cars drive as fast as they may."""
+        tab.choose("span", "60")
+        tab.keys(Keys.HOME)
+        return tab.signs(35, 1, 40)[0][10:]

@@ -2,13 +2,19 @@
 from __future__ import annotations
 
 import asyncio
+import shutil
+from pathlib import Path
 from typing import Any
 from unittest import mock
 
 from faulty import Here, soon
-from running import Case
+from running import Case, new_folder
 from server import verbs
 from server.asked import Asked, Refused
+
+
+def copied(folder: Path) -> Path:
+    return Path(shutil.copytree(folder, new_folder() / "copy"))
 
 
 class Seats(Case):
@@ -38,6 +44,24 @@ class Seats(Case):
         lab = self.here.lab
         said = await asyncio.gather(*(lab.join("", "", index) for _ in range(2)), return_exceptions=True)
         self.assertEqual([getattr(one, "text", "seat") for one in said], ["seat", "seat is connected"])
+
+    async def test_a_seat_that_was_used_until_a_kill_is_not_free_after_it(self) -> None:
+        """Though its tab came days ago, and never left."""
+        now = [1_000_000.0]
+        with mock.patch("server.lab.time.time", lambda: now[0]):
+            ada, ben = await self.here.join("Ada", "Ben")
+            self.here.lab.leave(ben)
+            for _ in range(2 * 24 * 6):
+                now[0] += 600
+                self.here.lab.free_unused()
+            await self.here.keeper.journal.settled()
+            self.assertLess(len(self.here.entries()), 60)
+            again = await self.enterAsyncContext(Here(copied(self.here.folder)))  # as it is when the server is killed
+            now[0] += 22 * 3_600
+            again.lab.free_unused()
+            self.assertEqual((await again.lab.join("", self.here.keys[ada], None))[0], ada)
+            with self.assertRaisesRegex(Refused, "unknown key"):
+                await again.lab.join("", self.here.keys[ben], None)
 
     async def test_a_freed_seats_changes_bear_the_name_of_who_made_them(self) -> None:
         ada, = await self.here.join("Ada")
@@ -91,6 +115,21 @@ class Seats(Case):
                 await keeper.journal.settled()
                 await asyncio.sleep(0)
             return keeper.now() - before
+
+    async def test_a_clock_goes_forward_alone_and_keeps_what_others_set_at_once(self) -> None:
+        keeper, lab, is_free = self.here.keeper, self.here.lab, asyncio.Event()
+        await soon(asyncio.gather(lab.set_clock(rate=60), lab.set_clock(to=3_600), lab.set_clock(to=3_500)))
+        self.assertEqual(keeper.clock()["rate"], 60)
+        self.assertGreaterEqual(keeper.now(), 3_600)
+        await lab.set_clock(rate=600)
+        busy = keeper.turns.ask(0, is_free.wait)
+        sets = asyncio.create_task(lab.set_clock(to=keeper.now() + 1))
+        await asyncio.sleep(0.2)
+        before = keeper.now()
+        is_free.set()
+        await soon(busy)
+        self.assertGreaterEqual((await soon(sets))["now"], before)
+        self.assertGreaterEqual(keeper.now(), before)
 
     async def test_rates_may_have_a_fraction(self) -> None:
         for rate, steps in ((0.3, 30), (0.5, 50), (1.5, 150), (0.01, 1)):

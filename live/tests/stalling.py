@@ -1,6 +1,8 @@
-"""`live/serve` on a disk that does not answer as long as a file `stalled` stands in the folder."""
+"""`live/serve` on a disk that does not answer as long as a file `stalled` stands in the folder, and fails as long as a file
+`failing` does."""
 from __future__ import annotations
 
+import errno
 import os
 import runpy
 import sys
@@ -24,6 +26,8 @@ class Stalling:
         folder = Path(os.readlink(f"/proc/self/fd/{file}")).parent
         while (folder / "stalled").exists():
             time.sleep(0.05)
+        if (folder / "failing").exists():
+            raise OSError(errno.EIO, os.strerror(errno.EIO))
         os.fsync(file)
 
 

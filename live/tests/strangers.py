@@ -192,14 +192,42 @@ class Strangers(Case):
             self.assertEqual([len(await self.shared(here)) for here in (one, two)], [2, 2])
             for site in (first, second):
                 self.assertIn("of number 70 is more than a day ahead of the clock", told(site))
-                self.assertIn("1 messages are more than a day ahead", told(site))
+                self.assertIn("1 changes are more than a day ahead", told(site))
             clock[0] += 1_000
             await self.bus.rounds()
             self.assertEqual([len(await self.shared(here)) for here in (one, two)], [2, 2])
             clock[0] += 2_000
             await self.bus.rounds()
             self.assertEqual([len(await self.shared(here)) for here in (one, two)], [3, 3])
-            self.assertNotIn("1 messages are more than a day ahead", told(first))
+            self.assertNotIn("1 changes are more than a day ahead", told(first))
+
+    async def test_what_is_early_keeps_nothing_else_and_waits_once(self) -> None:
+        """Another change of the same message is taken at once; what is sent again and again waits once, and not much waits."""
+        now = stamps.milliseconds()
+        with mock.patch("server.stamps.milliseconds", lambda: clock[0]):
+            clock = [now]
+            here, site = await self.here(1)
+
+            async def comes(*gestures: tuple[int, int]) -> None:
+                """Gestures of so many milliseconds ahead, each with a limit from a step on."""
+                body = {"form": 2, "gestures": [{
+                    "stamp": [32 * (now + ahead), 70], "edits": [["limit", 2, step, 3]], "who": "Eve",
+                    "lays": [[["limit", 2, step], 3, [32 * (now + ahead), 70], None, [0, 0]]]} for ahead, step in gestures]}
+                await self.bus.give(site, Message(f"road/{site._road}/layers", json.dumps(body).encode()))
+            for _ in range(3):
+                await comes((0, 1), (DAY + 1_000, 2), (DAY + 2_000, 3))
+            self.assertEqual([edit[2] for edit in await self.shared(here)], [1])
+            self.assertIn("2 changes are more than a day ahead", told(site))
+            await comes((DAY + 1_000, 1 << 20))
+            self.assertIn("2 changes are more than a day ahead", told(site))  # what is not of the plan does not wait
+            with mock.patch("server.sites.MOST_EARLY", 9), mock.patch("server.sites.LONGEST_EARLY", 16):
+                await comes(*((DAY + 3_000, step) for step in range(4, 30)))
+                self.assertIn("8 changes are more than a day ahead", told(site))
+            await comes((DAY + 1_000, 2), (DAY + 2_000, 3))
+            clock[0] += 1_500
+            await self.bus.rounds()
+            self.assertEqual([edit[2] for edit in await self.shared(here)], [1, 2])
+            self.assertIn("9 changes are more than a day ahead", told(site))
 
     # Roads
 
@@ -273,6 +301,13 @@ class Keys(Case):
         await self.bus.rounds(3)  # what it told comes again
         self.assertEqual(self.held(self.two), 1)
 
+    async def test_what_is_of_a_clock_far_ahead_is_left_out(self) -> None:
+        """Else it could be played again for longer."""
+        with mock.patch.object(self.first._seal, "_clock", lambda: seals.time.time() + 900):
+            await self.share(50)
+        self.assertEqual(self.held(self.two), 0)
+        self.assertIn("more than 10 minutes old, by this site's clock", told(self.second))
+
     async def test_without_a_key_the_page_says_so(self) -> None:
         here = await self.enterAsyncContext(Here(site=3))
         site = Bus().site(here)
@@ -293,6 +328,11 @@ class Counting(unittest.TestCase):
         self.assertEqual(stamps.next_count(32_005, 1_000, 31), 32_031)
         self.assertEqual(stamps.next_count(40_000, 1_000, 31), 40_001)
         self.assertLess(stamps.next_count(0, 4_102_444_800_000, 31), 1 << 48)  # in the year 2100, too
+
+    def test_clones_that_stamp_in_one_millisecond_differ_by_five_bits(self) -> None:
+        with mock.patch("server.stamps.milliseconds", lambda: 1_000):
+            counts = {stamps.count_after(7) for _ in range(2_000)}
+        self.assertEqual(counts, set(range(32_000, 32_032)))
 
     def test_the_numbers_of_a_window_count_once(self) -> None:
         seen = seals.Seen()
