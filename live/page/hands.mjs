@@ -38,8 +38,15 @@ const placeOf = ({offsetX, offsetY}) => {
 
 const shapeFrame = ([kind, first, last, from, to]) => ({kind, first, last, from, to});
 
-/** The own line of which an edge is at a place, with the edge's name; null where none is, or what
-    lies above it is in force there. */
+/** Whether a line of the own road is the same on the road that is seen, and in force at a place
+    there. */
+function isSeen({name, shape}, place) {
+  const there = layersShown().line(name);
+  return String(there?.shape) === String(shape) && isInForce(there, ...place);
+}
+
+/** The own line of which an edge is seen at a place, with the edge's name; null where none is, or
+    what lies above it is in force there. */
 function edgeAt(x, y) {
   const view = viewNow();
   const own = [...store.layers.mine.lines.values()]
@@ -48,7 +55,7 @@ function edgeAt(x, y) {
     const corners = cornersOf(view, shapeFrame(line.shape));
     const edge = edgeNear(corners, [x, y], AT_EDGE, line.shape[4] === null);
     const inside = nearestIn(store.plan, line.shape, [cellAt(view, x), stepAt(view, y)]);
-    if (edge && isInForce(line, ...inside)) return {line, edge};
+    if (edge && isSeen(line, inside)) return {line, edge};
   }
   return null;
 }

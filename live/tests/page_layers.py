@@ -42,6 +42,19 @@ class OneTab(BrowserCase):
                          [[1200, 1800], [600, 2400]])
         self.assertEqual(tab.script("return store.look.step"), max(0, step - 200) if step else 0)
 
+    def test_edges_that_are_not_seen_cannot_be_drawn(self) -> None:
+        tab, = self.open(FREEWAY)
+        tab.run_an_hour()
+        tab.tool("block")
+        tab.in_figures(kmFrom="3", kmTo="3.15", timeFrom="0:20", timeTo="0:30")
+        tab.tool("look")
+        self.assertEqual(self.pointer(tab, 410, 1800), "ns-resize")
+        tab.script("document.querySelector('[name=whose][value=shared]').click()")  # where nothing is closed
+        tab.settled()
+        self.assertEqual(self.pointer(tab, 410, 1800), "grab")
+        tab.drag((410, 1800), (410, 2400))
+        self.assertEqual(tab.lines("own"), ["Whole road closed 3–3.15 km, 0:20:00–0:30:00 private"])
+
     def written(self, tab: Tab) -> list[str]:
         """The labels that are drawn."""
         found = tab.script("""
