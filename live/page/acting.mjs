@@ -203,39 +203,51 @@ function tellTaken(changes, before) {
 
 // Before sharing or taking.
 
-/** Opens what sharing these lines, or taking what others shared, would change. */
-export function openBefore(what, lines = []) {
-  const takes = what === "take";
-  const stamps = lines.flatMap(privateOf).map(({stamp}) => stamp);
-  if (!takes && !stamps.length) return;
+/** Opens what sharing these lines, or all, or taking what others shared, would change. */
+export function openBefore(what, lines = null) {
+  const names = lines?.map(({name}) => keyOf(name));
+  const before = {whose: store.before?.whose ?? store.whose, takes: what === "take", names,
+                  ...sharedBy(names), said: null, layers: null, figures: null};
+  if (!before.takes && !before.lines.length) return;
   clearTimeout(store.before?.soon);
-  store.before = {whose: store.before?.whose ?? store.whose, takes, lines, stamps, said: null,
-                  layers: null, figures: null};
+  store.before = before;
   changed("before");
   askPreview();
 }
 
-export const shareAll = () => openBefore("share", unshared());
+export const shareAll = () => openBefore("share");
+
+/** What sharing lines of these names, or all, shares now. */
+function sharedBy(names) {
+  const lines = unshared().filter(({name}) => !names || names.includes(keyOf(name)));
+  return {lines, stamps: lines.flatMap(privateOf).map(({stamp}) => stamp)};
+}
 
 /** Asks what it would change: the lines at once, the rows of both roads as they are seen, and the
-    figures a moment later. */
+    figures a moment later. Where nothing is left to share, nothing is looked at any more. */
 export async function askPreview() {
   const {before} = store;
   if (!before) return;
   clearTimeout(before.soon);
-  const {takes, stamps} = before;
+  Object.assign(before, sharedBy(before.names));
+  const {takes, lines, stamps} = before;
+  if (!takes && !lines.length) {
+    closeBefore();
+    return;
+  }
+  changed("preview");
   const what = takes ? {what: "take"} : {what: "share", stamps};
   const said = await ask({preview: {at: store.me.at, ...what}});
   if (!said || store.before !== before) return;
-  before.said = said;
   if (!said.refused) {
     const {length} = store.plan;
     const base = store.layers[takes ? "mine" : "shared"];
+    if (!before.layers) store.whose = "both";
     before.layers = store.layers.after = base.with(said.layers);
     for (const name of ["before", "after"]) store.roads[name] = new Road(name, length);
-    store.whose = "both";
     before.soon = setTimeout(askFigures, LOOKS);
   }
+  Object.assign(before, {said, figures: null});
   changed("preview");
   look();
 }
@@ -243,11 +255,13 @@ export async function askPreview() {
 /** Asks for the figures of both roads, counted car by car. */
 async function askFigures() {
   const {before} = store;
+  const {said: lookedAt} = before;
   const [from, to] = periodShown();
   if (to <= from) return;
+  const stands = () => store.before === before && before.said === lookedAt;
   const said = await ask({figures: {at: store.me.at, of: "preview", from, to}},
-    {quiet: ["busy"], stands: () => store.before === before});
-  if (!said || store.before !== before) return;
+    {quiet: ["busy"], stands});
+  if (!said || !stands()) return;
   if (said.refused === "busy") {
     before.soon = setTimeout(askFigures, LOOKS);
     return;
