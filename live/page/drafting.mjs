@@ -8,9 +8,11 @@ import {changed, store, tell} from "./store.mjs";
 import {LAST_STEP} from "./units.mjs";
 import {strideNow} from "./view.mjs";
 
+/** Chooses what a drag does; a line of another kind is left as it is. */
 export function chooseTool(kind) {
   store.tool = kind;
-  changed("tool");
+  if (store.changing && store.changing.shape[0] !== kind) change(null);
+  else changed("tool");
 }
 
 /** A line's figures go into the form, to be changed; null: no longer. */
@@ -20,13 +22,23 @@ export function change(line) {
   changed("tool", "changing");
 }
 
+/** The line that is changed is told anew. */
+export function changeFrom(line) {
+  store.changing = line;
+}
+
+/** Whether an area is what its line is, and no gesture may have changed that. */
+const isAsItWas = ({shape, old}) => old && !old.isRaw && store.pending.size === 0
+  && String(old.shape) === String(shape);
+
 /** Does what an area says, or tells why not; gives whether it was done. */
 export function applyArea(area) {
   if (area.fault) {
     tell(area.fault, true);
     return false;
   }
-  put(area);
+  if (isAsItWas(area)) tell(`${area.note}: nothing is changed.`);
+  else put(area);
   return true;
 }
 
