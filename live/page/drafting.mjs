@@ -61,12 +61,18 @@ export function showArea(area) {
   changed("area");
 }
 
-/** Ends a drag; gives it, with the area that was drawn. */
+/** The rectangle that a drag draws, until it is let go: though the diagram may move meanwhile. */
+export function showDrawn(area) {
+  store.drag.area = area;
+  showArea(area);
+}
+
+/** Ends a drag; gives it, with the area that it drew. */
 export function endDrag() {
-  const {drag, area} = store;
+  const {drag} = store;
   Object.assign(store, {drag: null, area: null});
   changed("area");
-  return {drag, area};
+  return drag;
 }
 
 // The cursor.

@@ -4,10 +4,10 @@
 import {redoNewest, undoNewest} from "./acting.mjs";
 import {areaOfShape} from "./area.mjs";
 import {applyArea, beginCorner, beginDrag, chooseTool, dropArea, endDrag, hasMoved, moveCursor,
-        showArea} from "./drafting.mjs";
+        showArea, showDrawn} from "./drafting.mjs";
 import {$, on} from "./elements.mjs";
 import {valueOfTool} from "./form.mjs";
-import {edgeNear, nearestIn, rectangleBetween, shapeWithEdge, snapped} from "./geometry.mjs";
+import {OF_ONE, edgeNear, nearestIn, rectangleBetween, shapeWithEdge, snapped} from "./geometry.mjs";
 import {isInForce} from "./layers.mjs";
 import {followIt, moveBy, moveTo, showRoad, zoomBy} from "./looking.mjs";
 import {cornersOf} from "./picture.mjs";
@@ -80,7 +80,7 @@ function onMove(event) {
     dragDiagram(event, drag);
     return;
   }
-  showArea(areaOfDrag(event, drag));
+  showDrawn(areaOfDrag(event, drag));
   sayArea(false);
 }
 
@@ -98,8 +98,8 @@ function dragDiagram(event, drag) {
 }
 
 function onUp(event) {
-  const {drag, area} = endDrag();
-  if (drag?.moved && area) applyArea(areaOfDrag(event, drag));
+  const drag = endDrag();
+  if (drag?.area) applyArea(drag.area);
   else if (drag && !drag.moved && !["look", "block"].includes(store.tool)) {
     const place = snappedHere(drag.at, event.altKey);
     applyArea(areaBetween(place, place, {open: true}));
