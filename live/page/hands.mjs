@@ -45,17 +45,23 @@ function isSeen({name, shape}, place) {
   return String(there?.shape) === String(shape) && isInForce(there, ...place);
 }
 
+/** Whether the tool draws edges of a kind: a tool that puts another kind begins a rectangle. */
+const drawsEdges = ([kind]) => store.tool === "look" || store.tool === kind;
+
+/** Whether an edge of a shape can be drawn: what has one object has no sides. */
+const canBeDrawn = ([kind], edge) => !OF_ONE.includes(kind) || ["top", "bottom"].includes(edge);
+
 /** The own line of which an edge is seen at a place, with the edge's name; null where none is, or
     what lies above it is in force there. */
 function edgeAt(x, y) {
   const view = viewNow();
   const own = [...store.layers.mine.lines.values()]
-    .filter((line) => isOwn(line) && line.standing && line.shape);
+    .filter((line) => isOwn(line) && line.standing && line.shape && drawsEdges(line.shape));
   for (const line of own) {
     const corners = cornersOf(view, shapeFrame(line.shape));
     const edge = edgeNear(corners, [x, y], AT_EDGE, line.shape[4] === null);
     const inside = nearestIn(store.plan, line.shape, [cellAt(view, x), stepAt(view, y)]);
-    if (edge && isSeen(line, inside)) return {line, edge};
+    if (edge && canBeDrawn(line.shape, edge) && isSeen(line, inside)) return {line, edge};
   }
   return null;
 }

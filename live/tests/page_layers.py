@@ -55,6 +55,29 @@ class OneTab(BrowserCase):
         tab.drag((410, 1800), (410, 2400))
         self.assertEqual(tab.lines("own"), ["Whole road closed 3–3.15 km, 0:20:00–0:30:00 private"])
 
+    def test_one_rectangle_after_the_other_is_drawn_at_one_place(self) -> None:
+        tab, = self.open(FREEWAY)
+        tab.run_an_hour()
+        for kind in ("limit", "slow", "block"):
+            tab.tool(kind)
+            tab.drag((350, 1200), (450, 1800))
+        self.assertEqual(tab.lines("own"), ["Whole road closed 2.625–3.375 km, 0:20:00–0:30:00 private",
+                                            "Slowing 25 %, 2.625–3.375 km, 0:20:00–0:30:00 private",
+                                            "54 km/h, 2.625–3.375 km, 0:20:00–0:30:00 private"])
+        self.assertEqual(self.pointer(tab, 400, 1800), "ns-resize")
+
+    def test_an_inlet_has_no_sides_to_draw(self) -> None:
+        tab, = self.open(FREEWAY)
+        tab.run_an_hour()
+        tab.tool("inflow")
+        tab.in_figures(timeFrom="0:10", timeTo="0:30")
+        self.assertEqual(self.pointer(tab, 0, 1800), "ns-resize")
+        self.assertEqual(self.pointer(tab, 0, 1200), "crosshair")
+        tab.tool("slow")
+        tab.drag((0, 1200), (100, 2400))
+        self.assertEqual(tab.lines("own"), ["Slowing 25 %, 0–0.75 km, 0:20:00–0:40:00 private",
+                                            "Demand 1,000 cars/h, at 0 km, 0:10:00–0:30:00 private"])
+
     def test_what_is_dragged_back_is_no_change(self) -> None:
         """Else Z does nothing that is seen, and a line that is shared has something private."""
         tab, = self.open(FREEWAY)
