@@ -64,7 +64,8 @@ function showHint() {
 function demandText() {
   if (!store.layers.mine || !store.plan.inlets.length) return "";
   const inlet = Number($("inlet").value);
-  const from = Math.min(LAST_STEP, stepOfText($("timeFrom").value) || now());
+  const written = stepOfText($("timeFrom").value);
+  const from = Math.min(LAST_STEP, Number.isNaN(written) ? now() : written);
   const value = valueOfTool("inflow", inlet, from);
   const slow = chanceText(slowAt(store.layers.mine, inlet, from));
   return Number.isNaN(value) ? faultOfValue("inflow", inlet, from)

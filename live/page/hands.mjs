@@ -7,7 +7,8 @@ import {applyArea, beginCorner, beginDrag, chooseTool, dropArea, endDrag, hasMov
         showArea, showDrawn} from "./drafting.mjs";
 import {$, on} from "./elements.mjs";
 import {valueOfTool} from "./form.mjs";
-import {OF_ONE, edgeNear, nearestIn, rectangleBetween, shapeWithEdge, snapped} from "./geometry.mjs";
+import {OF_ONE, edgeNear, nearestIn, rectangleBetween, shapeWithEdge, snapped}
+  from "./geometry.mjs";
 import {isInForce} from "./layers.mjs";
 import {followIt, moveBy, moveTo, showRoad, zoomBy} from "./looking.mjs";
 import {cornersOf} from "./picture.mjs";

@@ -145,6 +145,17 @@ class OneForm(BrowserCase):
         tab.settled()
         self.assertEqual(tab.lines("own"), ["Whole road closed 3–3.3 km, 0:20:00–0:40:00 private"])
 
+    def test_a_demand_is_said_of_the_time_from_which_it_is_put(self) -> None:
+        tab, = self.open(FREEWAY)
+        tab.run_an_hour()
+        tab.tool("slow")
+        tab.fill(slow="50")
+        tab.in_figures(kmFrom="0", kmTo="0.3", timeFrom="0:50", timeTo="")
+        tab.tool("inflow")
+        for begin, chance in (("0:00", "10 %"), ("0:49:59", "10 %"), ("0:50", "50 %"), ("", "50 %")):
+            tab.fill(timeFrom=begin)
+            self.assertRegex(tab.text("toolHint"), rf"^inflow chance 0\.\d+ at slowing {chance}$", begin)
+
     def test_what_does_not_stand_is_not_changed(self) -> None:
         tab, = self.open(FREEWAY)
         self.closed(tab)
