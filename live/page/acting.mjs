@@ -16,6 +16,8 @@ import {periodShown} from "./view.mjs";
 const TIMINGS = 50;             // that are kept
 const LOOKS = 500;              // milliseconds: who shares sooner wants no figures
 const LONGEST_NOTE = 200;
+const UNSHARED = "Nothing was shared, since the connection is lost: share it once it is back.";
+const UNTAKEN = "Nothing was taken, since the connection is lost: take it once it is back.";
 
 /** Puts a shape, or lays it on a line in the place of what that was. */
 export function put({shape, note, taken = "", old = null}) {
@@ -165,7 +167,7 @@ function list() {
 }
 
 async function share(lines, stamps) {
-  const said = await ask({send: {at: store.me.at, name: "shared", stamps}});
+  const said = await ask({send: {at: store.me.at, name: "shared", stamps}}, {away: UNSHARED});
   if (!said || said.refused) return;
   tell(`Shared ${plural(lines.length, "change")}.`);
   if (said.touched !== null) store.roads.shared.stale(said.touched);
@@ -178,7 +180,7 @@ export async function take() {
   const covered = coveredOwn();
   const fresh = untaken();
   const from = makers(fresh).join(", ");
-  const said = await ask({take: {at: store.me.at, message: "shared"}});
+  const said = await ask({take: {at: store.me.at, message: "shared"}}, {away: UNTAKEN});
   if (!said || said.refused) return;
   if (said.touched !== null) store.roads.mine.stale(said.touched);
   await takeLayers("mine", said);
