@@ -247,6 +247,7 @@ export async function askPreview() {
     if (!before.layers) store.whose = "both";
     before.layers = store.layers.after = base.with(said.layers);
     for (const name of ["before", "after"]) store.roads[name] = new Road(name, length);
+    clearTimeout(before.soon);
     before.soon = setTimeout(askFigures, LOOKS);
   }
   Object.assign(before, {said, figures: null});
