@@ -220,6 +220,26 @@ class Sharing(BrowserCase):
         self.assertNotIn("Withdrew: Withdrew", ada.text("own"))
         self.assertEqual(ada.faults(), [])
 
+    def test_of_what_was_taken_back_nothing_is_to_be_shared(self) -> None:
+        ada, ben = self.open(FREE_ROAD)
+        ada.limit("1", "0:20", "0:30")
+        ada.share_all()
+        ben.take()
+        ben.press("Withdraw: 27 km/h")
+        ben.settled()
+        self.assertEqual(ben.lines("own"), ["Withdrew: 27 km/h, 0–0.3 km, 0:20:00–0:30:00 private"])
+        ben.keys("z")
+        ben.settled()
+        self.assertEqual((ben.lines("own"), ben.lines("held")), ([], ["27 km/h, 0–0.3 km, 0:20:00–0:30:00 shared"]))
+        self.assertFalse(ben.part("shareAll").is_displayed())
+        ben.press("Redo")
+        ben.settled()
+        self.assertEqual([text[-7:] for text in ben.lines("own")], ["private"])
+        ben.share_all()
+        ada.take()
+        self.assertEqual((ada.text("said"), ada.lines("held"), ben.lines("own")),
+                         ("Took 1 change of Ben. Nothing of yours is covered by them.", [], []))
+
     def test_a_part_is_looked_at_before_it_is_shared(self) -> None:
         ada, _ = self.open(FREE_ROAD)
         ada.run_an_hour()
