@@ -8,7 +8,7 @@ from typing import AbstractSet, Any, Callable, Iterable
 
 from .layers import END, NOTHING, Name, Rectangle, Stamp, is_raw
 from .operations import raws
-from .state import Gesture, Seat, State
+from .state import Gesture, Seat, State, differ
 
 Shown = list[list[Any]]
 Shareable = Callable[[], AbstractSet[Gesture]]
@@ -35,9 +35,17 @@ def line_of(state: State, seat: Seat, line: Stamp, shareable: Shareable | None =
 
 
 def idle_of(state: State, seat: Seat, done: Iterable[Gesture], shareable: Shareable) -> AbstractSet[Gesture]:
-    """Own operations of a line that are not shared, and need not be: some were taken back before anybody else had them."""
+    """Own operations on a line that are not shared, and need not be: nothing is other by them than on the shared road, or some
+    were taken back before anybody else had them."""
     own = {one for one in done if one.stamp[1] == seat.number and one not in state.shared.holds}
-    return own - shareable() if any(one.undoes is not None for one in own) else frozenset()
+    if all(one.undoes is None and differs(state, seat, one) for one in own):
+        return frozenset()
+    return own - shareable()
+
+
+def differs(state: State, seat: Seat, gesture: Gesture) -> bool:
+    """Whether a layer of a gesture is another than on the shared road."""
+    return any(differ(seat.road.laid(name), state.shared.road.laid(name)) for name in gesture.lays)
 
 
 def laid_at(seat: Seat, name: Name) -> Any:

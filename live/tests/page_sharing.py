@@ -232,7 +232,11 @@ class Sharing(BrowserCase):
         ben.settled()
         self.assertEqual((ben.lines("own"), ben.lines("held")), ([], ["27 km/h, 0–0.3 km, 0:20:00–0:30:00 shared"]))
         self.assertFalse(ben.part("shareAll").is_displayed())
-        ben.press("Redo")
+        for end in ("0:35", "0:30"):  # to and fro
+            ben.press("Change: 27 km/h")
+            ben.in_figures(timeTo=end)
+        self.assertEqual((ben.lines("own"), ben.lines("held")), ([], ["27 km/h, 0–0.3 km, 0:20:00–0:30:00 shared"]))
+        ben.press("Withdraw: 27 km/h")
         ben.settled()
         self.assertEqual([text[-7:] for text in ben.lines("own")], ["private"])
         ben.share_all()
