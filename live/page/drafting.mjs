@@ -8,9 +8,11 @@ import {changed, store, tell} from "./store.mjs";
 import {LAST_STEP} from "./units.mjs";
 import {strideNow} from "./view.mjs";
 
-/** Chooses what a drag does; a line of another kind is left as it is. */
+/** Chooses what a drag does; a line of another kind is left as it is, and to look is to draw
+    nothing. */
 export function chooseTool(kind) {
   store.tool = kind;
+  if (kind === "look") dropArea();
   if (store.changing && store.changing.shape[0] !== kind) change(null);
   else changed("tool");
 }

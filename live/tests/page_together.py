@@ -145,6 +145,17 @@ class TwoTabs(BrowserCase):
         type_in(ada, Keys.ENTER)
         ada.until(lambda: "Withdrew: Whole road closed" in "".join(ada.lines("own")), "withdrawn")
 
+    def test_who_looks_again_draws_nothing(self) -> None:
+        ada, = self.open(FREE_ROAD, ("Ada",))
+        ada.run_an_hour()
+        ada.keys(Keys.HOME, "c", " ", Keys.ARROW_RIGHT, Keys.ARROW_DOWN)
+        self.assertTrue(ada.text("readout").startswith("Whole road closed, "), ada.text("readout"))
+        ada.keys("v", Keys.ARROW_RIGHT)
+        self.assertRegex(ada.text("readout"), r"^0\.\d\d km, \d:\d\d:\d\d: ")
+        ada.keys(Keys.ENTER)
+        ada.settled()
+        self.assertEqual((ada.lines("own"), ada.faults()), ([], []))
+
     def test_after_a_withdrawal_a_second_press_does_no_harm(self) -> None:
         ada, = self.open(FREE_ROAD, ("Ada",))
         ada.limit("2", "0:10", "0:20")
