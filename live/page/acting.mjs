@@ -9,7 +9,7 @@ import {linesOf} from "./listing.mjs";
 import {look} from "./looking.mjs";
 import {Road} from "./rows.mjs";
 import {keyOf} from "./stamps.mjs";
-import {changed, isOwn, store, tell} from "./store.mjs";
+import {changed, isOwn, store, tell, whoseShown} from "./store.mjs";
 import {plural} from "./units.mjs";
 import {periodShown} from "./view.mjs";
 
@@ -129,7 +129,7 @@ export async function send(key) {
   timing.confirmed = performance.now();
   timing.us = said.us;
   if (!said.refused) {
-    tell(`${note}: done.${taken}`);
+    tell(`${note}: done${whoseShown()[0] === "mine" ? "" : ", on your own road"}.${taken}`);
     if (said.touched !== null && said.touched < first) store.roads.mine.stale(said.touched);
     await takeLayers("mine", said);
   }

@@ -54,6 +54,10 @@ class OneTab(BrowserCase):
         self.assertEqual(self.pointer(tab, 410, 1800), "grab")
         tab.drag((410, 1800), (410, 2400))
         self.assertEqual(tab.lines("own"), ["Whole road closed 3–3.15 km, 0:20:00–0:30:00 private"])
+        tab.keys("z")
+        tab.settled()
+        said = "Taken back: Whole road closed 3–3.15 km, 0:20:00–0:30:00: done"
+        self.assertEqual(tab.text("said"), f"{said}, on your own road.")  # of which nothing is seen
 
     def test_one_rectangle_after_the_other_is_drawn_at_one_place(self) -> None:
         tab, = self.open(FREEWAY)
