@@ -9,13 +9,15 @@ import {linesOf} from "./listing.mjs";
 import {look} from "./looking.mjs";
 import {Road} from "./rows.mjs";
 import {keyOf} from "./stamps.mjs";
-import {changed, isOwn, store, tell} from "./store.mjs";
+import {changed, isOwn, store, tell, whoseShown} from "./store.mjs";
 import {plural} from "./units.mjs";
 import {periodShown} from "./view.mjs";
 
 const TIMINGS = 50;             // that are kept
 const LOOKS = 500;              // milliseconds: who shares sooner wants no figures
 const LONGEST_NOTE = 200;
+const UNSHARED = "Nothing was shared, since the connection is lost: share it once it is back.";
+const UNTAKEN = "Nothing was taken, since the connection is lost: take it once it is back.";
 
 /** Puts a shape, or lays it on a line in the place of what that was. */
 export function put({shape, note, taken = "", old = null}) {
@@ -127,7 +129,7 @@ export async function send(key) {
   timing.confirmed = performance.now();
   timing.us = said.us;
   if (!said.refused) {
-    tell(`${note}: done.${taken}`);
+    tell(`${note}: done${whoseShown()[0] === "mine" ? "" : ", on your own road"}.${taken}`);
     if (said.touched !== null && said.touched < first) store.roads.mine.stale(said.touched);
     await takeLayers("mine", said);
   }
@@ -168,7 +170,7 @@ function list() {
 }
 
 async function share(lines, stamps) {
-  const said = await ask({send: {at: store.me.at, name: "shared", stamps}});
+  const said = await ask({send: {at: store.me.at, name: "shared", stamps}}, {away: UNSHARED});
   if (!said || said.refused) return;
   tell(`Shared ${plural(lines.length, "change")}.`);
   if (said.touched !== null) store.roads.shared.stale(said.touched);
@@ -181,7 +183,7 @@ export async function take() {
   const covered = coveredOwn();
   const fresh = untaken();
   const from = makers(fresh).join(", ");
-  const said = await ask({take: {at: store.me.at, message: "shared"}});
+  const said = await ask({take: {at: store.me.at, message: "shared"}}, {away: UNTAKEN});
   if (!said || said.refused) return;
   if (said.touched !== null) store.roads.mine.stale(said.touched);
   await takeLayers("mine", said);
@@ -206,39 +208,52 @@ function tellTaken(changes, before) {
 
 // Before sharing or taking.
 
-/** Opens what sharing these lines, or taking what others shared, would change. */
-export function openBefore(what, lines = []) {
-  const takes = what === "take";
-  const stamps = lines.flatMap(privateOf).map(({stamp}) => stamp);
-  if (!takes && !stamps.length) return;
+/** Opens what sharing these lines, or all, or taking what others shared, would change. */
+export function openBefore(what, lines = null) {
+  const names = lines?.map(({name}) => keyOf(name));
+  const before = {whose: store.before?.whose ?? store.whose, takes: what === "take", names,
+                  ...sharedBy(names), said: null, layers: null, figures: null};
+  if (!before.takes && !before.lines.length) return;
   clearTimeout(store.before?.soon);
-  store.before = {whose: store.before?.whose ?? store.whose, takes, lines, stamps, said: null,
-                  layers: null, figures: null};
+  store.before = before;
   changed("before");
   askPreview();
 }
 
-export const shareAll = () => openBefore("share", unshared());
+export const shareAll = () => openBefore("share");
+
+/** What sharing lines of these names, or all, shares now. */
+function sharedBy(names) {
+  const lines = unshared().filter(({name}) => !names || names.includes(keyOf(name)));
+  return {lines, stamps: lines.flatMap(privateOf).map(({stamp}) => stamp)};
+}
 
 /** Asks what it would change: the lines at once, the rows of both roads as they are seen, and the
-    figures a moment later. */
+    figures a moment later. Where nothing is left to share, nothing is looked at any more. */
 export async function askPreview() {
   const {before} = store;
   if (!before) return;
   clearTimeout(before.soon);
-  const {takes, stamps} = before;
+  Object.assign(before, sharedBy(before.names));
+  const {takes, lines, stamps} = before;
+  if (!takes && !lines.length) {
+    closeBefore();
+    return;
+  }
+  changed("preview");
   const what = takes ? {what: "take"} : {what: "share", stamps};
   const said = await ask({preview: {at: store.me.at, ...what}});
   if (!said || store.before !== before) return;
-  before.said = said;
   if (!said.refused) {
     const {length} = store.plan;
     const base = store.layers[takes ? "mine" : "shared"];
+    if (!before.layers) store.whose = "both";
     before.layers = store.layers.after = base.with(said.layers);
     for (const name of ["before", "after"]) store.roads[name] = new Road(name, length);
-    store.whose = "both";
+    clearTimeout(before.soon);
     before.soon = setTimeout(askFigures, LOOKS);
   }
+  Object.assign(before, {said, figures: null});
   changed("preview");
   look();
 }
@@ -246,11 +261,13 @@ export async function askPreview() {
 /** Asks for the figures of both roads, counted car by car. */
 async function askFigures() {
   const {before} = store;
+  const {said: lookedAt} = before;
   const [from, to] = periodShown();
   if (to <= from) return;
+  const stands = () => store.before === before && before.said === lookedAt;
   const said = await ask({figures: {at: store.me.at, of: "preview", from, to}},
-    {quiet: ["busy"], stands: () => store.before === before});
-  if (!said || store.before !== before) return;
+    {quiet: ["busy"], stands});
+  if (!said || !stands()) return;
   if (said.refused === "busy") {
     before.soon = setTimeout(askFigures, LOOKS);
     return;

@@ -14,8 +14,8 @@ const READ_BOTH = "A car that does not enter spends no vehicle hours. Lost deman
   + "were asked for and could not let in, counted car by car.";
 const TOO_LONG = "This is too long to follow each car: so there is no delay, and no lost demand.";
 
-const listOf = (lines) => element("ul", "", {}, ...lines.map(([text, hint]) =>
-  element("li", text, {}, element("span", ` ${hint}`, {className: "hint"}))));
+const itemOf = ([text, hint]) => element("li", text, {},
+  element("span", ` ${hint}`, {className: "hint"}));
 
 /** What would be shared or taken: lines with their texts, and who made them when. */
 function changesOf({takes, lines}) {
@@ -32,11 +32,8 @@ function showBefore() {
     return;
   }
   const {takes} = before;
-  const changes = changesOf(before);
-  $("beforeTitle").textContent = `${takes ? "Take" : "Share"} ${plural(changes.length, "change")}?`;
-  const titles = takes ? titlesOf(store.news) : "";
-  $("beforeBody").replaceChildren(element("p", titles, {hidden: !titles}),
-    listOf(changes), element("p", "", {className: "buttons"},
+  $("beforeBody").replaceChildren(element("p", "", {id: "beforeTitles"}),
+    element("ul", "", {id: "beforeList"}), element("p", "", {className: "buttons"},
       button(takes ? "Take now" : "Share now", doIt), button("Not now", closeBefore),
       element("span", "", {id: "beforeDays", className: "days"})),
     element("div", "", {id: "beforeCovers"}),
@@ -48,9 +45,16 @@ function showBefore() {
   showPreview();
 }
 
+/** Shows what would be shared or taken now, and what that would change. */
 function showPreview() {
-  if (!store.before || !$("beforeFigures")) return;
-  const {said, layers, figures} = store.before;
+  const {before} = store;
+  if (!before || !$("beforeFigures")) return;
+  const {takes, said, layers, figures} = before;
+  const changes = changesOf(before);
+  $("beforeTitle").textContent = `${takes ? "Take" : "Share"} ${plural(changes.length, "change")}?`;
+  $("beforeTitles").textContent = takes ? titlesOf(store.news) : "";
+  $("beforeTitles").hidden = !$("beforeTitles").textContent;
+  $("beforeList").replaceChildren(...changes.map(itemOf));
   if (layers) {
     const lines = newestFirst(said.layers.map(({name}) => layers.line(name)).filter(Boolean));
     $("beforeCovers").replaceChildren(...coversOf(lines, words(layers)));

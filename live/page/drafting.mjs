@@ -8,9 +8,13 @@ import {changed, store, tell} from "./store.mjs";
 import {LAST_STEP} from "./units.mjs";
 import {strideNow} from "./view.mjs";
 
+/** Chooses what a drag does; a line of another kind is left as it is, and to look is to draw
+    nothing. */
 export function chooseTool(kind) {
   store.tool = kind;
-  changed("tool");
+  if (kind === "look") dropArea();
+  if (store.changing && store.changing.shape[0] !== kind) change(null);
+  else changed("tool");
 }
 
 /** A line's figures go into the form, to be changed; null: no longer. */
@@ -20,13 +24,23 @@ export function change(line) {
   changed("tool", "changing");
 }
 
+/** The line that is changed is told anew. */
+export function changeFrom(line) {
+  store.changing = line;
+}
+
+/** Whether an area is what its line is, and no gesture may have changed that. */
+const isAsItWas = ({shape, old}) => old && !old.isRaw && store.pending.size === 0
+  && String(old.shape) === String(shape);
+
 /** Does what an area says, or tells why not; gives whether it was done. */
 export function applyArea(area) {
   if (area.fault) {
     tell(area.fault, true);
     return false;
   }
-  put(area);
+  if (isAsItWas(area)) tell(`${area.note}: nothing is changed.`);
+  else put(area);
   return true;
 }
 
@@ -49,12 +63,18 @@ export function showArea(area) {
   changed("area");
 }
 
-/** Ends a drag; gives it, with the area that was drawn. */
+/** The rectangle that a drag draws, until it is let go: though the diagram may move meanwhile. */
+export function showDrawn(area) {
+  store.drag.area = area;
+  showArea(area);
+}
+
+/** Ends a drag; gives it, with the area that it drew. */
 export function endDrag() {
-  const {drag, area} = store;
+  const {drag} = store;
   Object.assign(store, {drag: null, area: null});
   changed("area");
-  return {drag, area};
+  return drag;
 }
 
 // The cursor.

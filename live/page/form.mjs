@@ -2,7 +2,7 @@
 
 import {faultOfValue, areaOfShape} from "./area.mjs";
 import {words} from "./changes.mjs";
-import {applyArea, change, chooseTool} from "./drafting.mjs";
+import {applyArea, change, changeFrom, chooseTool} from "./drafting.mjs";
 import {$, choose, on} from "./elements.mjs";
 import {OF_ONE, OF_ZONES, cellsOf, objectsNearest} from "./geometry.mjs";
 import {slowAt, zonesText} from "./sentences.mjs";
@@ -64,7 +64,8 @@ function showHint() {
 function demandText() {
   if (!store.layers.mine || !store.plan.inlets.length) return "";
   const inlet = Number($("inlet").value);
-  const from = Math.min(LAST_STEP, stepOfText($("timeFrom").value) || now());
+  const written = stepOfText($("timeFrom").value);
+  const from = Math.min(LAST_STEP, Number.isNaN(written) ? now() : written);
   const value = valueOfTool("inflow", inlet, from);
   const slow = chanceText(slowAt(store.layers.mine, inlet, from));
   return Number.isNaN(value) ? faultOfValue("inflow", inlet, from)
@@ -119,33 +120,55 @@ function onForm(event) {
   if (applyArea(area) && store.changing) change(null);
 }
 
+let filled = {};                // what the form has of the line that is changed, by fields
+
 /** Puts the figures of the line that is changed into the form. */
 function showChanging() {
-  const {changing, plan} = store;
+  const {changing} = store;
   $("dropChange").hidden = !changing;
   $("exactTitle").textContent = changing ? "change it:" : "or in figures:";
   if (!changing) return;
-  const [kind, first, last, from, to, value] = changing.shape;
-  const [start, end] = cellsOf(plan, kind, first, last);
-  Object.assign($("kmFrom"), {value: kmText(start)});
-  Object.assign($("kmTo"), {value: kmText(end)});
-  $("timeFrom").value = timeText(from);
-  $("timeTo").value = to === null ? "" : timeText(to);
-  showValue(kind, first, from, value);
+  filled = fieldsOf(changing.shape);
+  for (const [id, value] of Object.entries(filled)) $(id).value = value;
   showTool();
-  $(OF_ONE.includes(kind) ? "timeFrom" : "kmFrom").focus();
+  $(OF_ONE.includes(changing.shape[0]) ? "timeFrom" : "kmFrom").focus();
 }
 
-function showValue(kind, first, from, value) {
-  if (kind === "limit") $("limit").value = value;
-  const percent = Number((100 * value / ALWAYS).toFixed(2));
-  if (kind === "slow" || kind === "start") $(kind).value = percent;
-  if (kind === "watch") Object.assign($("watch"), {value});
-  if (kind === "watch") $("site").value = first;
-  if (kind !== "inflow") return;
-  $("inlet").value = first;
+/** Where the line that is changed is another by now, what is not written stands as it has it; what
+    stands no longer is not changed. */
+function followChanging() {
+  const {changing} = store;
+  const line = changing && store.layers.mine.line(changing.name);
+  if (!changing || line === changing) return;
+  if (!line?.standing || line.shape?.[0] !== changing.shape[0]) {
+    change(null);
+    return;
+  }
+  changeFrom(line);
+  const fields = fieldsOf(line.shape);
+  for (const [id, value] of Object.entries(fields)) {
+    if ($(id).value === filled[id]) $(id).value = value;
+  }
+  filled = fields;
+}
+
+/** What the form has of a shape, by fields. */
+function fieldsOf([kind, first, last, from, to, value]) {
+  const [start, end] = cellsOf(store.plan, kind, first, last);
+  return {kmFrom: kmText(start), kmTo: kmText(end), timeFrom: timeText(from),
+          timeTo: to === null ? "" : timeText(to), ...valuesOf(kind, first, from, value)};
+}
+
+function valuesOf(kind, first, from, value) {
+  if (kind === "limit") return {limit: String(value)};
+  if (kind === "watch") return {watch: String(value), site: String(first)};
+  if (kind === "slow" || kind === "start") {
+    return {[kind]: String(Number((100 * value / ALWAYS).toFixed(2)))};
+  }
+  if (kind !== "inflow") return {};
   const slow = slowAt(store.layers.mine, first, from) / ALWAYS;
-  $("demand").value = Math.round(demandOfChance(value / ALWAYS, slow));
+  const cars = Math.round(demandOfChance(value / ALWAYS, slow));
+  return {inlet: String(first), demand: Number.isNaN(cars) ? "" : String(cars)};
 }
 
 export function begin() {
@@ -157,6 +180,7 @@ export function begin() {
   when(["plan"], showPlan);
   when(["tool"], showTool);
   when(["changing"], showChanging);
+  when(["lists"], followChanging);
   when(["lists"], showHint);
   showTool();
 }

@@ -4,10 +4,11 @@
 import {redoNewest, undoNewest} from "./acting.mjs";
 import {areaOfShape} from "./area.mjs";
 import {applyArea, beginCorner, beginDrag, chooseTool, dropArea, endDrag, hasMoved, moveCursor,
-        showArea} from "./drafting.mjs";
+        showArea, showDrawn} from "./drafting.mjs";
 import {$, on} from "./elements.mjs";
 import {valueOfTool} from "./form.mjs";
-import {edgeNear, nearestIn, rectangleBetween, shapeWithEdge, snapped} from "./geometry.mjs";
+import {OF_ONE, edgeNear, nearestIn, rectangleBetween, shapeWithEdge, snapped}
+  from "./geometry.mjs";
 import {isInForce} from "./layers.mjs";
 import {followIt, moveBy, moveTo, showRoad, zoomBy} from "./looking.mjs";
 import {cornersOf} from "./picture.mjs";
@@ -38,17 +39,30 @@ const placeOf = ({offsetX, offsetY}) => {
 
 const shapeFrame = ([kind, first, last, from, to]) => ({kind, first, last, from, to});
 
-/** The own line of which an edge is at a place, with the edge's name; null where none is, or what
-    lies above it is in force there. */
+/** Whether a line of the own road is the same on the road that is seen, and in force at a place
+    there. */
+function isSeen({name, shape}, place) {
+  const there = layersShown().line(name);
+  return String(there?.shape) === String(shape) && isInForce(there, ...place);
+}
+
+/** Whether the tool draws edges of a kind: a tool that puts another kind begins a rectangle. */
+const drawsEdges = ([kind]) => store.tool === "look" || store.tool === kind;
+
+/** Whether an edge of a shape can be drawn: what has one object has no sides. */
+const canBeDrawn = ([kind], edge) => !OF_ONE.includes(kind) || ["top", "bottom"].includes(edge);
+
+/** The own line of which an edge is seen at a place, with the edge's name; null where none is, or
+    what lies above it is in force there. */
 function edgeAt(x, y) {
   const view = viewNow();
   const own = [...store.layers.mine.lines.values()]
-    .filter((line) => isOwn(line) && line.standing && line.shape);
+    .filter((line) => isOwn(line) && line.standing && line.shape && drawsEdges(line.shape));
   for (const line of own) {
     const corners = cornersOf(view, shapeFrame(line.shape));
     const edge = edgeNear(corners, [x, y], AT_EDGE, line.shape[4] === null);
     const inside = nearestIn(store.plan, line.shape, [cellAt(view, x), stepAt(view, y)]);
-    if (edge && isInForce(line, ...inside)) return {line, edge};
+    if (edge && canBeDrawn(line.shape, edge) && isSeen(line, inside)) return {line, edge};
   }
   return null;
 }
@@ -73,7 +87,7 @@ function onMove(event) {
     dragDiagram(event, drag);
     return;
   }
-  showArea(areaOfDrag(event, drag));
+  showDrawn(areaOfDrag(event, drag));
   sayArea(false);
 }
 
@@ -91,8 +105,8 @@ function dragDiagram(event, drag) {
 }
 
 function onUp(event) {
-  const {drag, area} = endDrag();
-  if (drag?.moved && area) applyArea(areaOfDrag(event, drag));
+  const drag = endDrag();
+  if (drag?.area) applyArea(drag.area);
   else if (drag && !drag.moved && !["look", "block"].includes(store.tool)) {
     const place = snappedHere(drag.at, event.altKey);
     applyArea(areaBetween(place, place, {open: true}));

@@ -88,8 +88,9 @@ export const caughtIn = (layers, {first, last, to}, row) =>
 export const lastOf = ({operations, name: stamp, when, note}) =>
   operations.at(-1) ?? {stamp, when, note};
 
-/** The operations of a line that are not shared. */
-export const privateOf = ({operations}) => operations.filter(({shared}) => !shared);
+/** The operations of a line that are to be shared: not those that were taken back before anybody
+    else had them, by which nothing is other. */
+export const privateOf = ({operations}) => operations.filter(({shared, idle}) => !shared && !idle);
 
 /** The last operation of a number's seat, where another laid the line at the same time and won:
     {mine, theirs}; null where none did. */

@@ -125,8 +125,10 @@ export function showLine({shape, shown, edits}) {
 
 // The clock.
 
-export const setRate = (rate) => ask({clock: {rate}});
-export const runAnHour = () => ask({clock: {to: now() + HOUR}});
+const away = "The clock was not set, since the connection is lost.";
+
+export const setRate = (rate) => ask({clock: {rate}}, {away});
+export const runAnHour = () => ask({clock: {to: now() + HOUR}}, {away});
 
 /** The own road runs half an hour further than it does now. */
 export function lookAhead() {

@@ -2,19 +2,23 @@
 all that was done to it."""
 from __future__ import annotations
 
+import functools
 import time
-from typing import Any, Iterable
+from typing import AbstractSet, Any, Callable, Iterable
 
 from .layers import END, NOTHING, Laid, Name, Rectangle, Stamp, is_raw
 from .operations import raws
-from .state import Gesture, Seat, State
+from .state import Gesture, Seat, State, differ
 
 Shown = list[list[Any]]
+Shareable = Callable[[], AbstractSet[Gesture]]
 
 
-def line_of(state: State, seat: Seat, line: Stamp) -> dict[str, Any]:
-    """A line of the list; of one that was put in private and withdrawn again that it is gone."""
+def line_of(state: State, seat: Seat, line: Stamp, shareable: Shareable | None = None) -> dict[str, Any]:
+    """A line of the list; of one that was put in private and withdrawn again that it is gone. `shareable` gives what sharing
+    all would share."""
     done = sorted(seat.lines[line], key=lambda one: one.stamp)
+    idle = idle_of(state, seat, done, shareable) if shareable else frozenset()
     shown = shown_of(seat, line)
     if not shown and is_private(state, seat, line):
         return {"name": line, "gone": True}
@@ -26,8 +30,23 @@ def line_of(state: State, seat: Seat, line: Stamp) -> dict[str, Any]:
     return {"name": line, "kind": kind_of(done, line), "shape": shape, "who": first.who, "note": first.note,
             "when": first.when, "height": laid.height if line in seat.road.layers else line,
             "standing": bool(shown), "shared": done[-1] in state.shared.holds, "shown": shown,
-            "operations": [operation_of(state, one, line, lost.get(one)) for one in done],
+            "operations": [{**operation_of(state, one, line, lost.get(one)), **({"idle": True} if one in idle else {})}
+                           for one in done],
             **({"edits": edits} if edits else {})}
+
+
+def idle_of(state: State, seat: Seat, done: Iterable[Gesture], shareable: Shareable) -> AbstractSet[Gesture]:
+    """Own operations on a line that are not shared, and need not be: nothing is other by them than on the shared road, or some
+    were taken back before anybody else had them."""
+    own = {one for one in done if one.stamp[1] == seat.number and one not in state.shared.holds}
+    if all(one.undoes is None and differs(state, seat, one) for one in own):
+        return frozenset()
+    return own - shareable()
+
+
+def differs(state: State, seat: Seat, gesture: Gesture) -> bool:
+    """Whether a layer of a gesture is another than on the shared road."""
+    return any(differ(seat.road.laid(name), state.shared.road.laid(name)) for name in gesture.lays)
 
 
 def laid_at(seat: Seat, name: Name) -> Any:
@@ -118,10 +137,11 @@ def lines_since(state: State, seat: Seat, version: int, seconds: float = 1e9) ->
     found: list[dict[str, Any]] = []
     after = version
     until = time.perf_counter() + seconds
+    shareable = functools.cache(lambda: set(state.shareable(seat, None)))
     for mark, line in sorted((mark, line) for line, mark in seat.marks.items() if mark > version and line in seat.lines):
         if found and time.perf_counter() > until:
             return found, after, True
-        found.append(line_of(state, seat, line))
+        found.append(line_of(state, seat, line, shareable))
         after = mark
     return found, seat.version, False
 

@@ -175,6 +175,36 @@ class OneFreeway(BrowserCase):
         self.assertEqual(tab.text("readout"), "Whole road closed, 3.75–4.2 km, 0:20:00–0:25:00")
         tab.drop()
 
+    def test_what_is_said_of_a_drag_is_what_it_does(self) -> None:
+        """Also where the diagram follows the clock meanwhile."""
+        tab, = self.open(FREEWAY)
+        tab.run_an_hour()
+        tab.tool("block")
+        tab.begin_drag((400, 1200), (440, 1500))
+        said = "Whole road closed, 3–3.3 km, 0:20:00–0:25:00"
+        self.assertEqual(tab.text("readout"), said)
+        tab.script("runAnHour()")
+        tab.until(lambda: tab.script("return store.look.step") == 3600, "an hour later")
+        self.assertEqual(tab.text("readout"), said)
+        tab.drop()
+        self.assertEqual(tab.lines("own"), ["Whole road closed 3–3.3 km, 0:20:00–0:25:00 private"])
+
+    def test_the_diagram_keeps_its_size_whatever_is_said_of_a_drag(self) -> None:
+        """Else its end lies elsewhere below the same pointer."""
+        tab, = self.open(FREEWAY)
+        tab.run_an_hour()
+        tab.tool("limit")
+        self.addCleanup(tab.driver.execute_cdp_cmd, "Emulation.clearDeviceMetricsOverride", {})
+        for width, height in ((1366, 768), (1500, 950), (1040, 700)):
+            tab.driver.execute_cdp_cmd("Emulation.setDeviceMetricsOverride",
+                                       {"width": width, "height": height, "deviceScaleFactor": 1, "mobile": False})
+            tab.settled()
+            size = tab.script("return store.plot")
+            tab.begin_drag((350, 1200), (374, 1500))
+            self.assertIn("Less than half of a zone is covered", tab.text("readout"))
+            self.assertEqual(tab.script("return store.plot"), size, width)
+            tab.drop()
+
     def test_the_size_of_an_arrows_step_is_said(self) -> None:
         tab, = self.open(FREEWAY)
         tab.run_an_hour()

@@ -6,7 +6,7 @@ import os
 from pathlib import Path
 from unittest import mock
 
-from browsers import FREE_ROAD, FREEWAY, BrowserCase, Tab
+from browsers import FREE_ROAD, FREEWAY, BrowserCase, Tab, gestures_of
 from selenium.webdriver.common.action_chains import ActionChains
 
 
@@ -42,6 +42,63 @@ class OneTab(BrowserCase):
                          [[1200, 1800], [600, 2400]])
         self.assertEqual(tab.script("return store.look.step"), max(0, step - 200) if step else 0)
 
+    def test_edges_that_are_not_seen_cannot_be_drawn(self) -> None:
+        tab, = self.open(FREEWAY)
+        tab.run_an_hour()
+        tab.tool("block")
+        tab.in_figures(kmFrom="3", kmTo="3.15", timeFrom="0:20", timeTo="0:30")
+        tab.tool("look")
+        self.assertEqual(self.pointer(tab, 410, 1800), "ns-resize")
+        tab.script("document.querySelector('[name=whose][value=shared]').click()")  # where nothing is closed
+        tab.settled()
+        self.assertEqual(self.pointer(tab, 410, 1800), "grab")
+        tab.drag((410, 1800), (410, 2400))
+        self.assertEqual(tab.lines("own"), ["Whole road closed 3–3.15 km, 0:20:00–0:30:00 private"])
+        tab.keys("z")
+        tab.settled()
+        said = "Taken back: Whole road closed 3–3.15 km, 0:20:00–0:30:00: done"
+        self.assertEqual(tab.text("said"), f"{said}, on your own road.")  # of which nothing is seen
+
+    def test_one_rectangle_after_the_other_is_drawn_at_one_place(self) -> None:
+        tab, = self.open(FREEWAY)
+        tab.run_an_hour()
+        for kind in ("limit", "slow", "block"):
+            tab.tool(kind)
+            tab.drag((350, 1200), (450, 1800))
+        self.assertEqual(tab.lines("own"), ["Whole road closed 2.625–3.375 km, 0:20:00–0:30:00 private",
+                                            "Slowing 25 %, 2.625–3.375 km, 0:20:00–0:30:00 private",
+                                            "54 km/h, 2.625–3.375 km, 0:20:00–0:30:00 private"])
+        self.assertEqual(self.pointer(tab, 400, 1800), "ns-resize")
+
+    def test_an_inlet_has_no_sides_to_draw(self) -> None:
+        tab, = self.open(FREEWAY)
+        tab.run_an_hour()
+        tab.tool("inflow")
+        tab.in_figures(timeFrom="0:10", timeTo="0:30")
+        self.assertEqual(self.pointer(tab, 0, 1800), "ns-resize")
+        self.assertEqual(self.pointer(tab, 0, 1200), "crosshair")
+        tab.tool("slow")
+        tab.drag((0, 1200), (100, 2400))
+        self.assertEqual(tab.lines("own"), ["Slowing 25 %, 0–0.75 km, 0:20:00–0:40:00 private",
+                                            "Demand 1,000 cars/h, at 0 km, 0:10:00–0:30:00 private"])
+
+    def test_what_is_dragged_back_is_no_change(self) -> None:
+        """Else Z does nothing that is seen, and a line that is shared has something private."""
+        tab, = self.open(FREEWAY)
+        tab.run_an_hour()
+        self.limit(tab, "2", "0:20", "0:30")
+        tab.tool("look")
+        tab.drag((300, 1200), (300, 1206))  # by less than half of what drags snap to
+        tab.drag((100, 1500), (112, 1500))  # (by less than half of a zone)
+        tab.press("Change: 54 km/h")
+        tab.press_in("#apply")
+        tab.settled()
+        self.assertEqual(tab.text("said"), "54 km/h, 0.75–4.5 km, 0:20:00–0:30:00: nothing is changed.")
+        self.assertEqual(len(gestures_of(self.server)), 1)
+        tab.keys("z")
+        tab.settled()
+        self.assertEqual(tab.lines("own"), [])
+
     def written(self, tab: Tab) -> list[str]:
         """The labels that are drawn."""
         found = tab.script("""
@@ -67,6 +124,61 @@ class OneTab(BrowserCase):
             tab.choose("limit", "4")
             tab.in_figures(kmFrom=first, kmTo=last, timeFrom="0:40", timeTo="0:45")
         self.assertEqual(self.written(tab), ["108 km/h", "27 km/h", "27 km/h", "54 km/h"])
+
+
+class OneForm(BrowserCase):
+    """One tab on a freeway: what stands in the form when a line is changed."""
+
+    names = ("Ada",)
+
+    def closed(self, tab: Tab) -> None:
+        """A closure from 0:20 to 0:30, which is to be changed."""
+        tab.tool("block")
+        tab.in_figures(kmFrom="3", kmTo="3.15", timeFrom="0:20", timeTo="0:30")
+        tab.press("Change: Whole road closed")
+
+    def test_a_change_in_figures_begins_where_the_line_is(self) -> None:
+        tab, = self.open(FREEWAY)
+        tab.run_an_hour()
+        self.closed(tab)
+        tab.fill(kmTo="3.3")
+        tab.drag((410, 1800), (410, 2400))  # from another end than is written by now
+        values = [tab.part(name).get_attribute("value") for name in ("kmFrom", "kmTo", "timeFrom", "timeTo")]
+        self.assertEqual(values, ["3", "3.3", "0:20:00", "0:40:00"])
+        tab.press_in("#apply")
+        tab.settled()
+        self.assertEqual(tab.lines("own"), ["Whole road closed 3–3.3 km, 0:20:00–0:40:00 private"])
+
+    def test_a_demand_is_said_of_the_time_from_which_it_is_put(self) -> None:
+        tab, = self.open(FREEWAY)
+        tab.run_an_hour()
+        tab.tool("slow")
+        tab.fill(slow="50")
+        tab.in_figures(kmFrom="0", kmTo="0.3", timeFrom="0:50", timeTo="")
+        tab.tool("inflow")
+        for begin, chance in (("0:00", "10 %"), ("0:49:59", "10 %"), ("0:50", "50 %"), ("", "50 %")):
+            tab.fill(timeFrom=begin)
+            self.assertRegex(tab.text("toolHint"), rf"^inflow chance 0\.\d+ at slowing {chance}$", begin)
+
+    def test_what_does_not_stand_is_not_changed(self) -> None:
+        tab, = self.open(FREEWAY)
+        self.closed(tab)
+        tab.press("Withdraw: Whole road closed")
+        tab.settled()
+        self.assertFalse(tab.part("dropChange").is_displayed())
+        self.assertEqual(tab.text("apply"), "Close")
+        tab.in_figures(kmFrom="1.5", kmTo="1.65", timeTo="0:35")
+        self.assertEqual([line["does"] for gesture in tab.script("return [...store.layers.mine.lines.values()]")
+                          for line in gesture["operations"]], ["put"])
+
+    def test_another_tool_leaves_the_line_as_it_is(self) -> None:
+        tab, = self.open(FREEWAY)
+        self.closed(tab)
+        tab.tool("limit")
+        self.assertFalse(tab.part("dropChange").is_displayed())
+        tab.in_figures(kmFrom="1.5", kmTo="2.25", timeFrom="0:40", timeTo="0:50")
+        self.assertEqual(tab.lines("own"), ["54 km/h, 1.5–2.25 km, 0:40:00–0:50:00 private",
+                                            "Whole road closed 3–3.15 km, 0:20:00–0:30:00 private"])
 
 
 class TwoTabs(BrowserCase):

@@ -1,7 +1,7 @@
 """Two browsers on one road: share, look first, take, overruled, put again, undo."""
 from __future__ import annotations
 
-from browsers import FREE_ROAD, FREEWAY, BrowserCase, before_rows, example_rows
+from browsers import FREE_ROAD, FREEWAY, BrowserCase, Tab, before_rows, example_rows
 from selenium.webdriver.common.action_chains import ActionChains
 from selenium.webdriver.common.by import By
 from selenium.webdriver.common.keys import Keys
@@ -220,6 +220,30 @@ class Sharing(BrowserCase):
         self.assertNotIn("Withdrew: Withdrew", ada.text("own"))
         self.assertEqual(ada.faults(), [])
 
+    def test_of_what_was_taken_back_nothing_is_to_be_shared(self) -> None:
+        ada, ben = self.open(FREE_ROAD)
+        ada.limit("1", "0:20", "0:30")
+        ada.share_all()
+        ben.take()
+        ben.press("Withdraw: 27 km/h")
+        ben.settled()
+        self.assertEqual(ben.lines("own"), ["Withdrew: 27 km/h, 0–0.3 km, 0:20:00–0:30:00 private"])
+        ben.keys("z")
+        ben.settled()
+        self.assertEqual((ben.lines("own"), ben.lines("held")), ([], ["27 km/h, 0–0.3 km, 0:20:00–0:30:00 shared"]))
+        self.assertFalse(ben.part("shareAll").is_displayed())
+        for end in ("0:35", "0:30"):  # to and fro
+            ben.press("Change: 27 km/h")
+            ben.in_figures(timeTo=end)
+        self.assertEqual((ben.lines("own"), ben.lines("held")), ([], ["27 km/h, 0–0.3 km, 0:20:00–0:30:00 shared"]))
+        ben.press("Withdraw: 27 km/h")
+        ben.settled()
+        self.assertEqual([text[-7:] for text in ben.lines("own")], ["private"])
+        ben.share_all()
+        ada.take()
+        self.assertEqual((ada.text("said"), ada.lines("held"), ben.lines("own")),
+                         ("Took 1 change of Ben. Nothing of yours is covered by them.", [], []))
+
     def test_a_part_is_looked_at_before_it_is_shared(self) -> None:
         ada, _ = self.open(FREE_ROAD)
         ada.run_an_hour()
@@ -235,6 +259,56 @@ class Sharing(BrowserCase):
         ada.press("Share now")
         ada.settled()
         self.assertEqual([text[-7:] for text in ada.lines("own") + ada.lines("held")], ["private", " shared"])
+
+    def test_what_is_looked_at_before_sharing_is_what_is_shared(self) -> None:
+        """Also where it was changed, or taken back, while it was looked at."""
+        ada, ben = self.open(FREE_ROAD)
+        ada.run_an_hour()
+        ada.limit("1", "0:20", "0:30")
+        ada.limit("2", "0:40", "0:50")
+        ada.press("Share…: 27 km/h")
+        ada.settled()
+        ada.press("Change: 27 km/h")
+        ada.in_figures(timeTo="0:35")
+        self.assertEqual(self.looked_at(ada), ["Share 1 change?", "27 km/h, 0–0.3 km, 0:20:00–0:35:00"])
+        self.assertEqual(ada.script("return store.layers.after.valueAt('limit', 0, 2099)"), 1)
+        ada.press("Share now")
+        ada.settled()
+        self.assertEqual([text[-7:] for text in ada.lines("own") + ada.lines("held")], ["private", " shared"])
+        self.assertEqual(ada.script("return [2099, 2100].map((step) => store.layers.shared.valueAt('limit', 0, step))"), [1, 3])
+        ada.press("Share all")
+        ada.settled()
+        ada.limit("0", "0:52", "0:55")
+        self.assertEqual(self.looked_at(ada), ["Share 2 changes?", "0 km/h, 0–0.3 km, 0:52:00–0:55:00",
+                                               "54 km/h, 0–0.3 km, 0:40:00–0:50:00"])
+        ada.keys("z")
+        ada.settled()
+        self.assertEqual(self.looked_at(ada)[0], "Share 1 change?")
+        ada.press("Withdraw: 54 km/h")
+        ada.settled()
+        self.assertFalse(ada.part("before").is_displayed())
+        self.assertEqual(ada.script("return store.layers.shared.valueAt('limit', 0, 2400)"), 3)
+        ben.take()
+        self.assertEqual(ben.lines("held"), ["27 km/h, 0–0.3 km, 0:20:00–0:35:00 shared"])
+
+    def looked_at(self, tab: Tab) -> list[str]:
+        """What is looked at before it is shared or taken: how much, and what."""
+        return [tab.text("beforeTitle"), *tab.script(
+            "return [...document.querySelectorAll('#beforeBody > ul > li')].map((one) => one.firstChild.data)")]
+
+    def test_what_comes_while_it_is_looked_at_is_looked_at_too(self) -> None:
+        ada, ben = self.open(FREE_ROAD)
+        ada.limit("1", "0:20", "0:30")
+        ada.share_all()
+        ben.press("Look first")
+        ben.settled()
+        self.assertEqual(self.looked_at(ben), ["Take 1 change?", "27 km/h, 0–0.3 km, 0:20:00–0:30:00"])
+        ada.limit("2", "0:40", "0:50")
+        ada.share_all()
+        ben.until(lambda: ben.text("said") == "Ada shared 2 changes.", "more news")
+        ben.settled()
+        self.assertEqual(self.looked_at(ben), ["Take 2 changes?", "54 km/h, 0–0.3 km, 0:40:00–0:50:00",
+                                               "27 km/h, 0–0.3 km, 0:20:00–0:30:00"])
 
     def test_what_taking_costs_is_said_before(self) -> None:
         ada, ben = self.open(FREE_ROAD)

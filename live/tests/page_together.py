@@ -145,6 +145,17 @@ class TwoTabs(BrowserCase):
         type_in(ada, Keys.ENTER)
         ada.until(lambda: "Withdrew: Whole road closed" in "".join(ada.lines("own")), "withdrawn")
 
+    def test_who_looks_again_draws_nothing(self) -> None:
+        ada, = self.open(FREE_ROAD, ("Ada",))
+        ada.run_an_hour()
+        ada.keys(Keys.HOME, "c", " ", Keys.ARROW_RIGHT, Keys.ARROW_DOWN)
+        self.assertTrue(ada.text("readout").startswith("Whole road closed, "), ada.text("readout"))
+        ada.keys("v", Keys.ARROW_RIGHT)
+        self.assertRegex(ada.text("readout"), r"^0\.\d\d km, \d:\d\d:\d\d: ")
+        ada.keys(Keys.ENTER)
+        ada.settled()
+        self.assertEqual((ada.lines("own"), ada.faults()), ([], []))
+
     def test_after_a_withdrawal_a_second_press_does_no_harm(self) -> None:
         ada, = self.open(FREE_ROAD, ("Ada",))
         ada.limit("2", "0:10", "0:20")
@@ -187,6 +198,28 @@ class TwoTabs(BrowserCase):
         self.server.again()
         ada.until(lambda: ada.text("said") == "The connection is back.", "what was said is over")
         self.assertEqual(ada.text("line"), "connected")
+
+    def test_what_needs_the_line_is_not_done_later(self) -> None:
+        ada, ben = self.open(FREE_ROAD)
+        ada.run_an_hour()
+        ada.limit("1", "0:20", "0:30")
+        ben.limit("2", "0:20", "0:30")
+        ben.share_all()
+        ada.until(lambda: ada.part("news").is_displayed(), "news")
+        ada.press("Share all")
+        ada.settled()
+        self.server.kill()
+        ada.until(lambda: ada.text("line") == "connection lost, trying again", "it is told")
+        for name, said in (("Share now", "Nothing was shared, since the connection is lost: share it once it is back."),
+                           ("Run an hour", "The clock was not set, since the connection is lost."),
+                           ("Take", "Nothing was taken, since the connection is lost: take it once it is back.")):
+            ada.press(name)
+            ada.until(lambda: ada.text("said") == said, said)
+        self.server.start()
+        ada.until(lambda: ada.text("said") == "The connection is back.", "it is back")
+        ada.settled()
+        self.assertEqual((ada.lines("own"), ada.lines("held"), ada.text("clock")),
+                         (["27 km/h, 0–0.3 km, 0:20:00–0:30:00 private"], [], "1:00:00"))
 
     def test_what_is_pending_is_kept_in_the_tab(self) -> None:
         ada, _ = self.open(FREE_ROAD)
