@@ -6,7 +6,7 @@ import time
 from typing import Any, Callable, Iterable
 
 from .asked import LONGEST_NAME, LONGEST_NOTE, SHAPE, STAMP, Refused, not_a_command, words
-from .layers import NOTHING, SITE, Laid, Name, Shape, Stamp, is_raw
+from .layers import NOTHING, SITE, Laid, Lays, Name, Shape, Stamp, is_raw
 from .state import SEATS, Gesture
 
 from refusals import LAST_STEP, Reasons, kind, list_of, put, row_of, whole
@@ -53,7 +53,10 @@ class Checks:
             raise Refused("Range", f"a shape ends behind its beginning, {begin}, not at {end}")
 
     def gesture(self, gesture: Gesture) -> None:
-        """One of another site: its layers and edits are of this plan, and no height is above its stamp."""
+        """One of another site: its layers and edits are of this plan, it lays no more than one of a tab may, and no height is
+        above its stamp."""
+        if objects_of(gesture.lays) > MOST_OBJECTS:
+            raise Refused("too many objects", f"the shapes of a gesture have at most {MOST_OBJECTS} objects")
         self.edits(gesture.edits, gesture.stamp)
         self.edit("limit", 0, 0, 0, gesture.stamp)
         for name in gesture.lays:
@@ -69,6 +72,12 @@ class Checks:
             self.shape(laid.shape)
         if is_raw(name):
             self.edit(*name, None)
+
+
+def objects_of(lays: Lays) -> int:
+    """How many objects the shapes of layers lie on, but for raw edits."""
+    shapes = [laid.shape for name, laid in lays.items() if laid.shape is not None and not is_raw(name)]
+    return sum(shape.last - shape.first + 1 for shape in shapes)
 
 
 # What other sites send

@@ -441,7 +441,7 @@ class Lab:
     # What comes from other sites
 
     async def came(self, gestures: list[Gesture], times: Times) -> bool:
-        """Takes gestures of another site into the shared replica; whether there was anything new."""
+        """Takes gestures of another site into the shared replica; whether there was anything new. `times` gets the `work`."""
         came: list[Gesture] = []
         dones: list[asyncio.Future[None]] = []
 
@@ -455,10 +455,11 @@ class Lab:
                 if not fresh:
                     return None
                 await self.keeper.writable()
-                before = len(self.state.shared.gestures)
+                before, began = len(self.state.shared.gestures), time.thread_time()
                 dones.append(self.keeper.record({"came": {
                     "gestures": [one.written() for one in fresh], "who": fresh[0].who, "title": fresh[0].title,
                     "when": int(time.time())}}))
+                times["work"] = time.thread_time() - began
                 came.extend(self.state.shared.gestures[before:])
             return None if await self.keeper.feeds(SHARED, times) else MORE
         await self._kept(SHARED, SHARED, body, dones, times)

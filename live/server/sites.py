@@ -25,8 +25,8 @@ from typing import Any, Callable, Deque, Iterable, Iterator, NamedTuple
 
 from .asked import MOST_EDITS, SHAPE, Refused, words
 from .journal import Broken, packed
-from .checks import read_gesture, told_of
-from .keeper import SHARED
+from .checks import objects_of, read_gesture, told_of
+from .keeper import SHARED, Times
 from .lab import Early, Lab
 from .seals import LATE, Again, Late, Seal, Unsealed, key_of
 from .stamps import is_early
@@ -47,11 +47,13 @@ HEARD = 4 * EVERY  # so long a site that was heard counts as there
 LONGEST = 2_000_000  # bytes of a message
 PIECE = 500_000  # bytes, about, of gestures that are sent together
 AT_ONCE = 500  # gestures that are sent without a pause
+OBJECTS, MOST_OBJECTS = 30_000, 60_000  # of shapes, that are sent and taken in one message
 TOLD, MOST_STAY = 5, 20  # sentences
 MOST_FOLDERS = 256  # that are remembered
 LONGEST_HASH = 40
-MOST_EARLY, LONGEST_EARLY = 1_000, 100_000  # gestures that wait until their day has come, and edits and layers of them
+MOST_EARLY, LONGEST_EARLY = 1_000, 60_000  # gestures that wait until their day has come, and what they lay and edit
 BURST, A_SECOND = 6_000, 500  # messages of a site that are taken at once, and each second
+WORK = 1_000  # messages that a second of work counts for
 FLOOD = 30.0  # seconds for which a site that sends more is not heard
 NUMBERS = range(1, 1_024)
 SITES = "road/sites"
@@ -249,11 +251,13 @@ class Sites:
     def _send(self, gestures: list[Gesture]) -> None:
         """Sends gestures, what was shared together in one message: else each site would mend what the next one brings."""
         part: list[Any] = []
+        objects = 0
         for gesture in gestures:
-            if part and sum(map(len, part)) > PIECE:
+            if part and (sum(map(len, part)) > PIECE or objects > OBJECTS):
                 self._send_layers(part)
-                part = []
+                part, objects = [], 0
             part.append(packed(gesture.written()))
+            objects += objects_of(gesture.lays)
         self._send_layers(part)
         if any(site.is_former and site.road == self._road for site in self._sites.values()):
             self._send_edits(gestures)
@@ -355,7 +359,7 @@ class Sites:
             elif topic.endswith("/sum"):
                 await self._heard_sum(folder, value)
             else:
-                await self._heard(gestures_of(value))
+                await self._heard(folder, gestures_of(value))
         except (Bad, Refused) as fault:
             self._say_left_out(fault)
 
@@ -408,13 +412,16 @@ class Sites:
         return next((site for site in self._sites.values() if site.number == self._keeper.state.site
                      and not site.is_silent and site.road == self._road), None)
 
-    async def _heard(self, gestures: list[Gesture]) -> None:
+    async def _heard(self, folder: str, gestures: list[Gesture]) -> None:
         """Takes gestures; those that are early wait, and keep no others."""
         if self._twin() is not None:
             raise Bad("another folder has this site's number")
+        objects = sum(objects_of(gesture.lays) for gesture in gestures)
+        if objects > MOST_OBJECTS:
+            raise Bad(f"its shapes have {objects} objects, and {MOST_OBJECTS} are the most")
         early = [gesture for gesture in gestures if is_early(gesture.stamp[0])]
         if len(early) < len(gestures):
-            await self._take([gesture for gesture in gestures if gesture not in early])
+            await self._take(folder, [gesture for gesture in gestures if gesture not in early])
         for gesture in early:
             self._lab.check(gesture)
             self._wait(gesture)
@@ -428,8 +435,11 @@ class Sites:
         while len(self._early) > MOST_EARLY or sum(map(size_of, self._early.values())) > LONGEST_EARLY:
             del self._early[next(iter(self._early))]
 
-    async def _take(self, gestures: list[Gesture]) -> None:
-        is_new = await self._lab.came(gestures, {})
+    async def _take(self, folder: str, gestures: list[Gesture]) -> None:
+        times: Times = {}
+        is_new = await self._lab.came(gestures, times)
+        if folder != self._id:
+            self._floods.works(folder, times.get("work", 0))
         for gesture in gestures:
             self._tell_if_twice(gesture)
         if is_new:
@@ -456,7 +466,7 @@ class Sites:
         due = {key: gesture for key, gesture in self._early.items() if not is_early(gesture.stamp[0])}
         self._early = {key: gesture for key, gesture in self._early.items() if key not in due}
         try:
-            await self._heard(list(due.values()))
+            await self._heard(self._id, list(due.values()))
         except (Bad, Refused) as fault:
             self._say_left_out(fault)
 
@@ -514,7 +524,7 @@ class Sites:
 
 
 class Floods:
-    """Who sends more than is taken: so many messages at once, and so many each second."""
+    """Who sends more than is taken: so many messages at once, and so many each second; or what makes as much work."""
 
     def __init__(self, clock: Callable[[], float] = time.monotonic) -> None:
         self._clock = clock
@@ -535,14 +545,20 @@ class Floods:
             only_newest(self._until)
         return left < 0
 
+    def works(self, folder: str, seconds: float) -> None:
+        """So long a message of a folder kept the server busy: it counts for many."""
+        left, when = self._left.get(folder, (float(BURST), self._clock()))
+        self._left[folder] = left - WORK * seconds, when
+        only_newest(self._left)
+
     def paused(self) -> list[str]:
         now = self._clock()
         return [folder for folder, until in list(self._until.items()) if now < until]
 
 
 def size_of(gesture: Gesture) -> int:
-    """Its edits and layers."""
-    return len(gesture.edits) + len(gesture.lays)
+    """Its edits and layers, and the objects of its shapes."""
+    return len(gesture.edits) + len(gesture.lays) + objects_of(gesture.lays)
 
 
 def only_newest(some: dict[str, Any]) -> None:

@@ -176,9 +176,11 @@ class Index:
         for kind, index, step, value in gesture.edits:
             self._of.setdefault((kind, index), []).extend((once.setdefault(step, step), once.setdefault(value, value), gesture))
 
-    def drop(self, gesture: Gesture) -> None:
-        for thing in {edit[:2] for edit in gesture.edits}:
-            self._of[thing] = [part for one in self.of(*thing) if one[2] is not gesture for part in one]
+    def drop(self, gestures: Collection[Gesture]) -> None:
+        """Drops the edits of gestures, all at once: each object is gone through once."""
+        gone = set(gestures)
+        for thing in {edit[:2] for gesture in gone for edit in gesture.edits}:
+            self._of[thing] = [part for one in self.of(*thing) if one[2] not in gone for part in one]
             if not self._of[thing]:
                 del self._of[thing]
 
@@ -548,8 +550,8 @@ class State:
         for gesture in shared:
             gesture.title = value.get("title", "")
             self._hold(self.shared, gesture)
-            seat.edits.drop(gesture)
             self.unsent[gesture] = None
+        seat.edits.drop(shared)
         seat.mark(line for line, some in seat.lines.items() if any(one.stamp in wanted for one in some))
         self._mended(value)
         self._tell(value, len(shared))

@@ -2,13 +2,14 @@
 from __future__ import annotations
 
 import json
+import shutil
 import subprocess
 import sys
 from importlib.machinery import SourceFileLoader
 from pathlib import Path
 from typing import Any
 
-from running import LIVE, SMALL, Case, new_folder, program
+from running import LIVE, SMALL, Case, Server, end, new_folder, program, started, until
 
 FREEWAY = LIVE.parent / "recipes" / "freeway"
 KM: dict[str, Any] = {
@@ -50,6 +51,31 @@ class Freeways(Case):
         (server.folder / "plan.json").write_text(json.dumps({**KM, "main": 800}), encoding="utf-8")
         server.start()
         self.assertIn("has another plan than", server.said())
+
+    async def test_a_freeway_that_was_not_begun_whole_is_begun_anew(self) -> None:
+        """Its server was killed before the works were shared."""
+        folder, keys = new_folder(), dict[Path, dict[str, str]]()
+        (folder / "token").write_text("a token of twenty signs")
+        (folder / "stalled").write_text("journal.jsonl")
+        (folder / "road.json").write_text(json.dumps(KM), encoding="utf-8")
+        process = started([sys.executable, str(LIVE / "tests" / "stalling.py"), "--folder", str(folder), "--port", "0",
+                           str(folder / "road.json")], stdout=subprocess.PIPE)
+        self.addCleanup(end, process)
+
+        async def is_begun() -> bool:
+            path = folder / "journal.jsonl"
+            return path.exists() and b'{"lab":' in path.read_bytes()
+        await until(is_begun, "the plan is written")
+        end(process)
+        (folder / "stalled").unlink()
+        shutil.copytree(folder, other := new_folder() / "other")
+        for place, plan, lines in ((folder, KM, 4), (folder, KM, 4), (other, SMALL, 0), (other, SMALL, 0)):
+            server = Server(place, plan)
+            self.addCleanup(end, server.process)
+            async with server.seat(**keys.get(place, {})) as ada:
+                keys[place] = {"key": ada.key}
+                self.assertEqual(len((await ada.ask("layers", at="shared", **{"from": 0}))["layers"]), lines)
+            server.stop()
 
     def of_recipe(self, path: Path) -> Any:
         """The recipe's road in cells and steps."""

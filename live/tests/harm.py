@@ -71,6 +71,54 @@ class Bounds(Case):
             self.assertEqual(len(one.lab.state.shared.gestures), 1)
             self.assertNotIn("too much", " ".join(first.state()["stays"]))
 
+    async def test_who_makes_much_work_is_not_heard_for_a_while_either(self) -> None:
+        """Of 6 seconds at once, and half of the time: a second counts for 1,000 messages."""
+        bus = Bus()
+        one, two = [await self.enterAsyncContext(Here(site=number)) for number in (1, 2)]
+        first, second = bus.site(one), bus.site(two)
+        now, work = [0.0], [0.0]
+        first._floods = Floods(lambda: now[0])
+        await bus.rounds()
+        await two.join("Ben")
+
+        def worked() -> float:
+            work[0] += 2.9  # once before, and once after
+            return work[0]
+        with mock.patch("server.lab.time.thread_time", worked):
+            for step, seconds in ((50, 0), (51, 6), (52, 0), (53, 0), (54, 0)):  # 9 seconds may be worked in all
+                await two.put(1, ["limit", 2, step, 3])
+                await two.share(1)
+                await bus.carry()
+                now[0] += seconds
+        self.assertEqual(len(one.lab.state.shared.gestures), 4)
+        self.assertIn("Site 2 sends too much: it is not heard for 30 seconds", " ".join(first.state()["stays"]))
+        self.assertEqual(second._floods.paused(), [])  # not by its own
+
+    async def test_a_message_has_no_more_than_is_soon_worked_out(self) -> None:
+        bus = Bus()
+        one, two = [await self.enterAsyncContext(Here(site=number)) for number in (1, 2)]
+        first, second = bus.site(one), bus.site(two)
+        await two.join("Ben")
+        for step in (5, 6):
+            await two.ask(1, "gesture", key=f"{step}", note="", shape=["block", 10, 89, step, None, 1])
+        stamp = [stamps.next_count(0, stamps.milliseconds(), 0), 2 * 64 + 1]
+        lays = [[[stamp[0] - place, stamp[1]], ["block", 0, 119, 5, None, 1], stamp, None, [0, 0]] for place in range(6)]
+        body = json.dumps({"form": 2, "gestures": [{"stamp": stamp, "who": "Eve", "lays": lays, "edits": []}]}).encode()
+        await first._came(f"road/{first._road}/layers", "f", body)
+        self.assertIn("the shapes of a gesture have at most 600 objects", told(first))
+        with mock.patch("server.sites.OBJECTS", 50), mock.patch("server.sites.MOST_OBJECTS", 100):
+            await two.share(1)
+            self.assertEqual(len([one for one in bus.sent if one.topic.endswith("layers")]), 2)
+            await bus.carry()
+            self.assertEqual(len(one.lab.state.shared.gestures), 2)
+            gestures = [gesture.written() for gesture in two.lab.state.shared.gestures]
+            three = await self.enterAsyncContext(Here(site=3))
+            third = Bus().site(three)
+            body = json.dumps({"form": 2, "gestures": gestures}).encode()
+            await third._came(f"road/{third._road}/layers", "f", body)
+            self.assertIn("its shapes have 160 objects, and 100 are the most", told(third))
+            self.assertEqual(three.lab.state.shared.gestures, [])
+
     async def test_shapes_and_edits_of_sites_are_checked_against_the_plan(self) -> None:
         here = await self.enterAsyncContext(Here(site=1))
         site = Bus().site(here)

@@ -578,3 +578,19 @@ class Lost(unittest.TestCase):
         began = time.process_time()
         self.assertEqual(lost_of(done, (1, 65)), {})
         self.assertLess(time.process_time() - began, 5)
+
+
+class Many(unittest.TestCase):
+    def test_very_many_edits_of_one_object_are_shared_as_soon(self) -> None:
+        """As a script puts them, one after the other."""
+        state = State()
+        state.apply({"lab": {"plan": PLAN, "site": 1, "folder": "f", "form": 2}})
+        edits = [["inflow", 0, count, count % 9] for count in range(1, 16_001)]
+        for edit in edits:
+            state.apply({"gesture": {"seat": 1, "stamp": [edit[2], 65], "edits": [edit]}})
+        began = time.process_time()
+        state.apply({"share": {"seat": 1, "stamps": [[edit[2], 65] for edit in edits]}})
+        self.assertLess(time.process_time() - began, 5)
+        self.assertEqual([state.shared.scenario(), state.seats[1].scenario()],
+                         [[[*edit[:3], edit[2], 65, edit[3]] for edit in edits]] * 2)
+        self.assertEqual(list(state.seats[1].edits.objects()), [])

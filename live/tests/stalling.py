@@ -1,5 +1,5 @@
-"""`live/serve` on a disk that does not answer as long as a file `stalled` stands in the folder, and fails as long as a file
-`failing` does."""
+"""`live/serve` on a disk that does not answer as long as a file `stalled` stands in the folder, for the file that it names or
+for all, unless it is empty; and fails as long as a file `failing` does."""
 from __future__ import annotations
 
 import errno
@@ -23,8 +23,9 @@ class Stalling:
 
     @staticmethod
     def fsync(file: int) -> None:
-        folder = Path(os.readlink(f"/proc/self/fd/{file}")).parent
-        while (folder / "stalled").exists():
+        path = Path(os.readlink(f"/proc/self/fd/{file}"))
+        folder = path if path.is_dir() else path.parent
+        while (folder / "stalled").exists() and (folder / "stalled").read_text() in ("", path.name) and os.fstat(file).st_size:
             time.sleep(0.05)
         if (folder / "failing").exists():
             raise OSError(errno.EIO, os.strerror(errno.EIO))
