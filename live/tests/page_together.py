@@ -145,6 +145,13 @@ class TwoTabs(BrowserCase):
         type_in(ada, Keys.ENTER)
         ada.until(lambda: "Withdrew: Whole road closed" in "".join(ada.lines("own")), "withdrawn")
 
+    def test_who_withdraws_the_last_change_goes_on_at_the_diagram(self) -> None:
+        ada, = self.open(FREE_ROAD, ("Ada",))
+        ada.limit("2", "0:10", "0:20")
+        ada.press("Withdraw: 54 km/h")
+        ada.settled()
+        self.assertEqual((ada.lines("own"), ada.script("return document.activeElement.id")), ([], "diagram"))
+
     def test_who_looks_again_draws_nothing(self) -> None:
         ada, = self.open(FREE_ROAD, ("Ada",))
         ada.run_an_hour()
