@@ -9,7 +9,7 @@ import {linesOf} from "./listing.mjs";
 import {look} from "./looking.mjs";
 import {Road} from "./rows.mjs";
 import {keyOf} from "./stamps.mjs";
-import {changed, isOwn, store, tell, whoseShown} from "./store.mjs";
+import {changed, isOwn, store, tell} from "./store.mjs";
 import {plural} from "./units.mjs";
 import {periodShown} from "./view.mjs";
 
@@ -60,11 +60,16 @@ const NOTHING = {undo: "There is nothing of yours to undo.",
                  redo: "There is nothing of yours to redo."};
 const DONE = {undo: "Taken back", redo: "Put again"};
 
-/** What an operation was first called; "" of one that is pending. */
-function noteOf(stamp) {
+const notes = new Map();        // of what this tab did, by stamps
+
+/** What an operation was first called, by its stamp, or by its key while it is pending; "" where
+    that is not known any more. */
+function noteOf(called) {
   const lines = [...store.layers.mine.lines.values()];
-  const isOf = ({operations}) => operations.some((one) => keyOf(one.stamp) === keyOf(stamp));
-  return (Array.isArray(stamp) && lines.find(isOf)?.note) || "";
+  const isOf = ({operations}) => operations.some(({stamp}) => keyOf(stamp) === keyOf(called));
+  const note = typeof called === "string" ? store.pending.get(called).note
+    : lines.find(isOf)?.note || notes.get(keyOf(called)) || "";
+  return note.replace(/^(Taken back|Put again)(: |$)/, "");
 }
 
 function press(does) {
@@ -129,7 +134,8 @@ export async function send(key) {
   timing.confirmed = performance.now();
   timing.us = said.us;
   if (!said.refused) {
-    tell(`${note}: done${whoseShown()[0] === "mine" ? "" : ", on your own road"}.${taken}`);
+    notes.set(keyOf(said.stamp), note);
+    tell(`${note}: done${store.whose === "shared" ? ", on your own road" : ""}.${taken}`);
     if (said.touched !== null && said.touched < first) store.roads.mine.stale(said.touched);
     await takeLayers("mine", said);
   }

@@ -1,6 +1,6 @@
 // What there is of changes: which are own, which are not shared. It reads the store.
 
-import {nextOf} from "./chain.mjs";
+import {nextOf, takenBack} from "./chain.mjs";
 import {privateOf} from "./layers.mjs";
 import {Words, newestFirst} from "./listing.mjs";
 import {keyOf} from "./stamps.mjs";
@@ -29,6 +29,15 @@ export const untaken = () => newestFirst([...store.layers.shared.lines.values()]
 export const makers = (lines) => [...new Set(lines.flatMap(freshOf)
   .map(({who}) => who || "somebody"))];
 
+const pendingActs = () => [...store.pending].map(([key, {command, does}]) =>
+  ({key, does, undoes: command.undo?.stamp}));
+
 /** What Z would take back and Redo put again: a stamp, a key, null or undefined. */
-export const next = () => nextOf(store.layers.mine ?? {undo: null, redo: null},
-  [...store.pending].map(([key, {does}]) => ({key, does})));
+export const next = () => nextOf(store.layers.mine ?? {undo: null, redo: null}, pendingActs());
+
+/** The shapes that are not confirmed yet, and not taken back. */
+export function waitingShapes() {
+  const gone = takenBack(pendingActs());
+  return [...store.pending].filter(([key, {shape}]) => shape && !gone.has(key))
+    .map(([, {shape}]) => shape);
+}

@@ -45,8 +45,9 @@ const pendingItem = ([key, {note}]) => ({key, sign: note, make: () => element("l
   element("p", note + " ", {className: "note"},
     element("span", "pending", {className: "state pending"})))});
 
-/** The focus goes to the first list that there is. */
-export const focusOnLists = () => $($("own").children.length ? "own" : "held").focus();
+/** The focus goes to the first list that there is, else to the diagram. */
+export const focusOnLists = () =>
+  $(["own", "held"].find((id) => $(id).children.length) ?? "diagram").focus();
 
 function showLists() {
   const of = (where) => store.lines.filter((one) => one.where === where).map(itemOf);

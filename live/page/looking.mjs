@@ -3,7 +3,7 @@
 import {ask} from "./asking.mjs";
 import {fetchRows} from "./fetching.mjs";
 import {cellsOf} from "./geometry.mjs";
-import {changed, last, now, store} from "./store.mjs";
+import {changed, last, now, store, tell} from "./store.mjs";
 import {HOUR, LAST_STEP} from "./units.mjs";
 
 export const SPANS = [60, 150, 300, 900, 1800, 3600, 7200, 14400, 36000];   // steps
@@ -130,9 +130,14 @@ const away = "The clock was not set, since the connection is lost.";
 export const setRate = (rate) => ask({clock: {rate}}, {away});
 export const runAnHour = () => ask({clock: {to: now() + HOUR}}, {away});
 
-/** The own road runs half an hour further than it does now. */
+/** The own road runs half an hour further than it does now, as far as one may. */
 export function lookAhead() {
-  store.ahead = last() + AHEAD;
+  const most = Math.min(LAST_STEP, now() + store.me.ahead);
+  if (last() >= most) {
+    tell(`A road runs at most ${store.me.ahead / HOUR} hours ahead of the clock.`, true);
+    return;
+  }
+  store.ahead = Math.min(most, last() + AHEAD);
   changed("clock");
   look();
 }

@@ -2,7 +2,7 @@
 // and over them the frames of what is in force, the clock, the rectangle that is dragged and the
 // cursor; below it what the colours mean.
 
-import {wordsShown} from "./changes.mjs";
+import {waitingShapes, wordsShown} from "./changes.mjs";
 import {$, choose, element, on} from "./elements.mjs";
 import {drawsSoon, hasDrawn} from "./fetching.mjs";
 import {cellsOf} from "./geometry.mjs";
@@ -114,10 +114,9 @@ export function write(context, text, left, top, align = "left", colour = "#00000
 /** The frames of the road shown, and of shapes that are not confirmed yet. */
 export function framesShown() {
   const own = {name: [0, store.me.number]};
-  const waiting = [...store.pending.values()]
-    .filter(({shape}) => shape && whoseShown()[0] === "mine")
-    .map(({shape: [kind, first, end, from, to, value]}) =>
-      ({kind, first, last: end, from, to, value, by: own, pending: true}));
+  const shapes = whoseShown()[0] === "mine" ? waitingShapes() : [];
+  const waiting = shapes.map(([kind, first, end, from, to, value]) =>
+    ({kind, first, last: end, from, to, value, by: own, pending: true}));
   return [...layersShown().frames, ...waiting];
 }
 

@@ -16,6 +16,7 @@ from .turns import MORE, Job
 SIDES = ("before", "after")
 MOST_PREVIEWS = 4  # that are run; the one that was asked longest ago goes
 UNUSED = 600.0  # seconds after which one goes
+LET_GO = "the two roads were let go"
 
 
 class Road(Protocol):
@@ -71,6 +72,7 @@ class Preview:
         after = {tuple(edit[:3]): edit for edit in [*before, *more]}
         self._keeper, self.edits = keeper, {"before": before, "after": list(after.values())}
         self.used = time.monotonic()
+        self._is_over = False
         self._program: Program | None = None
         self._fed = dict.fromkeys(SIDES, 0)
         self._wanted = dict.fromkeys(SIDES, 0)
@@ -84,16 +86,26 @@ class Preview:
     async def ready(self, side: str) -> Program:
         """Its program, when it has the edits of a side and has run as far as it shall."""
         self.used = time.monotonic()
-        if self._program is None:
-            plan = {**self._keeper.state.plan, "replicas": list(SIDES)}
-            self._program = await start(command_of(self._keeper.path, plan), packed(plan).encode())
+        program = self._program or await self._started()
         lines = [packed(line).encode() for line in import_lines(side, self.edits[side])]
         if lines and not self._fed[side]:
-            await self._program.ask_all(lines)
+            await program.ask_all(lines)
             self._fed[side] = 1
-        while await self._program.advance(side, self._wanted[side]) < self._wanted[side]:
+        while await program.advance(side, self._wanted[side]) < self._wanted[side]:
             await asyncio.sleep(0)
-        return self._program
+        return program
+
+    async def _started(self) -> Program:
+        """A new program, which ends at once where the seat has let the two roads go meanwhile."""
+        if self._is_over:
+            raise Gone(LET_GO)
+        plan = {**self._keeper.state.plan, "replicas": list(SIDES)}
+        program = await start(command_of(self._keeper.path, plan), packed(plan).encode())
+        if self._is_over:
+            program.kill()
+            raise Gone(LET_GO)
+        self._program = program
+        return program
 
     async def job(self, side: str, body: Job) -> Any:
         async with self._lock:
@@ -108,7 +120,8 @@ class Preview:
 
     async def say_all(self, lines: list[bytes], times: Times) -> list[bytes]:
         """In a job."""
-        assert self._program is not None
+        if self._program is None:
+            raise Gone(LET_GO)
         began = time.perf_counter()
         replies = await self._program.ask_all(lines)
         times["program"] = times.get("program", 0) + time.perf_counter() - began
@@ -121,9 +134,15 @@ class Preview:
         self._wanted[side] = max(to, self._wanted[side])
 
     def close(self) -> None:
+        """Ends its program, until it is asked again."""
         if self._program is not None:
             self._program.kill()
         self._program, self._fed = None, dict.fromkeys(SIDES, 0)
+
+    def end(self) -> None:
+        """Ends its program for good."""
+        self._is_over = True
+        self.close()
 
 
 class Side:
@@ -160,7 +179,7 @@ class Previews:
         """In the place of the seat's last one, if any."""
         old = self._of.pop(index, None)
         if old is not None:
-            old.close()
+            old.end()
         if preview is not None:
             self._of[index] = preview
 

@@ -9,7 +9,7 @@ import signal
 from typing import Any
 
 from server.client import Refused, Seat
-from running import SMALL, Case, until
+from running import SMALL, Case, descendants, until
 
 LIMIT = ["limit", 2, 50]
 CLOSED = ["block", 60, 69, 30, 60, 1]
@@ -88,6 +88,22 @@ class Acts(Case):
         await lay(self.ada, "4", None, layer=second)
         self.assertEqual(await numbers(self.ada), {})
         self.assertEqual(await lines(self.ada), {})  # it was private: nothing of it is left to list
+
+    async def test_of_a_preview_that_is_replaced_no_program_is_left(self) -> None:
+        await lay(self.ada, "1", CLOSED)
+        asked = []
+        for count in range(30):
+            await self.ada.ask("preview", what="share")
+            asked.append(asyncio.ensure_future(self.ada.reply("advance", at="after", to=2_000)))
+            await asyncio.sleep(count / 1_000)
+        await self.ada.ask("preview", what=None)
+        for said in await asyncio.gather(*asked):
+            self.assertIn(said.get("refused", "no preview"), ("no preview", "busy"), said)
+
+        async def is_alone() -> bool:
+            return [*descendants(self.a6.process.pid)] == [self.a6.program]
+        await until(is_alone, "the program of the roads alone", 10)
+        self.assertNotIn("Traceback", self.a6.said())
 
     async def test_who_covers_whom_from_when_to_when(self) -> None:
         old = await lay(self.ada, "old", ["limit", 2, 2, 20, 80, 1], note="long")

@@ -3,7 +3,7 @@
 import assert from "node:assert/strict";
 import {test} from "node:test";
 
-import {nextOf} from "../page/chain.mjs";
+import {nextOf, takenBack} from "../page/chain.mjs";
 import {keep, kept} from "../page/kept.mjs";
 
 const NONE = {undo: null, redo: null};
@@ -30,6 +30,15 @@ test("what only the server knows is waited for", () => {
   assert.equal(nextOf({undo: [3, 65], redo: null}, acts(["a", "undo"])).undo, undefined);
   assert.equal(nextOf({undo: [3, 65], redo: null}, acts(["a", "undo"])).redo, "a");
   assert.equal(nextOf({undo: null, redo: [2, 65]}, acts(["a", "redo"])).redo, undefined);
+});
+
+test("what is pending and taken back is known, and what is put again is not", () => {
+  const undo = (key, undoes) => ({key, does: "undo", undoes});
+  const pending = [...acts(["a", "lay"], ["b", "lay"]), undo("c", "b"), undo("d", "a")];
+  const gone = (list) => ["a", "b", "c", "d", "e"].filter((key) => takenBack(list).has(key));
+  assert.deepEqual(gone(pending.slice(0, 2)), []);
+  assert.deepEqual(gone(pending), ["a", "b"]);
+  assert.deepEqual(gone([...pending, {key: "e", does: "redo", undoes: "d"}]), ["b", "d"]);
 });
 
 /** A tab's storage; one that is full takes nothing. */

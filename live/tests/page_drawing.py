@@ -243,6 +243,15 @@ class OneFreeway(BrowserCase):
         tab.drop()
         self.assertEqual(gestures_of(self.server), [])
 
+    def test_a_look_ahead_goes_as_far_as_a_road_may(self) -> None:
+        tab, = self.open(FREEWAY)
+        tab.run_an_hour()
+        tab.script("store.ahead = now() + 35_000; lookAhead()")
+        self.assertEqual(tab.script("return store.ahead"), 39_600)  # by 36,000 steps
+        tab.press("Look 30 min ahead")
+        self.assertEqual(tab.text("said"), "A road runs at most 10 hours ahead of the clock.")
+        self.assertEqual(tab.script("return store.ahead"), 39_600)
+
     def test_a_look_ahead_is_private(self) -> None:
         tab, = self.open(FREEWAY)
         tab.run_an_hour()

@@ -145,6 +145,13 @@ class TwoTabs(BrowserCase):
         type_in(ada, Keys.ENTER)
         ada.until(lambda: "Withdrew: Whole road closed" in "".join(ada.lines("own")), "withdrawn")
 
+    def test_who_withdraws_the_last_change_goes_on_at_the_diagram(self) -> None:
+        ada, = self.open(FREE_ROAD, ("Ada",))
+        ada.limit("2", "0:10", "0:20")
+        ada.press("Withdraw: 54 km/h")
+        ada.settled()
+        self.assertEqual((ada.lines("own"), ada.script("return document.activeElement.id")), ([], "diagram"))
+
     def test_who_looks_again_draws_nothing(self) -> None:
         ada, = self.open(FREE_ROAD, ("Ada",))
         ada.run_an_hour()
@@ -198,6 +205,29 @@ class TwoTabs(BrowserCase):
         self.server.again()
         ada.until(lambda: ada.text("said") == "The connection is back.", "what was said is over")
         self.assertEqual(ada.text("line"), "connected")
+
+    def test_what_is_taken_back_and_put_again_is_said_and_drawn(self) -> None:
+        ada, _ = self.open(FREE_ROAD)
+        ada.run_an_hour()
+        ada.limit("1", "0:20", "0:30")
+        said = "27 km/h, 0–0.3 km, 0:20:00–0:30:00: done."
+        for name, wanted in (("Undo", f"Taken back: {said}"), ("Redo", f"Put again: {said}"), ("Undo", f"Taken back: {said}")):
+            ada.press(name)
+            ada.settled()
+            self.assertEqual(ada.text("said"), wanted)
+        self.server.kill()
+        ada.until(lambda: ada.text("line") == "connection lost, trying again", "it is told")
+        ada.fill(kmFrom="0", kmTo="0.3", timeFrom="0:40", timeTo="0:50")
+        ada.press_in("#apply")
+        shapes = "return framesShown().map(({from, to, pending}) => [from, to, pending])"
+        for name, wanted, last in (("", [[2400, 3000, True]], "27 km/h, 0–0.3 km, 0:40:00–0:50:00 pending"),
+                                   ("Undo", [], "Taken back: 27 km/h, 0–0.3 km, 0:40:00–0:50:00 pending"),
+                                   ("Redo", [[2400, 3000, True]], "Put again: 27 km/h, 0–0.3 km, 0:40:00–0:50:00 pending")):
+            if name:
+                ada.press(name)
+            self.assertEqual((ada.script(shapes), ada.lines("own")[0]), (wanted, last))
+        self.server.start()
+        ada.until(lambda: ada.lines("own") == ["27 km/h, 0–0.3 km, 0:40:00–0:50:00 private"], "confirmed")
 
     def test_what_needs_the_line_is_not_done_later(self) -> None:
         ada, ben = self.open(FREE_ROAD)
