@@ -9,7 +9,7 @@ from dataclasses import dataclass, field
 from pathlib import Path
 from typing import Any
 
-from .asked import Asked, Refused
+from .asked import LONGEST_NAME, Asked, Refused, words
 from .journal import Broken
 from .lab import Lab
 from .layers import Shape
@@ -54,7 +54,7 @@ def planned(path: Path, program: str) -> Planned:
         return Planned(value)
     said = by_recipe(path, program)
     try:
-        return Planned(said["plan"], [shape_of(one) for one in said["shapes"]], path.name)
+        return Planned(said["plan"], [shape_of(one) for one in said["shapes"]], words(path.name, LONGEST_NAME) or "freeway")
     except Refused as fault:
         raise Broken(f"{path}: {fault.why}") from None
 
@@ -97,7 +97,7 @@ async def lay(lab: Lab, road: Planned) -> None:
     """Puts and shares what a freeway begins with, by a seat that is free again afterwards."""
     if not road.shapes:
         return
-    index, _ = await lab.join(road.name[:64], "", None)
+    index, _ = await lab.join(road.name, "", None)
     try:
         for number, shape in enumerate(road.shapes):
             await lab.puts(index, {}, key=f"plan {number}", note="", shape=shape)
