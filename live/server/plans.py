@@ -10,7 +10,7 @@ from pathlib import Path
 from typing import Any
 
 from .asked import LONGEST_NAME, Asked, Refused, words
-from .journal import Broken
+from .journal import Broken, packed
 from .lab import Lab
 from .layers import Shape
 
@@ -35,6 +35,7 @@ def read(path: Path) -> Any:
         raise Broken(f"no plan at {path}: {fault.strerror}") from None
     try:
         value = json.loads(text)
+        packed(value).encode()  # halves of signs, and what is no number, can be read and not written
     except (ValueError, RecursionError) as fault:
         raise Broken(f"{path} is no plan line, and no freeway in km: {fault}") from None
     if type(value) is not dict:

@@ -112,6 +112,7 @@ class Freeways(Case):
                 (json.dumps({**free, "ramps": [[7, 100]]}), "the ramp at 7 km is not on the road"),
                 (json.dumps({**free, "sections": [[1, 0.9, 4, 8, 54]]}), "from is before to"),
                 (json.dumps({**free, "sections": [[0.9, 1.2, -4, 8, 54]]}), "minute -4 to 8: from is before to"),
+                *((json.dumps({**SMALL, **wrong}), "is no plan line") for wrong in ({"words": "\ud800"}, {"length": 1e400})),
                 (json.dumps({**SMALL, "zones": [[12, 0]]}), "the program refuses the plan")):
             folder = new_folder()
             (folder / "road.json").write_text(text, encoding="utf-8")
