@@ -9,8 +9,8 @@ from dataclasses import dataclass, field
 from pathlib import Path
 from typing import Any
 
-from .asked import Asked, Refused
-from .journal import Broken
+from .asked import LONGEST_NAME, Asked, Refused, words
+from .journal import Broken, packed
 from .lab import Lab
 from .layers import Shape
 
@@ -35,6 +35,7 @@ def read(path: Path) -> Any:
         raise Broken(f"no plan at {path}: {fault.strerror}") from None
     try:
         value = json.loads(text)
+        packed(value).encode()  # halves of signs, and what is no number, can be read and not written
     except (ValueError, RecursionError) as fault:
         raise Broken(f"{path} is no plan line, and no freeway in km: {fault}") from None
     if type(value) is not dict:
@@ -54,7 +55,7 @@ def planned(path: Path, program: str) -> Planned:
         return Planned(value)
     said = by_recipe(path, program)
     try:
-        return Planned(said["plan"], [shape_of(one) for one in said["shapes"]], path.name)
+        return Planned(said["plan"], [shape_of(one) for one in said["shapes"]], words(path.name, LONGEST_NAME) or "freeway")
     except Refused as fault:
         raise Broken(f"{path}: {fault.why}") from None
 
@@ -97,7 +98,7 @@ async def lay(lab: Lab, road: Planned) -> None:
     """Puts and shares what a freeway begins with, by a seat that is free again afterwards."""
     if not road.shapes:
         return
-    index, _ = await lab.join(road.name[:64], "", None)
+    index, _ = await lab.join(road.name, "", None)
     try:
         for number, shape in enumerate(road.shapes):
             await lab.puts(index, {}, key=f"plan {number}", note="", shape=shape)

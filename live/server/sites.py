@@ -92,6 +92,7 @@ class Sites:
     def __init__(self, lab: Lab, tell: Callable[[], None], options: argparse.Namespace) -> None:
         self._lab, self._keeper, self._tell, self._options = lab, lab.keeper, tell, options
         self._road, self._id, self._run = lab.keeper.reference, lab.keeper.state.folder, secrets.token_hex(4)
+        self._broker = broker_of(options.broker)
         self._seal = Seal(self._id, key_of(options.site_key) if options.site_key else None)
         self._connected = False
         self._sites: dict[str, Site] = {}  # by folder, and clones of this one by run
@@ -114,11 +115,8 @@ class Sites:
 
     async def __aenter__(self) -> Sites:
         self._loop = asyncio.get_running_loop()
-        host, _, port = self._options.broker.rpartition(":")
-        try:
-            self._client.connect_async(host, int(port), keepalive=30)
-        except ValueError:
-            raise Broken(f"--broker is HOST:PORT, not {self._options.broker}") from None
+        host, port = self._broker
+        self._client.connect_async(host, port, keepalive=30)
         self._client.loop_start()
         self._tasks = [asyncio.create_task(self._announce())]
         return self
@@ -574,6 +572,14 @@ def place_of(folder: Path) -> str:
     except OSError:
         machine = platform.node()
     return hashlib.sha256(f"{machine} {folder.resolve()}".encode("utf-8", "replace")).hexdigest()[:8]
+
+
+def broker_of(said: str) -> tuple[str, int]:
+    """Host and port of HOST:PORT."""
+    host, _, port = said.rpartition(":")
+    if not (host and port.isdecimal() and 1 <= int(port) <= 65_535):
+        raise Broken(f"--broker is HOST:PORT, not {said}")
+    return host, int(port)
 
 
 def needs_tls(options: argparse.Namespace) -> bool:

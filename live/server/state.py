@@ -641,8 +641,7 @@ class State:
         """Where the shared road may be to mend. Others' mendings are answered where they were made from fewer operations,
         so that no two answer each other for ever, or do not count; until then they are doubted."""
         shared = self.shared
-        came = [one for one in self._came.get(0, ()) if one.is_mending and one.stamp[1] != shared.number]
-        shared.doubts += came
+        shared.doubts += [one for one in self._came.get(0, ()) if one.is_mending]
         answered = [one for one in shared.doubts if one.known is None or one.known < shared.operations or shared.is_out(one)]
         shared.doubts = [one for one in shared.doubts if one not in answered]
         return self._stretches.get(0, set[Stretch]()).union(*(one.where for one in answered))

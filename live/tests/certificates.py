@@ -97,6 +97,13 @@ class Certificates(Case):
                          "--program", str(silent), "--folder", str(folder))
         self.assertFalse(folder.exists())
 
+    def test_what_is_no_port_is_told(self) -> None:
+        """Else another one would be listened at, or a broker waited for that cannot be."""
+        for port in ("65536", "-1"):
+            self.refused(f"a port is 1 to 65535, or 0: any that is free; and not {port}", "--port", port)
+        for broker in ("127.0.0.1:65536", "127.0.0.1:0", "127.0.0.1:", "127.0.0.1:x"):
+            self.refused(f"--broker is HOST:PORT, not {broker}", "--broker", broker)
+
     def refused(self, why: str, *options: str) -> None:
         """A server that does not start, and says why."""
         command = [sys.executable, LIVE / "serve", "--folder", new_folder(), "--port", "0", *options]

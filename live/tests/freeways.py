@@ -1,7 +1,9 @@
 """The road of a new folder: a plan line, or a freeway in km with its works, and files that are neither."""
 from __future__ import annotations
 
+import asyncio
 import json
+import os
 import shutil
 import subprocess
 import sys
@@ -9,7 +11,8 @@ from importlib.machinery import SourceFileLoader
 from pathlib import Path
 from typing import Any
 
-from running import LIVE, SMALL, Case, Server, end, new_folder, program, started, until
+from server.client import Seat
+from running import LIVE, PATIENCE, SMALL, Case, Server, end, new_folder, program, started, until
 
 FREEWAY = LIVE.parent / "recipes" / "freeway"
 KM: dict[str, Any] = {
@@ -77,6 +80,22 @@ class Freeways(Case):
                 self.assertEqual(len((await ada.ask("layers", at="shared", **{"from": 0}))["layers"]), lines)
             server.stop()
 
+    async def test_a_file_may_have_any_name(self) -> None:
+        """Also one that is no text: what can be shown of it is said of its works."""
+        folder = new_folder()
+        path = os.fsencode(folder) + b"/r\xff d.json"
+        with open(path, "w", encoding="utf-8") as file:
+            json.dump(KM, file)
+        process = started([str(LIVE / "serve"), "--folder", str(folder / "new"), "--port", "0", os.fsdecode(path)],
+                          stdout=subprocess.PIPE, text=True)
+        self.addCleanup(end, process)
+        assert process.stdout is not None
+        async with asyncio.timeout(PATIENCE):
+            address = await asyncio.get_running_loop().run_in_executor(None, process.stdout.readline)
+        async with Seat(address, name="Ada") as ada:
+            lines = (await ada.ask("layers", at="shared", **{"from": 0}))["layers"]
+            self.assertEqual({line["who"] for line in lines}, {"r d.json"})
+
     def of_recipe(self, path: Path) -> Any:
         """The recipe's road in cells and steps."""
         for folder in (FREEWAY, FREEWAY.parent / "python"):
@@ -93,6 +112,7 @@ class Freeways(Case):
                 (json.dumps({**free, "ramps": [[7, 100]]}), "the ramp at 7 km is not on the road"),
                 (json.dumps({**free, "sections": [[1, 0.9, 4, 8, 54]]}), "from is before to"),
                 (json.dumps({**free, "sections": [[0.9, 1.2, -4, 8, 54]]}), "minute -4 to 8: from is before to"),
+                *((json.dumps({**SMALL, **wrong}), "is no plan line") for wrong in ({"words": "\ud800"}, {"length": 1e400})),
                 (json.dumps({**SMALL, "zones": [[12, 0]]}), "the program refuses the plan")):
             folder = new_folder()
             (folder / "road.json").write_text(text, encoding="utf-8")

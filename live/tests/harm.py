@@ -201,6 +201,20 @@ class Bounds(Case):
         self.assertEqual(roads, [roads[0]] * 3)
         self.assertEqual([one.lab.state.shared.numbers("limit", 3).get(8) for one in here], [None] * 3)
 
+    async def test_who_mends_in_the_name_of_another_is_answered_by_that_too(self) -> None:
+        """A restored folder may hear of its own mendings; so by its number alone none is its own."""
+        here = await self.enterAsyncContext(Here(site=1))
+        site = Bus().site(here)
+        ada, = await here.join("Ada")
+        stamp = await here.put(ada, ["limit", 1, 50, 4])
+        await here.share(ada)
+        for known, number in ((0, 64), (0, 3 * 64), (10 ** 9, 64)):
+            mending = {"stamp": [stamp[0] + number, number], "known": known, "edits": [["limit", 1, 50, 0]], "who": "mended"}
+            body = json.dumps({"form": 2, "gestures": [mending]}).encode()
+            await site._came(f"road/{site._road}/layers", "f", body)
+            await site.announce()  # nobody else is there
+            self.assertEqual(here.lab.state.shared.numbers("limit", 1), {50: 4}, (known, number))
+
     async def test_what_lacks_is_told_while_roads_are_mended(self) -> None:
         """A site that lacks operations is told them once, though what wins there is another each time."""
         bus = Bus()

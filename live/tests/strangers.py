@@ -3,6 +3,7 @@ from __future__ import annotations
 
 import json
 import shutil
+import time
 import unittest
 from pathlib import Path
 from typing import Any
@@ -204,8 +205,8 @@ class Strangers(Case):
     async def test_what_is_early_keeps_nothing_else_and_waits_once(self) -> None:
         """Another change of the same message is taken at once; what is sent again and again waits once, and not much waits."""
         now = stamps.milliseconds()
+        clock = [now]
         with mock.patch("server.stamps.milliseconds", lambda: clock[0]):
-            clock = [now]
             here, site = await self.here(1)
 
             async def comes(*gestures: tuple[int, int]) -> None:
@@ -303,7 +304,7 @@ class Keys(Case):
 
     async def test_what_is_of_a_clock_far_ahead_is_left_out(self) -> None:
         """Else it could be played again for longer."""
-        with mock.patch.object(self.first._seal, "_clock", lambda: seals.time.time() + 900):
+        with mock.patch.object(self.first._seal, "_clock", lambda: time.time() + 900):
             await self.share(50)
         self.assertEqual(self.held(self.two), 0)
         self.assertIn("more than 10 minutes old, by this site's clock", told(self.second))

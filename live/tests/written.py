@@ -217,9 +217,10 @@ class Written(Case):
         with mock.patch.object(Journal, "confirmed", held_up):
             self.goes_on(errno.EIO)
             await asyncio.get_running_loop().run_in_executor(None, is_read.wait)
-            looks = [asyncio.create_task(self.here.ask(self.ben, verb, **fields)) for verb, fields in (
+            asked: list[tuple[str, dict[str, Any]]] = [
                 ("layers", {"at": "shared"}), ("gestures", {"at": "shared"}), ("csv", {"at": "shared", "what": "changes"}),
-                ("figures", {"of": "mine", "from": 0, "to": 60}))]
+                ("figures", {"of": "mine", "from": 0, "to": 60})]
+            looks = [asyncio.create_task(self.here.ask(self.ben, verb, **fields)) for verb, fields in asked]
             await asyncio.sleep(0.2)
             may_read.set()
             layers, gestures, table, figures_of = [await soon(look) for look in looks]
@@ -230,7 +231,8 @@ class Written(Case):
     async def test_what_comes_from_another_site_is_told_once_it_is_on_the_disk(self) -> None:
         def gesture() -> Gesture:
             stamp = count_after(0), 2 * 64 + 1
-            return Gesture.read({"stamp": stamp, "edits": [[*LIMIT, 3]], "lays": [[LIMIT, 3, stamp, None, (0, 0)]], "who": "Sam"})
+            lays = [[LIMIT, 3, stamp, None, (0, 0)]]
+            return Gesture.read({"stamp": stamp, "edits": [[*LIMIT, 3]], "lays": lays, "who": "Sam"})
         lab = self.here.lab
         for fault, size in ((errno.EIO, 0), (None, 1)):
             self.goes_on()
@@ -245,7 +247,8 @@ class Written(Case):
             self.assertFalse(look.done())
             self.goes_on(fault)
             await soon(asyncio.gather(came, return_exceptions=True))
-            self.assertEqual(((await soon(look))["size"], lab.news(self.ben, 9)["size"], await self.edits(self.ben)), (size,) * 3)
+            seen = (await soon(look))["size"], lab.news(self.ben, 9)["size"], await self.edits(self.ben)
+            self.assertEqual(seen, (size,) * 3)
 
     async def test_figures_are_of_what_is_on_the_disk(self) -> None:
         """Of a share by which nobody enters at the first inlet: the first detector counts the cars of this one alone."""
