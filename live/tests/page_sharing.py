@@ -118,7 +118,8 @@ class Sharing(BrowserCase):
         ada.script("""
             const {left, top} = document.querySelector("#before .buttons button").getBoundingClientRect();
             const beneath = Object.assign(document.createElement("button"), {textContent: "what comes there"});
-            Object.assign(beneath.style, {position: "fixed", left: `${left}px`, top: `${top}px`, width: "8rem", height: "3rem"});
+            Object.assign(beneath.style, {position: "fixed", left: `${left}px`, top: `${top}px`, width: "8rem",
+                                          height: "3rem"});
             Object.assign($("before").style, {position: "relative", zIndex: 1});
             window.pressed = 0;
             beneath.addEventListener("click", () => { pressed++; });
