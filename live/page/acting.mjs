@@ -145,21 +145,50 @@ export async function send(key) {
   askPreview();
 }
 
-/** Takes lines that came with an answer; asks for what lies between, where there is something. */
+/** Takes lines that came with an answer; asks for what lies between, or behind, where there is
+    something. */
 async function takeLayers(whose, said) {
   const layers = store.layers[whose];
-  if (said.since === layers.next) layers.take(said);
-  else await refresh(whose);
+  const isNext = said.since === layers.next;
+  if (isNext) layers.take(said);
+  if (!isNext || said.more) await refresh(whose);
 }
 
-/** Asks for what a road has got since; or for all, where the list is another one. */
-export async function refresh(whose) {
+const refreshes = {};           // of roads: what is asked for just now, {done, again}
+
+/** Asks for what a road has got since: of all who want that at once, one asks. */
+export function refresh(whose) {
+  const isGoing = whose in refreshes;
+  refreshes[whose] ??= {};
+  refreshes[whose].again = true;
+  if (!isGoing) refreshes[whose].done = refreshed(whose);
+  return refreshes[whose].done;
+}
+
+async function refreshed(whose) {
+  const going = refreshes[whose];
+  let isThere = true;
+  try {
+    while (isThere && going.again) {
+      going.again = false;
+      isThere = await askLayers(whose);
+    }
+    if (isThere) list();
+  } finally {
+    delete refreshes[whose];
+  }
+}
+
+/** Asks piece by piece, for all where the list is another one; a piece that is older than what came
+    with an answer meanwhile is left. Gives whether all is there. */
+async function askLayers(whose) {
   const layers = store.layers[whose];
   const at = whose === "mine" ? store.me.at : "shared";
   for (let more = true; more;) {
     const from = layers.next;
     const said = await ask({layers: {at, from}});
-    if (!said || said.refused) return;
+    if (!said || said.refused) return false;
+    if (layers.next !== from) continue;
     if (said.since === 0) {
       layers.lines.clear();
       if (from !== 0) store.roads[whose].stale(0);
@@ -167,7 +196,7 @@ export async function refresh(whose) {
     layers.take(said);
     more = said.more;
   }
-  list();
+  return true;
 }
 
 function list() {

@@ -92,8 +92,21 @@ function holdPressed() {
   }
 }
 
+/** The second click of two presses what the first did, or nothing: not what has come there. */
+function pressOnce() {
+  let pressed = null;
+  addEventListener("click", (event) => {
+    const one = event.target.closest("button, summary, label, select");
+    if (event.detail > 1 && one !== pressed) {
+      event.preventDefault();
+      event.stopPropagation();
+    } else pressed = one;
+  }, true);
+}
+
 export function begin() {
   holdPressed();
+  pressOnce();
   for (const rate of RATES) {
     const one = button(rate ? `${rate}×` : "Pause", () => setRate(rate));
     one.dataset.rate = rate;

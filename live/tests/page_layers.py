@@ -82,6 +82,25 @@ class OneTab(BrowserCase):
         self.assertEqual(tab.lines("own"), ["Slowing 25 %, 0–0.75 km, 0:20:00–0:40:00 private",
                                             "Demand 1,000 cars/h, at 0 km, 0:10:00–0:30:00 private"])
 
+    def test_where_many_lines_are_others_at_once_all_are_told_of(self) -> None:
+        """The server tells a part with its answer, and the page asks for the rest: also after many gestures at once."""
+        tab, = self.open(FREEWAY)
+        tab.script("""for (let put_ = 0; put_ < 120; put_++) {
+            put({shape: ["limit", 0, 15, 10 * put_, 7200 - 10 * put_, put_ % 5], note: `${put_}`});
+        }""")
+        tab.until(lambda: tab.script("return store.pending.size") == 0, "confirmed")
+        tab.settled()
+        shown = """
+            return [...store.layers.mine.lines.values()].sort((one, other) => byStamp(one.name, other.name))
+              .map(({shown}) => shown.map(([, , , , , , by]) => by === null));"""
+        # Each is in force before and behind the next one, in which it is covered by all that follow; the last one is whole.
+        wanted = [[True, *[False] * (2 * (119 - count) - 1), True] for count in range(119)] + [[True]]
+        self.assertEqual(tab.script(shown), wanted)
+        tab.script("put({shape: ['limit', 0, 15, 0, 7200, 5], note: 'above all'})")
+        tab.until(lambda: tab.script("return store.pending.size") == 0, "confirmed")
+        tab.settled()
+        self.assertEqual([any(one) for one in tab.script(shown)], [False] * 120 + [True])
+
     def test_what_is_dragged_back_is_no_change(self) -> None:
         """Else Z does nothing that is seen, and a line that is shared has something private."""
         tab, = self.open(FREEWAY)

@@ -110,6 +110,27 @@ class Sharing(BrowserCase):
         ActionChains(ada.driver, duration=0).release().perform()
         ada.until(lambda: ada.text("said") == "Took 2 changes of Ben. Nothing of yours is covered by them.", "taken")
 
+    def test_a_double_click_presses_nothing_that_comes_there(self) -> None:
+        ada, _ = self.open(FREE_ROAD)
+        ada.limit("1", "0:20", "0:30")
+        ada.press("Share all")
+        ada.settled()
+        ada.script("""
+            const {left, top} = document.querySelector("#before .buttons button").getBoundingClientRect();
+            const beneath = Object.assign(document.createElement("button"), {textContent: "what comes there"});
+            Object.assign(beneath.style, {position: "fixed", left: `${left}px`, top: `${top}px`, width: "8rem",
+                                          height: "3rem"});
+            Object.assign($("before").style, {position: "relative", zIndex: 1});
+            window.pressed = 0;
+            beneath.addEventListener("click", () => { pressed++; });
+            document.body.append(beneath);""")
+        first = ada.part("beforeBody").find_element(By.TAG_NAME, "button")
+        ActionChains(ada.driver, duration=0).double_click(first).perform()
+        ada.until(lambda: ada.text("said") == "Shared 1 change.", "shared")
+        self.assertEqual(ada.script("return pressed"), 0)
+        ActionChains(ada.driver, duration=0).move_by_offset(0, 3).pause(1).click().perform()
+        self.assertEqual(ada.script("return pressed"), 1)
+
     def test_two_who_lay_one_line_at_once(self) -> None:
         ada, ben = self.open(FREE_ROAD)
         ada.run_an_hour()
