@@ -162,6 +162,21 @@ class Strangers(Case):
         roads = [await self.shared(here) for here, _ in sites]
         self.assertEqual(roads, [roads[0]] * 5)
 
+    async def test_what_was_not_sent_is_sent_after_a_start_with_what_it_mended(self) -> None:
+        """Two closures that overlap: where the one ends the other goes on."""
+        here = await self.enterAsyncContext(Here(site=1))
+        for seat, begin, end in zip(await here.join("Ada", "Ben"), (10, 20), (30, 40)):
+            await here.ask(seat, "gesture", key="k", note="", shape=["block", 60, 60, begin, end, 1])
+        for seat in (1, 2):
+            await here.share(seat)
+        shared = [gesture.stamp for gesture in here.lab.state.shared.gestures]
+        self.assertEqual([gesture.is_mending for gesture in here.lab.state.shared.gestures], [False, False, True])
+        await here.keeper.close()
+        again = await self.enterAsyncContext(Here(here.folder))
+        self.bus.site(again)._send_unsent()
+        message, = self.bus.sent
+        self.assertEqual([tuple(one["stamp"]) for one in json.loads(message.payload)["gestures"]], shared)
+
     async def test_who_is_alone_mends_what_others_mended_by_more_than_it_holds(self) -> None:
         (one, first), (_, second) = await self.here(1), await self.here(2)
         await self.bus.rounds(2)
