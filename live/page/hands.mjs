@@ -19,6 +19,7 @@ import {everyShown, strideNow, viewNow} from "./view.mjs";
 
 const NAMES = {mine: "mine", shared: "shared", before: "now", after: "then"};
 const AT_EDGE = 6;              // pixels from an edge at which it is taken
+const TWICE = 500;              // milliseconds within which a click at one place is the second one
 
 // Drags.
 
@@ -104,10 +105,19 @@ function dragDiagram(event, drag) {
   moveTo(drag.cell - (event.offsetX - drag.x) / scale, drag.step - (event.offsetY - drag.y) / tall);
 }
 
+let clicked = {when: -Infinity};  // the last click
+
+/** Whether a click is the second one of two: both together put one shape. */
+function isSecond({timeStamp: when, offsetX: x, offsetY: y}) {
+  const before = clicked;
+  clicked = {when, x, y};
+  return when - before.when < TWICE && Math.hypot(x - before.x, y - before.y) < AT_EDGE;
+}
+
 function onUp(event) {
   const drag = endDrag();
   if (drag?.area) applyArea(drag.area);
-  else if (drag && !drag.moved && !["look", "block"].includes(store.tool)) {
+  else if (drag && !drag.moved && !["look", "block"].includes(store.tool) && !isSecond(event)) {
     const place = snappedHere(drag.at, event.altKey);
     applyArea(areaBetween(place, place, {open: true}));
   }

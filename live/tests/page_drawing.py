@@ -324,6 +324,11 @@ class OneFreeway(BrowserCase):
         # Zone 8 has the cells 400 to 449; the on-ramp, at cell 200, is the inlet nearest to cell 190.
         self.assertEqual(limit, [["limit", 8, 1800, 2]])
         self.assertEqual([edit[:3] for edit in demand], [["inflow", 1, 1800]])
+        tab.tool("limit")
+        ActionChains(tab.driver, duration=0).move_to_element_with_offset(
+            tab.part("diagram"), *tab.place(430, 1200)).double_click().perform()
+        tab.settled()
+        self.assertEqual(len(gestures_of(self.server)), 3)
 
     def test_a_road_of_8192_cells(self) -> None:
         tab, = self.open({**FREEWAY, "length": 8192, "zone": 128, "zones": [[5, 6554]] * 64, "detectors": [4000, 8000]})
