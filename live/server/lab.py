@@ -157,8 +157,10 @@ class Lab:
         """The same, in a seat's turn or at once, when it is on the disk; while that does not answer as it was before."""
         async def look() -> list[dict[str, Any]]:
             return self.seats()
-        asked = asyncio.ensure_future(self.keeper.truly(
-            look if turn is None else lambda: self.keeper.ask(turn, (), look)))
+
+        async def in_turn() -> Any:
+            return await (look() if turn is None else self.keeper.ask(turn, (), look))
+        asked = asyncio.ensure_future(self.keeper.truly(in_turn))
         while not (await asyncio.wait([asked], timeout=A_MOMENT))[0]:
             if self._kept_seats and self.keeper.journal.waits(A_MOMENT):
                 asked.cancel()
