@@ -323,8 +323,7 @@ class Seat:
         while left and left[-1].lays[name] == laid:
             last = left[-1]
             yield last
-            undone = next((place for place, one in enumerate(left) if one.stamp == last.undoes), None)
-            left = left[:undone] if undone is not None and left[undone].was.get(name) == laid else []
+            left = left[:next((place for place, one in enumerate(left) if one.stamp == last.undoes), 0)]
 
     def since(self, place: int) -> list[Gesture]:
         """The gestures that arrived at this place or later."""

@@ -327,6 +327,24 @@ class Presses(unittest.TestCase):
                 site.shares(seat, [one for one in site.state.private(seat) if r.random() < 0.5])
                 self.assertEqual(self.next_of(seat), self.next_of(self.shortened(site)), seed)
 
+    def test_what_counts_no_more_hinders_nobody(self) -> None:
+        """Another withdrew the line since, whose site is left out then."""
+        one, other = Site(1, 1), Site(2, 1)
+        (ada,), (ben,) = one.seats, other.seats
+        line = one.does(ada, put(one.state.stamp(ada), Shape("limit", 3, 3, 5, 15, 1)))
+        change = one.does(ada, changed(ada, one.state.stamp(ada), line.stamp, Shape("limit", 3, 3, 5, 20, 1), False))
+        back = one.does(ada, undoing(ada, change), undoes=change.stamp)
+        self.assertEqual([*undoing(ada, line)], [line.stamp])
+        one.shares(ada, [line, change, back])
+        other.came(one.out[0])
+        other.takes(ben)
+        other.shares(ben, [other.does(ben, changed(ben, other.state.stamp(ben), line.stamp, None, False))])
+        one.came(other.out[0])
+        one.takes(ada)
+        self.assertEqual(undoing(ada, line), {})
+        one.does(ada, raw_lays(one.state.stamp(ada), [("site", 2, 0, 1)]))
+        self.assertEqual([*undoing(ada, line)], [line.stamp])
+
     def test_z_and_redo(self) -> None:
         for seed in range(HISTORIES):
             self.walk(seed)
