@@ -111,7 +111,7 @@ struct Plan {
     inlets: Vec<u16>,
     detectors: Vec<u16>,
     seed: u64,
-    /// The settings where nothing is edited.
+    /// The settings without edits.
     settings: Settings,
     edits: Edits,
 }
@@ -151,7 +151,7 @@ impl Settings {
             "block" => self.blocks.extend((value == 1).then_some(index as u16)),
             "inflow" => self.inflows[index] = value,
             "watch" => self.watched[index] = value == 1,
-            _ => panic!("{kind} is no object here"),
+            _ => panic!("{kind} is not an object here"),
         }
     }
 }
@@ -475,7 +475,7 @@ fn serve<F: Form>() {
                 let detector = number("detector") as usize;
                 (2, replica.count(detector, number("from"), number("to")))
             }
-            name => panic!("{name:?} is no command here"),
+            name => panic!("{name:?} is not a command here"),
         };
         spent[kind] += begin.elapsed().as_secs_f64() * 1e3;
         answer = reply;

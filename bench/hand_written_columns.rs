@@ -19,7 +19,7 @@ pub struct Columns {
     speeds: Vec<u16>,
     /// The place of each car's words in the rows.
     places: Vec<u16>,
-    /// The nearest car or blocked cell ahead of each car, made anew in each step.
+    /// The nearest car or blocked cell ahead of each car, found again in each step.
     ahead: Vec<u16>,
     rows: Vec<[u16; ROW]>,
     /// The places of a row that are taken.

@@ -9,7 +9,7 @@
 //! A look is one of three: it loads a word that the writer stores, the least that any look at what
 //! is published can do; it reads a number by left-right, with an epoch and two copies; or it takes
 //! a counted pointer by left-right, as a look of a session does. The writer publishes as fast as it
-//! can, or waits for so many nanoseconds each time.
+//! can, or waits N nanoseconds each time.
 //!
 //! Prints a line for each look and pause: the looks in a second beside either writer, how often the
 //! writer published in one, and the ratio of the looks, medians of five turns and each of them.

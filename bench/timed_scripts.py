@@ -6,7 +6,8 @@ import subprocess
 import sys
 import time
 
-CRATES = os.path.join(os.path.dirname(os.path.abspath(__file__)), "..", "crates")
+HERE = os.path.dirname(os.path.abspath(__file__))
+CRATES = os.path.join(HERE, "..", "crates")
 
 # 12 cells, where a car enters whenever it can.
 FREE_ROAD = {
@@ -53,7 +54,7 @@ def random_words():
 
 
 def late_blocks(plan, horizon, count):
-    """A run, and then edits 200 steps before its end: a random cell is closed, and opened again."""
+    """Return a run, and then edits 200 steps before its end: a random cell is closed, and opened again."""
     words, lines = random_words(), [line(plan), advance(horizon)]
     for number in range(count):
         if number % 2 == 0:
@@ -63,7 +64,7 @@ def late_blocks(plan, horizon, count):
 
 
 def random_queries(plan, horizon, count):
-    """A run, and then queries of it at random steps: by turns a row, and what a detector counted."""
+    """Return a run, and then queries of it at random steps: alternately a row and a count."""
     words, lines = random_words(), [line(plan), advance(horizon)]
     for number in range(count):
         if number % 2 == 0:
@@ -97,7 +98,7 @@ SCRIPTS = [
 
 
 def arguments(description):
-    """A parser of a program's arguments, of which one is common to all; its help is the program's first lines."""
+    """Return a parser of arguments with the common option. Its help is the docstring of the program."""
     parser = argparse.ArgumentParser(description=description, formatter_class=argparse.RawDescriptionHelpFormatter)
     parser.add_argument("--program", metavar="PATH")
     return parser
@@ -112,8 +113,16 @@ def built(name):
     return os.path.join(crate, "out", name)
 
 
+def hand_written():
+    """Compile the program by hand, and return its path."""
+    path = os.path.join(HERE, "out", "hand_written")
+    os.makedirs(os.path.dirname(path), exist_ok=True)
+    subprocess.run(["rustc", "--edition", "2024", "-O", os.path.join(HERE, "hand_written.rs"), "-o", path], check=True)
+    return path
+
+
 def timed(program, script):
-    """The seconds that a program takes for a script, its start, reading and writing included, and its answers."""
+    """Return the seconds that a program takes for a script, its start, reading and writing included, and its answers."""
     begin = time.perf_counter()
     ended = subprocess.run([program], input=script.encode(), stdout=subprocess.PIPE)
     spent = time.perf_counter() - begin
@@ -123,7 +132,7 @@ def timed(program, script):
 
 
 def measured(program, script):
-    """The seconds that a program takes for a script, its answers, and its greatest memory in MiB."""
+    """Return the seconds that a program takes for a script, its answers, and its greatest memory in MiB."""
     begin = time.perf_counter()
     ended = subprocess.run(["/usr/bin/time", "-f", "%M", program], input=script.encode(), capture_output=True, check=True)
     return time.perf_counter() - begin, ended.stdout, int(ended.stderr.split()[-1]) / 1024

@@ -1,4 +1,4 @@
-"""What the scripts of this folder share: the program that they run, and how they tell what came of each case."""
+"""Find the program for the scripts of this folder, and report the outcome of each case."""
 import argparse
 import os
 import subprocess
@@ -10,14 +10,20 @@ CRATE = os.path.join(HERE, "..", "crates", "road_lab")
 
 
 def built():
-    """The path of the program, which is built first (proved)."""
+    """Return the path of the program, which is built first (proved)."""
     with open(os.path.join(CRATE, "stdin")) as script:
         subprocess.run(["rt", "run"], cwd=CRATE, stdin=script, stdout=subprocess.DEVNULL, check=True)
     return os.path.join(CRATE, "out", "road_lab")
 
 
+def has_checks(program):
+    """Return whether a program has the compiler's checks in it, as one that was made without a proof may have."""
+    with open(program, "rb") as file:
+        return b"AddressSanitizer" in file.read()
+
+
 def first_difference(answers, wanted):
-    """The first line that differs, counted from 1, and what stands there."""
+    """Return the number of the first line that differs, from 1, and both lines."""
     ours, theirs = answers.splitlines() + [b"(nothing)"], wanted.splitlines() + [b"(nothing)"]
     for number, (our, their) in enumerate(zip(ours, theirs), 1):
         if our != their:
@@ -27,7 +33,7 @@ def first_difference(answers, wanted):
 
 
 def excerpt(line, at):
-    """At most 200 bytes of a line, from one of them on."""
+    """Return at most 200 bytes of a line, from a given one on."""
     piece = line[at:at + 200].decode(errors="backslashreplace")
     return ("" if at == 0 else "..") + piece + ("" if at + 200 >= len(line) else "..")
 

@@ -8,13 +8,15 @@ TOP = os.path.realpath(os.path.join(os.path.dirname(os.path.abspath(__file__)), 
 
 
 @contextlib.contextmanager
-def copied(whole=()):
-    """The folder of the copy, which is taken away afterwards. Of what checks keep in out/ it has the built libraries alone, and all
-    of the crates in `whole`."""
+def copied(whole=(), with_libraries=True):
+    """Make a copy of the repository, and remove it afterwards. Yield its folder.
+
+    Of the files that checks keep in out/, the copy has only the built libraries (with `with_libraries`), and all files of the crates
+    in `whole`."""
 
     def left_out(folder, names):
         if os.path.basename(folder) == "out" and os.path.basename(os.path.dirname(folder)) not in whole:
-            return [name for name in names if name != "rlib"]
+            return [name for name in names if name != "rlib" or not with_libraries]
         return [name for name in names if name == ".git"]
 
     with tempfile.TemporaryDirectory(prefix="copied-") as room:

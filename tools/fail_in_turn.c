@@ -8,12 +8,10 @@
      FAIL_COUNTS  a file of zeros, as long as struct counts, where the counts are kept
    Reads are those of standard input and of the script, writes those to standard output; others are let through.
    A thread's start first allocates a block, which it hands to the new thread: the allocation is known by where in the program it is
-   called. The counts name these places, and that of the allocation that failed. A lasting worker offers a refused result again: the
-   counts say whether whoever was refused asked again at once. */
+   called. The counts name these places, and that of the allocation that failed. */
 #define _GNU_SOURCE
 #include <dlfcn.h>
 #include <errno.h>
-#include <execinfo.h>
 #include <fcntl.h>
 #include <pthread.h>
 #include <stdarg.h>
@@ -35,7 +33,6 @@ struct counts {
     long failed;          /* how many calls were made to fail */
     long starting;        /* 1 where the first that failed was made inside a thread's start */
     long place;           /* from where in the program it was called, by its distance from the program's entry */
-    long again;           /* 1 where the next allocation of its thread was asked for by the same function of the program */
     long starts[PLACES];  /* from where the blocks of threads are allocated; 0 behind the last */
 };
 
@@ -51,7 +48,6 @@ static int (*real_create)(pthread_t *, const pthread_attr_t *, void *(*)(void *)
 static __thread int starting;
 static __thread void *last_block;
 static __thread long last_place;
-static __thread long refused_asker;     /* who asked for the allocation that failed last in this thread, if none came since */
 
 static long number_in(const char *name) {
     const char *said = getenv(name);
@@ -64,8 +60,6 @@ __attribute__((constructor)) static void begin(void) {
         if (!strcmp(kind, names[i])) chosen = i;
     number = number_in("FAIL_CALL"), way = number_in("FAIL_WAY"), piece = number_in("FAIL_PIECE"), lasting = number_in("FAIL_LASTING");
     script_path = getenv("FAIL_SCRIPT");
-    void *frames[2];
-    backtrace(frames, 2);                       /* the first call allocates */
     real_create = (int (*)(pthread_t *, const pthread_attr_t *, void *(*)(void *), void *))dlsym(RTLD_NEXT, "pthread_create");
     int file = path ? (int)syscall(SYS_openat, AT_FDCWD, path, O_RDWR | O_CLOEXEC) : -1;
     if (file < 0) return;
@@ -77,31 +71,13 @@ __attribute__((constructor)) static void begin(void) {
 /* Where in the program a call returns to. */
 static long place_of(void *where) { return (long)where - (long)getauxval(AT_ENTRY); }
 
-/* From where the function of the program was called that allocated at a place; the place where that is not known. */
-static long asker_of(long place) {
-    void *frames[16];
-    int count = backtrace(frames, 16);
-    for (int i = 0; i + 1 < count; i++)
-        if (place_of(frames[i]) == place) return place_of(frames[i + 1]);
-    return place;
-}
-
-/* Notes whether an allocation is the one that was refused, asked for again. */
-static void note_again(long place) {
-    if (!refused_asker) return;
-    if (asker_of(place) == refused_asker) counts->again = 1;
-    refused_asker = 0;
-}
-
 /* Counts a call of a kind, and says whether it is to fail. */
 static int fails(enum kind kind, long place) {
     if (!counts) return 0;
-    if (kind == MEMORY) note_again(place);
     long now = __atomic_add_fetch(&counts->calls[kind], 1, __ATOMIC_SEQ_CST);
     if ((int)kind != chosen || number == 0 || now < number || (now > number && !lasting)) return 0;
     __atomic_add_fetch(&counts->failed, 1, __ATOMIC_SEQ_CST);
     if (now == number) counts->starting = starting, counts->place = place;
-    if (kind == MEMORY) refused_asker = asker_of(place);
     errno = way;
     return 1;
 }

@@ -71,7 +71,7 @@ function drawSpent() {
   writeCumulative(curves);
   const inlets = inletsBetween(shown.plans.find(Boolean), sitesChosen()).map(cellOrKm).join(", ");
   page.inletsNote.textContent = inlets
-    && `Cars come in between them (inlet at ${inlets}), and are in the thick curve alone.`;
+    && `Cars enter between them (inlet at ${inlets}); only the thick curve includes these.`;
 }
 
 /** The same curves less the mean flow of the first of them: over hours they would coincide. */
@@ -80,7 +80,7 @@ function drawSlanted(series, range) {
   const flow = (after - before) / Math.max(1, end - begin);
   const slanted = series.map((one) => ({...one, points: one.points.map(([step, cars]) =>
     [step, cars - flow * (step - range[0])])}));
-  const title = `cars that have passed, less ${short(flow * unit.flow)} ${unit.names.flow}`;
+  const title = `cars that have passed, minus ${short(flow * unit.flow)} ${unit.names.flow}`;
   drawChart(slantedChart, {title, series: slanted, range, unit});
 }
 
@@ -92,24 +92,25 @@ function spentSentence() {
   if (!shown.comparison) return "";
   const {from, to} = shown.comparison;
   if (to < from) return "";
-  const spent = shown.pictures.map((picture) => carsInRows(picture, from, to));
+  // Step s leads to row s + 1: the rows of the steps from `from` on begin behind it.
+  const spent = shown.pictures.map((picture) => carsInRows(picture, from + 1, to));
   const name = unit.given ? "veh\u00b7h" : "car steps";
   const hours = (steps) =>
-    (unit.given ? String(Number((steps * unit.time / 60).toPrecision(4))) : String(steps));
+    (unit.given ? hoursText(steps * unit.time / 60) : String(steps));
   const [one, other] = spent.map(hours);
   const change = spent[1] - spent[0];
   const apart = change ? `${hours(Math.abs(change))} ${change > 0 ? "more" : "less"}` : "the same";
   const both = `first ${one} ${name}, second ${other} ${name}, ${apart}.`;
   const shared = changesShared(1);
   const planned = shared
-    ? ` The first is not the road without edits, but with ${shared} of them.` : "";
+    ? ` The first road is not without edits: it has ${shared} of them.` : "";
   return `Time on the road in the ${stepsText(from, to)}: ${both} ${enteredSentence(from, to)} ` +
     leftSentence(to) + planned;
 }
 
 function enteredSentence(from, to) {
   const [plan] = shown.plans;
-  if (!plan) return "How many cars entered cannot be said without the script.";
+  if (!plan) return "The number of cars that entered is unknown without the script.";
   const counts = plan.inlets.map(([cell]) => ({cell, cars: shown.pictures.map((picture) =>
     entries(picture, cell, plan, from, to))}));
   const seen = counts.filter(({cars}) => cars[0] !== null);
@@ -119,7 +120,7 @@ function enteredSentence(from, to) {
       `${Math.abs(change)} ${change > 0 ? "more" : "fewer"} at ${cellOrKm(cell)}`);
   const unseen = counts.filter((one) => !seen.includes(one)).map(({cell}) => cellOrKm(cell));
   return `Entered: first ${sums[0]} cars, second ${sums[1]}` +
-    (apart.length ? `, ${apart.join(", ")}. Demand that is lost at an inlet costs no time here.`
+    (apart.length ? `, ${apart.join(", ")}. Lost demand at an inlet costs no time here.`
       : ", as many at each inlet.") +
     (unseen.length ? ` Not counted: the inlet at ${unseen.join(", ")}, next to the end.` : "");
 }
@@ -160,6 +161,6 @@ function saveCumulative() {
   saveAsCsv(heads, lines, "cumulative.csv");
 }
 
-const cumulativeChart = newCanvas("chart", "Cars that have passed two sites, by steps; the table " +
+const cumulativeChart = newCanvas("chart", "Cars that have passed two sites, by step; the table " +
   "below has the figures", page.cumulativeFigure);
-const slantedChart = newCanvas("chart", "The same less a mean flow", page.slantedFigure);
+const slantedChart = newCanvas("chart", "The same minus a mean flow", page.slantedFigure);

@@ -63,10 +63,10 @@ function tellCounts(lists) {
   }
   const leftOut = [0, 1].flatMap(allCounts).length - lists.flat().length;
   page.countNote.textContent = !lists.flat().length
-    ? "No counts and no whole span of rows here."
-    : "First picture: dots, drawn through. Second: squares, broken." +
-      (!byRows() && leftOut ? ` Counts of another span left out: ${leftOut}.` : "") +
-      (byRows() ? " The speed is the space-mean one." : "");
+    ? "There are no counts and no complete rows here."
+    : "First picture: dots with solid lines. Second: squares with dashed lines." +
+      (!byRows() && leftOut ? ` Counts over other intervals are left out: ${leftOut}.` : "") +
+      (byRows() ? " The speed is the space-mean speed." : "");
 }
 
 /** Where the curves are measured, and which mean their speed is; a stretch of the first picture. */

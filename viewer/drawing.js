@@ -52,6 +52,16 @@ const FONT = "13px system-ui, sans-serif";
 
 const bytesOf = (colour) => [1, 3, 5].map((at) => parseInt(colour.slice(at, at + 2), 16));
 
+/** The end of the colours in cells a step, by the greatest speed that is seen: where a cell a step
+    is 27 km/h it is always 135 km/h, as on live's page. */
+const FASTEST_COLOUR = 5;
+const scaleEnd = (seen, unit) =>
+  (unit.given && Math.abs(unit.speed - 27) < 0.01 ? FASTEST_COLOUR : Math.max(1, seen));
+
+/** Vehicle hours as they are written, here and on live's page: with one digit behind the point. */
+const hoursText = (hours) =>
+  hours.toLocaleString("en", {minimumFractionDigits: 1, maximumFractionDigits: 1});
+
 /** The colour of a speed, as far along the scale as it is of the greatest. */
 const speedColour = (speed, greatest) =>
   "#" + VIRIDIS[Math.round(9 * Math.min(1, speed / greatest))];
@@ -112,11 +122,12 @@ const PLAIN = {given: false, clock: false, place: 1, time: 1, flow: 1, speed: 1,
                        density: "cars a cell"}};
 
 /** What a cell and a step are: km, minutes, cars an hour, km/h and cars a km, by metres a cell and
-    seconds a step; with `clock` times are written as h:mm:ss. Without metres and seconds, cells and
-    steps. */
-function unitOf(metres, seconds, clock = false) {
+    seconds a step; with `clock` times are written as h:mm:ss, or as those of the day where it is
+    known how many seconds after midnight the first step is (`begin`). Without metres and seconds,
+    cells and steps. */
+function unitOf(metres, seconds, clock = false, begin = null) {
   if (!(metres > 0 && seconds > 0)) return PLAIN;
-  return {given: true, clock, place: metres / 1000, time: seconds / 60, flow: 3600 / seconds,
+  return {given: true, clock, begin, place: metres / 1000, time: seconds / 60, flow: 3600 / seconds,
           speed: 3.6 * metres / seconds, density: 1000 / metres, names: {
             place: "km", time: clock ? "time" : "min", flow: "cars an hour", speed: "km/h",
             density: "cars a km"}};
@@ -125,15 +136,19 @@ function unitOf(metres, seconds, clock = false) {
 const long = (value) => String(Number(value.toPrecision(6)));
 const short = (value) => String(Number(value.toPrecision(3)));
 
-function clockText(minutes) {
-  const seconds = Math.round(60 * minutes);
+function clockText(minutes, begin) {
+  const seconds = Math.round(60 * minutes) + (begin ?? 0);
   const two = (value) => String(value % 60).padStart(2, "0");
+  if (begin !== null) {
+    const hour = String(Math.floor(seconds / 3600) % 24).padStart(2, "0");
+    return `${hour}:${two(Math.floor(seconds / 60))}${seconds % 60 ? `:${two(seconds)}` : ""}`;
+  }
   return `${Math.floor(seconds / 3600)}:${two(Math.floor(seconds / 60))}:${two(seconds)}`;
 }
 
 /** Figures of a step and of a cell in a unit, without the unit's name. */
 const momentText = (step, unit) =>
-  (unit.clock ? clockText(step * unit.time) : long(step * unit.time));
+  (unit.clock ? clockText(step * unit.time, unit.begin) : long(step * unit.time));
 const placeText = (cell, unit) => long(cell * unit.place);
 
 /** The next greater round figure. */
@@ -162,7 +177,8 @@ const ON_CLOCK = [1, 2, 5, 10, 15, 30, 60, 120, 300, 600, 900, 1800, 3600, 7200,
 function timeTicks(from, to, least, unit) {
   if (!unit.clock) return ticks(from, to, least, unit);
   const apart = ON_CLOCK.find((seconds) => seconds >= 60 * least) ?? ON_CLOCK.at(-1);
-  return multiples(from, to, apart / 60);
+  const begin = (unit.begin ?? 0) / 60;
+  return multiples(from + begin, to + begin, apart / 60).map((at) => at - begin);
 }
 
 // 3. Pictures and the view.
@@ -171,7 +187,7 @@ const MARGIN = {left: 62, top: 48, right: 8, bottom: 6};   // pixels around the 
 const PLAN_HIGH = 8;      // pixels above a picture, where detectors, inlets and zones stand
 const FRAMES_FROM = 5;    // pixels a cell from which on frames and crosses are drawn
 const DIGITS_FROM = 12;   // and from which on speeds are written
-const BOX = 6;            // pixels of a box of which the mean speed is painted
+const BOX = 6;            // pixels of a box whose mean speed is painted
 const CLOSURE = 3;        // pixels of a box that is marked where a cell of it is closed
 
 const endOf = (picture) => picture.from + picture.rows.length * picture.every;
@@ -204,7 +220,7 @@ function inView(view, picture, width, height) {
 /** Whether single cars would be noise: cells share a pixel, or a row is lower than 2 pixels. */
 const meansAreSeen = (view) => view.scale < 1 || view.tall < 2;
 
-/** A box of about so many pixels: `wide` cells and `high` steps, at least `least` of each. */
+/** A box of about N pixels: `wide` cells and `high` steps, at least `least` of each. */
 function boxOf(view, pixels, least = 1, every = 1) {
   const rows = Math.max(least / every, pixels / view.tall / every);
   return {wide: Math.max(least, Math.round(pixels / view.scale)),
@@ -513,19 +529,24 @@ function drawDetails(context, view, picture, other, part, greatest) {
 // 8. Around the plot.
 
 /** Draws figures of places above a part, and of times beside it. */
-function drawAxes(context, view, {cells, steps}, unit) {
+function drawAxes(context, view, {cells, steps}, unit, end = Infinity) {
   const inside = unit.given ? 0 : 0.5;   // a number is a cell's, or a place's
   const top = MARGIN.top - PLAN_HIGH;
   pen(context, "center", "bottom");
   const [left, right] = cells.map((cell) => cell * unit.place);
-  for (const at of ticks(left, right, 60 / view.scale * unit.place, unit)) {
+  const least = 60 / view.scale * unit.place;
+  const last = end * unit.place;
+  const isEnd = last <= right * 1.000001;
+  const places = ticks(left, right, least, unit).filter((at) => !isEnd || last - at > 0.7 * least);
+  for (const at of isEnd ? [...places, last] : places) {
     const middle = leftOf(view, at / unit.place + inside);
+    pen(context, at === last ? "right" : "center", "bottom");
     context.fillText(long(at), middle, top - 6);
     context.fillRect(Math.round(middle), top - 5, 1, 5);
   }
   pen(context, "right");
-  const [first, last] = steps.map((step) => step * unit.time);
-  for (const at of timeTicks(first, last, 26 / view.tall * unit.time, unit)) {
+  const [first, until] = steps.map((step) => step * unit.time);
+  for (const at of timeTicks(first, until, 26 / view.tall * unit.time, unit)) {
     const middle = topOf(view, at / unit.time + inside);
     context.fillText(momentText(at / unit.time, unit), MARGIN.left - 11, middle + 1);
     context.fillRect(MARGIN.left - 5, Math.round(middle), 5, 1);
@@ -535,8 +556,8 @@ function drawAxes(context, view, {cells, steps}, unit) {
   context.fillText(unit.names.time + " \u2193", 4, 3);
 }
 
-/** Draws the plan above the plot: zones by turns, the deleted zone, inlets, detectors before their
-    cells. */
+/** Draws the plan above the plot: zones (alternating shades), the deleted zone, inlets, detectors
+    before their cells. */
 function drawPlan(context, view, plan, width) {
   if (!plan) return;
   const top = MARGIN.top - PLAN_HIGH;

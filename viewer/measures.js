@@ -1,6 +1,6 @@
 "use strict";
-// What pictures say of their road: where two differ, how many cars there are and how fast, which
-// enter, pass and leave. It reads no element of the page. Steps `from` to `to - 1`, unless said.
+// Measures of pictures: where two differ, how many cars there are and how fast, and which enter,
+// pass and leave. It reads no element of the page. Steps are `from` to `to - 1`, unless noted.
 //
 // comparison(one, other)  survey(picture)  meanDensity(picture, from, to)  carsInRows(picture, ..)
 // edieSums(picture, from, span, cells)  edieSpans(picture, {cells, span})  equalSpans(counts)

@@ -11,7 +11,7 @@ function sayer() {
   return (sentence) => {
     said++;
     if (said <= MOST_SENTENCES) page.messages.append(withText("li", sentence));
-    else if (said <= 1000) more.textContent = `${said - MOST_SENTENCES} or more such sentences.`;
+    else if (said <= 1000) more.textContent = `${said - MOST_SENTENCES} or more similar messages.`;
     if (said === MOST_SENTENCES + 1) page.messages.append(more);
   };
 }
@@ -60,13 +60,14 @@ function openTranscript(slot, files, say) {
   exampleShown = false;
   transcripts[slot] = transcript;
   if (differentPart(transcripts[0]?.plan, transcripts[1]?.plan)) {
-    say(`${name} is of another plan: both are shown, not compared.`);
+    say(`${name} has a different plan: both are shown, but not compared.`);
   }
   offerPictures();
 }
 
 function takeUnits() {
   unit = unitOf(Number(page.metres.value), Number(page.seconds.value));
+  setScale();
   for (const name of ["stretchFrom", "stretchTo", "span"]) page[name].value = "";
   shown.pointed = null;
   page.readout.textContent = "Point at a cell to read it.";

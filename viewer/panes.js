@@ -98,7 +98,7 @@ function legendEntries() {
   const noRow = shown.saved ? [] : [{text: "no row", colour: NO_ROW}];
   const ofPlan = shown.plans.some(Boolean) ? PLAN_ENTRIES : [];
   if (panesShown().includes(2)) {
-    return ["the second is:", ...DIFFERENCE_ENTRIES, blocked, ...noRow, ...ofPlan];
+    return ["the second picture is:", ...DIFFERENCE_ENTRIES, blocked, ...noRow, ...ofPlan];
   }
   const [title, ...speeds] = speedEntries(shown.greatest, unit);
   return [byMeans() ? `mean ${title}` : title, ...speeds, blocked,
@@ -149,7 +149,7 @@ function settle() {
   askDrawing();
 }
 
-/** The scales by which the whole picture fills its box: of a cell's width, of a row's height. */
+/** The scales that make the whole picture fill its box: of a cell's width, of a row's height. */
 function fillingScales() {
   const [width, height] = plotSize();
   const [from, to] = stepsShown();
@@ -223,7 +223,7 @@ function saidOf(picture, {step, cell}) {
   if (sign === undefined) return "no row";
   if (sign === "#") return "blocked";
   if (sign === ".") return "empty";
-  return unit.given ? `car at ${long(sign * unit.speed)} km/h` : `car of speed ${sign}`;
+  return unit.given ? `car at ${long(sign * unit.speed)} km/h` : `car at speed ${sign}`;
 }
 
 function point(step, cell, byKey) {
@@ -325,12 +325,12 @@ function newPane() {
 const panes = [newPane(), newPane(), newPane()];
 panes[2].strip.hidden = true;
 
-// 5. Playing: so many times as fast as the road's own time; a step is a second without units.
+// 5. Playing: N times as fast as the road's own time; a step is a second without units.
 
 let playing = 0;
 let playedFrom = {step: 0, at: 0};
 
-/** The step so many milliseconds after one; behind the last step the first comes again. */
+/** The step a number of milliseconds after another one; after the last step it begins again. */
 function stepAfter(step, milliseconds, rate, [from, to]) {
   const steps = Math.floor(milliseconds / 1000 * rate / (unit.given ? 60 * unit.time : 1));
   return from + (step - from + steps) % (to - from + 1);

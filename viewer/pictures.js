@@ -101,12 +101,18 @@ const picked = () => {
   return [0, 1].map((which) => all[Number(page["picture" + which].value)] ?? null);
 };
 
+/** Where the colours of the speeds end. */
+function setScale() {
+  shown.greatest = scaleEnd(Math.max(0, ...picturesShown().map(({greatest}) => greatest)), unit);
+  tiles.clear();
+}
+
 function showPictures() {
   const offered = picked();
   shown.pictures = offered.map((offer) => offer?.picture ?? null);
   shown.runs = offered.map((offer) => offer?.run ?? null);
   picturesShown().filter((picture) => !picture.cars).forEach(survey);
-  shown.greatest = Math.max(1, ...picturesShown().map((picture) => picture.greatest));
+  setScale();
   shown.pointed = null;
   shown.plans = offered.map((offer) => offer?.transcript.plan ?? null);
   shown.whyNot = whyNotCompared();
@@ -120,7 +126,7 @@ function showPictures() {
   tellAll();
 }
 
-/** Writes anew all that has figures in units. */
+/** Rewrites everything that shows figures in units. */
 function tellAll() {
   for (const which of [0, 1]) offerIn(page["picture" + which], optionsOf(which));
   namePanes();
@@ -157,9 +163,9 @@ function comparisonSentence() {
   if (to < from) return "The pictures have no step in common.";
   const all = `in the ${stepsText(from, to)}.`;
   if (step === null) return `No cell differs ${all}`;
-  const unmarked = shown.many ? " They are many, so they are not marked:"
+  const unmarked = shown.many ? " They are not marked because there are too many:"
     : byMeans() ? " Mean speeds are not marked:" : "";
-  const hint = unmarked && `${unmarked} their difference alone tells more.`;
+  const hint = unmarked && `${unmarked} choose "their difference alone".`;
   return `First differing step: ${stepText(step)}, there first at cell ${cellText(cell)}. ` +
     `${cells} of ${(to - from + 1) * shown.pictures[0].length} cells differ ${all}${hint}`;
 }
@@ -196,7 +202,7 @@ function changesShared(which) {
   return same ? one.run.changes : 0;
 }
 
-/** Changes edit by edit: of imports, which come first, what wins and is no withdrawal. */
+/** Changes edit by edit: of imports, which come first, the winners that are not withdrawals. */
 function oneByOne(made) {
   const winners = new Map();
   for (const edit of made.flatMap(({edits}) => edits ?? [])) {
@@ -270,8 +276,9 @@ function editLines(which) {
   const texts = joined(lasting(oneByOne(offer.run.made.slice(shared, offer.run.changes))))
     .map((edit) => editText(edit, offer.transcript.plan));
   const more = texts.length - MOST_EDITS;
-  const head = shared ? [texts.length ? "As the first, and:" : "As the first."] : [];
-  const none = !shared && !texts.length ? ["No edits: the road of the plan."] : [];
+  const same = texts.length ? "Like the first picture, and:" : "Like the first picture.";
+  const head = shared ? [same] : [];
+  const none = !shared && !texts.length ? ["No edits: the road is that of the plan."] : [];
   const rest = more > 0 ? [`and ${more} more`] : [];
   return [...head, ...none, ...texts.slice(0, MOST_EDITS), ...rest];
 }
@@ -299,6 +306,6 @@ function offerDetectors() {
     : new Set(shown.runs.flatMap((run) => [...(run?.counts.keys() ?? [])]));
   const options = [...every].sort((one, other) => one - other).filter(counted)
     .map((index) => new Option(siteName(index, plan), index));
-  if (picturesShown().length) options.push(new Option("none: a stretch, by its rows", "stretch"));
+  if (picturesShown().length) options.push(new Option("none: a stretch, from its rows", "stretch"));
   offerIn(page.detector, options);
 }

@@ -6,7 +6,7 @@ const LEGEND_WIDE = 1100;
 const BETWEEN = 12;
 const MOST_SAVED = {side: 8_000, area: 2.5e7};   // pixels of a side, and of all pictures
 
-/** The scale at which all of so many pictures is saved. */
+/** The scale at which N pictures are saved. */
 function scaleOfAll(cells, steps, pictures) {
   const {side, area} = MOST_SAVED;
   return SCALES.findLast((one) => one <= 4 && Math.max(cells, steps) * one <= side

@@ -102,14 +102,14 @@ async function linesOf(file, say, goesOn) {
     const line = lineOf(text, number);
     if (line.value?.rows) kept += text.length;
     if (line.value?.rows && kept > MOST_TEXT) {
-      tell(number, `rows past the first ${megabytes(MOST_TEXT)} MB of rows are left out.`);
+      tell(number, `rows after the first ${megabytes(MOST_TEXT)} MB are left out.`);
       line.value.rows = undefined;
     }
     if (line.kind === "bad") tell(number, "no JSON.");
-    if (line.kind === "other") tell(number, "neither a plan, a command nor a reply.");
+    if (line.kind === "other") tell(number, "not a plan, a command or a reply.");
     lines.push(line);
   }, (number) => {
-    tell(number, "longer than any reply; it is left out.");
+    tell(number, "longer than any reply, so it is left out.");
     lines.push({number, kind: "bad"});
   });
   const reader = file.stream().getReader();
@@ -119,7 +119,7 @@ async function linesOf(file, say, goesOn) {
     if (!goesOn(file.name, read, file.size)) return null;
     cutter.add(decoder.decode(piece.value, {stream: true}));
     if (lines.length > MOST_LINES) {
-      tell(MOST_LINES, "no run has more lines; what follows is not read.");
+      tell(MOST_LINES, "more lines than any run has: the rest is not read.");
       break;
     }
   }
@@ -155,13 +155,13 @@ function exchangesWithin(lines) {
   return open ? [...exchanges, [open, undefined]] : exchanges;
 }
 
-/** The exchanges of the files of one transcript; null where they are none, with a sentence. */
+/** The exchanges of the files of one transcript; null if there are none, with a sentence. */
 function exchangesOf(files, say) {
   const by = (role) => files.filter((file) => file.role === role);
   const [both, script, replies] = ["both", "script", "replies"].map(by);
   const used = both.length ? [both[0]] : [script[0], replies[0]].filter(Boolean);
   for (const {name} of files.filter((file) => !used.includes(file))) {
-    say(`${name} is left out: a transcript is a script and its replies, or one file with both.`);
+    say(`${name} is left out: choose a script and its replies, or one file with both.`);
   }
   if (both.length) return exchangesWithin(both[0].lines);
   if (!replies.length) {
@@ -171,7 +171,7 @@ function exchangesOf(files, say) {
   if (!script.length) return replies[0].lines.map((line) => [null, line]);
   if (script[0].lines.length !== replies[0].lines.length) {
     say(`${script[0].name} has ${script[0].lines.length} lines and ${replies[0].name} has ` +
-        `${replies[0].lines.length}: perhaps they do not belong together.`);
+        `${replies[0].lines.length}: do they belong together?`);
   }
   return zipped(script[0].lines, replies[0].lines);
 }
@@ -218,7 +218,7 @@ class Transcript {
 
   takePlan(command, reply) {
     const refused = reply?.value?.refused;
-    const fault = this.plan ? "a second plan line; what follows is not read."
+    const fault = this.plan ? "a second plan: the rest is not read."
       : refused && `the program refused this plan (${refused}).`;
     if (fault) this.tell(command, fault);
     else Object.assign(this, {plan: command.value, length: command.value.length});
@@ -258,14 +258,14 @@ class Transcript {
 
   faultOfRows(rows, {from, to}) {
     if (!Array.isArray(rows) || !rows.length) return "no rows; are these this script's replies?";
-    if (!isStep(from)) return "rows of no step that there is.";
+    if (!isStep(from)) return "rows of a step that does not exist.";
     if (rows.length !== to - from + 1) return `${rows.length} rows for the steps ${from} to ${to}.`;
     if (!rows.every((row) => typeof row === "string" && /^[0-9.#]+$/.test(row))) {
-      return "a row has other signs than digits, points and #.";
+      return "a row has a character that is not a digit, a point or #.";
     }
     this.length ??= rows[0].length;
     if (rows.every((row) => row.length === this.length)) return null;
-    return `rows of another length than the road's ${this.length} cells.`;
+    return `rows whose length differs from the road's ${this.length} cells.`;
   }
 
   takeCount(asked, told, reply) {

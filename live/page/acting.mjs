@@ -1,120 +1,188 @@
 // Actions: what is put, changed, taken back, shared and taken, and what is looked at before.
 
 import {ask} from "./asking.mjs";
+import {assign} from "./assign.mjs";
 import {makers, next, unshared, untaken, words} from "./changes.mjs";
 import {daysShown, dropDays} from "./days.mjs";
+import {encodeShape, encodeStamp} from "./decoding.mjs";
 import {keep, kept} from "./kept.mjs";
 import {isCovered, privateOf} from "./layers.mjs";
+import {askSeries} from "./fetching.mjs";
 import {linesOf} from "./listing.mjs";
 import {look} from "./looking.mjs";
 import {Road} from "./rows.mjs";
 import {keyOf} from "./stamps.mjs";
-import {changed, isOwn, store, tell} from "./store.mjs";
+import {changed, isOwn, known, layersOf, roadOf, store, tell} from "./store.mjs";
 import {plural} from "./units.mjs";
 import {periodShown} from "./view.mjs";
 
+/** @typedef {import("./types.mjs").Area} Area */
+/** @typedef {import("./types.mjs").Change} Change */
+/** @typedef {import("./types.mjs").ListNews} ListNews */
+/** @typedef {import("./types.mjs").Operation} Operation */
+/** @typedef {import("./types.mjs").Pending} Pending */
+/** @typedef {import("./types.mjs").Stamp} Stamp */
+/** @typedef {"undo" | "redo"} Press */
+
+/** @type {import("./types.mjs").Previewed} */
+export const NOTHING_KNOWN = {why: "", layers: null, names: [], figures: null};
+/** The roads of a preview.
+ * @type {("before" | "after")[]}
+ */
+const PREVIEWED = ["before", "after"];
 const TIMINGS = 50;             // that are kept
 const LOOKS = 500;              // milliseconds: who shares sooner wants no figures
 const LONGEST_NOTE = 200;
 const UNSHARED = "Nothing was shared, since the connection is lost: share it once it is back.";
 const UNTAKEN = "Nothing was taken, since the connection is lost: take it once it is back.";
 
-/** Puts a shape, or lays it on a line in the place of what that was. */
-export function put({shape, note, taken = "", old = null}) {
-  const first = Math.min(shape[3], old?.shape?.[3] ?? shape[3]);
-  act({gesture: {note, shape, ...(old ? {layer: old.name} : {})}}, {note, shape, taken, first});
+/** Put a shape, or alter a change by it.
+ * @param {Area} area
+ */
+export function put({shape, note, taken = "", old}) {
+  const first = Math.min(shape.from, old?.shape?.from ?? shape.from);
+  const layer = old ? {layer: encodeStamp(old.name)} : {};
+  act({gesture: {note, shape: encodeShape(shape), ...layer}}, {note, shape, taken, first});
 }
 
+/** @type {(what: string, line: Change) => string} */
 const noted = (what, line) => `${what}: ${words().text(line)}`.slice(0, LONGEST_NOTE);
 
+/** Withdraw a change, or let in the site that it excludes.
+ * @param {Change} line
+ */
 export function withdraw(line) {
   if (line.site !== null) {
     leaveOut(line.site, false);
     return;
   }
   const note = noted("Withdrew", line);
-  act({gesture: {note, layer: line.name, shape: null}}, {note, first: line.shape?.[3]});
+  const gesture = {note, layer: encodeStamp(line.name), shape: null};
+  act({gesture}, {note, first: line.shape?.from});
 }
 
+/** Put a change on top of all others.
+ * @param {Change} line
+ */
 export function putOnTop(line) {
   const note = noted("On top", line);
-  act({gesture: {note, layer: line.name, top: true}}, {note, first: line.shape?.[3]});
+  const gesture = {note, layer: encodeStamp(line.name), top: true};
+  act({gesture}, {note, first: line.shape?.from});
 }
 
-/** Lays the shape of an operation again that lost to another. */
+/** Do once more what an operation did that lost to another.
+ * @param {Change} line
+ * @param {Operation} operation
+ */
 export function putAgain(line, {stamp}) {
-  act({again: {stamp}}, {note: noted("Put again", line)});
+  act({again: {stamp: encodeStamp(stamp)}}, {note: noted("Put again", line)});
 }
 
-/** Leaves out what another site makes, for all once it is shared; or lets it in again. */
+/** Exclude a site, for all once that is shared; or let it in again.
+ * @param {number} site
+ * @param {boolean} [out]
+ */
 export function leaveOut(site, out = true) {
   const note = `Site ${site} is ${out ? "left out" : "let in again"}`;
   act({site: {site, out, note}}, {note});
 }
 
-/** Takes back the last own operation, pending or not, once for each press. */
+/** Undo the last own operation, pending or not. */
 export const undoNewest = () => press("undo");
+
+/** Redo the last own operation that was undone, pending or not. */
 export const redoNewest = () => press("redo");
 
 const NOTHING = {undo: "There is nothing of yours to undo.",
                  redo: "There is nothing of yours to redo."};
 const DONE = {undo: "Taken back", redo: "Put again"};
 
+/** @type {Map<string, string>} */
 const notes = new Map();        // of what this tab did, by stamps
 
-/** What an operation was first called, by its stamp, or by its key while it is pending; "" where
-    that is not known any more. */
+/** Return what an operation was first called, by its stamp, or by its key while it is pending; ""
+ * if that is not known any more.
+ * @param {Stamp | string} called
+ */
 function noteOf(called) {
-  const lines = [...store.layers.mine.lines.values()];
-  const isOf = ({operations}) => operations.some(({stamp}) => keyOf(stamp) === keyOf(called));
-  const note = typeof called === "string" ? store.pending.get(called).note
-    : lines.find(isOf)?.note || notes.get(keyOf(called)) || "";
-  return note.replace(/^(Taken back|Put again)(: |$)/, "");
+  const note = typeof called === "string" ? store.pending.get(called)?.note ?? ""
+    : layersOf("mine").changeWith(called)?.note || notes.get(keyOf(called)) || "";
+  return note.replace(/^(Taken back|Put again)(: |$)/, "")
+    .replace(/^On top: /, "the place on top of ");
 }
 
+/** Take a press of Z or Redo.
+ * @param {Press} does
+ */
 function press(does) {
   store.presses.push(does);
   pressed();
 }
 
-/** Does the presses whose aim is known. */
+/** Do the presses whose target is known. */
 function pressed() {
   while (store.presses.length) {
     const [does] = store.presses;
     const {[does]: stamp} = next();
     if (stamp === undefined) return;
     store.presses.shift();
+    if (does === "undo" && isPassedOver(stamp)) continue;
     if (stamp === null) tell(NOTHING[does], true);
-    else act({undo: {stamp}}, {note: [DONE[does], noteOf(stamp)].filter(Boolean).join(": "), does});
+    else {
+      const note = [DONE[does], noteOf(stamp)].filter(Boolean).join(": ");
+      const told = typeof stamp === "string" ? stamp : encodeStamp(stamp);
+      act({undo: {stamp: told}}, {note, does, undoes: stamp});
+    }
   }
 }
 
-/** A command that changes something: it is pending until it is confirmed; its rows are asked for at
-    once where it is known from which step on they are others. */
-function act(command, {note, shape, first, does = "lay", taken = ""}) {
+let passedOver = "";            // the newest own change that Z was told not to take back
+
+/** Say once who has changed the last own change since: Z does not silently take back the one before
+ * it.
+ * @param {Stamp | string | null} stamp      what Z would take back
+ */
+function isPassedOver(stamp) {
+  const [blocked] = store.pending.size ? [] : layersOf("mine").blocked;
+  if (!blocked || keyOf(blocked.stamp) === passedOver) return false;
+  passedOver = keyOf(blocked.stamp);
+  const what = noteOf(blocked.stamp);
+  const more = stamp === null ? "There is nothing else of yours to undo."
+    : "Z again undoes the change before it.";
+  tell(`${blocked.by.join(" and ") || "Somebody"} changed your last change since`
+    + `${what ? ` (${what})` : ""}: it cannot be undone. ${more}`, true);
+  return true;
+}
+
+/** Send a command that changes something. It is pending until it is confirmed; rows are asked for
+ * at once if it is known from which step on they differ.
+ * @param {Pending["command"]} command
+ * @param {{note: string} & Partial<Pending>} about
+ */
+function act(command, {note, shape, first, does = "lay", undoes, taken = ""}) {
   const key = crypto.randomUUID();
-  store.pending.set(key, {command, note, shape, first, does, taken});
+  store.pending.set(key, {command, note, shape, first, does, undoes, taken});
   keepPending();
   store.timings.push({key, began: performance.now()});
   if (store.timings.length > TIMINGS) store.timings.shift();
   send(key);
-  if (first !== undefined) store.roads.mine.stale(first);
+  if (first !== undefined) roadOf("mine").stale(first);
   list();
   look();
 }
 
-/** Keeps what is pending in the tab's storage, or says that it is not kept. */
+/** Keep what is pending in the tab's storage, or say that it is not kept. */
 export function keepPending() {
-  store.isKept = keep(sessionStorage, store.me.at, store.pending);
+  store.isKept = keep(sessionStorage, known("me").at, store.pending);
   if (!store.isKept && store.away && store.pending.size) {
     tell("This tab keeps nothing: close it, and what is pending is lost.", true);
   }
 }
 
-/** What was pending when this tab was loaded, of the seat that it has again. */
+/** Take up what was pending when this tab was loaded, of the seat that it has again. */
 export function fetchKept() {
   const {at, acts} = kept(sessionStorage);
-  if (acts.length && at === store.me.at) {
+  if (acts.length && at === known("me").at) {
     store.pending = new Map([...acts, ...store.pending]);
   } else if (acts.length) {
     tell(`${plural(acts.length, "change")} of another seat could not be sent, and is lost.`, true);
@@ -122,21 +190,24 @@ export function fetchKept() {
   }
 }
 
-/** Sends what is pending, in its order; once more after the line broke. */
+/** Send a pending command, once more after the connection broke.
+ * @param {string} key
+ */
 export async function send(key) {
-  const {command, note, first = Infinity, taken} = store.pending.get(key);
-  const [[verb, fields]] = Object.entries(command);
-  const timing = store.timings.find((one) => one.key === key) ?? {};
-  const said = await ask({[verb]: {at: store.me.at, key, ...fields}}, {first: true});
+  const act = store.pending.get(key);
+  if (!act) return;
+  const {command, note, first = Infinity, taken} = act;
+  const said = await ask(withFields(command, {at: known("me").at, key}), {first: true});
   if (!said) return;
   store.pending.delete(key);
   keepPending();
-  timing.confirmed = performance.now();
-  timing.us = said.us;
-  if (!said.refused) {
+  const isDone = !("refused" in said);
+  const timing = store.timings.find((one) => one.key === key);
+  if (timing) assign(timing, {confirmed: performance.now(), us: isDone ? said.us : undefined});
+  if (isDone) {
     notes.set(keyOf(said.stamp), note);
     tell(`${note}: done${store.whose === "shared" ? ", on your own road" : ""}.${taken}`);
-    if (said.touched !== null && said.touched < first) store.roads.mine.stale(said.touched);
+    if (said.touched !== null && said.touched < first) roadOf("mine").stale(said.touched);
     await takeLayers("mine", said);
   }
   pressed();
@@ -145,28 +216,51 @@ export async function send(key) {
   askPreview();
 }
 
-/** Takes lines that came with an answer; asks for what lies between, or behind, where there is
-    something. */
+/** Return a command with more fields.
+ * @param {Pending["command"]} command
+ * @param {object} more
+ * @returns {Pending["command"]}
+ */
+const withFields = (command, more) => Object.fromEntries(
+  Object.entries(command).map(([verb, fields]) => [verb, {...more, ...fields}]));
+
+/** Take changes that came with an answer, and ask for those before and behind them, if there are
+ * any.
+ * @param {"mine" | "shared"} whose
+ * @param {ListNews} said
+ */
 async function takeLayers(whose, said) {
-  const layers = store.layers[whose];
+  const layers = layersOf(whose);
   const isNext = said.since === layers.next;
   if (isNext) layers.take(said);
   if (!isNext || said.more) await refresh(whose);
 }
 
-const refreshes = {};           // of roads: what is asked for just now, {done, again}
+/** What is asked for just now, by road: whether it is to be asked again, and when all is there.
+ * @type {Map<string, {again: boolean, done: Promise<void>}>}
+ */
+const refreshes = new Map();
 
-/** Asks for what a road has got since: of all who want that at once, one asks. */
+/** Ask for what a road has got since. If several want that at once, one asks.
+ * @param {"mine" | "shared"} whose
+ */
 export function refresh(whose) {
-  const isGoing = whose in refreshes;
-  refreshes[whose] ??= {};
-  refreshes[whose].again = true;
-  if (!isGoing) refreshes[whose].done = refreshed(whose);
-  return refreshes[whose].done;
+  const there = refreshes.get(whose);
+  if (there) {
+    there.again = true;
+    return there.done;
+  }
+  const going = {again: true, done: Promise.resolve()};
+  refreshes.set(whose, going);
+  going.done = refreshUntilDone(whose, going);
+  return going.done;
 }
 
-async function refreshed(whose) {
-  const going = refreshes[whose];
+/** Ask for what a road has got since, as often as that is wanted meanwhile.
+ * @param {"mine" | "shared"} whose
+ * @param {{again: boolean}} going
+ */
+async function refreshUntilDone(whose, going) {
   let isThere = true;
   try {
     while (isThere && going.again) {
@@ -175,23 +269,25 @@ async function refreshed(whose) {
     }
     if (isThere) list();
   } finally {
-    delete refreshes[whose];
+    refreshes.delete(whose);
   }
 }
 
-/** Asks piece by piece, for all where the list is another one; a piece that is older than what came
-    with an answer meanwhile is left. Gives whether all is there. */
+/** Ask for the changes of a road, piece by piece; for all if the server has begun its list anew. A
+ * piece that is older than what came with an answer meanwhile is left. Return whether all is there.
+ * @param {"mine" | "shared"} whose
+ */
 async function askLayers(whose) {
-  const layers = store.layers[whose];
-  const at = whose === "mine" ? store.me.at : "shared";
+  const layers = layersOf(whose);
+  const at = whose === "mine" ? known("me").at : "shared";
   for (let more = true; more;) {
     const from = layers.next;
     const said = await ask({layers: {at, from}});
-    if (!said || said.refused) return false;
+    if (!said || "refused" in said) return false;
     if (layers.next !== from) continue;
     if (said.since === 0) {
       layers.lines.clear();
-      if (from !== 0) store.roads[whose].stale(0);
+      if (from !== 0) roadOf(whose).stale(0);
     }
     layers.take(said);
     more = said.more;
@@ -199,39 +295,56 @@ async function askLayers(whose) {
   return true;
 }
 
-function list() {
-  store.lines = linesOf(store.layers.mine, store.me.number);
-  changed("lists");
+/** Make the lists anew, if the page has joined. */
+export function relist() {
+  if (store.me && store.layers.mine) list();
 }
 
+/** Make the lists anew. */
+function list() {
+  store.lines = linesOf(layersOf("mine"), known("me").number);
+  changed("lines");
+}
+
+/** Share operations of changes.
+ * @param {Change[]} lines
+ * @param {Stamp[]} stamps
+ */
 async function share(lines, stamps) {
-  const said = await ask({send: {at: store.me.at, name: "shared", stamps}}, {away: UNSHARED});
-  if (!said || said.refused) return;
+  const told = {at: known("me").at, name: "shared", stamps: stamps.map(encodeStamp)};
+  const said = await ask({send: told}, {away: UNSHARED});
+  if (!said || "refused" in said) return;
   tell(`Shared ${plural(lines.length, "change")}.`);
-  if (said.touched !== null) store.roads.shared.stale(said.touched);
+  if (said.touched !== null) roadOf("shared").stale(said.touched);
   await Promise.all([refresh("mine"), refresh("shared")]);
   look();
 }
 
+/** Take what others shared. */
 export async function take() {
   closeBefore();
   const covered = coveredOwn();
   const fresh = untaken();
   const from = makers(fresh).join(", ");
-  const said = await ask({take: {at: store.me.at, message: "shared"}}, {away: UNTAKEN});
-  if (!said || said.refused) return;
-  if (said.touched !== null) store.roads.mine.stale(said.touched);
+  const said = await ask({take: {at: known("me").at, message: "shared"}}, {away: UNTAKEN});
+  if (!said || "refused" in said) return;
+  if (said.touched !== null) roadOf("mine").stale(said.touched);
   await takeLayers("mine", said);
   list();
   tellTaken(`${plural(fresh.length, "change")}${from ? " of " + from : ""}`, covered);
   look();
 }
 
-/** Own lines that are covered, by name, with what covers them. */
-const coveredOwn = () => new Map([...store.layers.mine.lines.values()].filter(isOwn)
-  .filter(isCovered).map((line) => [line.name.join(), words().cover(line)]));
+/** Return what covers each own change that is covered, by name.
+ * @returns {Map<string, string>}
+ */
+const coveredOwn = () => new Map([...layersOf("mine").lines.values()].filter(isOwn)
+  .filter(isCovered).map((line) => [keyOf(line.name), words().cover(line)]));
 
-/** Says what was taken, and which own lines it covers. */
+/** Say what was taken, and which own changes it covers.
+ * @param {string} changes
+ * @param {Map<string, string>} before       what covered own changes before
+ */
 function tellTaken(changes, before) {
   const lost = [...coveredOwn()].filter(([name, cover]) => before.get(name) !== cover);
   const losses = lost.length
@@ -243,90 +356,100 @@ function tellTaken(changes, before) {
 
 // Before sharing or taking.
 
-/** Opens what sharing these lines, or all, or taking what others shared, would change. */
+/** Open a preview of sharing these changes, or all, or of taking what others shared.
+ * @param {"share" | "take"} what
+ * @param {Change[] | null} [lines]
+ */
 export function openBefore(what, lines = null) {
   const names = lines?.map(({name}) => keyOf(name));
   const before = {whose: store.before?.whose ?? store.whose, takes: what === "take", names,
-                  ...sharedBy(names), said: null, layers: null, figures: null};
+                  ...sharedBy(names)};
   if (!before.takes && !before.lines.length) return;
   clearTimeout(store.before?.soon);
-  store.before = before;
+  assign(store, {before, preview: null});
   changed("before");
   askPreview();
 }
 
+/** Open a preview of sharing all. */
 export const shareAll = () => openBefore("share");
 
-/** What sharing lines of these names, or all, shares now. */
+/** Return what sharing the changes of these names, or all, shares now.
+ * @param {string[] | undefined} names
+ */
 function sharedBy(names) {
   const lines = unshared().filter(({name}) => !names || names.includes(keyOf(name)));
   return {lines, stamps: lines.flatMap(privateOf).map(({stamp}) => stamp)};
 }
 
-/** Asks what it would change: the lines at once, the rows of both roads as they are seen, and the
-    figures a moment later. Where nothing is left to share, nothing is looked at any more. */
+/** Ask what the preview would change: the list at once, the rows of both roads as they are seen,
+ * and the figures a moment later. If nothing is left to share, close it.
+ */
 export async function askPreview() {
   const {before} = store;
   if (!before) return;
   clearTimeout(before.soon);
-  Object.assign(before, sharedBy(before.names));
+  assign(before, sharedBy(before.names));
   const {takes, lines, stamps} = before;
   if (!takes && !lines.length) {
     closeBefore();
     return;
   }
   changed("preview");
-  const what = takes ? {what: "take"} : {what: "share", stamps};
-  const said = await ask({preview: {at: store.me.at, ...what}});
+  const what = takes ? {what: "take"} : {what: "share", stamps: stamps.map(encodeStamp)};
+  const said = await ask({preview: {at: known("me").at, ...what}});
   if (!said || store.before !== before) return;
-  if (!said.refused) {
-    const {length} = store.plan;
-    const base = store.layers[takes ? "mine" : "shared"];
-    if (!before.layers) store.whose = "both";
-    before.layers = store.layers.after = base.with(said.layers);
-    for (const name of ["before", "after"]) store.roads[name] = new Road(name, length);
+  if ("refused" in said) {
+    const {layers, names} = store.preview ?? NOTHING_KNOWN;
+    store.preview = {why: said.why ?? "", layers, names, figures: null};
+  } else {
+    if (!store.preview?.layers) store.whose = "both";
+    const layers = layersOf(takes ? "mine" : "shared").with(said.layers);
+    store.layers.after = layers;
+    for (const name of PREVIEWED) store.roads[name] = new Road(name, known("plan").length);
+    store.preview = {why: "", layers, names: said.layers.map(({name}) => name), figures: null};
     clearTimeout(before.soon);
     before.soon = setTimeout(askFigures, LOOKS);
   }
-  Object.assign(before, {said, figures: null});
   changed("preview");
   look();
 }
 
-/** Asks for the figures of both roads, counted car by car. */
+/** Ask for the figures of both roads, counted car by car. */
 async function askFigures() {
-  const {before} = store;
-  const {said: lookedAt} = before;
+  const {before, preview} = store;
   const [from, to] = periodShown();
-  if (to <= from) return;
-  const stands = () => store.before === before && before.said === lookedAt;
-  const said = await ask({figures: {at: store.me.at, of: "preview", from, to}},
+  if (!before || !preview || to <= from) return;
+  const stands = () => store.preview === preview;
+  const said = await ask({figures: {at: known("me").at, of: "preview", from, to}},
     {quiet: ["busy"], stands});
   if (!said || !stands()) return;
-  if (said.refused === "busy") {
+  if ("refused" in said && said.refused === "busy") {
     before.soon = setTimeout(askFigures, LOOKS);
     return;
   }
-  before.figures = {from, to, ...said};
+  preview.figures = "refused" in said ? {why: said.why ?? ""} : said;
   changed("preview");
+  askSeries();
 }
 
-/** Does what is looked at. */
+/** Share or take what the preview shows. */
 export function doIt() {
-  const {takes, lines, stamps} = store.before;
+  const {takes, lines, stamps} = known("before");
   closeBefore();
   if (takes) take(); else share(lines, stamps);
 }
 
+/** Close the preview. */
 export function closeBefore() {
   if (!store.before) return;
   const {soon, whose} = store.before;
   clearTimeout(soon);
   if (daysShown()) dropDays();
-  Object.assign(store, {whose, before: null});
-  for (const name of ["before", "after"]) delete store.roads[name];
+  assign(store, {whose, before: null, preview: null});
+  for (const name of PREVIEWED) delete store.roads[name];
   delete store.layers.after;
-  ask({preview: {at: store.me.at, what: null}});
+  ask({preview: {at: known("me").at, what: null}});
   changed("before");
   look();
 }

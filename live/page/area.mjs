@@ -2,29 +2,46 @@
 // store.
 
 import {MOST_OBJECTS, isTooLate} from "./geometry.mjs";
-import {placesText, shapeText, slowAt, spanText, takenZonesText, valueText} from "./sentences.mjs";
-import {store} from "./store.mjs";
-import {ALWAYS, LAST_STEP, kmText, mostDemand, timeText, whole} from "./units.mjs";
+import {placesText, shapeText, spanText, takenZonesText, valueText} from "./sentences.mjs";
+import {known, layersOf} from "./store.mjs";
+import {LAST_STEP, chanceText, kmText, limitText, timeText, whole} from "./units.mjs";
 
-/** Why a value is none, in a sentence. */
+/** @typedef {import("./types.mjs").Area} Area */
+/** @typedef {import("./types.mjs").Change} Change */
+/** @typedef {import("./types.mjs").Kind} Kind */
+/** @typedef {import("./types.mjs").Shape} Shape */
+
+/** Say in a sentence why a value is invalid.
+ * @param {Kind} kind
+ * @param {number} first     the object
+ * @param {number} from      the step
+ */
 export function faultOfValue(kind, first, from) {
   if (kind !== "inflow") return "A chance is 0 to 100 %.";
-  const slow = slowAt(store.layers.mine, first, from) / ALWAYS;
-  const most = mostDemand(slow);
-  return Number.isNaN(most) ? "The table of demands ends at a slowing chance of 50 %."
-    : `This inlet lets in 0 to ${whole(most)} cars an hour, at a slowing chance of `
-      + `${Math.round(100 * slow)} %.`;
+  const [plan, mine] = [known("plan"), layersOf("mine")];
+  const curve = mine.curveAt(first, from);
+  if (!curve) return MEASURED;
+  const [limit, slowing] = plan.zones[Math.floor(plan.inlets[first][0] / plan.zone)];
+  const beside = mine.plan.inlets.some(([cell]) => cell < plan.inlets[first][0])
+    ? ", beside the cars that pass it" : "";
+  return `This inlet admits 0 to ${whole(curve.capacity)} cars per hour (limit `
+    + `${limitText(limit)}, slowing ${chanceText(slowing)})${beside}.`;
 }
 
-/** A shape with words for it, and why it cannot be put, if so. `old` is the line that it changes;
-    `few`: of no zone that it touches half is covered. */
+const MEASURED = "What this inlet admits is being measured: a few seconds more.";
+
+/** Return a shape with words for it, and why it cannot be put, if so.
+ * @param {Shape} shape
+ * @param {Change | null} [old]  the change that it alters
+ * @param {boolean} [few]        less than half of each zone that it touches is covered
+ * @returns {Area}
+ */
 export function areaOfShape(shape, old = null, few = false) {
-  const [kind, first, last, from, to, value] = shape;
-  const {plan, layers: {mine}} = store;
-  const known = !Number.isNaN(value);
-  const note = known ? shapeText(mine, shape) : "";
-  const slow = kind === "inflow" ? slowAt(mine, first, from) : 0;
-  const what = known ? valueText(plan, kind, value, first, slow) : "";
+  const {kind, first, last, from, to, value} = shape;
+  const [plan, mine] = [known("plan"), layersOf("mine")];
+  const isValid = !Number.isNaN(value);
+  const note = isValid ? shapeText(mine, shape) : "";
+  const what = isValid ? valueText(mine, kind, value, first, from) : "";
   const lines = [what, placesText(plan, kind, first, last),
                  takenZonesText(plan, kind, first, last), spanText(from, to)].filter(Boolean);
   const fault = few ? "Less than half of a zone is covered: with Shift it is taken, whole."
@@ -32,9 +49,11 @@ export function areaOfShape(shape, old = null, few = false) {
   return {shape, note, lines, fault, old};
 }
 
-/** Why a shape cannot be put, in a sentence; "" where it can. */
+/** Say in a sentence why a shape cannot be put; "" if it can.
+ * @param {Shape} shape
+ */
 function faultOf(shape) {
-  const [kind, first, last, from, , value] = shape;
+  const {kind, first, last, from, value} = shape;
   if (isTooLate(shape)) return `The road's clock ends at ${timeText(LAST_STEP)}.`;
   if (last - first >= MOST_OBJECTS) return `At most ${kmText(MOST_OBJECTS)} km are closed at once.`;
   return Number.isNaN(value) ? faultOfValue(kind, first, from) : "";

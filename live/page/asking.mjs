@@ -1,20 +1,41 @@
 // Questions to the server.
 
+import {decodeAnswer} from "./decoding.mjs";
 import {Away} from "./line.mjs";
-import {store, tell} from "./store.mjs";
+import {known, tell} from "./store.mjs";
 
 const BUSY = 1000;              // milliseconds until it is asked again of one who was busy
 
+/** @typedef {import("./types.mjs").Answers} Answers */
+/** @typedef {import("./types.mjs").Refusal} Refusal */
+/** @typedef {import("./types.mjs").ToldAnswers} ToldAnswers */
+
+/** Ask whether an answer is a refusal.
+ * @param {object} said
+ * @returns {said is Refusal}
+ */
+const isRefusal = (said) => "refused" in said;
+
 const always = () => true;
 
-/** An answer, or null where the line broke; a refusal is told, unless it is a `quiet` one, or what
-    was asked about does not `stand` any more. `first`: before those that wait; `away`: what is told
-    where there is no line, of what is not kept until there is one. */
+/** Ask a question. Return its answer, or a refusal, which is told; null if the connection broke.
+ * @template {keyof Answers} Verb
+ * @param {Partial<Record<Verb, object>>} command
+ * @param {object} how
+ * @param {boolean} [how.first]         it goes before those that wait
+ * @param {string[]} [how.quiet]        refusals that are not told
+ * @param {() => boolean} [how.stands]  whether a refusal is still worth telling
+ * @param {string} [how.away]           what is told if there is no connection
+ * @returns {Promise<Answers[Verb] | Refusal | null>}
+ */
 export async function ask(command, {first = false, quiet = [], stands = always, away = ""} = {}) {
-  const isAway = !store.line.greeted;
+  const line = known("line");
+  const isAway = !line.greeted;
+  const [verb] = /** @type {Verb[]} */ (Object.keys(command));
   try {
-    const said = await store.line.ask(command, first);
-    const isTold = said.refused && !quiet.includes(said.refused) && stands();
+    const said = /** @type {ToldAnswers[Verb] | Refusal} */ (await line.ask(command, first));
+    if (!isRefusal(said)) return decodeAnswer(verb, said);
+    const isTold = !quiet.includes(said.refused) && stands();
     if (isTold) tell(said.why ?? `Refused: ${said.refused}`, true);
     return said;
   } catch (fault) {
@@ -24,12 +45,14 @@ export async function ask(command, {first = false, quiet = [], stands = always, 
   }
 }
 
-/** An answer as by `ask`, of one who may be busy with what the page itself asked: it is asked again
-    until there is one. */
+/** Ask as `ask` does, again and again while the server is busy with what the page itself asked.
+ * @template {keyof Answers} Verb
+ * @param {Partial<Record<Verb, object>>} command
+ */
 export async function askUntilFree(command) {
   for (;;) {
     const said = await ask(command, {quiet: ["busy"]});
-    if (said?.refused !== "busy") return said;
+    if (!said || !("refused" in said) || said.refused !== "busy") return said;
     await new Promise((done) => { setTimeout(done, BUSY); });
   }
 }

@@ -1,39 +1,63 @@
 // View: is it the change, or chance? What is compared is asked over many days: their progress, and
 // means with their intervals in the place of the figures of one day.
 
+import {assign} from "./assign.mjs";
 import {askDays, daysAsked, daysShown, dropDays, dropOldDays, stopDays} from "./days.mjs";
-import {$, button, element, headCell, row} from "./elements.mjs";
+import {$, button, childrenOf, element, findElement, headCell, row} from "./elements.mjs";
 import {changeText, halfText, meanText, sureText} from "./estimates.mjs";
-import {store, when} from "./store.mjs";
+import {known, store, when} from "./store.mjs";
 import {ORDER} from "./tables.mjs";
 import {kmText, timeText} from "./units.mjs";
 
+/** @typedef {import("./types.mjs").DaysFigure} DaysFigure */
+/** @typedef {import("./types.mjs").DaysFigures} DaysFigures */
+
 const overText = () => `Over ${daysAsked()} days`;
+/** @param {DaysFigures} said */
 const daysText = ({days, stopped}) =>
   (stopped ? `Over ${days} of ${daysAsked()} days, stopped` : overText());
 const READ_MEANS = "each has drivers of its own, the same on both roads. \u00b1 reaches to both "
   + "ends of the 95 % interval; where that of a difference has 0 in it, the difference may be "
   + "chance.";
+/** @param {DaysFigures} said */
 const readText = ({days}) => (days > 1 ? `Means of ${days} days: ${READ_MEANS}`
   : "One day alone does not say what is chance.");
-const NAMES = {vehicle_hours: "Vehicle hours", lost: "Lost demand, cars"};
+/** @type {Record<string, string>} */
+const NAMES = {vehicle_hours: "Vehicle hours", lost: "Lost demand, cars",
+               delay: "Delay, vehicle hours"};
 
+/** Return the name of a figure.
+ * @param {DaysFigure} figure
+ */
 function nameOf({name}) {
-  const [, detector] = name.split(" ");
-  return NAMES[name] ?? `Cars at ${kmText(store.plan.detectors[detector])} km`;
+  const [what, place] = name.split(" ");
+  return NAMES[name] ?? (what === "cars"
+    ? `Cars at ${kmText(known("plan").detectors[Number(place)])} km` : "Seconds to the road's end");
 }
 
+/** Ask whether the table has a figure. The seconds to detectors are saved alone: it would be too
+ * high.
+ * @param {DaysFigure} figure
+ */
+const isShown = ({name}) => !name.startsWith("seconds ")
+  || known("plan").detectors[Number(name.split(" ")[1])] === undefined;
+
+/** @type {(text: string, small: string) => HTMLElement} */
 const cell = (text, small) => element("td", text, {}, element("small", small));
 
-/** The table, with the roads in the order of the one that it stands for. */
+/** Make the table, with the roads in the order of the one that it stands for.
+ * @param {DaysFigures} said
+ * @param {boolean} isPreview
+ */
 function tableOf(said, isPreview) {
   const {from, to, figures} = said;
   const order = ORDER[isPreview ? "preview" : "mine"];
   const sides = order.map(([side]) => side);
   const heads = [...order.map(([, head]) => head),
                  isPreview ? "change" : "mine \u2212\u00a0shared"];
-  const lines = figures.map((one) => row(headCell(nameOf(one), "row"),
-    ...sides.map((side) => cell(meanText(one[side]), halfText(one[side]))),
+  const lines = figures.filter(isShown).map((one) => row(headCell(nameOf(one), "row"),
+    ...sides.map((side) => (one.name === "delay" ? element("td")
+      : cell(meanText(one[side]), halfText(one[side])))),
     cell(changeText(one.difference), sureText(one.difference))));
   return element("table", "", {className: "over"},
     element("caption", `${daysText(said)}, ${timeText(from)} to ${timeText(to)}`),
@@ -41,7 +65,7 @@ function tableOf(said, isPreview) {
     element("tbody", "", {}, ...lines));
 }
 
-/** Asks, stops, or goes back. */
+/** Ask, stop, or go back. */
 function doNext() {
   const days = daysShown();
   if (!days) askDays();
@@ -49,26 +73,37 @@ function doNext() {
   else stopDays();
 }
 
-/** One button that does so, and beside it how far it is. */
+/** Show one button that does so, and beside it how far it is.
+ * @param {HTMLElement} place
+ */
 function showAsking(place) {
   const days = daysShown();
   if (!place.children.length) {
     place.append(element("progress", "", {ariaLabel: "Days done"}), element("span"),
       button("", doNext));
   }
-  const [progress, said, does] = place.children;
+  const [progress, said, does] = childrenOf(place);
   const isRunning = Boolean(days && !days.said);
   progress.hidden = said.hidden = !isRunning;
-  Object.assign(progress, {max: daysAsked(), value: days?.done ?? 0});
-  said.textContent = isRunning ? `${days.done} of ${daysAsked()} days` : "";
+  if (progress instanceof HTMLProgressElement) {
+    assign(progress, {max: daysAsked(), value: days?.done ?? 0});
+  }
+  said.textContent = isRunning ? `${days?.done ?? 0} of ${daysAsked()} days` : "";
   does.textContent = isRunning ? "Stop" : days ? "One day" : overText();
 }
 
+/** @typedef {[asking: keyof PageElements, table: keyof PageElements, one: keyof PageElements]} Ids */
+/** @typedef {import("./elements.mjs").PageElements} PageElements */
+/** @type {Ids} */
+const OF_PREVIEW = ["beforeDays", "beforeOver", "beforeFigures"];
+/** @type {Ids} */
+const OF_BOTH = ["days", "over", "oneDay"];
+
+/** Show the days of what is compared. */
 function showDays() {
   const isPreview = Boolean(store.before);
-  const [asking, table, one] = isPreview ? ["beforeDays", "beforeOver", "beforeFigures"]
-    : ["days", "over", "oneDay"];
-  if (!$(asking)) return;
+  const [asking, table, one] = isPreview ? OF_PREVIEW : OF_BOTH;
+  if (!findElement(asking)) return;
   showAsking($(asking));
   const said = daysShown()?.said;
   $(one).hidden = Boolean(said);
@@ -77,8 +112,9 @@ function showDays() {
     element("p", readText(said), {className: "hint"})] : []));
 }
 
+/** Listen to the store. */
 export function begin() {
   when(["days", "before", "me"], showDays);
-  when(["lists"], dropOldDays);
+  when(["lines"], dropOldDays);
   showDays();
 }

@@ -1,43 +1,54 @@
-// What there is of changes: which are own, which are not shared. It reads the store.
+// Which changes are own, which are not shared, which are not taken. It reads the store.
 
 import {nextOf, takenBack} from "./chain.mjs";
 import {privateOf} from "./layers.mjs";
 import {Words, newestFirst} from "./listing.mjs";
 import {keyOf} from "./stamps.mjs";
-import {layersShown, store} from "./store.mjs";
+import {known, layersOf, layersShown, store} from "./store.mjs";
 
-/** Words for lines of the own road, or of the one that is seen. */
-export const words = (layers = store.layers.mine) => new Words(layers, store.me.number);
+/** @typedef {import("./chain.mjs").PendingAct} PendingAct */
+/** @typedef {import("./types.mjs").Change} Change */
+/** @typedef {import("./types.mjs").Shape} Shape */
+
+/** Return words for the changes of the own road, or of another. */
+export const words = (layers = layersOf("mine")) => new Words(layers, known("me").number);
+
+/** Return words for the changes of the road that is seen. */
 export const wordsShown = () => words(layersShown());
 
-/** Lines with something that is not shared. */
+/** Return the changes that have something that is not shared. */
 export const unshared = () => store.lines.map(({line}) => line)
   .filter((line) => privateOf(line).length);
 
-/** The operations on a shared line that the own road does not hold. */
-function freshOf({name, operations}) {
-  const there = store.layers.mine.line(name)?.operations ?? [];
+/** Return the operations on a shared change that the own road does not hold.
+ * @param {Change} line
+ */
+export function freshOf({name, operations}) {
+  const there = layersOf("mine").line(name)?.operations ?? [];
   const held = new Set(there.map(({stamp}) => keyOf(stamp)));
   return operations.filter(({stamp}) => !held.has(keyOf(stamp)));
 }
 
-/** The lines of the shared road of which the own one lacks something. */
-export const untaken = () => newestFirst([...store.layers.shared.lines.values()]
+/** Return the changes of the shared road that the own one lacks, whole or in part. */
+export const untaken = () => newestFirst([...layersOf("shared").lines.values()]
   .filter((line) => freshOf(line).length));
 
-/** Who made what is not taken. */
+/** Return who made what is not taken of changes.
+ * @param {Change[]} lines
+ */
 export const makers = (lines) => [...new Set(lines.flatMap(freshOf)
   .map(({who}) => who || "somebody"))];
 
-const pendingActs = () => [...store.pending].map(([key, {command, does}]) =>
-  ({key, does, undoes: command.undo?.stamp}));
+/** @returns {PendingAct[]} */
+const pendingActs = () => [...store.pending].map(([key, {does, undoes}]) => ({key, does, undoes}));
 
-/** What Z would take back and Redo put again: a stamp, a key, null or undefined. */
+/** Return what Z would take back and Redo put again: a stamp, a key, null or undefined. */
 export const next = () => nextOf(store.layers.mine ?? {undo: null, redo: null}, pendingActs());
 
-/** The shapes that are not confirmed yet, and not taken back. */
+/** Return the shapes that are not confirmed yet, and not taken back.
+ * @returns {Shape[]}
+ */
 export function waitingShapes() {
   const gone = takenBack(pendingActs());
-  return [...store.pending].filter(([key, {shape}]) => shape && !gone.has(key))
-    .map(([, {shape}]) => shape);
+  return [...store.pending].flatMap(([key, {shape}]) => (shape && !gone.has(key) ? [shape] : []));
 }

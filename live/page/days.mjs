@@ -1,50 +1,55 @@
 // Actions: the two roads that are compared are asked over many days, and that is stopped.
 
 import {ask} from "./asking.mjs";
-import {changed, store, tell} from "./store.mjs";
+import {changed, known, layersOf, store, tell} from "./store.mjs";
 import {periodShown} from "./view.mjs";
 
-/** How many days the server runs. */
+/** Return how many days the server runs. */
 export const daysAsked = () => store.most.days;
 
-/** By what it is known whether both roads are still those that were asked about. */
-const keyNow = () => [store.layers.mine.next, store.layers.shared.next].join();
+/** Return a key that differs once one of the two roads has changed. */
+const keyNow = () => [layersOf("mine").next, layersOf("shared").next].join();
 
-/** What is compared: the roads of what is looked at before sharing or taking, else mine and the
-    shared one. */
+/** Return what is compared: the roads of the preview if there is one, else mine and shared.
+ * @returns {"preview" | "mine"}
+ */
 export const comparedNow = () => (store.before ? "preview" : "mine");
 
-/** The question of what is compared; null where there is none. */
+/** Return the question about what is compared; null if there is none. */
 export const daysShown = () => (store.days?.of === comparedNow() ? store.days : null);
 
+/** Ask what is compared over many days. */
 export async function askDays() {
   const [from, to] = periodShown();
   if (to <= from) {
     tell("Nothing is computed yet.", true);
     return;
   }
+  /** @type {import("./types.mjs").Days} */
   const days = {of: comparedNow(), key: keyNow(), done: 0, said: null};
   store.days = days;
   changed("days");
-  const said = await ask({days: {at: store.me.at, of: days.of, from, to}},
+  const said = await ask({days: {at: known("me").at, of: days.of, from, to}},
     {quiet: ["stopped"], stands: () => store.days === days});
   if (store.days !== days) return;
-  if (said && !said.refused) days.said = said;
+  if (said && !("refused" in said)) days.said = said;
   else store.days = null;
   changed("days");
 }
 
-/** So many days are done. */
+/** Note how many days are done.
+ * @param {{done: number}} told
+ */
 export function hearDays({done}) {
   if (!store.days) return;
   store.days.done = done;
   changed("days");
 }
 
-/** Stops the question: its answer is that of the days that are done. */
-export const stopDays = () => ask({days: {at: store.me.at, of: null}});
+/** Stop the question. Its answer is that of the days that are done. */
+export const stopDays = () => ask({days: {at: known("me").at, of: null}});
 
-/** Forgets the answer, or the question. */
+/** Forget the answer, or the question. */
 export function dropDays() {
   if (!store.days) return;
   const {said} = store.days;
@@ -53,7 +58,7 @@ export function dropDays() {
   changed("days");
 }
 
-/** Drops what is of other roads than there are now. */
+/** Forget what was asked about roads that have changed since. */
 export function dropOldDays() {
   if (!store.days || store.days.key === keyNow()) return;
   const {said} = store.days;

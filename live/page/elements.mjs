@@ -1,47 +1,173 @@
 // Elements of the page. Texts from outside (names, notes) become text nodes and nothing else.
 
-export const $ = (id) => document.getElementById(id);
+import {assign} from "./assign.mjs";
 
-/** Listens to an element, by its id. */
-export const on = (id, kind, act, how) => $(id).addEventListener(kind, act, how);
+/**
+ * The elements by their ids. A preview has those that begin with "before" and follow the title.
+ * @typedef {Record<"me" | "clock" | "figuresPart" | "news" | "before" | "hint", HTMLElement>
+ *   & Record<"line" | "said" | "who" | "helloSaid" | "readout" | "days" | "figuresNote" | "emptyHint"
+ *            | "pastRest" | "seriesRead" | "beforeTitles", HTMLParagraphElement>
+ *   & Record<"others" | "rates" | "stop" | "values" | "exactTitle" | "toolHint" | "stride" | "period"
+ *            | "beforeDays", HTMLSpanElement>
+ *   & Record<"hour" | "ahead" | "back" | "savePicture" | "saveTranscript" | "saveScript"
+ *            | "saveFigures" | "saveReport" | "saveCounts" | "saveChanges" | "undo" | "redo" | "apply"
+ *            | "dropChange" | "closer" | "farther" | "wholeRoad" | "shareAll", HTMLButtonElement>
+ *   & Record<"follow" | "name" | "demand" | "slow" | "start" | "kmFrom" | "kmTo" | "timeFrom"
+ *            | "timeTo" | "letters", HTMLInputElement>
+ *   & Record<"save" | "asTable" | "sites" | "past" | "series", HTMLDetailsElement>
+ *   & Record<"hello", HTMLDialogElement>
+ *   & Record<"helloForm" | "exact", HTMLFormElement>
+ *   & Record<"beforeTitle", HTMLHeadingElement>
+ *   & Record<"seats" | "over" | "oneDay" | "beforeBody" | "beforeCovers" | "beforeOver"
+ *            | "beforeFigures", HTMLDivElement>
+ *   & Record<"seatList" | "stays" | "legend" | "warnings" | "beforeList" | "seriesLegend", HTMLUListElement>
+ *   & Record<"tools" | "whose", HTMLFieldSetElement>
+ *   & Record<"limit" | "inlet" | "site" | "watch" | "span" | "paint" | "seriesSite", HTMLSelectElement>
+ *   & Record<"kmFromLabel" | "kmToLabel", HTMLLabelElement>
+ *   & Record<"diagram" | "flowChart" | "speedChart", HTMLCanvasElement>
+ *   & Record<"speeds" | "figures", HTMLTableElement>
+ *   & Record<"own" | "held" | "siteList" | "history", HTMLOListElement>} PageElements
+ */
 
-/** Chooses one of the radio buttons of a name. */
-export function choose(name, value) {
-  document.querySelector(`input[name=${name}][value=${value}]`).checked = true;
+/** Return an element by its id; null if it is not there.
+ * @template {keyof PageElements} Id
+ * @param {Id} id
+ */
+export const findElement = (id) =>
+  /** @type {PageElements[Id] | null} */ (document.getElementById(id));
+
+/** Return an element by its id. Throw if it is not there.
+ * @template {keyof PageElements} Id
+ * @param {Id} id
+ * @returns {PageElements[Id]}
+ */
+export function $(id) {
+  const found = findElement(id);
+  if (!found) throw new Error(`The page has no element ${id}.`);
+  return found;
 }
 
-/** An element with a text, properties and children. */
+/** Listen to an element, by its id.
+ * @template {keyof HTMLElementEventMap} Type
+ * @param {keyof PageElements} id
+ * @param {Type} type
+ * @param {(event: HTMLElementEventMap[Type]) => void} act
+ * @param {AddEventListenerOptions} [how]
+ */
+export function on(id, type, act, how) {
+  /** @type {HTMLElement} */
+  const one = $(id);
+  one.addEventListener(type, act, how);
+}
+
+/** Return the element at which an event was made that is of a selector or in one of it; null if
+ * none is.
+ * @param {Event} event
+ * @param {string} selector
+ */
+export const closest = ({target}, selector) =>
+  (target instanceof Element ? target.closest(selector) : null);
+
+/** Return a value as one of some; undefined if it is none of them.
+ * @template {string} Value
+ * @param {readonly Value[]} values
+ * @param {string} value
+ */
+export const oneOf = (values, value) => values.find((one) => one === value);
+
+/** Return the value of the radio button of a name that is chosen; "" if none is.
+ * @param {string} name
+ */
+export const chosen = (name) =>
+  radios(name).find(({checked}) => checked)?.value ?? "";
+
+/** Choose one of the radio buttons of a name.
+ * @param {string} name
+ * @param {string} value
+ */
+export function choose(name, value) {
+  for (const one of radios(name)) one.checked = one.value === value;
+}
+
+/** Return the radio buttons of a name.
+ * @param {string} name
+ */
+const radios = (name) => [...document.querySelectorAll(`input[name=${name}]`)].flatMap((one) =>
+  (one instanceof HTMLInputElement ? [one] : []));
+
+/** Make an element with a text, properties and children.
+ * @template {keyof HTMLElementTagNameMap} Tag
+ * @param {Tag} tag
+ * @param {string} [text]
+ * @param {Partial<HTMLElementTagNameMap[Tag]>} [properties]
+ * @param {(Node | string)[]} children
+ * @returns {HTMLElementTagNameMap[Tag]}
+ */
 export function element(tag, text, properties = {}, ...children) {
-  const one = Object.assign(document.createElement(tag), properties);
+  const one = assign(document.createElement(tag), properties);
   if (text) one.append(text);
   one.append(...children);
   return one;
 }
 
-/** A button; `about` says in its name what it is about. */
+/** Make a button; `about` says in its name what it is about.
+ * @param {string} text
+ * @param {() => void} act
+ * @param {string} [about]
+ */
 export function button(text, act, about = "") {
   const one = element("button", text, {type: "button", onclick: act});
   if (about) one.setAttribute("aria-label", `${text}: ${about}`);
   return one;
 }
 
+/** Make a head cell of a column, or of a row.
+ * @param {string} text
+ * @param {string} [scope]
+ */
 export const headCell = (text, scope = "col") => element("th", text, {scope});
 
+/** Make a row of a table.
+ * @param {Node[]} cells
+ */
 export function row(...cells) {
   return element("tr", "", {}, ...cells);
 }
 
-/** Shows items {key, sign, make} in a list: what has not changed stays, and the focus too. */
+/**
+ * An element of a list: which it is, what it shows, and how it is made.
+ * @typedef {{key: string, sign: string, make: () => HTMLElement}} Item
+ */
+
+/** Return the elements in an element.
+ * @param {Element} list
+ */
+export const childrenOf = (list) => [...list.children].flatMap((one) =>
+  (one instanceof HTMLElement ? [one] : []));
+
+/** Return the element that has the focus, if it is in an element; else null.
+ * @param {Element} place
+ */
+export function activeIn(place) {
+  const active = document.activeElement;
+  return active instanceof HTMLElement && place.contains(active) ? active : null;
+}
+
+/** Show items in a list. What has not changed stays, and the focus too.
+ * @param {HTMLElement} list
+ * @param {Item[]} items
+ */
 export function showList(list, items) {
-  const active = list.contains(document.activeElement) ? document.activeElement : null;
+  const active = activeIn(list);
   const at = active?.closest("li");
-  const place = at ? [...list.children].indexOf(at) : 0;
-  const before = new Map([...list.children].map((one) => [one.dataset.key, one]));
+  const lines = childrenOf(list);
+  const place = at ? lines.indexOf(at) : 0;
+  const before = new Map(lines.map((one) => [one.dataset.key, one]));
   const now = items.map(({key, sign, make}) => {
     const there = before.get(key);
-    if (there?.dataset.sign === sign) return there;
+    if (there && there.dataset.sign === sign) return there;
     const made = make();
-    Object.assign(made.dataset, {key, sign});
+    assign(made.dataset, {key, sign});
     return made;
   });
   put(list, now);
@@ -49,21 +175,30 @@ export function showList(list, items) {
   else if (active && document.activeElement !== active) active.focus();
 }
 
-/** Lets a list have these children; those that stay where they are, are not touched. */
+/** Let a list have these children. Those that stay where they are, are not touched.
+ * @param {HTMLElement} list
+ * @param {HTMLElement[]} children
+ */
 function put(list, children) {
+  /** @type {Set<Element>} */
   const stay = new Set(children);
   for (const one of [...list.children]) if (!stay.has(one)) one.remove();
   let there = list.firstElementChild;
   for (const one of children) {
-    if (one === there) there = there.nextElementSibling;
+    if (one === there) there = one.nextElementSibling;
     else list.insertBefore(one, there);
   }
 }
 
-/** The focus goes to the same button of the same line, else to the line itself, to the one in its
-    place, or to the list: there a key that is pressed once more does nothing. */
+/** Give the focus to the same button of the same line, else to the line itself, to the one in its
+ * place, or to the list: there a key that is pressed once more does nothing.
+ * @param {HTMLElement} list
+ * @param {string | undefined} key      of the line
+ * @param {number} place                of the line
+ * @param {string | null} text          of the button
+ */
 function refocus(list, key, place, text) {
-  const lines = [...list.children];
+  const lines = childrenOf(list);
   const same = lines.find((one) => one.dataset.key === key);
   const again = [...(same?.querySelectorAll("button") ?? [])]
     .find((one) => one.textContent === text);
@@ -72,6 +207,11 @@ function refocus(list, key, place, text) {
   (again ?? line).focus();
 }
 
+/** Let the browser save a file.
+ * @param {BlobPart[]} lines
+ * @param {string} name
+ * @param {string} type
+ */
 export function download(lines, name, type) {
   const href = URL.createObjectURL(new Blob(lines, {type}));
   const link = element("a", "", {href, download: name});

@@ -1,32 +1,45 @@
 // Actions: rows, counts and sums are asked for where they are missing.
 
 import {ask} from "./asking.mjs";
-import {changed, last, store, whoseShown} from "./store.mjs";
+import {assign} from "./assign.mjs";
+import {keyOf} from "./stamps.mjs";
+import {changed, known, last, roadOf, store, whoseShown} from "./store.mjs";
 import {everyShown, periodShown} from "./view.mjs";
 
+/** @typedef {import("./rows.mjs").Road} Road */
+/** @typedef {import("./store.mjs").RoadName} RoadName */
+/** @typedef {import("./types.mjs").DetectorFigures} DetectorFigures */
+/** @typedef {import("./types.mjs").Span} Span */
+
+/** @type {RoadName[]} */
+const BOTH = ["mine", "shared"];
 const ASKING = 2;               // questions for rows at a time
 const IDLE = 120;               // milliseconds without news after which figures are reckoned anew
 const QUIET = 400;              // milliseconds without news before cars are counted one by one
 const BUSY = 1000;              // milliseconds until it is asked again of one who was busy
 const MINUTES_AT_ONCE = 60;     // of a question for sums
 
-/** Asks for the rows that are seen and not fresh, from above on; then, if so wished, for those of
-    the other road, of which figures are given too. */
+/** Ask for the rows that are seen and not fresh, from above on; with `both` then for those of the
+ * other road, whose figures are shown too.
+ * @param {boolean} [both]
+ */
 export function fetchRows(both = !store.clock.rate) {
-  if (!store.me || !store.line.greeted) return;
+  if (!store.me || !store.line?.greeted) return;
   const seen = whoseShown();
   if (!fetchOf(seen)) return;
   settled();
-  if (both) fetchOf(["mine", "shared"].filter((whose) => !seen.includes(whose)));
+  if (both) fetchOf(BOTH.filter((whose) => !seen.includes(whose)));
 }
 
-/** Whether nothing of these roads is to be asked for. */
+/** Ask for rows of these roads. Return whether nothing of them is missing.
+ * @param {RoadName[]} names
+ */
 function fetchOf(names) {
   const {look} = store;
   const every = everyShown();
   const to = Math.min(last(), Math.floor(look.step + look.span));
   for (const whose of names) {
-    const road = store.roads[whose];
+    const road = roadOf(whose);
     if (road.horizon < to) {
       advance(road, to);
       return false;
@@ -41,73 +54,84 @@ function fetchOf(names) {
   return store.asking === 0;
 }
 
+/** Return how many rows an answer may have. */
 function mostRows() {
   const {rows, bytes} = store.most;
-  return Math.max(1, Math.min(rows, Math.floor(bytes / (store.plan.length + 3))));
+  return Math.max(1, Math.min(rows, Math.floor(bytes / (known("plan").length + 3))));
 }
 
-/** Whether a road is still looked at: those of a preview go with it. */
+/** Ask whether a road is still looked at: those of a preview go with it.
+ * @param {Road} road
+ */
 const isKept = (road) => Object.values(store.roads).includes(road);
 
+/** Let a road be computed to a step.
+ * @param {Road} road
+ * @param {number} to
+ */
 async function advance(road, to) {
-  if (road.advancing) return;
-  road.advancing = true;
+  if (road.isAdvancing) return;
+  road.isAdvancing = true;
   const said = await ask({advance: {at: road.at, to}}, {stands: () => isKept(road)});
-  road.advancing = false;
-  if (!said || said.refused) return;
+  road.isAdvancing = false;
+  if (!said || "refused" in said) return;
   road.horizon = Math.max(road.horizon, said.horizon);
   fetchRows();
 }
 
+/** Ask for rows of a road, `every` steps apart.
+ * @param {RoadName} whose
+ * @param {number} every
+ * @param {{from: number, to: number, count: number}} piece  steps, and how many rows
+ */
 async function askRows(whose, every, {from, to, count}) {
-  const road = store.roads[whose];
+  const road = roadOf(whose);
   const level = road.level(every);
   store.asking++;
   level.mark(from, count, 1);
   const said = await ask({diagram: {at: road.at, from, to, ...(every > 1 ? {every} : {})}},
     {stands: () => isKept(road)});
   store.asking = Math.max(0, store.asking - 1);
-  if (!said || said.refused) {
+  if (!said || "refused" in said) {
     level.mark(from, count, 0);
     return;
   }
   const steps = level.take(from, said.rows);
   if (steps) {
     store.repainted = {whose, every, steps};
-    changed("rows");
+    changed("repainted");
   }
   fetchRows();
 }
 
-/** All rows that are seen are there: gestures that are measured have their picture at the next
-    drawing. */
+/** Note that all rows that are seen are there: gestures that are measured have their picture at the
+ * next drawing. */
 function settled() {
   const waiting = store.timings.filter((timing) => !timing.settled);
   for (const timing of waiting) timing.settled = performance.now();
-  if (waiting.length) changed("rows seen");
+  if (waiting.length) changed("timings");
 }
 
-/** The picture is to be drawn at the next frame of the screen; gives whether it was not before. */
+/** Let the picture be drawn at the next frame of the screen. Return whether that is new. */
 export function drawsSoon() {
   const draws = !store.drawing;
   store.drawing = true;
   return draws;
 }
 
-/** After each drawing: measures, and figures once it is quiet, or each second while the clock
-    runs. */
+/** Measure after each drawing; reckon figures once it is quiet, or each second while the clock
+ * runs. */
 export function hasDrawn() {
   store.drawing = false;
   for (const timing of store.timings) {
     if (timing.settled && !timing.painted) timing.painted = performance.now();
   }
   if (store.idle && store.clock.rate) return;
-  clearTimeout(store.idle);
+  clearTimeout(store.idle ?? undefined);
   store.idle = setTimeout(whenQuiet, store.clock.rate ? 1000 : IDLE);
 }
 
-/** Asks for what is not seen, and for figures: where the clock stands, once the picture waits for
-    nothing. */
+/** Ask for what is not seen, and for figures; while the clock stands once no row is awaited. */
 function whenQuiet() {
   const waits = store.asking && !store.clock.rate;
   store.idle = waits ? setTimeout(whenQuiet, IDLE) : null;
@@ -118,33 +142,92 @@ function whenQuiet() {
 
 // Figures.
 
-/** The figures of a period are to be shown, as far as they are there; what is missing is asked
-    for. */
+/** Show the figures of a period, as far as they are there, and ask for what is missing.
+ * @param {Span} [period]    steps
+ */
 export function reckon(period = periodShown()) {
   store.figures.wanted = period;
   askFigures(period);
   changed("figures");
 }
 
-/** Asks for what is missing of the figures of a period; where the clock stands, a moment later for
-    what is counted car by car, too. */
+/** Ask for what is missing of the figures of a period; while the clock stands, a moment later for
+ * what is counted car by car, too.
+ * @param {Span} period
+ */
 async function askFigures(period) {
   const {figures} = store;
-  if (figures.asking || !store.line.greeted || period[1] <= period[0]) return;
+  if (figures.asking || !store.line?.greeted || period[1] <= period[0]) return;
   figures.asking = true;
   let came = false;
   try {
     came = await askCounts(period);
-    for (const whose of ["mine", "shared"]) came = await askSums(whose, period) || came;
+    for (const whose of BOTH) came = await askSums(whose, period) || came;
   } finally {
     figures.asking = false;
   }
+  if (!store.clock.rate) askSeries(period);
   if (came) reckon();
   else if (!store.clock.rate && periodShown().join() !== period.join()) reckon();
   else if (!store.clock.rate) askExactSoon(period);
 }
 
-/** Asks for what is counted car by car a moment later, once no change waits for its picture. */
+/** Ask whether a count is that of all detectors in a span.
+ * @param {DetectorFigures | DetectorFigures[]} count
+ * @returns {count is DetectorFigures[]}
+ */
+const isSpan = (count) => Array.isArray(count);
+
+/** Ask whether a count is that of a detector in the whole period.
+ * @param {DetectorFigures | DetectorFigures[]} count
+ * @returns {count is DetectorFigures}
+ */
+const isWhole = (count) => !Array.isArray(count);
+
+/** Return how many steps a point of the series is of: at most some 150 points.
+ * @param {number} steps     of the period
+ */
+const eachOf = (steps) => [60, 300, 900, 3600].find((each) => steps / each <= 150) ?? 10_800;
+
+/** Return a key of the series of two roads, which differs once they have changed.
+ * @param {RoadName[]} sides
+ * @param {Span} period
+ */
+const keyOfSeries = (sides, period) => [
+  ...sides, ...BOTH.map((whose) => roadOf(whose).version), ...period,
+  ...(store.preview && store.before ? store.before.stamps.map(keyOf) : [])].join();
+
+/** Ask for flow and speed by time of the two roads that are compared, if those that are shown are
+ * of other ones.
+ * @param {Span} [period]
+ */
+export async function askSeries(period = periodShown()) {
+  const {series, line, preview} = store;
+  const [from, to] = period;
+  if (series.asking || to <= from || !known("plan").detectors.length || !line?.greeted) return;
+  /** @type {RoadName[]} */
+  const sides = preview?.layers ? ["before", "after"] : ["shared", "mine"];
+  const key = keyOfSeries(sides, period);
+  if (key === series.key) return;
+  series.asking = true;
+  try {
+    for (const side of sides) if (!await computed(roadOf(side), to)) return;
+    const each = eachOf(to - from);
+    const said = await Promise.all(sides.map((side) =>
+      ask({counts: {at: roadOf(side).at, from, to, each}}, {quiet: ["busy", "no preview"]})));
+    const flows = said.flatMap((one) => (one && "flows" in one ? [one.flows.filter(isSpan)] : []));
+    if (flows.length < said.length) return;
+    const names = preview?.layers ? ["now", "then"] : ["shared", "mine"];
+    assign(series, {key, names, from, to, each, flows});
+    changed("series");
+  } finally {
+    series.asking = false;
+  }
+}
+
+/** Ask for what is counted car by car a moment later, once no change waits for its picture.
+ * @param {Span} period
+ */
 function askExactSoon(period) {
   const {figures} = store;
   clearTimeout(figures.soon);
@@ -154,56 +237,72 @@ function askExactSoon(period) {
   }, QUIET);
 }
 
-/** Whether the figures of a key, by what it is of, are of the present edits. */
-const keyNow = (period) => [...period, store.roads.mine.version, store.roads.shared.version].join();
+/** Return a key of a period's figures, which differs once a road has changed.
+ * @param {Span} period
+ */
+const keyNow = (period) => [...period, ...BOTH.map((whose) => roadOf(whose).version)].join();
 
-/** Asks for the counts of both roads, where they may be others than those that are shown. */
+/** Ask for the counts of both roads, if they may differ from those that are shown. Return whether
+ * they came.
+ * @param {Span} period
+ */
 async function askCounts(period) {
   const [from, to] = period;
-  const {figures, roads} = store;
+  const {figures} = store;
   const key = keyNow(period);
   if (key === figures.key) return false;
-  for (const road of [roads.mine, roads.shared]) if (!await computed(road, to)) return false;
-  const said = await Promise.all([store.me.at, "shared"].map((at) =>
+  for (const whose of BOTH) if (!await computed(roadOf(whose), to)) return false;
+  const said = await Promise.all([known("me").at, "shared"].map((at) =>
     ask({counts: {at, from, to}}, {quiet: ["busy"]})));
-  if (said.some((one) => !one || one.refused)) return false;
-  Object.assign(figures, {key, period, counts: said.map(({counts}) => counts)});
+  const counts = said.flatMap((one) => (one && "flows" in one ? [one.flows.filter(isWhole)] : []));
+  if (counts.length < said.length) return false;
+  assign(figures, {key, period, counts});
   return true;
 }
 
-/** Asks for the vehicle hours of a part of the minutes that are missing. */
+/** Ask for the vehicle hours of a part of the minutes that are missing. Return whether they came.
+ * @param {RoadName} whose
+ * @param {Span} period
+ */
 async function askSums(whose, period) {
-  const road = store.roads[whose];
+  const road = roadOf(whose);
   const wanted = road.minutes.wanted(period, MINUTES_AT_ONCE);
   if (!wanted || !await computed(road, wanted[1])) return false;
   const {version, at} = road;
   const said = await ask({sums: {at, from: wanted[0], to: wanted[1]}}, {quiet: ["busy"]});
-  if (!said || said.refused) return false;
+  if (!said || "refused" in said) return false;
   if (road.version === version) road.minutes.take(wanted[0], said.sums);
   return true;
 }
 
-/** Asks for what is counted car by car: lost demand, and the delay of mine beside shared. */
+/** Ask for what is counted car by car: lost demand, travel times, and the delay of mine beside
+ * shared.
+ * @param {Span} period
+ */
 async function askExact(period) {
   const {figures} = store;
   const key = keyNow(period);
   if (key === figures.exactKey || figures.counting || store.before) return;
   const [from, to] = period;
   figures.counting = true;
-  const said = await ask({figures: {at: store.me.at, of: "mine", from, to}}, {quiet: ["busy"]});
+  const said = await ask({figures: {at: known("me").at, of: "mine", from, to}}, {quiet: ["busy"]});
   figures.counting = false;
-  if (said?.refused === "busy") setTimeout(reckon, BUSY);
-  if (!said || said.refused) return;
-  if (keyNow(period) === key) Object.assign(figures, {exactKey: key, exact: said});
+  if (said && "refused" in said && said.refused === "busy") setTimeout(reckon, BUSY);
+  if (!said || "refused" in said) return;
+  if (keyNow(period) === key) assign(figures, {exactKey: key, exact: said});
   reckon();
 }
 
-/** What is counted car by car of a period, {before, after, delay_hours}; null where it is not there
-    yet, or of other edits. */
+/** Return what is counted car by car of a period; null if it is not known yet, or of other edits.
+ * @param {Span} period
+ */
 export const exactOf = (period) =>
   (store.figures.exactKey === keyNow(period) ? store.figures.exact : null);
 
-/** Whether a road has run so far, once it was asked to. */
+/** Let a road run to a step. Return whether it has; if not, figures are reckoned again later.
+ * @param {Road} road
+ * @param {number} to
+ */
 async function computed(road, to) {
   if (road.horizon < to) await advance(road, to);
   if (road.horizon < to) setTimeout(reckon, IDLE);

@@ -7,125 +7,200 @@ import {$, element, headCell, on, row, showList} from "./elements.mjs";
 import {exactOf, reckon} from "./fetching.mjs";
 import {caughtIn} from "./layers.mjs";
 import {placesText} from "./sentences.mjs";
-import {store, when, whoseShown} from "./store.mjs";
-import {HOUR, KMH_A_CELL, kmText, plural, signedText, timeText, whole} from "./units.mjs";
+import {known, layersOf, roadOf, store, when, whoseShown} from "./store.mjs";
+import {HOUR, KMH_A_CELL, durationText, kmText, plural, signedText, timeText, whole}
+  from "./units.mjs";
 import {everyShown} from "./view.mjs";
+
+/** @typedef {import("./store.mjs").RoadName} RoadName */
+/** @typedef {import("./types.mjs").DetectorFigures} DetectorFigures */
+/** @typedef {import("./types.mjs").Figures} Figures */
+/** @typedef {import("./types.mjs").Frame} Frame */
+/** @typedef {import("./types.mjs").Span} Span */
+/** @typedef {ReturnType<typeof boxSums>} BoxSums */
 
 const AWAITED = "\u2026";
 const AS_WIDE = "0,000/h, 000 km/h";    // as what is awaited, and not seen
-const NOT_FOLLOWED = "\u2013";  // where a run is too long to follow each car
-const LOST = 0.05;              // of what an inlet is asked for: more that is lost is warned of
+const NO_CAR = "\u2013";         // of a travel time that no car has
+const LOST = 0.05;              // of the demand of an inlet: more that is lost is warned of
 const CAUGHT = 120;             // steps of a closure at whose end it is looked who stands in it
 
 // The table.
 
-/** The cars that passed, and below them how many an hour, and how fast. */
-function flowCell([cars, speeds], seconds) {
-  const speed = cars ? `, ${Math.round(speeds / cars * KMH_A_CELL)} km/h` : "";
-  const text = `${whole(cars * HOUR / seconds)}/h${speed}`;
-  return element("td", whole(cars), {}, element("small", text));
+/** Say how much of a period a detector was on; "" if it was on all the time.
+ * @param {DetectorFigures} one
+ * @param {number} seconds   of the period
+ */
+function offText({on: steps}, seconds) {
+  if (steps === seconds) return "";
+  return steps ? `, on for ${durationText(steps)} of ${durationText(seconds)}` : "off";
 }
 
-/** A line for each detector, as wide and high before its figures are there. */
-function detectorRows() {
-  const {period, counts} = store.figures;
-  const head = (cell) => headCell(`Cars at ${kmText(cell)} km`, "row");
-  if (!counts) {
-    const awaited = () => element("td", AWAITED, {},
-      element("small", AS_WIDE, {className: "awaited"}));
-    return store.plan.detectors.map((cell) => row(head(cell), awaited(), awaited(),
-      element("td", AWAITED)));
-  }
-  const [[mine, shared], [from, to]] = [counts, period];
-  return store.plan.detectors.map((cell, index) => row(head(cell),
-    ...[mine, shared].map((one) => flowCell(one[index], to - from)),
-    element("td", signedText(mine[index][0] - shared[index][0]))));
+/** Make the seconds from the inlet, at the left of a cell.
+ * @param {string} text
+ */
+const tripElement = (text) => element("span", text && ` ${text}`, {className: "trip"});
+
+/** Make a cell of the cars that passed, with their seconds from the inlet if these are known; below
+ * them how many an hour, and how fast.
+ * @param {DetectorFigures} one
+ * @param {number} seconds           of the period
+ * @param {number | null} travel     seconds
+ */
+function flowCell(one, seconds, travel) {
+  const {cars, flow, speed} = one;
+  const parts = [flow === null ? "" : `${whole(flow)}/h`,
+                 speed === null ? "" : `${Math.round(speed)} km/h`].filter(Boolean).join(", ");
+  return element("td", whole(cars), {}, tripElement(travel === null ? "" : `${whole(travel)} s`),
+    element("small", parts + offText(one, seconds)));
 }
 
+/** Write how much later the cars on both roads are at a place, in seconds; "" if that is not known.
+ * @param {Figures | null} exact
+ * @param {number} place     the number of a detector, or behind them of the road's end
+ */
+function laterText(exact, place) {
+  const later = exact ? exact.later[place].seconds : null;
+  return later === null ? "" : `${signedText(later, 1)} s`;
+}
+
+/** Make the row of the seconds to the road's end, mine and shared, and how much later the cars on
+ * both roads are.
+ * @param {Figures | null} exact
+ */
+function travelRow(exact) {
+  const place = known("plan").detectors.length;
+  const text = (/** @type {number | null} */ value) =>
+    (value === null ? NO_CAR : `${whole(value)} s`);
+  const cells = !exact ? [AWAITED, AWAITED, AWAITED]
+    : [text(exact.after.travel[place].seconds), text(exact.before.travel[place].seconds),
+       laterText(exact, place) || NO_CAR];
+  return row(headCell("Time to the road's end", "row"), ...cells.map((cell) => element("td", cell)));
+}
+
+/** Make a row for each detector, as wide and high before its figures are there.
+ * @param {Span} period
+ * @param {Figures | null} exact
+ */
+function detectorRows(period, exact) {
+  const isThere = String(store.figures.period) === String(period);
+  const counts = isThere ? store.figures.counts : null;
+  const seconds = period[1] - period[0];
+  const awaited = () => element("td", AWAITED, {},
+    element("small", AS_WIDE, {className: "awaited"}));
+  return known("plan").detectors.map((cell, index) => {
+    const head = headCell(`Cars at ${kmText(cell)} km`, "row");
+    if (!counts) return row(head, awaited(), awaited(), element("td", AWAITED));
+    const [mine, shared] = counts.map((one) => one[index]);
+    const times = exact ? [exact.after, exact.before].map(({travel}) => travel[index].seconds)
+      : [null, null];
+    return row(head, flowCell(mine, seconds, times[0]), flowCell(shared, seconds, times[1]),
+      element("td", signedText(mine.cars - shared.cars), {}, tripElement(laterText(exact, index))));
+  });
+}
+
+/** @param {number[]} numbers */
 const sum = (numbers) => numbers.reduce((one, other) => one + other, 0);
 
-/** Vehicle hours of the minutes of a period; null where one is missing. */
+/** Return the vehicle hours of the minutes of a period; null if one is missing.
+ * @param {RoadName} whose
+ * @param {Span} period
+ */
 function hoursOf(whose, period) {
-  const minutes = store.roads[whose].minutes.within(period);
+  const minutes = roadOf(whose).minutes.within(period);
   return minutes && sum(minutes) / HOUR;
 }
 
-/** A row of two values and their difference; `none` where they are not there. */
-function sumRow(name, [one, other], digits, none = AWAITED) {
-  const text = (value) => (value === null ? none
+/** Make a row of two values and their difference; a value that is null is awaited.
+ * @param {string} name
+ * @param {(number | null)[]} values     mine and shared
+ * @param {number} digits
+ */
+function sumRow(name, [one, other], digits) {
+  const text = (/** @type {number | null} */ value) => (value === null ? AWAITED
     : value.toLocaleString("en", {minimumFractionDigits: digits, maximumFractionDigits: digits}));
-  const difference = one === null || other === null ? none : signedText(one - other, digits);
+  const difference = one === null || other === null ? AWAITED : signedText(one - other, digits);
   return row(headCell(name, "row"), element("td", text(one)), element("td", text(other)),
     element("td", difference));
 }
 
-/** The delay of mine beside shared, of the cars that drive on both. */
+/** Make the row of the delay of mine beside shared, of the cars on both roads.
+ * @param {Figures | null} exact
+ */
 function delayRow(exact) {
-  const text = !exact ? AWAITED : typeof exact.delay_hours === "number"
-    ? signedText(exact.delay_hours, 1) : NOT_FOLLOWED;
+  const text = exact ? signedText(exact.delay_hours, 1) : AWAITED;
   return row(headCell("Delay, vehicle hours", "row"), element("td", ""), element("td", ""),
     element("td", text));
 }
 
-/** Shows the figures that are wanted, as far as they are there; while the clock runs only all. */
+/** Show the figures that are wanted, as far as they are there; while the clock runs only all. */
 function showFigures() {
   const period = store.figures.wanted;
-  const hours = ["mine", "shared"].map((whose) => hoursOf(whose, period));
+  const hours = [hoursOf("mine", period), hoursOf("shared", period)];
   if (store.clock.rate && hours.includes(null)) return;
   const exact = exactOf(period);
-  const lost = exact?.after.lost ? [exact.after, exact.before].map((one) => sum(one.lost))
-    : [null, null];
+  const lost = exact ? [exact.after, exact.before].map((one) => sum(one.lost)) : [null, null];
   const [from, to] = period.map(timeText);
   $("period").textContent = period[1] > period[0] ? `${from} to ${to}` : "";
   const heads = ["mine", "shared", "mine \u2212\u00a0shared"].map((name) => headCell(name));
   $("figures").replaceChildren(
     element("thead", "", {}, row(element("td"), ...heads)),
     element("tbody", "", {}, sumRow("Vehicle hours", hours, 1),
-      sumRow("Lost demand, cars", lost, 0, exact ? NOT_FOLLOWED : undefined), delayRow(exact),
-      ...detectorRows()));
-  $("figuresNote").textContent = "A car that an inlet does not let in spends no vehicle hours: it "
-    + "is lost demand. Speeds are of the cars that passed: standing cars never do.";
+      sumRow("Lost demand, cars", lost, 0), delayRow(exact),
+      ...detectorRows(period, exact), travelRow(exact)));
+  const scatter = exact ? Math.hypot(...exact.after.scatter) : 0;
+  $("figuresNote").textContent = "Lost: cars asked for, less those let in"
+    + (scatter >= 1 ? ` (\u00b1 ${whole(scatter)} by chance)` : "")
+    + ". Seconds: from the inlet; on the right, delay.";
   showWarnings(exact);
   if ($("asTable").open) showSpeeds(period);
 }
 
 // Warnings.
 
-/** Inlets that let in clearly less than they were asked for, and than on the shared road. */
+/** Return warnings of inlets that let in clearly less than they were asked for, and than on the
+ * shared road. Arrivals are random: what may be so by chance is not warned of.
+ * @param {Figures} exact
+ */
 function lostWarnings({after, before}) {
-  if (!after.lost) return [];
-  return store.plan.inlets.flatMap(([cell], inlet) => {
+  return known("plan").inlets.flatMap(([cell], inlet) => {
     const [lost, asked] = [after.lost[inlet], after.asked[inlet]];
-    if (lost <= LOST * asked || lost <= before.lost[inlet]) return [];
+    const isByChance = lost <= Math.max(LOST * asked, after.scatter[inlet]);
+    if (isByChance || lost <= before.lost[inlet]) return [];
     return [`The inlet at ${kmText(cell)} km lets in ${whole(asked - lost)} of the `
       + `${plural(asked, "car")} that it is asked for, and ${whole(lost)} are lost: counts and `
       + "vehicle hours look too good."];
   });
 }
 
-/** The cars that stand in a closure in the middle of its time, as far as it is computed. */
+/** Return how many cars stand in a closure near its end, as far as it is computed.
+ * @param {Frame} frame
+ */
 function caught(frame) {
   const {from, to} = frame;
-  const {mine} = store.roads;
+  const mine = roadOf("mine");
   const level = mine.level(everyShown());
   const end = Math.min(to ?? Infinity, mine.horizon, from + CAUGHT);
   const at = Math.floor((end - 1) / level.every);
   const text = at * level.every > from && level.fresh[at] ? level.rows[at] : undefined;
-  return caughtIn(store.layers.mine, frame, text ?? "");
+  return caughtIn(layersOf("mine"), frame, text ?? "");
 }
 
+/** Return warnings of cars that stand in closures. */
 function closureWarnings() {
-  const isClosure = ({kind, value}) => kind === "block" && value;
-  return store.layers.mine.frames.filter(isClosure).flatMap((frame) => {
-    const cars = caught(frame);
+  return layersOf("mine").frames.flatMap((frame) => {
+    const cars = frame.kind === "block" && frame.value ? caught(frame) : 0;
     if (!cars) return [];
     const until = frame.to === null ? "and it does not open"
       : `until it opens at ${timeText(frame.to)}`;
     return [`${plural(cars, "car stands", "cars stand")} in the closure `
-      + `${placesText(store.plan, "block", frame.first, frame.last)}, ${until}.`];
+      + `${placesText(known("plan"), "block", frame.first, frame.last)}, ${until}.`];
   });
 }
 
+/** Show what is to be warned of.
+ * @param {Figures | null} exact
+ */
 function showWarnings(exact) {
   const texts = [...(exact ? lostWarnings(exact) : []), ...closureWarnings()];
   showList($("warnings"), texts.map((text) =>
@@ -137,8 +212,14 @@ function showWarnings(exact) {
 const TABLE_ROWS = 12;
 const TABLE_COLUMNS = 10;
 
+/** Write the mean speed of a box, or its difference from another road's.
+ * @param {BoxSums} sums
+ * @param {BoxSums | null} other
+ * @param {number} box
+ */
 function speedText(sums, other, box) {
-  const mean = ({cars, speeds}) => (cars[box] ? speeds[box] / cars[box] * KMH_A_CELL : null);
+  const mean = (/** @type {BoxSums} */ {cars, speeds}) =>
+    (cars[box] ? speeds[box] / cars[box] * KMH_A_CELL : null);
   if (!sums.rows || (other && !other.rows)) return "not computed";
   const [one, beside] = [mean(sums), other ? mean(other) : null];
   const closed = sums.closed[box] ? " (closed in part)" : "";
@@ -148,19 +229,22 @@ function speedText(sums, other, box) {
   return signedText(one - beside) + closed;
 }
 
+/** Show the diagram as a table of mean speeds.
+ * @param {Span} period
+ */
 function showSpeeds([from, to]) {
-  const [picture, other] = whoseShown().map((whose) => store.roads[whose].level(everyShown()));
-  const wide = Math.ceil(store.plan.length / TABLE_COLUMNS);
+  const [picture, other] = whoseShown().map((whose) => roadOf(whose).level(everyShown()));
+  const {length} = known("plan");
+  const wide = Math.ceil(length / TABLE_COLUMNS);
   const high = Math.max(picture.every, Math.ceil((to - from) / TABLE_ROWS / 60) * 60);
-  const {length} = store.plan;
   const heads = Array.from({length: Math.ceil(length / wide)}, (_, index) => {
     const [begin, end] = [index * wide, Math.min(length, (index + 1) * wide)].map(kmText);
     return headCell(`${begin}\u2013${end} km`);
   });
   const body = [];
   for (let start = Math.floor(from / high) * high; start < to; start += high) {
-    const [sums, beside] = [picture, other].map((one) =>
-      one && boxSums(one, start, start + high, wide));
+    const sums = boxSums(picture, start, start + high, wide);
+    const beside = other ? boxSums(other, start, start + high, wide) : null;
     body.push(row(headCell(`from ${timeText(start)}`, "row"),
       ...heads.map((_, box) => element("td", speedText(sums, beside, box)))));
   }
@@ -170,6 +254,7 @@ function showSpeeds([from, to]) {
     element("thead", "", {}, row(element("td"), ...heads)), element("tbody", "", {}, ...body));
 }
 
+/** Listen to the store and to the page. */
 export function begin() {
   on("asTable", "toggle", () => { if (store.plan) reckon(); });
   when(["plan", "figures"], showFigures);

@@ -3,56 +3,77 @@
 import {faultOfValue, areaOfShape} from "./area.mjs";
 import {words} from "./changes.mjs";
 import {applyArea, change, changeFrom, chooseTool} from "./drafting.mjs";
-import {$, choose, on} from "./elements.mjs";
+import {$, choose, childrenOf, chosen, on, oneOf} from "./elements.mjs";
 import {OF_ONE, OF_ZONES, cellsOf, objectsNearest} from "./geometry.mjs";
-import {slowAt, zonesText} from "./sentences.mjs";
-import {now, store, tell, when} from "./store.mjs";
-import {ALWAYS, LAST_STEP, cellOfKm, chanceOfDemand, chanceText, demandOfChance, kmText, limitText,
-        roundedKm, stepOfText, timeText} from "./units.mjs";
+import {curveSoon} from "./demand.mjs";
+import {zonesText} from "./sentences.mjs";
+import {known, layersOf, now, store, tell, when} from "./store.mjs";
+import {ALWAYS, LAST_STEP, cellOfKm, chanceOfDemand, demandOfChance, kmOf, kmText, limitText, roundedKm,
+        stepOfText, timeHint, timeText, whole} from "./units.mjs";
+
+/** @typedef {import("./store.mjs").Store} Store */
+/** @typedef {import("./types.mjs").Kind} Kind */
+/** @typedef {import("./types.mjs").Shape} Shape */
+/** @typedef {import("./types.mjs").Span} Span */
+/** @typedef {"limit" | "watch" | "demand" | "inlet" | "site" | "slow" | "start" | "kmFrom" | "kmTo"
+ *           | "timeFrom" | "timeTo"} Field     of the form, by its id */
 
 const FASTEST = 9;              // cells a step of a limit
-const VERBS = {look: "Close", block: "Close", limit: "Limit", inflow: "Set demand",
+/** @type {Record<Store["tool"], string>} */
+const VERBS = {look: "Close cells", block: "Close", limit: "Limit", inflow: "Set demand",
                slow: "Set slowing", start: "Set slow to start", watch: "Switch detector"};
 
-/** The value that the tool puts, in the program's units; NaN where it is none. */
+/** Return the value that a tool puts, in the program's units; NaN if what is written is not valid.
+ * @param {Kind} kind
+ * @param {number} first     the object
+ * @param {number} from      the step
+ */
 export function valueOfTool(kind, first, from) {
-  const number = (id) => ($(id).value.trim() === "" ? NaN : Number($(id).value));
+  const number = (/** @type {Field} */ id) =>
+    ($(id).value.trim() === "" ? NaN : Number($(id).value));
   if (kind === "block") return 1;
   if (kind === "limit") return number("limit");
   if (kind === "watch") return number("watch");
   if (kind === "inflow") {
-    const slow = slowAt(store.layers.mine, first, from) / ALWAYS;
-    return Math.round(ALWAYS * chanceOfDemand(number("demand"), slow));
+    const curve = layersOf("mine").curveAt(first, from);
+    return curve ? chanceOfDemand(number("demand"), curve) : NaN;
   }
   const percent = number(kind);
   return percent >= 0 && percent <= 100 ? Math.round(percent / 100 * ALWAYS) : NaN;
 }
 
+/** Fill the form's choices by the plan. */
 function showPlan() {
-  const {plan} = store;
+  const plan = known("plan");
   const limits = Array.from({length: FASTEST + 1}, (_, limit) => limit);
-  $("limit").append(...limits.map((limit) => new Option(limitText(limit), limit)));
-  $("limit").value = 2;
-  const option = (what, cell, index) => new Option(`the ${what} at ${kmText(cell)} km`, index);
+  $("limit").append(...limits.map((limit) => new Option(limitText(limit), String(limit))));
+  $("limit").value = "2";
+  /** @type {(what: string, cell: number, index: number) => HTMLOptionElement} */
+  const option = (what, cell, index) =>
+    new Option(`the ${what} at ${kmText(cell)} km`, String(index));
   $("inlet").append(...plan.inlets.map(([cell], index) => option("inlet", cell, index)));
   $("site").append(...plan.detectors.map((cell, index) => option("detector", cell, index)));
-  document.querySelector("[value=watch]").disabled = !plan.detectors.length;
+  document.querySelector("[value=watch]")?.toggleAttribute("disabled", !plan.detectors.length);
   showHint();
 }
 
+/** Show the tool, its values, and what of the form it needs. */
 function showTool() {
   const kind = store.tool;
   choose("tool", kind);
-  for (const part of $("values").children) part.hidden = !part.dataset.of.split(" ").includes(kind);
+  for (const part of childrenOf($("values"))) {
+    part.hidden = !part.dataset.of?.split(" ").includes(kind);
+  }
   $("kmFromLabel").hidden = $("kmToLabel").hidden = OF_ONE.includes(kind);
   $("apply").textContent = store.changing ? "Change" : VERBS[kind];
   showHint();
 }
 
+/** @type {Partial<Record<Store["tool"], string>>} */
 const HINTS = {look: "moves the diagram; edges of your frames can be dragged",
-               block: "closes the whole road, all its lanes; cars inside stand until it opens"};
+               block: "closes the lane; cars inside stand until it opens"};
 
-/** Says what is changed, or what the tool does. */
+/** Say what is changed, or what the tool does. */
 function showHint() {
   const kind = store.tool;
   const zones = store.plan && zonesText(store.plan, kind);
@@ -60,57 +81,75 @@ function showHint() {
     : kind === "inflow" ? demandText() : HINTS[kind] ?? zones ?? "";
 }
 
-/** Says what chance a demand is, or why it is none. */
+/** Say what inflow chance the demand is, or why it is not valid. */
 function demandText() {
-  if (!store.layers.mine || !store.plan.inlets.length) return "";
+  if (!store.layers.mine || !known("plan").inlets.length) return "";
   const inlet = Number($("inlet").value);
   const written = stepOfText($("timeFrom").value);
   const from = Math.min(LAST_STEP, Number.isNaN(written) ? now() : written);
   const value = valueOfTool("inflow", inlet, from);
-  const slow = chanceText(slowAt(store.layers.mine, inlet, from));
-  return Number.isNaN(value) ? faultOfValue("inflow", inlet, from)
-    : `inflow chance ${(value / ALWAYS).toFixed(3)} at slowing ${slow}`;
+  if (Number.isNaN(value)) return faultOfValue("inflow", inlet, from);
+  const most = layersOf("mine").curveAt(inlet, from)?.capacity ?? NaN;
+  return `inflow chance ${(value / ALWAYS).toFixed(3)}; this inlet admits up to ${whole(most)} `
+    + "cars/h here";
 }
 
-/** The shape that the form has, or a sentence of what is wrong with it. */
+/** Return the shape that the form has, or a sentence of what is wrong with it.
+ * @returns {Shape | string}
+ */
 function shapeOfForm() {
   const kind = store.tool === "look" ? "block" : store.tool;
   const from = stepOfText($("timeFrom").value);
   const to = $("timeTo").value.trim() === "" ? null : stepOfText($("timeTo").value);
-  if (Number.isNaN(from) || Number.isNaN(to)) {
-    return "A time is written as 0:20, 0:20:30 or, in minutes, 20.";
-  }
+  if (Number.isNaN(from) || (to !== null && Number.isNaN(to))) return timeHint();
   if (to !== null && to <= from) return "The end must be later than the beginning.";
   const range = rangeOfForm(kind);
   if (typeof range === "string") return range;
-  return [kind, ...range, from, to, valueOfTool(kind, range[0], from)];
+  const [first, last] = range;
+  return {kind, first, last, from, to, value: valueOfTool(kind, first, from)};
 }
 
+/** Return the first and the last object of the form, or a sentence of what is wrong.
+ * @param {Kind} kind
+ * @returns {[first: number, last: number] | string}
+ */
 function rangeOfForm(kind) {
   if (kind === "inflow") return [Number($("inlet").value), Number($("inlet").value)];
   if (kind === "watch") return [Number($("site").value), Number($("site").value)];
   const [from, to] = kmOfForm().map(cellOfKm);
-  const {length} = store.plan;
+  const {length} = known("plan");
   if (!(from >= 0 && from < length && to <= length && from <= to)) {
     return `Give two places from 0 to ${kmText(length)} km, the greater one second.`;
   }
-  return objectsNearest(store.plan, kind, [from, to]);
+  return objectsNearest(known("plan"), kind, [from, to]);
 }
 
-const kmOfForm = () => ["kmFrom", "kmTo"].map((id) =>
-  ($(id).value.trim() === "" ? NaN : Number($(id).value.replace(",", "."))));
+/** Return the two places that are written, in km; NaN if one is not a number. */
+const kmOfForm = () => [$("kmFrom"), $("kmTo")].map(({value}) =>
+  (value.trim() === "" ? NaN : Number(value.replace(",", "."))));
 
-/** Says which stretch is taken, where it is not the one that is written. */
-function takenText([kind, first, last]) {
+/** Say which stretch is taken, if it is not the one that is written.
+ * @param {Shape} shape
+ */
+function takenText({kind, first, last}) {
   if (kind !== "block" && !OF_ZONES.includes(kind)) return "";
-  const taken = cellsOf(store.plan, kind, first, last).map(kmText);
+  const taken = cellsOf(known("plan"), kind, first, last).map(kmText);
   const written = kmOfForm().map((km) => String(roundedKm(km)));
-  return taken.join() === written.join() ? ""
-    : ` In whole ${kind === "block" ? "cells" : "zones"}: ${taken.join("\u2013")} km.`;
+  if (taken.join() === written.join()) return "";
+  const isRounded = cellsOf(known("plan"), kind, first, last).some((cell, index) =>
+    Math.abs(kmOf(cell) - Number(taken[index])) > 1e-9);
+  return ` In whole ${kind === "block" ? "cells of 7.5 m" : "zones"}: ${isRounded ? "about " : ""}`
+    + `${taken.join("\u2013")} km.`;
 }
 
-function onForm(event) {
+/** @param {Event} event */
+async function onForm(event) {
   event.preventDefault();
+  const from = stepOfText($("timeFrom").value);
+  const inlet = Number($("inlet").value);
+  if (store.tool === "inflow" && from >= 0 && !layersOf("mine").curveAt(inlet, from)) {
+    await curveSoon(layersOf("mine"), inlet, from);
+  }
   const shape = shapeOfForm();
   if (typeof shape === "string") {
     tell(shape, true);
@@ -120,45 +159,61 @@ function onForm(event) {
   if (applyArea(area) && store.changing) change(null);
 }
 
-let filled = {};                // what the form has of the line that is changed, by fields
+/** @type {Partial<Record<Field, string>>} */
+let filled = {};                // what the form has of the change, by fields
 
-/** Puts the figures of the line that is changed into the form. */
+/** Put the figures of the change into the form. */
 function showChanging() {
   const {changing} = store;
   $("dropChange").hidden = !changing;
   $("exactTitle").textContent = changing ? "change it:" : "or in figures:";
-  if (!changing) return;
+  if (!changing?.shape) return;
   filled = fieldsOf(changing.shape);
-  for (const [id, value] of Object.entries(filled)) $(id).value = value;
+  for (const id of FIELDS) $(id).value = filled[id] ?? $(id).value;
   showTool();
-  $(OF_ONE.includes(changing.shape[0]) ? "timeFrom" : "kmFrom").focus();
+  $(OF_ONE.includes(changing.shape.kind) ? "timeFrom" : "kmFrom").focus();
 }
 
-/** Where the line that is changed is another by now, what is not written stands as it has it; what
-    stands no longer is not changed. */
+/** Follow the change whose figures are in the form: what nobody wrote over is as it is now. If it
+ * was withdrawn, it is no longer altered.
+ */
 function followChanging() {
   const {changing} = store;
-  const line = changing && store.layers.mine.line(changing.name);
+  const line = changing && layersOf("mine").line(changing.name);
   if (!changing || line === changing) return;
-  if (!line?.standing || line.shape?.[0] !== changing.shape[0]) {
+  if (!line?.standing || !line.shape || line.shape.kind !== changing.shape?.kind) {
     change(null);
     return;
   }
   changeFrom(line);
   const fields = fieldsOf(line.shape);
-  for (const [id, value] of Object.entries(fields)) {
-    if ($(id).value === filled[id]) $(id).value = value;
+  for (const id of FIELDS) {
+    if ($(id).value === filled[id]) $(id).value = fields[id] ?? filled[id] ?? "";
   }
   filled = fields;
 }
 
-/** What the form has of a shape, by fields. */
-function fieldsOf([kind, first, last, from, to, value]) {
-  const [start, end] = cellsOf(store.plan, kind, first, last);
+/** @type {Field[]} */
+const FIELDS = ["limit", "watch", "demand", "inlet", "site", "slow", "start", "kmFrom", "kmTo",
+                "timeFrom", "timeTo"];
+
+/** Return what the form has of a shape, by fields.
+ * @param {Shape} shape
+ * @returns {Partial<Record<Field, string>>}
+ */
+function fieldsOf({kind, first, last, from, to, value}) {
+  const [start, end] = cellsOf(known("plan"), kind, first, last);
   return {kmFrom: kmText(start), kmTo: kmText(end), timeFrom: timeText(from),
           timeTo: to === null ? "" : timeText(to), ...valuesOf(kind, first, from, value)};
 }
 
+/** Return what the form has of a value, by fields.
+ * @param {Kind} kind
+ * @param {number} first
+ * @param {number} from
+ * @param {number} value
+ * @returns {Partial<Record<Field, string>>}
+ */
 function valuesOf(kind, first, from, value) {
   if (kind === "limit") return {limit: String(value)};
   if (kind === "watch") return {watch: String(value), site: String(first)};
@@ -166,13 +221,16 @@ function valuesOf(kind, first, from, value) {
     return {[kind]: String(Number((100 * value / ALWAYS).toFixed(2)))};
   }
   if (kind !== "inflow") return {};
-  const slow = slowAt(store.layers.mine, first, from) / ALWAYS;
-  const cars = Math.round(demandOfChance(value / ALWAYS, slow));
-  return {inlet: String(first), demand: Number.isNaN(cars) ? "" : String(cars)};
+  const curve = layersOf("mine").curveAt(first, from);
+  return {inlet: String(first), demand: curve ? String(Math.round(demandOfChance(value, curve))) : ""};
 }
 
+/** @type {Store["tool"][]} */
+const TOOLS = ["look", "block", "limit", "inflow", "slow", "start", "watch"];
+
+/** Listen to the store and to the page. */
 export function begin() {
-  on("tools", "change", ({target}) => chooseTool(target.value));
+  on("tools", "change", () => chooseTool(oneOf(TOOLS, chosen("tool")) ?? "look"));
   on("values", "input", showHint);
   on("exact", "input", showHint);
   on("exact", "submit", onForm);
@@ -180,7 +238,7 @@ export function begin() {
   when(["plan"], showPlan);
   when(["tool"], showTool);
   when(["changing"], showChanging);
-  when(["lists"], followChanging);
-  when(["lists"], showHint);
+  when(["lines"], followChanging);
+  when(["lines", "curves"], showHint);
   showTool();
 }

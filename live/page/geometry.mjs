@@ -1,33 +1,58 @@
-// What of a road lies where: objects in cells, rectangles, edges. A shape is
-// [kind, first, last, from, to, value]: the objects first to last have the value from one step to
-// another (to null: from there on). A plan is a scenario's plan line.
+// What of a road lies where: objects in cells, rectangles, edges.
 
 import {LAST_STEP, METRES_A_CELL} from "./units.mjs";
+
+/** @typedef {import("./types.mjs").Box} Box */
+/** @typedef {import("./types.mjs").Kind} Kind */
+/** @typedef {import("./types.mjs").Place} Place */
+/** @typedef {import("./types.mjs").Plan} Plan */
+/** @typedef {import("./types.mjs").Shape} Shape */
+/** @typedef {import("./types.mjs").Span} Span */
+/** @typedef {[first: number, last: number]} Objects     of a kind, both included */
+/** @typedef {"left" | "top" | "right" | "bottom"} Edge */
 
 const SNAP_CELLS = 25 / METRES_A_CELL;
 
 export const MOST_OBJECTS = 600; // of a shape
+/** @type {unknown[]} */
 export const OF_ZONES = ["limit", "slow", "start"];
+/** @type {unknown[]} */
 export const OF_ONE = ["inflow", "watch"];   // kinds of which a shape has one object
 
-/** How many objects of a kind a road has; 0 of one that is not known. */
+/** Return how many objects of a kind a road has; 0 of an unknown kind.
+ * @param {Plan} plan
+ * @param {unknown} kind
+ */
 function countOf({length, zone, inlets, detectors}, kind) {
   if (OF_ZONES.includes(kind)) return Math.ceil(length / zone);
-  return {block: length, inflow: inlets.length, watch: detectors.length}[kind] ?? 0;
+  if (kind === "block") return length;
+  if (kind === "inflow") return inlets.length;
+  return kind === "watch" ? detectors.length : 0;
 }
 
-/** Whether a shape, or a rectangle of one, is of this road; what is told from elsewhere may be
-    anything. */
-export function fits(plan, shape) {
-  if (!Array.isArray(shape)) return false;
-  const [kind, first, last, from, to, value] = shape;
-  const isStep = (step) => Number.isInteger(step) && step >= 0;
-  return Number.isInteger(first) && Number.isInteger(last) && first >= 0 && first <= last
-    && last < countOf(plan, kind) && isStep(from) && (to === null || (isStep(to) && to > from))
-    && Number.isInteger(value);
+/** Ask whether a shape, or a part of a change, is of this road: another site may tell anything.
+ * @param {Plan} plan
+ * @param {Omit<Shape, "value">} shape
+ */
+export function fits(plan, {kind, first, last, from, to}) {
+  return first <= last && last < countOf(plan, kind) && (to === null || to > from);
 }
 
-/** The cells of the objects first to last of a kind, the end excluded. */
+/** Ask whether two shapes are the same.
+ * @param {Shape | null | undefined} one
+ * @param {Shape} other
+ */
+export const sameShape = (one, other) => one?.kind === other.kind && one.first === other.first
+  && one.last === other.last && one.from === other.from && one.to === other.to
+  && one.value === other.value;
+
+/** Return the cells of the objects first to last of a kind, the end excluded.
+ * @param {Plan} plan
+ * @param {Kind} kind
+ * @param {number} first
+ * @param {number} last
+ * @returns {Span}
+ */
 export function cellsOf(plan, kind, first, last) {
   if (OF_ZONES.includes(kind)) {
     return [first * plan.zone, Math.min(plan.length, (last + 1) * plan.zone)];
@@ -37,13 +62,23 @@ export function cellsOf(plan, kind, first, last) {
   return [cell, cell + 1];
 }
 
+/** Return the index of the place that is nearest to a cell.
+ * @param {number[]} places
+ * @param {number} cell
+ */
 export function nearest(places, cell) {
   const far = places.map((place) => Math.abs(place - cell));
   return far.indexOf(Math.min(...far));
 }
 
-/** The first and last object of a kind in a stretch of cells; of inlets and detectors the one
-    nearest to its beginning. */
+/** Return the first and last object of a kind in a stretch of cells; of inlets and detectors the
+ * one that is nearest to `begun`, a cell.
+ * @param {Plan} plan
+ * @param {Kind} kind
+ * @param {Span} cells
+ * @param {number} [begun]
+ * @returns {Objects}
+ */
 export function objectsIn(plan, kind, [from, to], begun = from) {
   if (OF_ZONES.includes(kind)) {
     return [Math.floor(from / plan.zone), Math.ceil(Math.max(from + 1, to) / plan.zone) - 1];
@@ -54,12 +89,17 @@ export function objectsIn(plan, kind, [from, to], begun = from) {
   return [index, index];
 }
 
-/** The first and last zone of which a stretch of cells covers at least half, or of `all` that it
-    touches; null where there are none. */
+/** Return the first and last zone of which a stretch of cells covers at least half, or with `all`
+ * those that it touches; null if there are none.
+ * @param {Plan} plan
+ * @param {Span} cells
+ * @param {boolean} [all]
+ * @returns {Objects | null}
+ */
 export function zonesIn({length, zone}, [from, to], all) {
   const [first, last] = [Math.floor(from / zone), Math.ceil(Math.max(from + 1, to) / zone) - 1];
   if (all) return [first, last];
-  const isCovered = (index) => {
+  const isCovered = (/** @type {number} */ index) => {
     const [start, end] = [index * zone, Math.min(length, (index + 1) * zone)];
     return 2 * (Math.min(to, end) - Math.max(from, start)) >= end - start;
   };
@@ -67,8 +107,13 @@ export function zonesIn({length, zone}, [from, to], all) {
   return begin <= end ? [begin, end] : null;
 }
 
-/** The same of a stretch that is written in figures: its ends go to the nearest bounds of zones,
-    and where these are one, the zone is taken in which its middle lies. */
+/** Return the first and last object in a stretch of cells that is written in figures: its ends go
+ * to the nearest bounds of zones. If both go to one, return the zone in which its middle lies.
+ * @param {Plan} plan
+ * @param {Kind} kind
+ * @param {Span} cells
+ * @returns {Objects}
+ */
 export function objectsNearest(plan, kind, [from, to]) {
   if (!OF_ZONES.includes(kind)) return objectsIn(plan, kind, [from, to]);
   const zones = Math.ceil(plan.length / plan.zone);
@@ -78,12 +123,22 @@ export function objectsNearest(plan, kind, [from, to]) {
   const middle = Math.min(zones - 1, Math.floor((from + to) / 2 / plan.zone));
   return [middle, middle];
 }
-/** A number within two others. */
+/** Return the number between two bounds that is nearest to a value.
+ * @param {number} value
+ * @param {number} least
+ * @param {number} most
+ */
 export const within = (value, least, most) => Math.max(least, Math.min(most, value));
+/** Return two numbers, the smaller first.
+ * @type {(one: number, other: number) => [number, number]}
+ */
 export const sorted = (one, other) => [Math.min(one, other), Math.max(one, other)];
 
-/** A place, [cell, step], of which a drag begins or ends: where so many steps are seen, and cells
-    have so many pixels, on round metres and seconds, unless it is to be exact. */
+/** Return the place where a drag begins or ends: on round metres and seconds, unless it is exact.
+ * @param {Place} place
+ * @param {{span: number, scale: number, exact: boolean}} seen   steps that are seen; pixels a cell
+ * @returns {Place}
+ */
 export function snapped([cell, step], {span, scale, exact}) {
   if (exact) return [Math.round(cell), Math.round(step)];
   const apart = span > 900 ? 30 : span > 150 ? 10 : 1;
@@ -91,13 +146,20 @@ export function snapped([cell, step], {span, scale, exact}) {
   return [Math.round(Math.round(cell / across) * across), Math.round(step / apart) * apart];
 }
 
-/** The objects and the time of a rectangle between two places, {first, last, from, to, few}: of
-    zones those of which at least half is covered, or of `all` that are touched; where there are
-    none it is too few, and it is said of all. `open`: a click, without an end. */
+/** Return the objects and steps of a rectangle between two places: of zones those of which at
+ * least half is covered, or with `all` those that it touches. `few`: there are none, and the ones
+ * that it touches are returned. `open`: a click, without an end.
+ * @param {Plan} plan
+ * @param {Kind} kind
+ * @param {Place} place
+ * @param {Place} other
+ * @param {{open?: boolean, all?: boolean}} how
+ */
 export function rectangleBetween(plan, kind, [cell, step], [otherCell, otherStep],
                                  {open = false, all = open} = {}) {
   const [left, right] = sorted(cell, otherCell).map((one) => within(one, 0, plan.length));
   const start = Math.min(left, plan.length - 1);
+  /** @type {Span} */
   const cells = [start, Math.max(start + 1, right)];
   const covered = OF_ZONES.includes(kind) ? zonesIn(plan, cells, all) : [];
   const [first, last] = covered?.length ? covered : objectsIn(plan, kind, cells, cell);
@@ -105,39 +167,59 @@ export function rectangleBetween(plan, kind, [cell, step], [otherCell, otherStep
   return {first, last, from, to: open ? null : Math.max(from + 1, end), few: covered === null};
 }
 
-/** A shape of which an edge is drawn to a place; of zones it goes to where at least half of one is
-    covered, or to where one is touched. */
+/** Return a shape whose edge is drawn to a place: of zones to where at least half of one is
+ * covered, with `all` to where one is touched.
+ * @param {Plan} plan
+ * @param {Shape} shape
+ * @param {Edge} edge
+ * @param {Place} place
+ * @param {boolean} [all]
+ * @returns {Shape}
+ */
 export function shapeWithEdge(plan, shape, edge, [cell, step], all = false) {
-  const [kind, first, last, from, to, value] = shape;
+  const {kind, first, last, from, to} = shape;
   const [start, end] = cellsOf(plan, kind, first, last);
-  if (edge === "bottom") return [kind, first, last, from, Math.max(step, from + 1), value];
-  if (edge === "top") {
-    return [kind, first, last, within(step, 0, (to ?? Infinity) - 1), to, value];
-  }
+  if (edge === "bottom") return {...shape, to: Math.max(step, from + 1)};
+  if (edge === "top") return {...shape, from: within(step, 0, (to ?? Infinity) - 1)};
   if (!OF_ZONES.includes(kind) && kind !== "block") return shape;
+  /** @type {Span} */
   const cells = edge === "left" ? [within(cell, 0, end - 1), end]
     : [start, within(cell, start + 1, plan.length)];
-  const objects = kind === "block" ? objectsIn(plan, kind, cells)
+  const [begin, until] = kind === "block" ? objectsIn(plan, kind, cells)
     : zonesIn(plan, cells, all) ?? (edge === "left" ? [last, last] : [first, first]);
-  return [kind, ...objects, from, to, value];
+  return {...shape, first: begin, last: until};
 }
 
-/** The object and the step of a shape that are nearest to a place, [cell, step]. */
-export function nearestIn({zone}, [kind, first, last, from, to], [cell, step]) {
+/** Return the object and the step of a shape that are nearest to a place.
+ * @param {Plan} plan
+ * @param {Shape} shape
+ * @param {Place} place
+ * @returns {[index: number, step: number]}
+ */
+export function nearestIn({zone}, {kind, first, last, from, to}, [cell, step]) {
   const index = OF_ZONES.includes(kind) ? cell / zone : kind === "block" ? cell : first;
   return [within(Math.floor(index), first, last),
           within(Math.floor(step), from, (to ?? Infinity) - 1)];
 }
 
-/** The edge of a rectangle [left, top, right, bottom] that is nearer to a place than so many
-    pixels; undefined where none is. Without an end it has no lower one. */
+/** Return the edge of a box that is nearer to a point than so many pixels; undefined if none is.
+ * An open box has no lower edge.
+ * @param {Box} box
+ * @param {[x: number, y: number]} point
+ * @param {number} near
+ * @param {boolean} isOpen
+ * @returns {Edge | undefined}
+ */
 export function edgeNear([left, top, right, bottom], [x, y], near, isOpen) {
   const isInside = x > left - near && x < right + near && y > top - near && y < bottom + near;
   if (!isInside) return undefined;
-  const edges = {...(isOpen ? {} : {bottom: y - bottom}), top: y - top, right: x - right,
-                 left: x - left};
-  return Object.keys(edges).find((edge) => Math.abs(edges[edge]) < near);
+  if (!isOpen && Math.abs(y - bottom) < near) return "bottom";
+  if (Math.abs(y - top) < near) return "top";
+  if (Math.abs(x - right) < near) return "right";
+  return Math.abs(x - left) < near ? "left" : undefined;
 }
 
-/** Whether a shape goes beyond the last step that a clock can show. */
-export const isTooLate = ([, , , from, to]) => Math.max(from, to ?? 0) > LAST_STEP;
+/** Ask whether a shape goes beyond the last step that a clock can show.
+ * @param {Shape} shape
+ */
+export const isTooLate = ({from, to}) => Math.max(from, to ?? 0) > LAST_STEP;

@@ -3,19 +3,30 @@
 
 import {redoNewest, undoNewest} from "./acting.mjs";
 import {areaOfShape} from "./area.mjs";
+import {curveSoon} from "./demand.mjs";
 import {applyArea, beginCorner, beginDrag, chooseTool, dropArea, endDrag, hasMoved, moveCursor,
         showArea, showDrawn} from "./drafting.mjs";
-import {$, on} from "./elements.mjs";
+import {$, closest, on} from "./elements.mjs";
 import {valueOfTool} from "./form.mjs";
-import {OF_ONE, edgeNear, nearestIn, rectangleBetween, shapeWithEdge, snapped}
+import {OF_ONE, edgeNear, nearestIn, rectangleBetween, sameShape, shapeWithEdge, snapped}
   from "./geometry.mjs";
 import {isInForce} from "./layers.mjs";
 import {followIt, moveBy, moveTo, showRoad, zoomBy} from "./looking.mjs";
 import {cornersOf} from "./picture.mjs";
-import {isOwn, layersShown, store, tell, when, whoseShown} from "./store.mjs";
+import {isOwn, known, layersOf, layersShown, roadOf, store, tell, when, whoseShown}
+  from "./store.mjs";
 import {KMH_A_CELL, durationText, kmOf, limitText, metresText, roundedKm, timeText}
   from "./units.mjs";
 import {everyShown, strideNow, viewNow} from "./view.mjs";
+
+/** @typedef {import("./geometry.mjs").Edge} Edge */
+/** @typedef {import("./store.mjs").Drag} Drag */
+/** @typedef {import("./store.mjs").Store} Store */
+/** @typedef {import("./types.mjs").Area} Area */
+/** @typedef {import("./types.mjs").Change} Change */
+/** @typedef {import("./types.mjs").Kind} Kind */
+/** @typedef {import("./types.mjs").Place} Place */
+/** @typedef {import("./types.mjs").Shape} Shape */
 
 const NAMES = {mine: "mine", shared: "shared", before: "now", after: "then"};
 const AT_EDGE = 6;              // pixels from an edge at which it is taken
@@ -23,51 +34,72 @@ const TWICE = 500;              // milliseconds within which a click at one plac
 
 // Drags.
 
+/** @type {(place: Place, exact: boolean) => Place} */
 const snappedHere = (place, exact) =>
   snapped(place, {span: store.look.span, scale: viewNow().scale, exact});
 
-/** What a rectangle between two places, each [cell, step], would do by the tool. */
-function areaBetween(one, other, how) {
-  const kind = store.tool;
-  const {first, last, from, to, few} = rectangleBetween(store.plan, kind, one, other, how);
-  return areaOfShape([kind, first, last, from, to, valueOfTool(kind, first, from)], null, few);
+/** Return what a rectangle between two places would do by a tool.
+ * @param {Kind} kind
+ * @param {Place} one
+ * @param {Place} other
+ * @param {{open?: boolean, all?: boolean}} how
+ */
+function areaBetween(kind, one, other, how) {
+  const {first, last, from, to, few} = rectangleBetween(known("plan"), kind, one, other, how);
+  const value = valueOfTool(kind, first, from);
+  return areaOfShape({kind, first, last, from, to, value}, null, few);
 }
 
+/** Return the place of a pointer.
+ * @param {{offsetX: number, offsetY: number}} event
+ * @returns {Place}
+ */
 const placeOf = ({offsetX, offsetY}) => {
   const view = viewNow();
   return [cellAt(view, offsetX), Math.max(0, stepAt(view, offsetY))];
 };
 
-const shapeFrame = ([kind, first, last, from, to]) => ({kind, first, last, from, to});
-
-/** Whether a line of the own road is the same on the road that is seen, and in force at a place
-    there. */
+/** Ask whether a change of the own road is the same on the road that is seen, and in force on an
+ * object at a step there.
+ * @param {Change} line
+ * @param {[index: number, step: number]} place
+ */
 function isSeen({name, shape}, place) {
   const there = layersShown().line(name);
-  return String(there?.shape) === String(shape) && isInForce(there, ...place);
+  return there !== undefined && shape !== null && sameShape(there.shape, shape)
+    && isInForce(there, ...place);
 }
 
-/** Whether the tool draws edges of a kind: a tool that puts another kind begins a rectangle. */
-const drawsEdges = ([kind]) => store.tool === "look" || store.tool === kind;
+/** Ask whether the tool draws edges of a shape. A tool that puts another kind begins a rectangle.
+ * @param {Shape} shape
+ */
+const drawsEdges = ({kind}) => store.tool === "look" || store.tool === kind;
 
-/** Whether an edge of a shape can be drawn: what has one object has no sides. */
-const canBeDrawn = ([kind], edge) => !OF_ONE.includes(kind) || ["top", "bottom"].includes(edge);
+/** Ask whether an edge of a shape can be drawn. What has one object has no sides.
+ * @param {Shape} shape
+ * @param {Edge} edge
+ */
+const canBeDrawn = ({kind}, edge) => !OF_ONE.includes(kind) || ["top", "bottom"].includes(edge);
 
-/** The own line of which an edge is seen at a place, with the edge's name; null where none is, or
-    what lies above it is in force there. */
+/** Return the own change whose edge is seen at a pixel, with the edge; null if there is none, or
+ * what lies above it is in force there.
+ * @param {number} x
+ * @param {number} y
+ * @returns {{line: Change, edge: Edge} | null}
+ */
 function edgeAt(x, y) {
   const view = viewNow();
-  const own = [...store.layers.mine.lines.values()]
-    .filter((line) => isOwn(line) && line.standing && line.shape && drawsEdges(line.shape));
-  for (const line of own) {
-    const corners = cornersOf(view, shapeFrame(line.shape));
-    const edge = edgeNear(corners, [x, y], AT_EDGE, line.shape[4] === null);
-    const inside = nearestIn(store.plan, line.shape, [cellAt(view, x), stepAt(view, y)]);
-    if (edge && canBeDrawn(line.shape, edge) && isSeen(line, inside)) return {line, edge};
+  for (const line of layersOf("mine").lines.values()) {
+    const {shape} = line;
+    if (!shape || !line.standing || !isOwn(line) || !drawsEdges(shape)) continue;
+    const edge = edgeNear(cornersOf(view, shape), [x, y], AT_EDGE, shape.to === null);
+    const inside = nearestIn(known("plan"), shape, [cellAt(view, x), stepAt(view, y)]);
+    if (edge && canBeDrawn(shape, edge) && isSeen(line, inside)) return {line, edge};
   }
   return null;
 }
 
+/** @param {PointerEvent} event */
 function onDown(event) {
   if (event.button) return;
   $("diagram").setPointerCapture(event.pointerId);
@@ -75,6 +107,7 @@ function onDown(event) {
   beginDrag({at: placeOf(event), x, y, edge: edgeAt(x, y)});
 }
 
+/** @param {PointerEvent} event */
 function onMove(event) {
   const here = placeOf(event);
   readOut(here, false);
@@ -84,54 +117,86 @@ function onMove(event) {
     return;
   }
   if (!hasMoved([event.offsetX, event.offsetY])) return;
-  if (!drag.edge && store.tool === "look") {
+  const area = areaOfDrag(event, drag);
+  if (!area) {
     dragDiagram(event, drag);
     return;
   }
-  showDrawn(areaOfDrag(event, drag));
-  sayArea(false);
+  showDrawn(area);
+  sayArea(area, false);
 }
 
-/** What a drag would do: it draws an edge of an own frame, or a rectangle. */
+/** Return what a drag would do: it draws an edge of an own frame, or a rectangle; null if it moves
+ * the diagram.
+ * @param {PointerEvent} event
+ * @param {Drag} drag
+ */
 function areaOfDrag(event, drag) {
-  const [begun, ends] = [drag.at, placeOf(event)].map((one) => snappedHere(one, event.altKey));
-  if (!drag.edge) return areaBetween(begun, ends, {all: event.shiftKey});
-  const {line, edge} = drag.edge;
-  return areaOfShape(shapeWithEdge(store.plan, line.shape, edge, ends, event.shiftKey), line);
+  const ends = snappedHere(placeOf(event), event.altKey);
+  const {line, edge} = drag.edge ?? {};
+  if (line?.shape && edge) {
+    const shape = shapeWithEdge(known("plan"), line.shape, edge, ends, event.shiftKey);
+    return areaOfShape(shape, line);
+  }
+  if (store.tool === "look") return null;
+  const begun = snappedHere(drag.at, event.altKey);
+  return areaBetween(store.tool, begun, ends, {all: event.shiftKey});
 }
 
+/** Move the diagram by a drag.
+ * @param {PointerEvent} event
+ * @param {Drag} drag
+ */
 function dragDiagram(event, drag) {
   const {scale, tall} = viewNow();
   moveTo(drag.cell - (event.offsetX - drag.x) / scale, drag.step - (event.offsetY - drag.y) / tall);
 }
 
-let clicked = {when: -Infinity};  // the last click
+let clicked = {when: -Infinity, x: 0, y: 0};  // the last click
 
-/** Whether a click is the second one of two: both together put one shape. */
+/** Ask whether a click is the second one of two: both together put one shape.
+ * @param {PointerEvent} event
+ */
 function isSecond({timeStamp: when, offsetX: x, offsetY: y}) {
   const before = clicked;
   clicked = {when, x, y};
   return when - before.when < TWICE && Math.hypot(x - before.x, y - before.y) < AT_EDGE;
 }
 
+/** Put what a click says, from there on; a demand once what its inlet admits is measured.
+ * @param {Kind} kind
+ * @param {Place} place
+ */
+async function putAt(kind, place) {
+  const {first, from} = rectangleBetween(known("plan"), kind, place, place, {open: true});
+  if (kind === "inflow") await curveSoon(layersOf("mine"), first, from);
+  applyArea(areaBetween(kind, place, place, {open: true}));
+}
+
+/** @param {PointerEvent} event */
 function onUp(event) {
-  const drag = endDrag();
+  const [drag, kind] = [endDrag(), store.tool];
   if (drag?.area) applyArea(drag.area);
-  else if (drag && !drag.moved && !["look", "block"].includes(store.tool) && !isSecond(event)) {
-    const place = snappedHere(drag.at, event.altKey);
-    applyArea(areaBetween(place, place, {open: true}));
+  else if (drag && !drag.moved && kind !== "look" && kind !== "block" && !isSecond(event)) {
+    putAt(kind, snappedHere(drag.at, event.altKey));
   }
   readOut(placeOf(event), false);
 }
 
+/** @type {Record<Edge, string>} */
+const RESIZES = {top: "ns-resize", bottom: "ns-resize", left: "ew-resize", right: "ew-resize"};
+
+/** Show by the pointer what a press would do there.
+ * @param {PointerEvent} event
+ */
 function showPointer({offsetX, offsetY}) {
   const edge = edgeAt(offsetX, offsetY)?.edge;
-  $("diagram").style.cursor = {top: "ns-resize", bottom: "ns-resize", left: "ew-resize",
-                               right: "ew-resize"}[edge] ?? cursorOfTool();
+  $("diagram").style.cursor = edge ? RESIZES[edge] : cursorOfTool();
 }
 
 const cursorOfTool = () => (store.tool === "look" ? "grab" : "crosshair");
 
+/** @param {WheelEvent} event */
 function onWheel(event) {
   event.preventDefault();
   if (event.ctrlKey) {
@@ -145,74 +210,104 @@ function onWheel(event) {
 
 // What is read out of a place.
 
+/** @type {Place | null} */
 let read = null;                // the place that was read out last
 
+/** Read a place out.
+ * @param {Place} place
+ * @param {boolean} byKey
+ */
 function readOut(place, byKey) {
   read = place;
   say(textAt(place), byKey);
 }
 
-/** Reads the same place once the road there may be another, without a word to who listens. */
+/** Read the same place again if the road there may have changed. It is not announced. */
 function readAgain() {
   if (!read || store.drag || store.corner || store.area) return;
-  if (!layersShown() || !whoseShown().every((whose) => store.roads[whose])) return;
+  if (!whoseShown().every((whose) => store.roads[whose])) return;
   const text = textAt(read);
   if ($("readout").textContent !== text) say(text, false);
 }
 
+/** Return what is read out of a place.
+ * @param {Place} place
+ */
 function textAt([cell, step]) {
-  const {length, zone} = store.plan;
+  const {length, zone} = known("plan");
   const [at, moment] = [Math.max(0, Math.min(length - 1, Math.floor(cell))), Math.round(step)];
   const roads = whoseShown();
   const texts = roads.map((whose) =>
-    signText(rowAt(store.roads[whose].level(everyShown()), moment)?.[at]));
+    signText(rowAt(roadOf(whose).level(everyShown()), moment)?.[at]));
   const limit = layersShown().valueAt("limit", Math.floor(at / zone), moment);
   const said = texts.length === 2
     ? roads.map((whose, which) => `${NAMES[whose]}: ${texts[which]}`).join("; ") : texts[0];
   const place = `${roundedKm(kmOf(at), 2).toFixed(2)} km, ${timeText(moment)}`;
-  return `${place}: ${said}; limit ${limitText(limit)}`;
+  return `${place}: ${said}; limit ${limitText(limit ?? 0)}`;
 }
 
-/** Writes a text below the diagram, which is announced where keys made it. */
+/** Write a text below the diagram. It is announced if keys made it.
+ * @param {string} text
+ * @param {boolean} byKey
+ */
 function say(text, byKey) {
   $("readout").setAttribute("aria-live", byKey ? "polite" : "off");
   $("readout").textContent = text;
 }
 
-/** Says what the rectangle that is drawn would do, before it is let go. */
-function sayArea(byKey) {
-  say([...store.area.lines, store.area.fault].filter(Boolean).join(", "), byKey);
+/** Say what the rectangle that is drawn would do, before it is let go.
+ * @param {Area} area
+ * @param {boolean} byKey
+ */
+function sayArea(area, byKey) {
+  say([...area.lines, area.fault].filter(Boolean).join(", "), byKey);
 }
 
+/** Return what a character of a row says.
+ * @param {string | undefined} sign
+ */
 function signText(sign) {
   if (sign === undefined) return "not computed";
   if (sign === ".") return "no car";
-  return sign === "#" ? "closed" : `a car at ${sign * KMH_A_CELL} km/h`;
+  return sign === "#" ? "closed" : `a car at ${Number(sign) * KMH_A_CELL} km/h`;
 }
 
 // Keys.
 
+/** @type {Record<string, [across: number, down: number]>} */
 const ARROWS = {ArrowLeft: [-1, 0], ArrowRight: [1, 0], ArrowUp: [0, -1], ArrowDown: [0, 1]};
+/** @type {Record<string, Store["tool"]>} */
 const LETTERS = {v: "look", c: "block", l: "limit", i: "inflow", p: "slow", s: "start", t: "watch"};
 
-/** Says how far an arrow moves the cursor at this zoom. */
+/** Say how far an arrow moves the cursor at this zoom. */
 function showStride() {
   const [cells, steps] = strideNow();
   const text = `by ${metresText(cells)} and ${durationText(steps)} at this zoom`;
   if ($("stride").textContent !== text) $("stride").textContent = text;
 }
 
+/** Move the cursor, and the rectangle that it draws.
+ * @param {[across: number, down: number]} direction
+ * @param {number} far      strides
+ */
 function onArrow(direction, far) {
   moveCursor(direction, far);
   if (store.corner) stretchArea();
-  else readOut(store.cursor, true);
+  else readOut(known("cursor"), true);
 }
 
+/** Draw the rectangle to the cursor. Return what it would do; null with the tool that looks.
+ * @param {boolean} [all]   zones that it touches are taken
+ */
 function stretchArea(all = false) {
-  showArea(areaBetween(store.corner, store.cursor, {all}));
-  sayArea(true);
+  if (store.tool === "look") return null;
+  const area = areaBetween(store.tool, known("corner"), known("cursor"), {all});
+  showArea(area);
+  sayArea(area, true);
+  return area;
 }
 
+/** Begin a rectangle at the cursor. */
 function onSpace() {
   if (store.tool === "look") {
     tell("Choose a tool first: C closes, L limits, and so on.", true);
@@ -222,21 +317,26 @@ function onSpace() {
   stretchArea();
 }
 
+/** Drop what is drawn. */
 function drop() {
   dropArea();
   if (store.cursor) readOut(store.cursor, true);
 }
 
+/** Do what the rectangle says that keys draw.
+ * @param {boolean} all     zones that it touches are taken
+ */
 function onEnter(all) {
-  if (!store.corner) return;
-  stretchArea(all);
-  if (applyArea(store.area)) drop();
+  const area = store.corner && stretchArea(all);
+  if (area && applyArea(area)) drop();
 }
 
+/** @param {KeyboardEvent} event */
 function onDiagramKey(event) {
   if (event.ctrlKey || event.metaKey || event.altKey) return;
   const far = event.shiftKey ? 10 : 1;
   const {look} = store;
+  /** @type {Record<string, () => void>} */
   const acts = {
     " ": onSpace, Enter: () => onEnter(event.shiftKey), Escape: drop,
     PageUp: () => moveBy(0, -look.span / 2), PageDown: () => moveBy(0, look.span / 2),
@@ -250,9 +350,10 @@ function onDiagramKey(event) {
   act();
 }
 
+/** @param {KeyboardEvent} event */
 function onLetter(event) {
   if (!$("letters").checked || event.ctrlKey || event.metaKey || event.altKey || !store.me) return;
-  if (event.target.matches("input:not([type=radio], [type=checkbox]), select, textarea")) return;
+  if (closest(event, "input:not([type=radio], [type=checkbox]), select, textarea")) return;
   if ($("hello").open) return;
   const letter = event.key.toLowerCase();
   if (LETTERS[letter]) chooseTool(LETTERS[letter]);
@@ -261,6 +362,7 @@ function onLetter(event) {
   else if (letter === "z") undoNewest();
 }
 
+/** Listen to the store and to the page. */
 export function begin() {
   on("diagram", "pointerdown", onDown);
   on("diagram", "pointermove", onMove);
@@ -272,6 +374,6 @@ export function begin() {
   const showCursor = () => { $("diagram").style.cursor = cursorOfTool(); };
   when(["tool"], showCursor);
   when(["look"], showStride);
-  when(["look", "rows", "lists"], readAgain);
+  when(["look", "repainted", "lines"], readAgain);
   showCursor();
 }

@@ -1,116 +1,168 @@
 // Actions: the line to the server, who this tab is, and what it is told without asking.
 
+import {assign} from "./assign.mjs";
 import {look} from "./looking.mjs";
 import {askPreview, fetchKept, keepPending, refresh, send} from "./acting.mjs";
 import {untaken} from "./changes.mjs";
 import {hearDays} from "./days.mjs";
-import {Layers} from "./layers.mjs";
+import {curveAt} from "./demand.mjs";
+import {Layers, findCurvesBy} from "./layers.mjs";
 import {Line, TAKEN_OVER} from "./line.mjs";
 import {Road} from "./rows.mjs";
-import {changed, store, tell} from "./store.mjs";
+import {changed, known, layersOf, roadOf, store, tell} from "./store.mjs";
 import {titlesOf} from "./listing.mjs";
-import {plural} from "./units.mjs";
+import {beginClock, dayIn, plural} from "./units.mjs";
 
-const FORM = 2;                 // of what is spoken with the server
+/** @typedef {import("./types.mjs").Broker} Broker */
+/** @typedef {import("./types.mjs").News} News */
+/** @typedef {import("./types.mjs").Plan} Plan */
+/** @typedef {import("./types.mjs").Refusal} Refusal */
+/** @typedef {import("./types.mjs").Seat} Seat */
+/** @typedef {import("./types.mjs").Welcome} Welcome */
+/** @typedef {import("./types.mjs").Wishes} Wishes */
+/** @typedef {import("./types.mjs").Told} Told */
+/** @typedef {{welcome: Welcome} | (Refusal & {seats?: Seat[]})} HelloAnswer */
+
+/** @type {("mine" | "shared")[]} */
+const BOTH = ["mine", "shared"];
+const FORM = 3;                 // of what is spoken with the server
 const STANDS = 60_000;          // milliseconds that it is said that the program was replaced
+/** @type {(name: string) => string} */
 const stored = (name) => sessionStorage.getItem(name) ?? "";
 
-/** The token of the address, which leaves the address bar. */
+/** Take the token from the address, and out of the address bar. */
 export function takeToken() {
   if (!location.hash) return;
   sessionStorage.setItem("token", location.hash.slice(1));
   history.replaceState(null, "", location.pathname);
 }
 
+/** Connect to the server. */
 export function connect() {
   const open = () => new WebSocket(location.origin.replace(/^http/, "ws") + "/live");
-  store.line = new Line({open, greet, hear, lost});
-  store.line.connect();
+  const line = new Line({open, greet, hear, lost});
+  store.line = line;
+  line.connect();
 }
 
+/** Join as was wished, or as the seat that this tab had, or ask who this is. */
 function greet() {
   if (store.wishes) hello(store.wishes);
   else if (stored("key")) hello({key: stored("key")});
   else askName();
 }
 
+/** Join, or ask who this is if that is refused.
+ * @param {Wishes} fields
+ */
 async function hello(fields) {
   const asked = {hello: {token: stored("token"), form: FORM, ...fields}};
-  const said = await store.line.ask(asked).catch(() => null);
+  const said = /** @type {HelloAnswer | null} */ (await known("line").ask(asked).catch(() => null));
   if (!said) return;
   store.wishes = null;
-  if (said.welcome) welcome(said.welcome);
+  if ("welcome" in said) welcome(said.welcome);
   else {
     sessionStorage.removeItem("key");
     askName(said.why ?? said.refused, said.seats);
   }
 }
 
-/** Joins with a name, or as a seat that nobody has open. */
+/** Join with a name, or as a seat that nobody has open.
+ * @param {Wishes} fields
+ */
 export function join(fields) {
   store.wishes = fields;
-  store.line.connect();
+  known("line").connect();
 }
 
-/** Asks who this is: a new name, or a seat that nobody has open. */
-async function askName(why = "", seats = null) {
-  store.hello = {why, free: []};
+/** Ask who this is: a new name, or a seat that nobody has open.
+ * @param {string} [why]     why it is asked
+ * @param {Seat[]} [seats]
+ */
+async function askName(why = "", seats) {
+  const question = {why, free: []};
+  store.hello = question;
   changed("hello");
+  const line = known("line");
   const asked = seats ? {seats}
-    : await store.line.ask({seats: {token: stored("token")}}).catch(() => ({}));
-  store.line.rest();
+    : /** @type {{seats?: Seat[]}} */ (
+      await line.ask({seats: {token: stored("token")}}).catch(() => ({})));
+  line.rest();
   const free = (asked.seats ?? []).filter(({here, name}) => !here && name);
-  Object.assign(store.hello, {free, name: stored("name"), asks: true});
+  assign(store.hello ?? question, {free, name: stored("name"), asks: true});
   changed("hello");
 }
 
-/** From now on this tab has a seat: all is asked for anew, and what is pending is sent again. */
+/** Choose a seat to take over; it is taken over when that is confirmed.
+ * @param {number} seat
+ */
+export function chooseSeat(seat) {
+  known("hello").takes = seat;
+  changed("hello");
+}
+
+/** Take a seat: ask for all anew, and send what is pending again.
+ * @param {Welcome} said
+ */
 async function welcome(said) {
   store.hello = null;
   changed("hello");
   sessionStorage.setItem("key", said.key);
   sessionStorage.setItem("name", said.name);
-  Object.assign(store, {me: said, most: said.most ?? store.most, standing: said.standing ?? ""});
-  Object.assign(store.clock, {now: said.now, rate: said.rate});
+  assign(store, {me: said, most: said.most ?? store.most, standing: said.standing ?? ""});
+  assign(store.clock, {now: said.now, rate: said.rate});
+  beginClock(said.day?.begin ?? null);
+  dayIn(said.day?.zone ?? null);
   if (!store.plan) layRoad(said.plan);
-  const {roads, layers} = store;
-  Object.assign(roads.mine, {at: said.at, horizon: 0});
-  roads.shared.horizon = 0;
-  store.line.stands();
+  assign(roadOf("mine"), {at: said.at, horizon: 0});
+  roadOf("shared").horizon = 0;
+  known("line").stands();
   showLine("connected", false);
   if (store.away) tell("The connection is back.");
   HEARD.broker(said.broker);
   store.away = false;
   changed("me");
-  for (const whose of ["mine", "shared"]) {
-    roads[whose].stale(0);
-    layers[whose].next = 0;
+  for (const whose of BOTH) {
+    roadOf(whose).stale(0);
+    layersOf(whose).next = 0;
   }
   fetchKept();
   const sent = [...store.pending.keys()].map(send);
   await Promise.all([...sent, refresh("mine"), refresh("shared"), askPreview()]);
-  hear({clock: store.clock});
+  HEARD.clock(store.clock);
 }
 
-/** What the plan decides, once. */
+/** Make roads by the plan, once.
+ * @param {Plan} plan
+ */
 function layRoad(plan) {
   const {length} = plan;
-  Object.assign(store, {plan,
+  assign(store, {plan,
                         roads: {mine: new Road("", length), shared: new Road("shared", length)},
                         layers: {mine: new Layers(plan), shared: new Layers(plan)}});
   store.look.cells = length;
+  findCurvesBy(curveAt);
   changed("plan");
 }
 
+/** Say how the connection is.
+ * @param {string} text
+ * @param {boolean} away
+ */
 function showLine(text, away) {
   store.lineText = [text, away];
-  changed("line");
+  changed("lineText");
 }
 
+/** Note that the connection broke.
+ * @param {boolean} again     it is tried again
+ * @param {string} reason     of the server
+ * @param {number} code       of the WebSocket
+ */
 function lost(again, reason, code) {
   store.asking = 0;
   if (code === TAKEN_OVER) sessionStorage.removeItem("key");
-  for (const road of Object.values(store.roads)) road.advancing = false;
+  for (const road of Object.values(store.roads)) road.isAdvancing = false;
   const text = again ? "connection lost, trying again" : reason || "connection closed";
   showLine(text, true);
   if (store.me) keepPending();
@@ -126,29 +178,34 @@ function lost(again, reason, code) {
   store.away = true;
 }
 
+/** What is done with what is told without asking. */
 const HEARD = {
+  /** @param {{now: number, rate: number, stop?: number | null}} told */
   clock({now, rate, stop = null}) {
     const {rate: ran, stop: wanted} = store.clock;
-    Object.assign(store.clock, {now, rate, stop});
+    assign(store.clock, {now, rate, stop});
     const hasStopped = ran && !rate && wanted && now >= wanted;
     if (hasStopped) tell("The clock stopped: so fast it runs for an hour.");
     changed("clock");
-    if (ran && !rate) store.roads.shared.version++;
+    if (ran && !rate) roadOf("shared").version++;
     look();
   },
+  /** @param {News} news */
   async news(news) {
-    if (typeof news.touched === "number") store.roads.shared.stale(news.touched);
-    else if (news.touched === undefined) store.roads.shared.stale(0);
+    if (typeof news.touched === "number") roadOf("shared").stale(news.touched);
+    else if (news.touched === undefined) roadOf("shared").stale(0);
     await refresh("shared");
     hearNews(news);
     look();
     askPreview();
   },
+  /** @param {Seat[]} seats */
   seats(seats) {
     store.others = seats.filter(({here, seat}) => here && seat !== store.me?.seat)
       .map(({name}) => name);
     changed("others");
   },
+  /** @param {Broker | null} said */
   broker(said) {
     if (!said) return;
     const {state, unsent, sites, told, stays = [], sealed} = said;
@@ -159,16 +216,18 @@ const HEARD = {
     showLine(text, state === "away");
     const newest = told?.at(-1) ?? "";
     if (newest && newest !== store.toldByBroker) tell(newest, true);
-    Object.assign(store, {toldByBroker: newest, stays, sites: sites ?? []});
+    assign(store, {toldByBroker: newest, stays, sites: sites ?? []});
     changed("stays", "sites");
   },
   days: hearDays,
+  /** @param {string | null} text */
   trouble(text) {
     if (text) tell(text, true);
     else if (store.trouble) tell("The server's trouble is over.");
-    store.trouble = text;
+    store.trouble = text ?? "";
     changed("stays");
   },
+  /** @param {{why?: string}} told */
   async program({why}) {
     if (why) tellReplaced(`The program was replaced: ${why}`);
     await refresh("mine");  // what was pending, and the disk refused, may have been in the list
@@ -176,11 +235,14 @@ const HEARD = {
   },
 };
 
-let replacedGoes = null;
+/** @type {ReturnType<typeof setTimeout> | undefined} */
+let replacedGoes;
 
-/** Says it for a while: what the next program has done is told at once. */
+/** Say for a while that the program was replaced.
+ * @param {string} text
+ */
 function tellReplaced(text) {
-  const says = (replaced) => {
+  const says = (/** @type {string} */ replaced) => {
     store.replaced = replaced;
     changed("stays");
   };
@@ -190,7 +252,9 @@ function tellReplaced(text) {
   replacedGoes = setTimeout(says, STANDS, "");
 }
 
-/** What others shared and this tab has not taken, with a sentence that is told once. */
+/** Note what others shared and this tab has not taken, with a sentence that is told once.
+ * @param {News} news
+ */
 function hearNews(news) {
   const {size, from} = news;
   const titles = titlesOf(news);
@@ -203,7 +267,16 @@ function hearNews(news) {
   changed("news");
 }
 
+/** Take what is told without asking. Kinds that this page does not know are passed over.
+ * @param {Told} value
+ */
 function hear(value) {
-  const [kind] = Object.keys(value);
-  if (store.plan) HEARD[kind]?.(value[kind]);
+  if (!store.plan) return;
+  if (value.clock !== undefined) HEARD.clock(value.clock);
+  if (value.news !== undefined) HEARD.news(value.news);
+  if (value.seats !== undefined) HEARD.seats(value.seats);
+  if (value.broker !== undefined) HEARD.broker(value.broker);
+  if (value.days !== undefined) HEARD.days(value.days);
+  if (value.trouble !== undefined) HEARD.trouble(value.trouble);
+  if (value.program !== undefined) HEARD.program(value.program);
 }

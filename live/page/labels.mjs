@@ -1,40 +1,65 @@
-// Where the labels of frames stand: not on a closure, not on each other, not on what is not
-// computed, and whole within the plot. A box is [left, top, right, bottom] in pixels.
+// Where the labels of frames stand: not on a closure, not on each other, not on steps that are not
+// computed, and whole within the plot.
+
+/** @typedef {import("./types.mjs").Box} Box */
+/** @typedef {[wide: number, high: number]} Size     pixels */
+/** @typedef {[x: number, y: number]} Point          pixels */
+/**
+ * A text for a frame: its box on the canvas, and the change that it belongs to.
+ * @typedef {{text: string, box: Box, line: unknown, colour?: string}} Label
+ */
 
 const APART = 4;                // pixels between a label and what it stands beside
 const FARTHEST = 200;           // pixels above or below its frame
 const TOUCH = 2;                // pixels between frames that touch
 
+/** @type {(box: Box, other: Box) => boolean} */
 const meet = ([left, top, right, bottom], other) =>
   left < other[2] && other[0] < right && top < other[3] && other[1] < bottom;
 
+/** @type {(value: number, least: number, most: number) => number} */
 const within = (value, least, most) => Math.max(least, Math.min(most, value));
 
-/** Places at which a label of a size may stand, the best first: in the frame's upper left corner,
-    beside it, above it, below it; then farther and farther from there. */
+/** Return places at which a label of a size may stand, the best first: in the frame's upper left
+ * corner, beside it, above it, below it; then farther and farther from there.
+ * @param {Box} frame
+ * @param {Size} size
+ * @param {Box} bounds
+ * @returns {Point[]}
+ */
 function candidates([left, top, right, bottom], [wide, high], [, upper, , lowest]) {
   const begun = within(top, upper, lowest - high);
   const across = [left + APART, right + APART, left - APART - wide];
-  const near = [[left + APART, begun + 1], ...across.slice(1).map((x) => [x, begun]),
+  /** @type {Point[]} */
+  const near = [[left + APART, begun + 1], [right + APART, begun],
+                [left - APART - wide, begun],
                 [left, top - APART - high], [left, bottom + APART]];
+  /** @type {Point[]} */
   const far = [];
   for (let away = 0; away <= FARTHEST; away += high) {
     for (const y of [begun + away, begun - away]) {
-      far.push(...across.map((x) => [x, y]));
+      for (const x of across) far.push([x, y]);
     }
   }
   return [...near, ...far];
 }
 
+/** @param {Label} label */
 const sizeOf = ({box: [left, top, right, bottom]}) => (right - left) * (bottom - top);
 
+/** @type {(box: Box, other: Box) => boolean} */
 const touch = ([left, top, right, bottom], other) =>
   meet([left - TOUCH, top - TOUCH, right + TOUCH, bottom + TOUCH], other);
 
-/** Of labels {text, box, line} that say the same of one line, or of frames that touch, the one
-    whose frame is the largest. */
+/** Return one of the labels that say the same of one change, or of frames that touch: that of the
+ * largest frame.
+ * @template {Label} Kept
+ * @param {Kept[]} labels
+ * @returns {Kept[]}
+ */
 export function onceEach(labels) {
-  const groups = new Map();     // by text: {label, lines, boxes}
+  /** @type {Map<string, {label: Kept, lines: Set<unknown>, boxes: Box[]}[]>} */
+  const groups = new Map();     // by text
   for (const label of [...labels].sort((one, other) => sizeOf(other) - sizeOf(one))) {
     const alike = groups.get(label.text) ?? [];
     const group = alike.find(({lines, boxes}) =>
@@ -50,14 +75,21 @@ export function onceEach(labels) {
   return [...groups.values()].flat().map(({label}) => label);
 }
 
-/** The place [left, top] of a label of a size that belongs to a frame, within bounds and clear of
-    boxes; null where there is none. */
+/** Return the place, left and top, of a label of a frame, within bounds and clear of boxes; null
+ * if there is none.
+ * @param {Box} frame
+ * @param {Size} size
+ * @param {Box} bounds
+ * @param {Box[]} taken
+ * @returns {Point | null}
+ */
 export function placeOfLabel(frame, size, bounds, taken) {
   const [wide, high] = size;
   const [left, top, right, bottom] = bounds;
   if (bottom - top < high || right - left < wide) return null;
   for (const [x, y] of candidates(frame, size, bounds)) {
     const [at, down] = [within(x, left, right - wide), y];
+    /** @type {Box} */
     const box = [at, down, at + wide, down + high];
     const isInside = down >= top && down + high <= bottom;
     if (isInside && !taken.some((other) => meet(box, other))) return [at, down];

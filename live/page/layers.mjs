@@ -1,110 +1,201 @@
-// Lines of changes, as the server tells them, and what of them is in force on a road. A line is
-// named by the stamp of the gesture that put it: {name, shape, kind, who, note, when, standing,
-// shared, shown, operations, edits}. `shown` are rectangles of it, [kind, first, last, from, to,
-// value, by]: by null: in force there, else the name of the line that covers it.
+// The changes of a road, as the server tells them, and where each is in force. A change is named by
+// the stamp of the operation that put it.
 
 import {OF_ONE, fits} from "./geometry.mjs";
 import {keyOf} from "./stamps.mjs";
 
-const MOST_SHOWN = 1000;        // rectangles of a line
+/** @typedef {import("./types.mjs").Change} Change */
+/** @typedef {import("./types.mjs").Curve} Curve */
+/** @typedef {import("./types.mjs").Frame} Frame */
+/** @typedef {import("./types.mjs").Kind} Kind */
+/** @typedef {import("./types.mjs").ListNews} ListNews */
+/** @typedef {import("./types.mjs").Operation} Operation */
+/** @typedef {import("./types.mjs").Plan} Plan */
+/** @typedef {import("./types.mjs").Stamp} Stamp */
+/** @typedef {import("./types.mjs").TaggedChange} TaggedChange */
 
-/** What an object is by the plan alone; null where the plan says nothing (slow to start). */
+const MOST_SHOWN = 1000;        // rectangles of a change
+
+/** Return the value of an object by the plan alone; null if the plan says nothing (slow to start).
+ * @param {Plan} plan
+ * @param {Kind} kind
+ * @param {number} index
+ * @returns {number | null}
+ */
 export function planned(plan, kind, index) {
-  return {limit: () => plan.zones[index][0], slow: () => plan.zones[index][1], block: () => 0,
-          inflow: () => plan.inlets[index][1], watch: () => 1, start: () => null}[kind]();
+  if (kind === "limit") return plan.zones[index][0];
+  if (kind === "slow") return plan.zones[index][1];
+  if (kind === "inflow") return plan.inlets[index][1];
+  if (kind === "start") return null;
+  return kind === "watch" ? 1 : 0;
 }
 
-/** A line as it was told, without what is not of this road. One of edits alone (`isRaw`) has a
-    shape where what it puts, other than the plan, is one rectangle; one that leaves out what a site
-    makes has the `site`'s number. */
-function tamed(plan, line) {
-  const shown = (Array.isArray(line.shown) ? line.shown : []).slice(0, MOST_SHOWN)
-    .filter((part) => fits(plan, part));
-  const edits = (line.edits ?? []).filter(([kind, index, step]) =>
-    fits(plan, [kind, index, index, step, null, 0]));
-  const isRaw = !fits(plan, line.shape);
-  const put = shown.filter(([kind, first, , , , value]) => value !== planned(plan, kind, first));
-  const isOne = put.length === 1 && (put[0][1] === put[0][2] || !OF_ONE.includes(put[0][0]));
-  const shape = !isRaw ? line.shape : isOne ? put[0].slice(0, 6) : null;
-  const site = line.kind === "site" && Number.isInteger(line.shape?.[1]) ? line.shape[1] : null;
-  return {...line, shape, shown, edits, isRaw, site};
+/** Return a change without what is not of this road. One of raw edits alone has a shape if what it
+ * puts is one rectangle, apart from what the plan has.
+ * @param {Plan} plan
+ * @param {TaggedChange} told
+ * @returns {Change}
+ */
+function tamed(plan, told) {
+  const shown = told.shown.slice(0, MOST_SHOWN).filter((part) => fits(plan, part));
+  const edits = told.edits.filter(({kind, index, step}) =>
+    fits(plan, {kind, first: index, last: index, from: step, to: null}));
+  const isRaw = !told.shape || !fits(plan, told.shape);
+  const put = shown.filter(({kind, first, value}) => value !== planned(plan, kind, first));
+  const [{by, ...only}] = put.length === 1 ? put : [{by: null}];
+  const isOne = "kind" in only && (only.first === only.last || !OF_ONE.includes(only.kind));
+  return {...told, shape: !isRaw ? told.shape : isOne ? only : null, shown, edits, isRaw};
 }
 
-/** Where lines are in force: {kind, first, last, from, to, value, by}. An edit that sets what the
-    plan has anyway needs no frame. */
+/** Return where changes are in force. An edit that sets what the plan has anyway needs no frame.
+ * @param {Plan} plan
+ * @param {Iterable<Change>} lines
+ * @returns {Frame[]}
+ */
 function framesOf(plan, lines) {
   const frames = [...lines].filter(({standing}) => standing).flatMap((line) =>
-    line.shown.filter(([, , , , , , by]) => by === null)
-      .map(([kind, first, last, from, to, value]) =>
-        ({kind, first, last, from, to, value, by: line})));
+    line.shown.filter(({by}) => by === null).map((part) => ({...part, by: line})));
   return frames.filter(({kind, first, value, by}) =>
     !by.isRaw || value !== planned(plan, kind, first));
 }
 
-/** The lines of a road, by name. */
+/** @typedef {(road: Layers, inlet: number, step: number) => import("./types.mjs").Curve | null} FindCurve */
+
+/** @type {FindCurve} */
+let curveOf = () => null;
+
+/** Let curves of inlets be found so, by the road, the inlet and the step; null: there is none yet.
+ * @param {FindCurve} find
+ */
+export function findCurvesBy(find) {
+  curveOf = find;
+}
+
+/** The changes of a road, by name. */
 export class Layers {
+  /**
+   * @param {Plan} plan
+   * @param {Map<string, Change>} [lines]
+   */
   constructor(plan, lines = new Map()) {
-    Object.assign(this, {plan, lines, next: 0, undo: null, redo: null});
+    this.plan = plan;
+    this.lines = lines;
+    this.next = 0;              // the version of the list that is held
+    /** @type {Stamp | null} */
+    this.undo = null;           // what Z would take back
+    /** @type {Stamp | null} */
+    this.redo = null;           // what Redo would put again
+    /** @type {{stamp: Stamp, by: string[]}[]} */
+    this.blocked = [];          // what Z passes over, and who changed it
     this.frames = framesOf(plan, lines.values());
   }
 
-  /** Takes lines that are other than before, each in the place of the one of its name. */
-  take({layers, next, undo = null, redo = null}) {
+  /** Take changes that differ from before, each in the place of the one of its name.
+   * @param {Pick<ListNews, "layers" | "next"> & Partial<ListNews>} told
+   */
+  take({layers, next, undo = null, redo = null, blocked = []}) {
     for (const line of layers) {
-      if (line.gone) this.lines.delete(keyOf(line.name));
+      if ("gone" in line) this.lines.delete(keyOf(line.name));
       else this.lines.set(keyOf(line.name), tamed(this.plan, line));
     }
-    Object.assign(this, {next, undo, redo});
+    [this.next, this.undo, this.redo, this.blocked] = [next, undo, redo, blocked];
     this.frames = framesOf(this.plan, this.lines.values());
   }
 
-  /** Another road: these, and lines in the place of some. */
+  /** Return another road: with these changes, and others in the place of some.
+   * @param {ListNews["layers"]} lines
+   */
   with(lines) {
     const road = new Layers(this.plan, new Map(this.lines));
     road.take({layers: lines, next: this.next});
     return road;
   }
 
+  /** Return the change of a name; undefined if there is none.
+   * @param {Stamp} name
+   */
   line(name) {
     return this.lines.get(keyOf(name));
   }
 
-  /** The value that an object has at a step; null where nobody says. */
+  /** Return the change on which an operation was made; undefined if there is none.
+   * @param {Stamp} stamp
+   */
+  changeWith(stamp) {
+    const isOn = (/** @type {Change} */ {operations}) =>
+      operations.some((one) => keyOf(one.stamp) === keyOf(stamp));
+    return [...this.lines.values()].find(isOn);
+  }
+
+  /** Return the value of an object at a step; null if nobody says.
+   * @param {Kind} kind
+   * @param {number} index
+   * @param {number} step
+   * @returns {number | null}
+   */
   valueAt(kind, index, step) {
     const there = this.frames.find((one) => one.kind === kind && one.first <= index
       && index <= one.last && one.from <= step && (one.to === null || step < one.to));
     return there ? there.value : planned(this.plan, kind, index);
   }
+
+  /** Return what an inlet admits by each chance at a step; null: that is measured just now.
+   * @param {number} inlet
+   * @param {number} step
+   */
+  curveAt(inlet, step) {
+    return curveOf(this, inlet, step);
+  }
 }
 
-/** How many cars of a row stand in a part of a closure, where the road opens at its end, or never:
-    where it stays closed they stand in the next part. */
+/** Return how many cars of a row stand in a part of a closure, if the road opens at its end, or
+ * never. If it stays closed, they stand in the next part.
+ * @param {Layers} layers
+ * @param {Pick<Frame, "first" | "last" | "to">} part
+ * @param {string} row
+ */
 export const caughtIn = (layers, {first, last, to}, row) =>
   [...row.slice(first, last + 1)].filter((sign, at) => sign !== "#" && sign !== "."
     && (to === null || !layers.valueAt("block", first + at, to))).length;
 
-// A line's operations.
+// A change's operations.
 
+/** Return the last operation on a change.
+ * @param {Change} line
+ * @returns {Pick<Operation, "stamp" | "when" | "note"> & Partial<Operation>}
+ */
 export const lastOf = ({operations, name: stamp, when, note}) =>
   operations.at(-1) ?? {stamp, when, note};
 
-/** The operations of a line that are to be shared: not those that were taken back before anybody
-    else had them, by which nothing is other. */
+/** Return the operations on a change that are to be shared: not those that were taken back before
+ * anybody else had them.
+ * @param {Pick<Change, "operations">} line
+ */
 export const privateOf = ({operations}) => operations.filter(({shared, idle}) => !shared && !idle);
 
-/** The last operation of a number's seat, where another laid the line at the same time and won:
-    {mine, theirs}; null where none did. */
+/** Return a seat's last operation on a change and the one that was made at the same time and won;
+ * null if there is none.
+ * @param {Pick<Change, "operations">} line
+ * @param {number} number    the seat's, in stamps
+ */
 export function lostOf({operations}, number) {
-  const mine = operations.findLast(({stamp}) => stamp[1] === number);
-  if (!mine?.lost) return null;
-  const theirs = operations.find(({stamp}) => keyOf(stamp) === keyOf(mine.lost));
+  const mine = operations.findLast(({stamp}) => stamp.number === number);
+  const lost = mine?.lost;
+  if (!mine || !lost) return null;
+  const theirs = operations.find(({stamp}) => keyOf(stamp) === keyOf(lost));
   return theirs ? {mine, theirs} : null;
 }
 
-/** Whether a line is in force on an object at a step. */
-export const isInForce = ({shown}, index, step) => shown.some(([, first, last, from, to, , by]) =>
+/** Ask whether a change is in force on an object at a step.
+ * @param {Change} line
+ * @param {number} index
+ * @param {number} step
+ */
+export const isInForce = ({shown}, index, step) => shown.some(({first, last, from, to, by}) =>
   by === null && first <= index && index <= last && from <= step && (to === null || step < to));
 
-/** Whether anything of a line is covered by another. */
+/** Ask whether another change covers a part of a change.
+ * @param {Change} line
+ */
 export const isCovered = ({standing, shown}) =>
-  standing && shown.some(([, , , , , , by]) => by !== null);
+  standing && shown.some(({by}) => by !== null);

@@ -1,4 +1,27 @@
-// The line to the server: questions with a number, their answers, and what is told without asking.
+// The connection to the server: questions with a number, their answers, and what is told without
+// asking.
+
+/** @typedef {import("./types.mjs").Answers} Answers */
+/** @typedef {Partial<Record<keyof Answers | "hello" | "seats", object>>} Command */
+/** @typedef {import("./types.mjs").Told} Told */
+/** @typedef {{id: number, refused?: string, why?: string}} Answer     with more fields */
+/**
+ * @typedef {object} Question
+ * @property {Command} command
+ * @property {(answer: Answer) => void} done
+ * @property {(fault: Error) => void} fail
+ * @property {boolean} first
+ */
+/**
+ * What is used of a WebSocket.
+ * @typedef {object} Socket
+ * @property {number} readyState
+ * @property {(text: string) => void} send
+ * @property {() => void} close
+ * @property {((event: Event) => void) | null} onopen
+ * @property {((event: MessageEvent) => void) | null} onmessage
+ * @property {((event: CloseEvent) => void) | null} onclose
+ */
 
 const MOST_OPEN = 6;            // the server refuses a ninth question that waits
 const MOST_FIRST = 3;           // of these: a disk may take long, and looking goes on
@@ -8,22 +31,47 @@ const OPEN = 1;                 // the state of a socket that can be written to
 export const TAKEN_OVER = 4001; // somebody took the seat over
 const CLOSED_FOR_GOOD = [1008, 4000, TAKEN_OVER];
 
-/** The clock of the browser. */
-const soon = (act, wait) => setTimeout(act, wait);
+/** Call a function after some milliseconds, by the browser's clock.
+ * @param {() => void} act
+ * @param {number} wait
+ */
+const soon = (act, wait) => { setTimeout(act, wait); };
 
+/** There is no connection, or it broke before the answer came. */
 export class Away extends Error {}
 
+/** The connection, and the questions on it. */
 export class Line {
-  /** `open` makes a socket. Calls `greet` when the line stands, `hear` with what is told, `lost`
-      when it breaks; `later` calls a function after some milliseconds. */
+  /**
+   * @param {object} calls
+   * @param {() => Socket} calls.open      makes a socket
+   * @param {() => void} calls.greet       is called when the socket is open
+   * @param {(value: Told) => void} calls.hear     is called with what is told without asking
+   * @param {(again: boolean, reason: string, code: number) => void} calls.lost    is called when
+   *   the connection breaks; `again`: it is tried again
+   * @param {(act: () => void, wait: number) => void} [calls.later]    calls a function after some
+   *   milliseconds
+   */
   constructor({open, greet, hear, lost, later = soon}) {
-    Object.assign(this, {opens: open, greet, hear, lost, later, number: 0, tries: 0,
-                         greeted: false});
+    this.opens = open;
+    this.greet = greet;
+    this.hear = hear;
+    this.lost = lost;
+    this.later = later;
+    this.number = 0;            // of the last question that was sent
+    this.tries = 0;
+    this.greeted = false;       // all may be asked
+    /** @type {Map<number, Question>} */
     this.open = new Map();      // questions whose answer is awaited, by number
+    /** @type {Question[]} */
     this.queue = [];            // questions that are not sent yet
+    /** @type {Question[]} */
     this.first = [];            // those that go before them, in their own order
+    /** @type {Socket | null} */
+    this.socket = null;
   }
 
+  /** Open a socket. */
   connect() {
     this.socket = this.opens();
     this.socket.onopen = () => this.greet();
@@ -31,18 +79,26 @@ export class Line {
     this.socket.onclose = ({code, reason}) => this.broke(code, reason);
   }
 
-  /** A promise of the answer; it fails with Away where the line breaks before. */
+  /** Ask a question. The promise fails with Away if the connection breaks before the answer.
+   * @param {Command} command
+   * @param {boolean} [first]     it goes before those that wait
+   * @returns {Promise<Answer>}
+   */
   ask(command, first = false) {
     return new Promise((done, fail) => {
-      if (!this.greeted && !command.hello && !command.seats) return fail(new Away("no line"));
+      if (!this.greeted && !command.hello && !command.seats) {
+        fail(new Away("no line"));
+        return;
+      }
       const question = {command, done, fail, first};
       (first ? this.first : this.queue).push(question);
       this.send();
     });
   }
 
+  /** Send what may be sent now. */
   send() {
-    while (this.open.size < MOST_OPEN && this.socket.readyState === OPEN) {
+    while (this.open.size < MOST_OPEN && this.socket?.readyState === OPEN) {
       const acts = [...this.open.values()].filter(({first}) => first).length;
       const question = (acts < MOST_FIRST && this.first.shift()) || this.queue.shift();
       if (!question) return;
@@ -52,38 +108,50 @@ export class Line {
     }
   }
 
-  /** How many questions are not sent yet. */
+  /** Return how many questions are not sent yet. */
   waits() {
     return this.first.length + this.queue.length;
   }
 
+  /** Take a message of the server.
+   * @param {Answer | (Told & {id?: undefined})} value
+   */
   take(value) {
-    if (value.id === undefined) return this.hear(value);
+    if (value.id === undefined) {
+      this.hear(value);
+      return;
+    }
     this.open.get(value.id)?.done(value);
     this.open.delete(value.id);
     this.send();
   }
 
-  /** Closes the line until it is connected again: the server soon closes one without a name. */
+  /** Close the socket until it is connected again: the server soon closes one without a name. */
   rest() {
-    this.socket.onclose = null;
-    this.socket.close();
+    if (this.socket) {
+      this.socket.onclose = null;
+      this.socket.close();
+    }
     this.forget();
   }
 
-  /** Gives the questions that have no answer, and forgets them. */
+  /** Return the questions that have no answer, and forget them. */
   forget() {
     const asked = [...this.open.values(), ...this.first, ...this.queue];
     this.open.clear();
-    Object.assign(this, {first: [], queue: []});
+    [this.first, this.queue] = [[], []];
     return asked;
   }
 
-  /** From now on all may be asked. */
+  /** Let all be asked from now on. */
   stands() {
-    Object.assign(this, {greeted: true, tries: 0});
+    [this.greeted, this.tries] = [true, 0];
   }
 
+  /** Fail all questions, and connect again unless the server closed for good.
+   * @param {number} code
+   * @param {string} reason
+   */
   broke(code, reason) {
     this.greeted = false;
     for (const {fail} of this.forget()) fail(new Away("the line broke"));

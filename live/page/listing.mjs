@@ -1,44 +1,79 @@
-// What the lists of changes say: what a line is, whose, where it is in force, and what covers it.
-// `layers` are those of the road that is shown, `number` is that of the seat for which it is said.
+// What the lists of changes say: what a change is, whose, where it is in force, and what covers it.
+// `layers` are those of the road that is shown; `number` is that of the seat that reads it.
 
 import {isCovered, lastOf, lostOf, privateOf} from "./layers.mjs";
 import {THINGS, editsText, placesText, shapeText, spanText, thingText} from "./sentences.mjs";
-import {byStamp} from "./stamps.mjs";
+import {byStamp, keyOf} from "./stamps.mjs";
 import {dayText} from "./units.mjs";
 
-const MOST_PARTS = 4;           // of a line, that are told
-const DONE = {put: "put", change: "changed", withdraw: "withdrawn", top: "put on top",
-              undo: "taken back or put again", edits: "edited"};
-const LAID = {put: "put it", change: "changed it", withdraw: "withdrew it", top: "put it on top",
-              undo: "took a change of it back", edits: "edited there"};
+/** @typedef {import("./layers.mjs").Layers} Layers */
+/** @typedef {import("./types.mjs").Change} Change */
+/** @typedef {import("./types.mjs").Deed} Deed */
+/** @typedef {import("./types.mjs").Operation} Operation */
+/** @typedef {import("./types.mjs").Rectangle} Rectangle */
+/** @typedef {import("./types.mjs").Stamp} Stamp */
+/**
+ * A change with its texts: whether it is shared, what covers it, who won over it, what it is, who
+ * made it and when, and in which list it stands.
+ * @typedef {{line: Change, state: "private" | "shared", cover: string, lost: string, text: string,
+ *            meta: string, where: "own" | "held"}} Listed
+ */
 
-/** What a line that stands no longer was. */
+const MOST_PARTS = 4;           // of a change, that are told
+/** @type {Record<Deed, string>} */
+const DONE = {put: "put", change: "changed", withdraw: "withdrawn", top: "put on top",
+              undo: "undone", redo: "redone", edits: "edited", exclude: "left out",
+              include: "let in again"};
+/** @type {Record<Deed, string>} */
+const LAID = {put: "put it", change: "changed it", withdraw: "withdrew it", top: "put it on top",
+              undo: "undid a change of it", redo: "redid a change of it", edits: "edited there",
+              exclude: "left it out", include: "let it in again"};
+
+/** Write what a withdrawn change was.
+ * @param {Change} line
+ */
 function goneText(line) {
   const {does, note} = lastOf(line);
   if (does === "withdraw" && note) return note;
-  return line.note ? `Taken back: ${line.note}` : `${THINGS[line.kind] ?? "Change"} withdrawn`;
+  if (line.note) return `Taken back: ${line.note}`;
+  return `${line.kind && line.kind !== "site" ? THINGS[line.kind] : "Change"} withdrawn`;
 }
 
-/** Words for lines, as a seat sees them. */
+/** Words for changes, as a seat sees them. */
 export class Words {
+  /**
+   * @param {Layers} layers
+   * @param {number | null} number    null: of no seat
+   */
   constructor(layers, number) {
-    Object.assign(this, {layers, number});
+    this.layers = layers;
+    this.number = number;
   }
 
+  /** Ask whether the seat made a change.
+   * @param {Pick<Change, "name">} line
+   */
   isOwn({name}) {
-    return name[1] === this.number;
+    return name.number === this.number;
   }
 
-  /** Whose line it is: who made it, for everybody the same. */
+  /** Write who made a change.
+   * @param {Pick<Change, "name" | "who">} line
+   */
   name(line) {
     return this.isOwn(line) ? "you" : line.who || "somebody";
   }
 
+  /** Write whose a change is.
+   * @param {Change} line
+   */
   whose(line) {
     return this.isOwn(line) ? "your" : `${line.who || "somebody"}'s`;
   }
 
-  /** What a line is. */
+  /** Write what a change is.
+   * @param {Change} line
+   */
   text(line) {
     const {shape, edits, standing, note, isRaw} = line;
     if (!standing) return goneText(line);
@@ -47,64 +82,116 @@ export class Words {
     return note || (edits.length ? editsText(this.layers, edits) : "Edits");
   }
 
-  /** Who did the last thing with a line. */
+  /** Write who made the last operation on a change.
+   * @param {Change} line
+   */
   by(line) {
     const {stamp, who} = lastOf(line);
-    return stamp[1] === this.number ? "you" : who || "somebody";
+    return stamp.number === this.number ? "you" : who || "somebody";
   }
 
-  /** Who made a line, and when it was laid last, with by whom where it was another. */
+  /** Write who made a change, when its last operation was made, and by whom if somebody else did.
+   * @param {Change} line
+   */
   meta(line) {
     const {stamp, does, when} = lastOf(line);
-    const done = stamp[1] === line.name[1] ? "" : `; ${DONE[does] ?? does} by ${this.by(line)}`;
+    const isOwn = stamp.number === line.name.number;
+    const done = isOwn || !does ? "" : `; ${DONE[does] ?? does} by ${this.by(line)}`;
     return [this.name(line) + done, dayText(when)].filter(Boolean).join(", ");
   }
 
-  /** A line in a few words: "Ben's limit of 54 km/h". */
+  /** Write a change in a few words: "Ben's limit of 54 km/h".
+   * @param {Change} line
+   */
   short(line) {
     const value = line.shape ? thingText(this.layers, line.shape) : "edit";
     return `${this.whose(line)} ${value}`;
   }
 
-  /** Where a line is in force, and what covers it where it is not; "" where all of it is. */
+  /** Write where a change is in force, and what covers it elsewhere; "" if nothing covers it.
+   * @param {Change} line
+   */
   cover(line) {
     if (!isCovered(line)) return "";
     const over = [...new Set(line.shown.map((part) => this.coverer(part)).filter(Boolean))];
-    if (line.shown.every(([, , , , , , by]) => by !== null)) {
+    if (line.shown.every(({by}) => by !== null)) {
       return `Wholly covered by ${over.join(" and ")}.`;
     }
-    const parts = [...line.shown].sort((one, other) => one[3] - other[3] || one[1] - other[1]);
-    const places = new Set(parts.map(([, first, last]) => `${first} ${last}`)).size > 1;
+    const parts = [...line.shown].sort((one, other) =>
+      one.from - other.from || one.first - other.first);
+    const places = new Set(parts.map(({first, last}) => `${first} ${last}`)).size > 1;
     const texts = parts.slice(0, MOST_PARTS).map((part) => this.part(part, places));
     const rest = parts.length - texts.length;
     const text = `${texts.join("; ")}${rest > 0 ? `; and ${rest} more` : ""}.`;
     return text[0].toUpperCase() + text.slice(1);
   }
 
-  coverer([, , , , , , by]) {
+  /** Write where a change is in force, or where another change covers it: all parts.
+   * @param {Change} change
+   * @param {boolean} inForce
+   */
+  parts({shown, standing}, inForce) {
+    if (!standing) return "";
+    return shown.filter(({by}) => (by === null) === inForce).map((part) => {
+      const {kind, first, last, from, to} = part;
+      const where = `${placesText(this.layers.plan, kind, first, last)}, ${spanText(from, to)}`;
+      return inForce ? where : `${where} by ${this.coverer(part)}`;
+    }).join("; ");
+  }
+
+  /** Write what covers a part of a change; "" if it is in force.
+   * @param {Rectangle} part
+   */
+  coverer({by}) {
     if (by === null) return "";
     const line = this.layers.line(by);
     return line ? this.short(line) : "another change";
   }
 
+  /** Write when a part of a change is in force, or what covers it.
+   * @param {Rectangle} part
+   * @param {boolean} places  with where it is
+   */
   part(part, places) {
-    const [kind, first, last, from, to, , by] = part;
+    const {kind, first, last, from, to, by} = part;
     const where = places ? ` ${placesText(this.layers.plan, kind, first, last)},` : "";
     const time = spanText(from, to);
     return by === null ? `in force${where} ${time}`
       : `covered${where} ${time} by ${this.coverer(part)}`;
   }
 
-  /** Who laid a line at the same time as one's own and won, in a sentence; "" where nobody did. */
+  /** Write in a sentence who changed the same at the same time and won; "" if nobody did.
+   * @param {Change} line
+   */
   lost(line) {
-    const found = lostOf(line, this.number);
+    const found = this.number === null ? null : lostOf(line, this.number);
     if (!found) return "";
     const {stamp, who, does} = found.theirs;
-    const name = stamp[1] === this.number ? "You" : who || "Somebody";
+    const name = stamp.number === this.number ? "You" : who || "Somebody";
     return `${name} ${LAID[does] ?? "changed it"} at the same time, a moment later.`;
   }
 
-  /** What becomes of a line where it was shown otherwise: "then ..". */
+  /** Write what others would have made of a change that is lost when it is taken, and who won; null
+   * if nothing of theirs is lost.
+   * @param {Change} line  as it would be
+   * @param {Operation[]} fresh  what would be taken of it
+   * @returns {[text: string, hint: string] | null}
+   */
+  losing(line, fresh) {
+    const keys = new Set(fresh.map(({stamp}) => keyOf(stamp)));
+    const last = line.operations.findLast(({stamp}) => keys.has(keyOf(stamp)));
+    const won = last?.lost;
+    if (!last || !won) return null;
+    const winner = line.operations.find(({stamp}) => keyOf(stamp) === keyOf(won));
+    const name = won.number === this.number ? "you" : winner?.who || "somebody";
+    const text = last.shape ? shapeText(this.layers, last.shape) : last.note || DONE[last.does];
+    return [text, `${last.who || "somebody"}: no effect, ${name} `
+      + `${LAID[winner?.does ?? "change"]} at the same time, a moment later`];
+  }
+
+  /** Write what becomes of a change by a preview: "then ..".
+   * @param {Change} line
+   */
   effect(line) {
     const then = line.standing ? this.cover(line) || "In force whole."
       : `Withdrawn by ${this.by(line)}.`;
@@ -112,26 +199,40 @@ export class Words {
       + `${then[0].toLowerCase()}${then.slice(1)}`;
   }
 
+  /** Return whether all of a change is shared.
+   * @param {Change} line
+   * @returns {"private" | "shared"}
+   */
   state(line) {
     return privateOf(line).length ? "private" : "shared";
   }
 }
 
-/** Whether a line is worth a place in the lists: of what stands no longer only what is not shared
-    yet, or what others withdrew at the same time as it was changed; not what a change of edits has
-    put another line in the place of. */
+/** Ask whether the lists have a change. Of withdrawn ones they have those that are not shared yet,
+ * and those that others withdrew while the seat changed them; but none of raw edits that a shape
+ * has replaced.
+ * @param {Change} line
+ * @param {Layers} layers
+ * @param {number} number
+ */
 function isListed(line, layers, number) {
   if (line.standing) return true;
   if (layers.line(lastOf(line).stamp)?.standing) return false;
   return privateOf(line).length > 0 || lostOf(line, number) !== null;
 }
 
-/** Lines in the order of each list of the page: what was done last, which is looked for most,
-    first. */
+/** Return changes in the order of the lists: the last that was made is looked for most, and comes
+ * first.
+ * @param {Change[]} lines
+ */
 export const newestFirst = (lines) => [...lines].sort((one, other) =>
   byStamp(lastOf(other).stamp, lastOf(one).stamp));
 
-/** The lines of the lists, each with the list where it stands. */
+/** Return the changes of the lists, each with its texts.
+ * @param {Layers} layers
+ * @param {number} number
+ * @returns {Listed[]}
+ */
 export function linesOf(layers, number) {
   const words = new Words(layers, number);
   const listed = [...layers.lines.values()].filter((line) => isListed(line, layers, number));
@@ -141,12 +242,15 @@ export function linesOf(layers, number) {
     where: privateOf(line).length ? "own" : "held"}));
 }
 
-/** All that was done, newest first: who did what and when, with what covers it since. */
+/** Return all operations, newest first: who did what and when, and what covers it since.
+ * @param {Layers} layers
+ * @param {number} number
+ */
 export function historyOf(layers, number) {
   const words = new Words(layers, number);
   return [...layers.lines.values()].flatMap((line) => line.operations.map((done) => {
     const {stamp, who, note, does, when, shared} = done;
-    const name = stamp[1] === number ? "you" : who || "somebody";
+    const name = stamp.number === number ? "you" : who || "somebody";
     const meta = [name, DONE[does] ?? does, dayText(when), shared ? "" : "private"]
       .filter(Boolean).join(", ");
     return {stamp, text: note || line.note, meta,
@@ -154,10 +258,14 @@ export function historyOf(layers, number) {
   })).sort((one, other) => byStamp(other.stamp, one.stamp));
 }
 
-/** Lines of which a preview shows other parts than before, but for those that are new. */
+/** Return the changes whose parts differ in a preview, without new ones.
+ * @param {Change[]} lines
+ */
 export const affectedBy = (lines) => lines.filter(({was, shown, standing}) =>
   was && (!standing || JSON.stringify(was) !== JSON.stringify(shown)));
 
-/** The titles under which others shared what is not taken; "" where there are none. */
+/** Write the titles under which others shared what is not taken; "" if there are none.
+ * @param {{shares: {who: string, title: string}[], from: string[]}} news
+ */
 export const titlesOf = ({shares, from}) => [...new Set(shares.filter(({who}) => from.includes(who))
   .map(({title}) => title).filter(Boolean))].map((title) => `\u201c${title}\u201d`).join(", ");

@@ -1,29 +1,44 @@
 // View: the lists of changes (not shared yet, shared), and the news of what others shared.
 
-import {openBefore, putAgain, putOnTop, redoNewest, shareAll, take, undoNewest, withdraw}
+import {openBefore, putAgain, putOnTop, redoNewest, relist, shareAll, take, undoNewest, withdraw}
   from "./acting.mjs";
 import {next} from "./changes.mjs";
 import {change} from "./drafting.mjs";
-import {$, button, element, on, showList} from "./elements.mjs";
+import {$, activeIn, button, element, on, showList} from "./elements.mjs";
 import {isCovered, lostOf, privateOf} from "./layers.mjs";
 import {historyOf} from "./listing.mjs";
 import {showLine} from "./looking.mjs";
-import {now, store, when} from "./store.mjs";
+import {keyOf} from "./stamps.mjs";
+import {known, layersOf, now, store, when} from "./store.mjs";
 import {plural} from "./units.mjs";
+
+/** @typedef {import("./elements.mjs").Item} Item */
+/** @typedef {import("./listing.mjs").Listed} Listed */
+/** @typedef {import("./types.mjs").Pending} Pending */
 
 const MOST_PAST = 100;          // operations that the page lists
 
+/** Make the buttons of a change.
+ * @param {Listed} listed
+ */
 function lineButtons({line, text}) {
-  const lost = lostOf(line, store.me.number);
-  return [[true, "Show", () => showLine(line)],
-          [line.standing && line.shape, "Change", () => change(line)],
-          [line.standing, "Withdraw", () => withdraw(line)],
-          [isCovered(line), "Put on top", () => putOnTop(line)],
-          [lost, "Put mine again", () => putAgain(line, lost.mine)],
-          [privateOf(line).length, "Share…", () => openBefore("share", [line])]]
-    .filter(([offered]) => offered).map(([, name, does]) => button(name, does, text));
+  const lost = lostOf(line, known("me").number);
+  /** @type {[offered: boolean, name: string, does: () => void][]} */
+  const buttons = [
+    [true, "Show", () => showLine(line)],
+    [line.standing && line.shape !== null, "Change", () => change(line)],
+    [line.standing, "Withdraw", () => withdraw(line)],
+    [isCovered(line), "Put on top", () => putOnTop(line)],
+    [privateOf(line).length > 0, "Share…", () => openBefore("share", [line])]];
+  if (lost && !lost.mine.undoes) {
+    buttons.splice(4, 0, [true, "Put mine again", () => putAgain(line, lost.mine)]);
+  }
+  return buttons.filter(([offered]) => offered).map(([, name, does]) => button(name, does, text));
 }
 
+/** Make the element of a change.
+ * @param {Listed} shown
+ */
 function lineElement(shown) {
   const {text, state, cover, lost, meta} = shown;
   const tag = element("span", state, {className: `state ${state}`});
@@ -34,78 +49,92 @@ function lineElement(shown) {
     element("p", "", {className: "buttons"}, ...lineButtons(shown)));
 }
 
-/** What shows in a line, and which operations it has. */
+/** Return what shows of a change, and which operations it has.
+ * @param {Listed} listed
+ */
 const signOf = ({line, text, state, cover, lost, meta}) =>
   JSON.stringify([text, state, cover, lost, meta, line.operations.map(({stamp}) => stamp)]);
 
-const itemOf = (shown) => ({key: shown.line.name.join(), sign: signOf(shown),
+/** @type {(shown: Listed) => Item} */
+const itemOf = (shown) => ({key: keyOf(shown.line.name), sign: signOf(shown),
                             make: () => lineElement(shown)});
 
+/** @type {(pending: [key: string, act: Pending]) => Item} */
 const pendingItem = ([key, {note}]) => ({key, sign: note, make: () => element("li", "", {},
   element("p", note + " ", {className: "note"},
     element("span", "pending", {className: "state pending"})))});
 
-/** The focus goes to the first list that there is, else to the diagram. */
+/** Give the focus to the first list that has something, else to the diagram. */
 export const focusOnLists = () =>
-  $(["own", "held"].find((id) => $(id).children.length) ?? "diagram").focus();
+  ([$("own"), $("held")].find((list) => list.children.length) ?? $("diagram")).focus();
 
+/** Show the lists of changes. */
 function showLists() {
+  /** @type {(where: Listed["where"]) => Item[]} */
   const of = (where) => store.lines.filter((one) => one.where === where).map(itemOf);
   showList($("own"), [...[...store.pending].reverse().map(pendingItem), ...of("own")]);
   showList($("held"), of("held"));
   const hadLast = [$("own"), $("held")].some((list) =>
     list === document.activeElement && !list.children.length);
-  for (const id of ["own", "held"]) $(id).parentElement.hidden = !$(id).children.length;
+  for (const list of [$("own"), $("held")]) {
+    const section = list.closest("section");
+    if (section) section.hidden = !list.children.length;
+  }
   if (hadLast) focusOnLists();
   const {undo, redo} = next();
-  $("undo").disabled = undo === null;
+  $("undo").disabled = undo === null && !store.layers.mine?.blocked.length;
   $("redo").disabled = redo === null;
 }
 
-const pastItem = ({stamp, text, meta, cover}) => ({key: stamp.join(),
+/** @type {(past: ReturnType<typeof historyOf>[0]) => Item} */
+const pastItem = ({stamp, text, meta, cover}) => ({key: keyOf(stamp),
   sign: JSON.stringify([text, meta, cover]), make: () => element("li", "", {}, element("p", text),
     element("p", meta, {className: "hint"}), element("p", cover, {hidden: !cover}))});
 
-/** Shows all that was done, where it is wished. */
+/** Show all that was done, if that is open. */
 function showHistory() {
   $("past").hidden = !store.lines.length && !store.layers.mine?.lines.size;
   if (!$("past").open || !store.me) return;
-  const all = historyOf(store.layers.mine, store.me.number);
+  const all = historyOf(layersOf("mine"), store.me.number);
   showList($("history"), all.slice(0, MOST_PAST).map(pastItem));
   const rest = all.length - MOST_PAST;
   $("pastRest").textContent = rest > 0 ? `And ${plural(rest, "earlier one")}, which Save has.` : "";
 }
 
-/** Says how to begin, until there are changes; that the road is empty only where it is. */
+/** Say how to begin, until there are changes; that the road is empty only if it is. */
 function showHint() {
   $("emptyHint").hidden = now() > 0;
   $("hint").hidden = store.lines.length > 0 || store.pending.size > 0;
 }
 
+/** Show what others shared and this tab has not taken. */
 function showNews() {
   const {size, text} = store.news;
   const section = $("news");
-  const had = section.contains(document.activeElement);
+  const had = activeIn(section);
   section.hidden = !size || Boolean(store.before?.takes);
   if (!size) {
     section.replaceChildren();
     if (had) $("held").focus();
     return;
   }
-  if (section.children.length) section.firstChild.textContent = text;
+  const [said] = section.children;
+  if (said) said.textContent = text;
   else {
     section.append(element("p", text), element("p", "", {className: "buttons"},
       button("Take", take), button("Look first", () => openBefore("take"))));
   }
 }
 
+/** Listen to the store and to the page. */
 export function begin() {
   on("undo", "click", undoNewest);
   on("redo", "click", redoNewest);
   on("shareAll", "click", shareAll);
   on("past", "toggle", showHistory);
-  when(["lists"], showLists);
-  when(["lists"], showHistory);
-  when(["lists", "clock"], showHint);
+  when(["lines"], showLists);
+  when(["lines"], showHistory);
+  when(["curves"], relist);
+  when(["lines", "clock"], showHint);
   when(["news", "before"], showNews);
 }

@@ -10,8 +10,10 @@ import {connect, takeToken} from "./joining.mjs";
 import * as lists from "./lists.mjs";
 import * as picture from "./picture.mjs";
 import * as save from "./save.mjs";
+import * as series from "./series.mjs";
 
 takeToken();
 addEventListener("hashchange", () => { takeToken(); location.reload(); });
-for (const view of [head, form, picture, hands, lists, before, figures, chance, save]) view.begin();
+for (const view of [head, form, picture, hands, lists, before, figures, series, chance,
+                    save]) view.begin();
 connect();

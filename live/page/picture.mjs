@@ -2,20 +2,34 @@
 // and over them the frames of what is in force, the clock, the rectangle that is dragged and the
 // cursor; below it what the colours mean.
 
+import {assign} from "./assign.mjs";
 import {waitingShapes, wordsShown} from "./changes.mjs";
-import {$, choose, element, on} from "./elements.mjs";
+import {$, choose, chosen, element, on, oneOf} from "./elements.mjs";
 import {drawsSoon, hasDrawn} from "./fetching.mjs";
 import {cellsOf} from "./geometry.mjs";
 import {onceEach, placeOfLabel} from "./labels.mjs";
 import {SPANS, chooseSpan, paintBy, resized, showRoad, showWholeRoad, zoomBy} from "./looking.mjs";
-import {slowAt, valueText} from "./sentences.mjs";
+import {valueText} from "./sentences.mjs";
 import {keyOf} from "./stamps.mjs";
-import {isOwn, last, layersShown, now, store, when, whoseShown} from "./store.mjs";
+import {isOwn, known, last, layersShown, now, roadOf, store, when, whoseShown} from "./store.mjs";
 import {HOUR, KMH_A_CELL, LAST_STEP, METRES_A_CELL} from "./units.mjs";
 import {byMeans, everyShown, partShown, viewNow} from "./view.mjs";
 
-const UNIT = unitOf(METRES_A_CELL, 1, true);
-const GREATEST = 5;             // cells a step at the end of the colours, 135 km/h
+/** @typedef {import("./labels.mjs").Label} Label */
+/** @typedef {import("./types.mjs").Area} Area */
+/** @typedef {import("./types.mjs").Box} Box */
+/** @typedef {import("./types.mjs").Change} Change */
+/** @typedef {import("./types.mjs").Frame} Frame */
+/** @typedef {import("./types.mjs").Kind} Kind */
+/** @typedef {CanvasRenderingContext2D} Context */
+/**
+ * A frame that is drawn: where a change is in force, or a shape that is not confirmed yet.
+ * @typedef {Omit<Frame, "by"> & {by: Pick<Change, "name" | "who">, pending?: boolean}} Drawn
+ */
+
+let unit = unitOf(METRES_A_CELL, 1, true);
+const GREATEST = FASTEST_COLOUR;        // cells a step at the end of the colours, 135 km/h
+/** @type {Record<Kind, string>} */
 const FRAME = {block: "#8f3a00", limit: "#004a9f", slow: "#5b2a86", start: "#5b2a86",
                inflow: "#0b5d2a", watch: "#333333"};
 const LABEL = "600 13px system-ui, sans-serif";
@@ -25,7 +39,7 @@ const LEAST = 6;                // pixels of a frame that is drawn
 
 const tilesKept = new Tiles();
 
-/** Draws at the next frame of the screen, once. */
+/** Draw at the next frame of the screen, once. */
 export function draw() {
   if (!store.plan || !drawsSoon()) return;
   requestAnimationFrame(() => {
@@ -34,6 +48,7 @@ export function draw() {
   });
 }
 
+/** Draw the diagram now. */
 export function drawDiagram() {
   const view = viewNow();
   const {context, width, height} = cleared($("diagram"));
@@ -47,18 +62,25 @@ export function drawDiagram() {
   const named = areOfSeveral(frames);
   const labels = frames.map((frame) => drawEdges(context, view, frame, named));
   if (store.area) drawArea(context, view, store.area);
-  else drawLabels(context, view, frames, onceEach(labels.filter(Boolean)));
+  else drawLabels(context, view, frames, onceEach(labels.flatMap((one) => one ?? [])));
   if (store.cursor) drawFrame(context, view, store.cursor[1], store.cursor[0]);
   context.restore();
-  drawAxes(context, view, partShown(), UNIT);
-  drawPlan(context, view, store.plan, width);
+  const plan = known("plan");
+  drawAxes(context, view, partShown(), unit, plan.length);
+  drawPlan(context, view, plan, width);
   drawWedge(context, view, now(), INK, height);
 }
 
+/** Draw the rows that are seen.
+ * @param {Context} context
+ * @param {View} view
+ * @param {number} width
+ * @param {number} height
+ */
 function drawRows(context, view, width, height) {
   const every = everyShown();
   const shown = whoseShown();
-  const [picture, other] = shown.map((whose) => store.roads[whose].level(every));
+  const [picture, other] = shown.map((whose) => roadOf(whose).level(every));
   const name = `${shown.join("-")} ${every}`;
   const part = inView(view, picture, width, height);
   const how = {tiles: tilesKept, name, greatest: GREATEST};
@@ -75,21 +97,26 @@ function drawRows(context, view, width, height) {
   drawDetails(context, view, picture, null, part, GREATEST);
 }
 
-/** Forgets the tiles in which rows of a road have changed. */
+/** Forget the tiles in which rows of a road have changed. */
 function repaint() {
-  const {whose, every, steps: [from, to]} = store.repainted;
+  const {whose, every, steps: [from, to]} = known("repainted");
   for (const shown of [whose, "mine-shared", "after-before"]) {
     tilesKept.forget(`${shown} ${every}`, from, to);
   }
   draw();
 }
 
-/** The clock, and below it, where it is looked ahead, that this is a forecast. */
+/** Draw the clock, and say below it that this is a forecast, if the road is ahead.
+ * @param {Context} context
+ * @param {View} view
+ * @param {number} width
+ * @param {number} height
+ */
 function drawAhead(context, view, width, height) {
   const top = topOf(view, now());
   if (top > height) return;
   context.setLineDash([2, 3]);
-  Object.assign(context, {strokeStyle: "#000000", lineWidth: 1});
+  assign(context, {strokeStyle: "#000000", lineWidth: 1});
   context.beginPath();
   context.moveTo(MARGIN.left, top);
   context.lineTo(width, top);
@@ -100,9 +127,16 @@ function drawAhead(context, view, width, height) {
   }
 }
 
-/** Text on a white ground. */
+/** Write a text on a white ground.
+ * @param {Context} context
+ * @param {string} text
+ * @param {number} left
+ * @param {number} top
+ * @param {"left" | "right"} [align]
+ * @param {string} [colour]
+ */
 export function write(context, text, left, top, align = "left", colour = "#000000") {
-  Object.assign(context, {font: LABEL, textAlign: "left", textBaseline: "top"});
+  assign(context, {font: LABEL, textAlign: "left", textBaseline: "top"});
   const wide = context.measureText(text).width;
   const from = align === "right" ? left - wide : left;
   context.fillStyle = "rgba(255, 255, 255, 0.92)";
@@ -111,18 +145,25 @@ export function write(context, text, left, top, align = "left", colour = "#00000
   context.fillText(text, from, top + 2);
 }
 
-/** The frames of the road shown, and of shapes that are not confirmed yet. */
+/** Return the frames of the road that is shown, and of shapes that are not confirmed yet.
+ * @returns {Drawn[]}
+ */
 export function framesShown() {
-  const own = {name: [0, store.me.number]};
+  const {number, name} = known("me");
+  /** @type {Drawn["by"]} */
+  const own = {name: {count: 0, number}, who: name};
   const shapes = whoseShown()[0] === "mine" ? waitingShapes() : [];
-  const waiting = shapes.map(([kind, first, end, from, to, value]) =>
-    ({kind, first, last: end, from, to, value, by: own, pending: true}));
+  const waiting = shapes.map((shape) => ({...shape, by: own, pending: true}));
   return [...layersShown().frames, ...waiting];
 }
 
-/** A frame's corners on the canvas: [left, top, right, bottom]. */
+/** Return the box of a frame on the canvas.
+ * @param {View} view
+ * @param {Omit<Frame, "by" | "value">} frame
+ * @returns {Box}
+ */
 export function cornersOf(view, {kind, first, last, from, to}) {
-  const [start, end] = cellsOf(store.plan, kind, first, last);
+  const [start, end] = cellsOf(known("plan"), kind, first, last);
   const [left, right] = [leftOf(view, start), leftOf(view, end)];
   const [top, bottom] = [topOf(view, from), topOf(view, to ?? LAST_STEP + 1)];
   const thin = Math.max(0, LEAST - (right - left)) / 2;
@@ -130,8 +171,12 @@ export function cornersOf(view, {kind, first, last, from, to}) {
   return [left - thin, top - low, right + thin, bottom + low];
 }
 
-/** Where rows are left out or cells share a pixel, closures are painted whole, as they are put:
-    else a short one is not seen, and a long one has stripes. */
+/** Paint closures whole if rows are left out or cells share a pixel: else a short one is not seen,
+ * and a long one has stripes.
+ * @param {Context} context
+ * @param {View} view
+ * @param {Drawn[]} frames
+ */
 function fillClosures(context, view, frames) {
   if (sizeOfCell(view) >= 1 && everyShown() === 1) return;
   context.fillStyle = BLOCKED;
@@ -142,39 +187,57 @@ function fillClosures(context, view, frames) {
   }
 }
 
-export const areOfSeveral = (frames) => new Set(frames.map(({by}) => by.name[1])).size > 1;
+/** Ask whether frames are of several people.
+ * @param {Drawn[]} frames
+ */
+export const areOfSeveral = (frames) => new Set(frames.map(({by}) => by.name.number)).size > 1;
 
-/** What is written at a frame, with whose line is on top there where frames are of several
-    people. */
+/** Return what is written at a frame.
+ * @param {Drawn} frame
+ * @param {boolean} named    with whose change it is
+ */
 export function labelOf({kind, first, from, value, pending, by}, named) {
-  const slow = kind === "inflow" ? slowAt(layersShown(), first, from) : 0;
-  const text = valueText(store.plan, kind, value, first, slow).toLowerCase();
+  const text = valueText(layersShown(), kind, value, first, from).toLowerCase();
   return text + (pending ? " (pending)" : "") + (named ? `, ${wordsShown().name(by)}` : "");
 }
 
+/** Draw the edges of a frame. Return its label; null if it is not seen.
+ * @param {Context} context
+ * @param {View} view
+ * @param {Drawn} frame
+ * @param {boolean} named
+ * @returns {(Label & {colour: string}) | null}
+ */
 function drawEdges(context, view, frame, named) {
   const [left, top, right, bottom] = cornersOf(view, frame);
   const height = $("diagram").clientHeight;
   if (bottom < MARGIN.top || top > height) return null;
   const own = isOwn(frame.by);
   const [upper, lower] = [Math.max(-10, top), Math.min(height + 10, bottom)];
+  /** @type {Box} */
   const rectangle = [left, upper, right - left, lower - upper];
   if (Math.min(right - left, bottom - top) > HALO_FROM) {
-    Object.assign(context, {strokeStyle: "rgba(255, 255, 255, 0.85)", lineWidth: 4});
+    assign(context, {strokeStyle: "rgba(255, 255, 255, 0.85)", lineWidth: 4});
     context.strokeRect(...rectangle);
   }
   context.setLineDash(frame.pending ? [2, 2] : own ? [] : [7, 4]);
-  Object.assign(context, {strokeStyle: FRAME[frame.kind], lineWidth: 2});
+  assign(context, {strokeStyle: FRAME[frame.kind], lineWidth: 2});
   context.strokeRect(...rectangle);
   context.setLineDash([]);
   return {text: labelOf(frame, named), box: [left, top, right, bottom],
           colour: FRAME[frame.kind], line: frame.pending ? frame : keyOf(frame.by.name)};
 }
 
-/** Writes what frames are, clear of closures and of each other, on what is computed. */
+/** Write what frames are, clear of closures and of each other, on what is computed.
+ * @param {Context} context
+ * @param {View} view
+ * @param {Drawn[]} frames
+ * @param {(Label & {colour: string})[]} labels
+ */
 function drawLabels(context, view, frames, labels) {
   const {clientWidth, clientHeight} = $("diagram");
   const lowest = Math.min(clientHeight - MARGIN.bottom, topOf(view, last()));
+  /** @type {Box} */
   const bounds = [MARGIN.left, MARGIN.top, clientWidth - MARGIN.right, lowest];
   const taken = frames.filter(({kind}) => kind === "block").map((one) => cornersOf(view, one));
   context.font = LABEL;
@@ -188,15 +251,20 @@ function drawLabels(context, view, frames, labels) {
   }
 }
 
-/** The rectangle that is dragged, with what it would do; in red where it cannot be done. */
+/** Draw the rectangle that is drawn, with what it would do; in red if it cannot be done.
+ * @param {Context} context
+ * @param {View} view
+ * @param {Area} area
+ */
 function drawArea(context, view, area) {
   const {shape, lines, fault} = area;
-  const [left, top, right, bottom] = cornersOf(view,
-    {kind: shape[0], first: shape[1], last: shape[2], from: shape[3], to: shape[4]});
+  const [left, top, right, bottom] = cornersOf(view, shape);
   context.fillStyle = fault ? "rgba(160, 0, 0, 0.35)" : "rgba(255, 255, 255, 0.45)";
   context.fillRect(left, top, right - left, bottom - top);
-  for (const [colour, size] of [["#ffffff", 5], [fault ? "#a00000" : "#000000", 2]]) {
-    Object.assign(context, {strokeStyle: colour, lineWidth: size});
+  /** @type {[colour: string, size: number][]} */
+  const strokes = [["#ffffff", 5], [fault ? "#a00000" : "#000000", 2]];
+  for (const [strokeStyle, lineWidth] of strokes) {
+    assign(context, {strokeStyle, lineWidth});
     context.strokeRect(left, top, right - left, bottom - top);
   }
   const said = fault ? [...lines, fault] : lines;
@@ -213,12 +281,14 @@ function drawArea(context, view, area) {
 
 // What the colours mean, as a list beside the diagram.
 
+/** Return what the colours mean. */
 export function legendEntries() {
   return [...colourEntries(), {text: "inlet", colour: OF_PLAN.inlet},
           {text: "detector", colour: OF_PLAN.detector},
-          {text: "zones by turns", colour: OF_PLAN.zone}];
+          {text: "zones (alternating shades)", colour: OF_PLAN.zone}];
 }
 
+/** @returns {(string | LegendEntry)[]} */
 function colourEntries() {
   const closed = {text: "closed", colour: BLOCKED};
   const unknown = {text: "not computed", colour: NO_ROW};
@@ -232,6 +302,7 @@ function colourEntries() {
   return ["km/h:", ...speeds, {text: "no car", colour: EMPTY}, closed, unknown];
 }
 
+/** Show what the colours mean. */
 function showLegend() {
   const of = String(whoseShown());
   if ($("legend").dataset.of === of) return;
@@ -244,28 +315,39 @@ function showLegend() {
   }));
 }
 
+/** Show which road and how long a time are shown. */
 function showChoices() {
   choose("whose", store.whose);
-  $("span").value = store.look.span;
+  $("span").value = String(store.look.span);
 }
 
+/** @type {import("./store.mjs").Store["whose"][]} */
+const ROADS = ["mine", "shared", "both"];
+/** @type {import("./store.mjs").Store["paint"][]} */
+const PAINTS = ["zoom", "cars", "means"];
+
+/** Listen to the store and to the page. */
 export function begin() {
   for (const span of SPANS) {
     const text = span < HOUR ? `${span / 60} min` : `${span / HOUR} h`;
-    $("span").append(new Option(text, span, span === HOUR, span === HOUR));
+    $("span").append(new Option(text, String(span), span === HOUR, span === HOUR));
   }
-  on("whose", "change", ({target}) => showRoad(target.value));
-  on("paint", "change", () => paintBy($("paint").value));
+  on("whose", "change", () => showRoad(oneOf(ROADS, chosen("whose")) ?? "mine"));
+  on("paint", "change", () => paintBy(oneOf(PAINTS, $("paint").value) ?? "zoom"));
   on("span", "change", () => chooseSpan(Number($("span").value)));
   on("closer", "click", () => zoomBy(true));
   on("farther", "click", () => zoomBy(false));
   on("wholeRoad", "click", showWholeRoad);
-  when(["rows"], repaint);
+  when(["repainted"], repaint);
   when(["before", "preview"], () => {
     tilesKept.clear();          // the roads of a preview are others each time
     draw();
   });
-  when(["look", "rows seen", "lists", "area", "cursor"], draw);
+  when(["look", "timings", "lines", "area", "cursor", "curves"], draw);
+  when(["me"], () => {
+    unit = unitOf(METRES_A_CELL, 1, true, known("me").day?.begin ?? null);
+    draw();
+  });
   when(["look"], showLegend);
   when(["look"], showChoices);
   const measure = () => resized($("diagram").clientWidth - MARGIN.left - MARGIN.right,

@@ -1,17 +1,29 @@
-// The rows that the page has of a road, at some steps apart, and which of them it still wants.
+// The rows that the page has of a road, every n-th one, and which of them it still wants.
 
 import {MINUTE} from "./units.mjs";
 
+/** @typedef {import("./types.mjs").Span} Span */
+
 const MOST_LEVELS = 3;
 
-/** Rows of each so manieth step: a picture as drawing.js takes it, and which rows are of the
-    present edits. */
+/** The rows of every n-th step: a picture, as drawing.js takes it, and which of them are fresh. */
 class Level {
+  /**
+   * @param {number} every    steps between rows
+   * @param {number} length   cells
+   */
   constructor(every, length) {
-    Object.assign(this, {from: 0, every, length, rows: []});
-    this.fresh = new Uint8Array(64);
+    this.from = 0;
+    this.every = every;
+    this.length = length;
+    /** @type {(string | undefined)[]} */
+    this.rows = [];
+    this.fresh = new Uint8Array(64);  // 1: of the present edits, or asked for
   }
 
+  /** Make room for so many rows.
+   * @param {number} size
+   */
   grow(size) {
     if (size <= this.fresh.length) return;
     const more = new Uint8Array(Math.max(size, 2 * this.fresh.length));
@@ -19,18 +31,29 @@ class Level {
     this.fresh = more;
   }
 
-  /** Rows from a step on are to be asked for again; they stay in the picture until then. */
+  /** Let the rows from a step on be asked for again. They stay in the picture until then.
+   * @param {number} step
+   */
   stale(step) {
     this.fresh.fill(0, Math.ceil(step / this.every));
   }
 
+  /** Mark rows from a step on.
+   * @param {number} from
+   * @param {number} count    rows
+   * @param {0 | 1} value     1: fresh
+   */
   mark(from, count, value) {
     const first = from / this.every;
     this.grow(first + count);
     this.fresh.fill(value, first, first + count);
   }
 
-  /** The first rows in the steps `from` to `to` that are not fresh, at most so many; null: none. */
+  /** Return the first rows in steps `from` to `to` that are not fresh, at most so many; null: none.
+   * @param {number} from
+   * @param {number} to
+   * @param {number} most     rows
+   */
   wanted(from, to, most) {
     const end = Math.floor(to / this.every) + 1;
     this.grow(end);
@@ -42,7 +65,11 @@ class Level {
     return {from: first * this.every, to: last * this.every, count: last + 1 - first};
   }
 
-  /** Takes rows from a step on; gives the steps of those that changed, [from, to), or null. */
+  /** Take rows from a step on. Return the steps of those that changed, or null.
+   * @param {number} from
+   * @param {string[]} rows
+   * @returns {Span | null}
+   */
   take(from, rows) {
     const first = from / this.every;
     let [least, most] = [Infinity, -1];
@@ -56,24 +83,33 @@ class Level {
   }
 }
 
-/** The steps that cars spent on the road in each minute, as far as they are of the present
-    edits. */
+/** The steps that cars spend on the road in each minute, as far as they are known. */
 class Minutes {
   constructor() {
+    /** @type {(number | undefined)[]} */
     this.sums = [];
   }
 
+  /** Forget the minutes from a step on.
+   * @param {number} step
+   */
   stale(step) {
     this.sums.length = Math.min(this.sums.length, Math.floor(step / MINUTE));
   }
 
-  /** Those of a period, [from, to) in steps; null where one is missing. */
+  /** Return those of a period; null if one is missing.
+   * @param {Span} period     steps
+   */
   within([from, to]) {
-    const found = this.sums.slice(from / MINUTE, to / MINUTE);
-    return found.length === (to - from) / MINUTE && !found.includes(undefined) ? found : null;
+    const found = this.sums.slice(from / MINUTE, to / MINUTE).flatMap((one) => one ?? []);
+    return found.length === (to - from) / MINUTE ? found : null;
   }
 
-  /** The first part of a period that is missing, at most so many minutes; null: none. */
+  /** Return the first part of a period that is missing, at most so many minutes; null: none.
+   * @param {Span} period     steps
+   * @param {number} most     minutes
+   * @returns {Span | null}
+   */
   wanted([from, to], most) {
     let first = from / MINUTE;
     while (first < to / MINUTE && this.sums[first]) first++;
@@ -81,6 +117,10 @@ class Minutes {
     return first < end ? [first * MINUTE, end * MINUTE] : null;
   }
 
+  /** Take the sums of minutes from a step on.
+   * @param {number} from
+   * @param {number[]} sums
+   */
   take(from, sums) {
     const first = from / MINUTE;
     while (this.sums.length < first) this.sums.push(undefined);
@@ -88,22 +128,38 @@ class Minutes {
   }
 }
 
-/** A road: the own one, or the shared one. */
+/** What the page has of a road: a seat's, the shared one, or one of a preview. */
 export class Road {
+  /**
+   * @param {string} at       how the server names it
+   * @param {number} length   cells
+   */
   constructor(at, length) {
-    Object.assign(this, {at, length, horizon: 0, levels: new Map(), version: 0});
+    this.at = at;
+    this.length = length;
+    this.horizon = 0;               // the last step that is computed
+    this.isAdvancing = false;       // the server is asked to compute more
+    /** @type {Map<number, Level>} */
+    this.levels = new Map();        // by the steps between rows
+    this.version = 0;               // differs once the edits do
     this.minutes = new Minutes();
   }
 
-  /** The rows at some steps apart; those used longest ago make room. */
+  /** Return the rows of every n-th step. Those that were used longest ago make room.
+   * @param {number} every    steps between rows
+   */
   level(every) {
     const level = this.levels.get(every) ?? new Level(every, this.length);
     this.levels.delete(every);
     this.levels.set(every, level);
-    if (this.levels.size > MOST_LEVELS) this.levels.delete(this.levels.keys().next().value);
+    const [oldest] = this.levels.keys();
+    if (this.levels.size > MOST_LEVELS) this.levels.delete(oldest);
     return level;
   }
 
+  /** Let what the page has from a step on be asked for again.
+   * @param {number} step
+   */
   stale(step) {
     this.version++;
     this.minutes.stale(step);

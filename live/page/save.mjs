@@ -4,32 +4,74 @@
 import {ask, askUntilFree} from "./asking.mjs";
 import {comparedNow, daysShown} from "./days.mjs";
 import {withoutCursor} from "./drafting.mjs";
-import {$, download, on} from "./elements.mjs";
+import {$, activeIn, closest, download, on} from "./elements.mjs";
+import {Words, newestFirst} from "./listing.mjs";
 import {drawDiagram, legendEntries} from "./picture.mjs";
-import {now, store, tell} from "./store.mjs";
-import {csvOf, tableOfDays, tableOfFigures} from "./tables.mjs";
-import {METRES_A_CELL, kmText, timeText} from "./units.mjs";
+import {known, layersOf, now, store, tell} from "./store.mjs";
+import {csvOf, tableOfChanges, tableOfDays, tableOfFigures} from "./tables.mjs";
+import {METRES_A_CELL, fileTime, kmText, plural, timeText} from "./units.mjs";
 import {partShown, periodShown} from "./view.mjs";
+
+/** @typedef {import("./layers.mjs").Layers} Layers */
+/** @typedef {import("./types.mjs").Refusal} Refusal */
+/** @typedef {import("./types.mjs").Span} Span */
 
 const SPAN_OF_COUNTS = 300;     // steps
 export const CAPTION_HIGH = 24;        // pixels of a picture that is saved, above the diagram
 const LEGEND_HIGH = 28;
 const LEGEND_WIDE = 900;
 
-/** The road that is shown; of a difference the own one. */
-const roadShown = () => (store.whose === "shared" ? "shared" : store.me.at);
+/** Return the road that is shown; of a difference the own one. */
+const roadShown = () => (store.whose === "shared" ? "shared" : known("me").at);
 
-/** What the diagram shows, for who has the picture alone. */
+/** @type {Set<string>} */
+const named = new Set();        // the files that were saved
+
+/** Return what a road is called in the name of a file. */
+const fileRoad = (at = roadShown()) => (at === "shared" ? "shared" : known("me").name);
+
+/** Return a name that no other save has: what it is, whose road, and from when to when.
+ * @param {string} what      with an ending
+ * @param {string} whose
+ * @param {Span} period      steps
+ */
+function nameOf(what, whose, period) {
+  const dot = what.lastIndexOf(".");
+  const [stem, ending] = [what.slice(0, dot), what.slice(dot)];
+  const times = period.map((step) => fileTime(Math.round(step)));
+  const parts = [stem, whose, ...times].map((part) => part.replace(/[^\p{L}\p{M}\p{N}_]+/gu, "-"));
+  const first = parts.join("-");
+  let found = first;
+  for (let count = 2; named.has(found + ending); count++) found = `${first}-${count}`;
+  named.add(found + ending);
+  return found + ending;
+}
+
+/** Save a file under a name of its own. Return that name.
+ * @param {string} what      with an ending
+ * @param {BlobPart[]} lines
+ * @param {string} type
+ * @param {string} [whose]
+ * @param {Span} [period]    steps
+ */
+function saveAs(what, lines, type, whose = fileRoad(), period = periodShown()) {
+  const own = nameOf(what, whose, period);
+  download(lines, own, type);
+  return own;
+}
+
+/** Return what the diagram shows, for those who have the picture alone. */
 export function captionText() {
-  const whose = {mine: `The road of ${store.me.name}`, shared: "The shared road",
-                 both: `The road of ${store.me.name} less the shared one`}[store.whose];
+  const {name} = known("me");
+  const whose = {mine: `The road of ${name}`, shared: "The shared road",
+                 both: `The road of ${name} less the shared one`}[store.whose];
   const {cells, steps} = partShown();
   const [places, times] = [cells.map(Math.round).map(kmText), steps.map(timeText)];
   return `${whose}, ${places.join("\u2013")} km, ${times.join("\u2013")}`
     + (now() < steps[1] ? `; the clock is at ${timeText(now())}` : "");
 }
 
-/** The diagram as it is seen, but for the cursor, between what it shows and its colours. */
+/** Return the diagram as it is seen, without the cursor, between what it shows and its colours. */
 function diagramWithLegend() {
   withoutCursor(drawDiagram);
   const diagram = $("diagram");
@@ -38,6 +80,7 @@ function diagramWithLegend() {
   canvas.width = Math.max(diagram.width, LEGEND_WIDE * fine);
   canvas.height = diagram.height + (CAPTION_HIGH + LEGEND_HIGH) * fine;
   const context = canvas.getContext("2d");
+  if (!context) throw new Error("This browser has no canvas to draw on.");
   context.fillStyle = EMPTY;
   context.fillRect(0, 0, canvas.width, canvas.height);
   context.drawImage(diagram, 0, CAPTION_HIGH * fine);
@@ -49,103 +92,186 @@ function diagramWithLegend() {
   return canvas;
 }
 
-/** Saves the diagram as it is seen. */
+/** Save the diagram as it is seen. */
 function savePicture() {
   diagramWithLegend().toBlob((blob) => {
-    download([blob], "diagram.png", "image/png");
-    tell("Saved diagram.png: the diagram as it is seen.");
+    if (!blob) {
+      tell("The browser made no picture of the diagram. Make its window smaller, and try again.", true);
+      return;
+    }
+    const whose = store.whose === "both" ? `${known("me").name}-less-shared` : fileRoad();
+    const name = saveAs("diagram.png", [blob], "image/png", whose);
+    tell(`Saved ${name}: the diagram as it is seen.`);
   });
 }
 
-/** The lines that show the road of the period that is shown, each command before its reply; null
-    where something was refused. */
+/** Return the lines that show the road of the period that is shown, each command before its reply;
+ * null if something was refused.
+ */
 async function transcriptLines() {
   tell("Saving …");
   const [at, [from, to]] = [roadShown(), periodShown()];
+  /** @type {string[]} */
   const pieces = [];
+  /** @type {number | null} */
   let next = 0;
   do {
+    /** @type {import("./types.mjs").Answers["transcript"] | Refusal | null} */
     const said = await askUntilFree({transcript: {at, from, to, ...(next ? {next} : {})}});
-    if (!said || said.refused) return null;
+    if (!said || "refused" in said) return null;
     pieces.push(said.lines);
     next = said.next;
   } while (next !== null);
   return pieces.join("").split("\n").filter(Boolean).map((line) => line + "\n");
 }
 
-/** Saves commands and replies by turns, as the viewer opens them. */
+/** Save commands and replies in turn, as the viewer opens them. */
 async function saveTranscript() {
   const lines = await transcriptLines();
   if (!lines) return;
-  download(lines, "transcript.jsonl", "application/jsonl");
-  tell(`Saved transcript.jsonl: choose it in the viewer, with ${METRES_A_CELL} metres a cell and `
+  const name = saveAs("transcript.jsonl", lines, "application/jsonl");
+  tell(`Saved ${name}: choose it in the viewer, with ${METRES_A_CELL} metres a cell and `
     + "1 second a step.");
 }
 
-/** Saves the commands alone, named by the road; road_lab answers them as the transcript has it. */
-async function saveScript() {
-  const name = `script_${roadShown() === "shared" ? "shared" : "mine"}.jsonl`;
-  const lines = await transcriptLines();
-  if (!lines) return;
-  download(lines.filter((_, index) => index % 2 === 0), name, "application/jsonl");
-  tell(`Saved ${name}: road_lab runs it, and recipes/delay compares mine and the shared one.`);
+/** Save the commands of both roads, up to the clock, a file each. */
+async function saveScripts() {
+  const saved = [];
+  for (const at of [known("me").at, "shared"]) {
+    const said = await askUntilFree({script: {at}});
+    if (!said || "refused" in said) return;
+    saved.push(saveAs("script.jsonl", [said.lines], "application/jsonl", fileRoad(at), [0, said.to]));
+  }
+  tell(`Saved ${saved.join(" and ")}: road_lab runs each, and recipes/delay compares them.`);
 }
 
-/** Saves the figures of the roads that are compared: those of many days where these are shown. */
+/** Return what a table of the two roads is of.
+ * @param {number} from      step
+ * @param {number} to
+ */
+function comparedText(from, to) {
+  const of = comparedNow() === "preview" ? "the road now, and then"
+    : `the road of ${known("me").name} and the shared one`;
+  return `${of}, ${timeText(from)} to ${timeText(to)}`;
+}
+
+/** Save the figures of the roads that are compared: those of many days if these are shown. */
 async function saveFigures() {
-  const {plan, me: {at}} = store;
-  const [from, to] = periodShown();
+  const [plan, {at, name}] = [known("plan"), known("me")];
+  const of = comparedNow();
+  const whose = of === "preview" ? "now-then" : `${name}-shared`;
   const days = daysShown()?.said;
+  const [from, to] = days ? [days.from, days.to] : periodShown();
+  if (to <= from) {
+    tell("Nothing is computed yet.", true);
+    return;
+  }
   if (days) {
-    saveLines(tableOfDays(plan, comparedNow(), days), `figures_${days.days}_days.csv`);
-  } else if (to <= from) tell("Nothing is computed yet.", true);
-  else {
-    const of = comparedNow();
-    const said = await askUntilFree({figures: {at, of, from, to}});
-    if (said && !said.refused) saveLines(tableOfFigures(plan, of, said), "figures.csv");
+    saveLines(`${comparedText(from, to)}, ${plural(days.days, "day")}`, tableOfDays(plan, of, days),
+      `figures-${days.days}-days.csv`, whose, [from, to]);
+    return;
+  }
+  const said = await askUntilFree({figures: {at, of, from, to}});
+  if (said && !("refused" in said)) {
+    saveLines(comparedText(from, to), tableOfFigures(plan, of, said), "figures.csv", whose, [from, to]);
   }
 }
 
-function saveLines(lines, name) {
-  download([csvOf(lines)], name, "text/csv");
-  tell(`Saved ${name}.`);
+/** Save a table.
+ * @param {string} title
+ * @param {(string | number)[][]} lines
+ * @param {string} what      the file's name, with an ending
+ * @param {string} whose
+ * @param {Span} period      steps
+ */
+function saveLines(title, lines, what, whose, period) {
+  tell(`Saved ${saveAs(what, [csvOf(title, lines)], "text/csv", whose, period)}.`);
 }
 
-/** Saves a table that the server makes. */
-async function saveTable(fields, name) {
-  const said = await ask({csv: {at: store.me.at, ...fields}});
-  if (!said || said.refused) return;
-  download([said.csv], name, "text/csv");
-  tell(`Saved ${name}.`);
+const MOST_WORKS = 200;         // lines of a report
+const MOST_SIGNS = 200;         // of a line
+
+/** Return the changes of a road that stand, in sentences, the oldest first.
+ * @param {Layers} layers
+ */
+const textsOf = (layers) => newestFirst([...layers.lines.values()]
+  .filter((line) => line.standing && line.site === null)).reverse()
+  .map((line) => new Words(layers, -1).text(line));
+
+/** Return what is in force on the roads that are compared, in sentences: on the later one, then
+ * what the other one has alone.
+ */
+function worksText() {
+  const isPreview = comparedNow() === "preview";
+  const [one, other] = isPreview ? [layersOf("after"), layersOf(known("before").takes ? "mine" : "shared")]
+    : [layersOf("mine"), layersOf("shared")];
+  const [after, before] = [one, other].map(textsOf);
+  const gone = before.filter((text) => !after.includes(text));
+  const fresh = after.map((text) => (before.includes(text) ? text : `${text} (new)`));
+  return [...fresh, ...gone.map((text) => `${text} (before alone)`)].slice(0, MOST_WORKS)
+    .map((text) => text.slice(0, MOST_SIGNS));
 }
 
-/** Saves all operations: who did what and when, and what covers whom from when to when. */
-const saveChanges = () => saveTable({what: "changes"}, "changes.csv");
-
-/** Saves the counts of the road that is shown, five minutes a line, over what is shown. */
-function saveCounts() {
+/** Save the report of the roads that are compared: a page that prints. */
+async function saveReport() {
+  const {at, name, day} = known("me");
   const [from, to] = periodShown();
-  if (to <= from) tell("Nothing is computed yet.", true);
-  else saveTable({at: roadShown(), what: "counts", from, to, each: SPAN_OF_COUNTS}, "counts.csv");
+  const of = comparedNow();
+  if (to <= from || (of === "preview" && !store.layers.after)) {
+    tell("Nothing is computed yet.", true);
+    return;
+  }
+  const date = day?.date ? `, ${day.date}` : "";
+  const title = `${of === "preview" ? "A road, now and then" : `The road of ${name}, and the shared one`}: `
+    + `${timeText(from)} to ${timeText(to)}${date}`;
+  tell("Making the report: both roads are simulated on five days \u2026");
+  const said = await askUntilFree({report: {at, of, from, to, title, works: worksText()}});
+  if (!said || "refused" in said) return;
+  const whose = of === "preview" ? "now-then" : `${name}-shared`;
+  const saved = saveAs("report.html", [said.html], "text/html", whose, [from, to]);
+  tell(`Saved ${saved}: any browser shows it, and prints it on A4.`);
 }
 
-/** Closes the menu, which would lie over what is said; who was in it is at its name again. */
+/** Return what a table of the road that is shown is of. */
+const roadText = () => (roadShown() === "shared" ? "the shared road" : `the road of ${known("me").name}`);
+
+/** Save all that was done: who did what and when, where it is in force, and what covers it. */
+function saveChanges() {
+  const layers = layersOf(roadShown() === "shared" ? "shared" : "mine");
+  saveLines(`changes of ${roadText()}, up to ${timeText(now())}`, tableOfChanges(layers), "changes.csv",
+    fileRoad(), [0, now()]);
+}
+
+/** Save the counts of the road that is shown, five minutes a line, over what is shown. */
+async function saveCounts() {
+  const [from, to] = periodShown();
+  if (to <= from) {
+    tell("Nothing is computed yet.", true);
+    return;
+  }
+  const said = await ask({csv: {at: roadShown(), what: "counts", from, to, each: SPAN_OF_COUNTS}});
+  if (said && !("refused" in said)) tell(`Saved ${saveAs("counts.csv", [said.csv], "text/csv")}.`);
+}
+
+/** Close the menu, which would lie over what is said. A focus in it goes to its name. */
 function closeMenu() {
-  const was = $("save").contains(document.activeElement);
+  const was = activeIn($("save"));
   $("save").open = false;
-  if (was) $("save").querySelector("summary").focus();
+  if (was) $("save").querySelector("summary")?.focus();
 }
 
+/** Listen to the page. */
 export function begin() {
   on("savePicture", "click", savePicture);
   on("saveTranscript", "click", saveTranscript);
-  on("saveScript", "click", saveScript);
+  on("saveScript", "click", saveScripts);
+  on("saveReport", "click", saveReport);
   on("saveFigures", "click", saveFigures);
   on("saveCounts", "click", saveCounts);
   on("saveChanges", "click", saveChanges);
-  on("save", "click", ({target}) => { if (target.closest("button")) closeMenu(); });
+  on("save", "click", (event) => { if (closest(event, "button")) closeMenu(); });
   on("save", "keydown", ({key}) => { if (key === "Escape") closeMenu(); });
-  addEventListener("pointerdown", ({target}) => {
-    if ($("save").open && !target.closest("#save")) closeMenu();
+  addEventListener("pointerdown", (event) => {
+    if ($("save").open && !closest(event, "#save")) closeMenu();
   });
 }

@@ -1,79 +1,115 @@
-// Sentences about changes. A road here is {plan, valueAt(kind, index, step)}: by it a chance is
-// cars an hour.
+// Sentences about changes. A road here is {plan, curveAt(inlet, step)}: by the curve of an inlet a
+// chance is cars per hour, once that is measured.
 
 import {OF_ZONES, cellsOf} from "./geometry.mjs";
-import {ALWAYS, chanceText, demandOfChance, kmText, limitText, metresText, plural, timeText, whole}
+import {chanceText, demandOfChance, kmText, limitText, metresText, plural, timeText, whole}
   from "./units.mjs";
 
+/** @typedef {import("./types.mjs").Edit} Edit */
+/** @typedef {import("./types.mjs").Kind} Kind */
+/** @typedef {import("./types.mjs").Plan} Plan */
+/** @typedef {import("./types.mjs").Shape} Shape */
+/** @typedef {import("./types.mjs").MeasuredRoad} MeasuredRoad */
+
+/** Write where objects lie, in km.
+ * @param {Plan} plan
+ * @param {Kind} kind
+ * @param {number} first
+ * @param {number} last
+ */
 export function placesText(plan, kind, first, last) {
   const [from, to] = cellsOf(plan, kind, first, last);
   if (kind === "inflow" || kind === "watch") return `at ${kmText(from)} km`;
   return `${kmText(from)}\u2013${kmText(to)} km`;
 }
 
+/** Write when something holds.
+ * @param {number} from      step
+ * @param {number | null} to
+ */
 export const spanText = (from, to) => (to === null ? `from ${timeText(from)} on`
   : `${timeText(from)}\u2013${timeText(to)}`);
 
-/** What a value of a kind is, in a few words. */
-export function valueText(plan, kind, value, index, slow) {
-  if (kind === "block") return value ? "Whole road closed" : "Open";
+/** Write a value that an object of a kind has from a step on, in a few words.
+ * @param {MeasuredRoad} road
+ * @param {Kind} kind
+ * @param {number} value
+ * @param {number} index
+ * @param {number} step
+ */
+export function valueText(road, kind, value, index, step) {
+  if (kind === "block") return value ? "Closed" : "Open";
   if (kind === "limit") return limitText(value);
   if (kind === "watch") return value ? "Detector on" : "Detector off";
   if (kind === "slow") return `Slowing ${chanceText(value)}`;
   if (kind === "start") return `Slow to start ${chanceText(value)}`;
-  const cars = demandOfChance(value / ALWAYS, slow / ALWAYS);
-  return `Demand ${Number.isNaN(cars) ? chanceText(value) : whole(cars) + " cars/h"}`;
+  const curve = road.curveAt(index, step);
+  return `Demand ${curve ? whole(demandOfChance(value, curve)) + " cars/h" : chanceText(value)}`;
 }
 
-/** The slowing chance at an inlet, by which a chance is cars an hour. */
-export function slowAt(road, inlet, step) {
-  const zone = Math.floor(road.plan.inlets[inlet][0] / road.plan.zone);
-  return road.valueAt("slow", zone, step);
-}
-
-/** A shape in a sentence, which becomes the gesture's note. */
-export function shapeText(road, [kind, first, last, from, to, value]) {
-  const slow = kind === "inflow" ? slowAt(road, first, from) : 0;
-  const what = valueText(road.plan, kind, value, first, slow);
+/** Write a shape in a sentence, which becomes the note of the change.
+ * @param {MeasuredRoad} road
+ * @param {Shape} shape
+ */
+export function shapeText(road, {kind, first, last, from, to, value}) {
+  const what = valueText(road, kind, value, first, from);
   const where = placesText(road.plan, kind, first, last);
   return `${what}${kind === "block" ? "" : ","} ${where}, ${spanText(from, to)}`;
 }
 
+/** @type {Record<Kind, string>} */
 export const THINGS = {limit: "Limit", block: "Closure", inflow: "Demand", watch: "Detector",
                 slow: "Slowing", start: "Slow to start"};
 
-/** A shape's kind and value in a few words: "limit of 54 km/h". */
-export function thingText(road, [kind, first, , from, , value]) {
+/** Write a shape's kind and value in a few words: "limit of 54 km/h".
+ * @param {MeasuredRoad} road
+ * @param {Shape} shape
+ */
+export function thingText(road, {kind, first, from, value}) {
   if (kind === "block") return value ? "closure" : "opening";
   if (kind === "watch") return value ? "detector switched on" : "detector switched off";
-  const slow = kind === "inflow" ? slowAt(road, first, from) : 0;
-  const text = valueText(road.plan, kind, value, first, slow);
+  const text = valueText(road, kind, value, first, from);
   return kind === "limit" ? `limit of ${text}` : text[0].toLowerCase() + text.slice(1);
 }
 
-/** What an edit does to the objects first to last, in a sentence. */
+/** Write in a sentence what one edit of the objects first to last does.
+ * @param {MeasuredRoad} road
+ * @param {{kind: Kind, first: number, last: number, step: number, value: number | null}} edit
+ */
 export function editText(road, {kind, first, last, step, value}) {
-  if (value !== null) return shapeText(road, [kind, first, last, step, null, value]);
+  if (value !== null) return shapeText(road, {kind, first, last, from: step, to: null, value});
   const where = placesText(road.plan, kind, first, last);
   return `${THINGS[kind]} withdrawn, ${where}, ${spanText(step, null)}`;
 }
 
-/** What edits do, in a sentence, where nobody wrote a note: the first ones, and how many more. */
+/** Write in a sentence what edits do: the first ones, and how many more there are.
+ * @param {MeasuredRoad} road
+ * @param {Edit[]} edits     at least one
+ */
 export function editsText(road, edits) {
-  const [[kind, first, step, value]] = edits;
-  const isNext = ([other, index, at, put], behind) =>
-    other === kind && index === first + behind && at === step && put === value;
+  const [{kind, index: first, step, value}] = edits;
+  /** @type {(edit: Edit, behind: number) => boolean} */
+  const isNext = (edit, behind) => edit.kind === kind && edit.index === first + behind
+    && edit.step === step && edit.value === value;
   const end = edits.findIndex((edit, behind) => !isNext(edit, behind));
   const said = end < 0 ? edits.length : end;
   const text = editText(road, {kind, first, last: first + said - 1, step, value});
   return said < edits.length ? `${text}, and ${plural(edits.length - said, "more edit")}` : text;
 }
 
-/** Says that what is put for zones is put for whole ones; "" for other kinds. */
+/** Say that zones are taken whole; "" for other kinds.
+ * @param {Plan} plan
+ * @param {unknown} kind
+ */
 export const zonesText = (plan, kind) => (OF_ZONES.includes(kind)
   ? `in whole zones of ${metresText(plan.zone)}; with Shift also where less than half is covered`
   : "");
 
-/** Says how many whole zones are taken; "" for other kinds. */
+/** Write how many whole zones are taken; "" for other kinds.
+ * @param {Plan} plan
+ * @param {Kind} kind
+ * @param {number} first
+ * @param {number} last
+ */
 export const takenZonesText = (plan, kind, first, last) => (OF_ZONES.includes(kind)
   ? `${plural(last - first + 1, "whole zone")} of ${metresText(plan.zone)}` : "");

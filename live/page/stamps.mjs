@@ -1,6 +1,14 @@
-// Stamps, [count, number]: the names of gestures, of which the greater wins.
+// Stamps, the names of operations. The greater one is the later.
 
-export const byStamp = ([count, number], [otherCount, otherNumber]) =>
-  count - otherCount || number - otherNumber;
-export const sameStamp = (one, other) => byStamp(one, other) === 0;
-export const keyOf = (stamp) => stamp.join();
+/** @typedef {import("./types.mjs").Stamp} Stamp */
+
+/** Compare two stamps: negative if the first is smaller, 0 if they are equal.
+ * @param {Stamp} one
+ * @param {Stamp} other
+ */
+export const byStamp = (one, other) => one.count - other.count || one.number - other.number;
+
+/** Return a stamp as the key of a map.
+ * @param {Stamp} stamp
+ */
+export const keyOf = ({count, number}) => `${count},${number}`;

@@ -1,47 +1,134 @@
-// Tables of figures as they are saved: a head and lines, of mine beside the shared road, or of a
-// road before and after.
+// Tables as they are saved: what they are of in the first line, names and units in the second, then
+// lines; of mine beside the shared road, or of a road before and after.
 
-import {kmText, plural} from "./units.mjs";
+import {Words} from "./listing.mjs";
+import {byStamp} from "./stamps.mjs";
+import {dayText, kmText, plural} from "./units.mjs";
 
+/** @typedef {import("./types.mjs").DaysFigures} DaysFigures */
+/** @typedef {import("./types.mjs").DetectorFigures} DetectorFigures */
+/** @typedef {import("./types.mjs").Figures} Figures */
+/** @typedef {import("./types.mjs").Plan} Plan */
+/** @typedef {import("./types.mjs").RoadFigures} RoadFigures */
+/** @typedef {import("./layers.mjs").Layers} Layers */
+/** @typedef {string | number} Cell */
+/** @typedef {"before" | "after"} Side              of two roads that are compared */
+/** @typedef {"mine" | "preview"} Comparison */
+/** @typedef {number | null | undefined} Figure     null: it is not known */
+
+/** @param {number[]} numbers */
 const sum = (numbers) => numbers.reduce((one, other) => one + other, 0);
+/** @param {Figure} value */
 const plain = (value) => (typeof value === "number" ? String(Number(value.toFixed(4))) : "");
+/** @type {(one: Figure, other: Figure) => Figure} */
 const less = (one, other) =>
   (typeof one === "number" && typeof other === "number" ? one - other : null);
 
-export const csvOf = (lines) => lines.map((line) => line.join(",") + "\n").join("");
+/** Return a cell that no spreadsheet runs as a formula; numbers may begin with a sign.
+ * @param {string} text
+ */
+const harmless = (text) => (/^\s*[=+@-]/.test(text) && !/^-?[\d.]+$/.test(text) ? `'${text}` : text);
 
-/** In which order the sides of a comparison stand, and what they are called. */
+/** @param {Cell} value */
+function cellOf(value) {
+  const text = harmless(String(value));
+  return /[",\r\n]/.test(text) ? `"${text.replaceAll('"', '""')}"` : text;
+}
+
+/** Return the text of a table; its first line says what it is of.
+ * @param {string} title
+ * @param {Cell[][]} lines
+ */
+export const csvOf = (title, lines) => [`# ${title.replace(/[\r\n]+/g, " ")}`,
+  ...lines.map((line) => line.map(cellOf).join(","))].map((line) => line + "\n").join("");
+
+const NOBODY = -1;              // no seat's number: all are called by their names
+
+/** In which order the sides of a comparison stand, and what they are called.
+ * @type {Record<Comparison, [side: Side, name: string][]>}
+ */
 export const ORDER = {mine: [["after", "mine"], ["before", "shared"]],
                       preview: [["before", "now"], ["after", "then"]]};
 
+/** @param {Comparison} of */
 const changeOf = (of) => (of === "mine" ? "mine less shared" : "then less now");
 
-/** Of a period what is counted car by car, and what detectors count. */
+/** Of each inlet, in cars.
+ * @type {[name: string, cars: (side: RoadFigures) => number[]][]}
+ */
+const OF_INLETS = [["demand", ({asked}) => asked], ["admitted cars", ({entered}) => entered],
+                   ["lost demand", ({lost}) => lost]];
+/** Of each detector.
+ * @type {[name: string, unit: string, value: (one: DetectorFigures) => Figure][]}
+ */
+const OF_DETECTORS = [["cars", "cars", ({cars}) => cars], ["flow", "cars/h", ({flow}) => flow],
+                      ["time-mean speed", "km/h", ({speed}) => speed], ["time on", "s", ({on}) => on]];
+
+/** Return the table of a period: what is counted car by car, and what detectors count.
+ * @param {Plan} plan
+ * @param {Comparison} of
+ * @param {Figures} said
+ */
 export function tableOfFigures({inlets, detectors}, of, said) {
   const [[one, first], [other, second]] = ORDER[of];
-  const lineOf = (name, valueOf) => {
+  /** @type {(name: string, unit: string, valueOf: (side: RoadFigures) => Figure) => string[]} */
+  const lineOf = (name, unit, valueOf) => {
     const [left, right] = [valueOf(said[one]), valueOf(said[other])];
     const change = of === "mine" ? less(left, right) : less(right, left);
-    return [name, plain(left), plain(right), plain(change)];
+    return [name, unit, plain(left), plain(right), plain(change)];
   };
-  const sumOf = (name) => (side) => (side[name] ? sum(side[name]) : null);
-  return [["figure", first, second, changeOf(of)],
-          lineOf("vehicle hours", (side) => side.vehicle_hours),
-          ["delay of cars in both in vehicle hours", "", "", plain(said.delay_hours)],
-          lineOf("cars asked for", sumOf("asked")), lineOf("cars let in", sumOf("entered")),
-          lineOf("lost demand in cars", sumOf("lost")),
-          ...inlets.map(([cell], inlet) => lineOf(`lost demand at ${kmText(cell)} km`,
-            (side) => (side.lost ? side.lost[inlet] : null))),
-          ...detectors.map((cell, index) => lineOf(`cars at ${kmText(cell)} km`,
-            (side) => side.detectors[index][0]))];
+  const atInlets = inlets.flatMap(([cell], inlet) => OF_INLETS.map(([name, cars]) =>
+    lineOf(`${name} at ${kmText(cell)} km`, "cars", (side) => cars(side)[inlet])));
+  const atDetectors = detectors.flatMap((cell, index) => OF_DETECTORS.map(([name, unit, value]) =>
+    lineOf(`${name} at ${kmText(cell)} km`, unit, (side) => value(side.flows[index]))));
+  const places = [...detectors.map((cell) => `${kmText(cell)} km`), "the road's end"];
+  const times = places.flatMap((place, index) => [
+    lineOf(`travel time to ${place}`, "s", (side) => side.travel[index].seconds),
+    [`delay of cars on both roads to ${place}`, "s", "", "", plain(said.later[index].seconds)]]);
+  return [["figure", "unit", first, second, changeOf(of)],
+          lineOf("vehicle hours", "h", (side) => side.vehicle_hours),
+          ["delay of cars on both roads", "vehicle hours", "", "", plain(said.delay_hours)],
+          ...OF_INLETS.map(([name, cars]) => lineOf(name, "cars", (side) => sum(cars(side)))), ...atInlets, ...atDetectors, ...times];
 }
 
-/** The figures of many days, each mean with how far its interval reaches. */
-export function tableOfDays({detectors}, of, {figures, days}) {
+/** Return the name of a figure of many days, and its unit.
+ * @param {Plan} plan
+ * @param {string} name
+ */
+function nameOfDays({detectors}, name) {
+  const [what, index] = name.split(" ");
+  const cell = detectors[Number(index)];
+  const place = cell === undefined ? "the road's end" : `${kmText(cell)} km`;
+  /** @type {Record<string, [name: string, unit: string]>} */
+  const names = {vehicle_hours: ["vehicle hours", "h"], lost: ["lost demand", "cars"],
+                 delay: ["delay of cars on both roads", "vehicle hours"],
+                 cars: [`cars at ${place}`, "cars"], seconds: [`travel time to ${place}`, "s"]};
+  return names[what];
+}
+
+/** Return the table of many days: each mean with how far its interval reaches.
+ * @param {Plan} plan
+ * @param {Comparison} of
+ * @param {DaysFigures} said
+ */
+export function tableOfDays(plan, of, {figures, days}) {
   const [[one, first], [other, second]] = ORDER[of];
-  const nameOf = (name) => ({vehicle_hours: "vehicle hours", lost: "lost demand in cars"}[name]
-    ?? `cars at ${kmText(detectors[name.split(" ")[1]])} km`);
-  return [[`mean of ${plural(days, "day")}`, first, "\u00b1", second, "\u00b1", changeOf(of), "\u00b1"],
-          ...figures.map((figure) => [nameOf(figure.name),
-            ...[one, other, "difference"].flatMap((side) => figure[side].map(plain))])];
+  return [[`mean of ${plural(days, "day")}`, "unit", first, "\u00b1", second, "\u00b1", changeOf(of),
+           "\u00b1"],
+          ...figures.map((figure) => [...nameOfDays(plan, figure.name),
+            ...[figure[one], figure[other], figure.difference].flatMap(({mean, half}) => [mean, half].map(plain))])];
+}
+
+/** Return the table of all that was done on a road: who did what and when, where it is in force,
+ * and what covers it.
+ * @param {Layers} layers
+ * @returns {Cell[][]}
+ */
+export function tableOfChanges(layers) {
+  const words = new Words(layers, NOBODY);
+  const lines = [...layers.lines.values()].sort((one, other) => byStamp(one.name, other.name));
+  return [["change", "who", "what", "when", "does", "shared", "in force", "covered"],
+          ...lines.flatMap((line, index) => line.operations.map((done) =>
+            [index + 1, done.who, done.note || words.text(line), dayText(done.when), done.does,
+             done.shared ? "yes" : "no", words.parts(line, true), words.parts(line, false)]))];
 }

@@ -7,17 +7,20 @@
 from __future__ import annotations
 
 import unicodedata
+from itertools import islice
 from typing import Any, Callable
 
-from refusals import GREATEST, Reasons, kind, list_of, put, row_of, shown, value_of, whole
+from zegdrut.grammar import GREATEST, kind, list_of, put, row_of, shown, value_of, whole
+from zegdrut.refusals import Reasons
 
 from .journal import packed
-from .layers import Shape
+from .model.operations import Shape
 
 NOT_A_COMMAND = "not a command"
 MOST_EDITS = 1_200  # of a gesture: its line is one import
 LONGEST_NAME, LONGEST_NOTE, LONGEST_KEY = 64, 200, 40
 TOLD = 3  # so many faults of a list are told
+LONG = 2_000  # bytes of a field from which on it takes long to look how its numbers were written
 
 
 def whole_or_none(value: Any) -> Any:
@@ -28,6 +31,7 @@ EDITS = list_of(row_of(("kind", kind), ("index", whole), ("step", whole), ("valu
 SHAPE = row_of(("kind", kind), ("first index", whole), ("last index", whole), ("from", whole),
                ("to", whole_or_none), ("value", whole))
 STAMP = row_of(("count", lambda value: whole(value, 1 << 48)), ("number", lambda value: whole(value, 65_535)))
+PAIR = row_of(("index", whole), ("chance", whole))
 
 
 class Refused(Exception):
@@ -50,6 +54,17 @@ def words(value: Any, most: int) -> str:
     begin = " ".join(str(value)[:8 * most].split())
     plain = "".join(sign for sign in begin if unicodedata.category(sign)[0] != "C")
     return plain.strip()[:most]
+
+
+# Letters of two other scripts that look like Latin ones, small or capital, and what is not seen.
+LOOK_ALIKE = str.maketrans("авеԁһіјкмнорԛѕтԝухαβεζηικμνορτυχ", "abedhijkmhopqstwyxabezhikmnoptyx",
+                           "\u034f\u115f\u1160\u2800\u3164" + "".join(map(chr, range(0xfe00, 0xfe10))))
+
+
+def folded(name: str) -> str:
+    """Return what is the same of names that look alike: without case, spaces, widths and styles of letters."""
+    plain = unicodedata.normalize("NFKC", unicodedata.normalize("NFKC", name).casefold())
+    return unicodedata.normalize("NFC", "".join(plain.split()).translate(LOOK_ALIKE))
 
 
 class Asked:
@@ -79,9 +94,14 @@ class Asked:
 
     def _checked(self, name: str, faults: Callable[[Any], Any]) -> Any:
         value = self.raw(name)
-        if list(faults(value)):
-            told = list(faults(value_of(packed(value).encode())))  # where numbers are as they were written
-            raise not_a_command(f"`{name}`: {'; '.join(told[:TOLD])}")
+        told = list(islice(faults(value), TOLD))
+        if told:
+            text = packed(value).encode()
+            try:
+                told = list(islice(faults(value_of(text)), TOLD)) if len(text) < LONG else told  # numbers as they were written
+            except ValueError as fault:
+                told = [str(fault)]
+            raise not_a_command(f"`{name}`: {'; '.join(told)}")
         return value
 
     def whole(self, name: str, least: int = 0, most: int = GREATEST, default: int | None = None) -> int:
@@ -115,6 +135,13 @@ class Asked:
             raise not_a_command(f"`{name}`: {shown(value)[:60]} is no text")
         return words(value, most)
 
+    def texts(self, name: str, most: int, longest: int) -> list[str]:
+        """Texts that can be shown in a line each."""
+        value = self.raw(name)
+        if type(value) is not list or len(value) > most or any(type(one) is not str for one in value):
+            raise not_a_command(f"`{name}` is a list of at most {most} texts")
+        return [words(one, longest) for one in value]
+
     def key(self, name: str = "key") -> str:
         """By which a gesture that is sent again is known."""
         value = self.raw(name)
@@ -135,14 +162,21 @@ class Asked:
             return None
         return {(count, number) for count, number in self._checked("stamps", list_of(STAMP, "stamp"))}
 
+    def pairs(self, name: str) -> list[tuple[int, int]]:
+        """Pairs of whole numbers."""
+        return [(one, other) for one, other in self._checked(name, list_of(PAIR, "pair"))]
+
     def edits(self) -> list[list[Any]]:
-        edits: list[list[Any]] = self._checked("edits", EDITS)
+        edits = self.raw("edits")
+        if type(edits) is not list or 1 <= len(edits) <= MOST_EDITS:
+            edits = self._checked("edits", EDITS)
         if not 1 <= len(edits) <= MOST_EDITS:
             raise Refused("too many edits" if edits else NOT_A_COMMAND,
                           f"a gesture has 1 to {MOST_EDITS} edits, not {len(edits)}")
         if len({tuple(edit[:3]) for edit in edits}) < len(edits):
             raise not_a_command("an object and step stands twice in a gesture")
-        return edits
+        found: list[list[Any]] = edits
+        return found
 
     def shape(self) -> Shape:
         return Shape(*self._checked("shape", SHAPE))

@@ -1,5 +1,6 @@
 """Is it the change, or chance? Two roads over many days, which are seeds, each with drivers of its own: of what is
-figured the mean and its 95 % interval, before, after, and of what a day has more after than before.
+figured the mean and its 95 % interval, before, after, and of what a day has more after than before. The figures are those of
+server.figures.
 
 As a program it reads {plan, before, after, first, last, program, days} from standard input, and prints after each day
 {"done", "figures"}, those of the days that are done, all of the steps `first` to `last` - 1; or {"fault"}.
@@ -7,9 +8,10 @@ As a program it reads {plan, before, after, first, last, program, days} from sta
 from __future__ import annotations
 
 import asyncio
-import contextlib
+import ctypes
 import functools
 import json
+import math
 import os
 import signal
 import sys
@@ -21,11 +23,12 @@ from .asked import Refused
 from .journal import packed
 
 if TYPE_CHECKING:
-    from days import Day
+    from zegdrut.days import Day
+    from zegdrut.demand import Rates
 
 NICE = 10
 SIDES = "before", "after"
-HOURS, LOST = "vehicle_hours", "lost"
+HOURS, LOST, DELAY = "vehicle_hours", "lost", "delay"
 
 
 class Question:
@@ -40,7 +43,7 @@ class Question:
         """The figures, of the days that were done where it was stopped; `progress` is called after each day."""
         self._process = await asyncio.create_subprocess_exec(
             *figures.gently(__name__, NICE), stdin=asyncio.subprocess.PIPE, stdout=asyncio.subprocess.PIPE,
-            start_new_session=True, cwd=LIVE)
+            env=figures.environment(asked["program"]), start_new_session=True, cwd=LIVE)
         if self.is_stopped:
             self.stop()
         assert self._process.stdin is not None and self._process.stdout is not None
@@ -68,8 +71,7 @@ class Question:
         """Ends it, with all that it has started."""
         self.is_stopped = self.is_stopped or not done
         if self._process is not None:
-            with contextlib.suppress(ProcessLookupError):
-                os.killpg(self._process.pid, signal.SIGKILL)
+            figures.kill(self._process)
 
 
 class Questions:
@@ -107,9 +109,8 @@ class Questions:
 def main() -> None:
     """Runs both roads by each seed, on all processors but one, and prints what it found."""
     asked = json.load(sys.stdin)
-    os.environ["ROAD_LAB"] = asked["program"]
-    leave_one_free()
-    from scripts import Fault
+    figures.leave_one_free()
+    from zegdrut import Fault
     found: list[Day] = []
     try:
         for day in days_of(asked):
@@ -121,60 +122,71 @@ def main() -> None:
 
 def days_of(asked: dict[str, Any]) -> Iterator[Day]:
     """The days, as they are done."""
-    from days import SEEDS, day_of, run_day
+    from zegdrut.days import SEEDS, run_day, unwrap_day
+    from zegdrut.units import Units
+    wanted = [demands(asked, side) for side in SIDES]
     seeds = [(asked["plan"]["words"] + one) % SEEDS for one in range(asked["days"])]
-    with ProcessPoolExecutor(min(len(seeds), len(os.sched_getaffinity(0)))) as pool:
-        running = [pool.submit(run_day, [], None, seed, 1.0, functools.partial(of_day, asked)) for seed in seeds]
+    with ProcessPoolExecutor(min(len(seeds), len(os.sched_getaffinity(0))), initializer=die_with_parent) as pool:
+        running = [pool.submit(run_day, [], None, seed, Units(), functools.partial(of_day, asked, wanted)) for seed in seeds]
         try:
-            yield from (day_of(ended.result()) for ended in as_completed(running))
+            yield from (unwrap_day(ended.result()) for ended in as_completed(running))
         finally:
             pool.shutdown(cancel_futures=True)
+
+
+def demands(asked: dict[str, Any], side: str) -> list[Rates]:
+    """Return the demand of each inlet over time: it is the same on each day."""
+    from zegdrut.lost import compute_demands
+    return compute_demands(asked["plan"], figures.given(figures.edits_of(asked[side])), asked["last"])
+
+
+def die_with_parent() -> None:
+    """Let this process be killed as soon as the one that started it has ended."""
+    ctypes.CDLL(None).prctl(1, signal.SIGKILL)  # PR_SET_PDEATHSIG
 
 
 def tell(value: dict[str, Any]) -> None:
     print(json.dumps(value), flush=True)
 
 
-def leave_one_free() -> None:
-    """Others go on editing as fast as before."""
-    processors = sorted(os.sched_getaffinity(0))
-    os.sched_setaffinity(0, processors[1:] or processors)
-
-
 def told(days: list[Day]) -> list[dict[str, Any]]:
-    """The figures, each mean with how far its interval reaches to both sides: of one day that is not known."""
-    from days import compared
+    """Return the figures that each day has, each mean with how far its interval reaches to both sides: of one day that is not known."""
+    from zegdrut.days import Day, compare_days
+    names = [name for name in days[0].before if all(name in side for day in days for side in (day.before, day.after))]
     if len(days) < 2:
         (_, before, after), = days
         return [{"name": name, "before": [before[name], None], "after": [after[name], None],
-                 "difference": [after[name] - before[name], None], "others": 0} for name in before]
+                 "difference": [after[name] - before[name], None], "others": 0} for name in names]
+    whole = [Day(day.seed, *({name: side[name] for name in names} for side in (day.before, day.after))) for day in days]
     return [{"name": one.name, "before": list(one.before), "after": list(one.after), "difference": list(one.difference),
-             "others": one.others} for one in compared(days)]
+             "others": one.others} for one in compare_days(whole)]
 
 
-def of_day(asked: dict[str, Any], _pairs: Any, _at: str | None, seed: int, _seconds: float) -> Day:
-    """The figures of a day, as they are told of one day alone."""
-    from days import Day
-    of_seed = {**asked, "plan": {**asked["plan"], "words": seed}}
-    runs = [figures.run_of(of_seed, asked[side], 0) for side in SIDES]
-    return Day(seed, *(of_road(of_seed, run, wanted) for run, wanted in zip(runs, demands(of_seed))))
+def of_day(asked: dict[str, Any], wanted: list[list[Rates]], _pairs: Any, _at: str | None, seed: int, _units: Any) -> Day:
+    """Return the figures of a day. Travel times that no car has are missing."""
+    from zegdrut.days import Day
+    from zegdrut.trips import Window
+    window = Window(asked["first"], asked["last"])
+    roads = [figures.Road({**asked["plan"], "words": seed}) for _ in SIDES]
+    try:
+        for road, side in zip(roads, SIDES):
+            road.become(figures.edits_of(asked[side]))
+            road.read(window.last, math.inf)
+        both = [of_road(figures.road_of(road, rates, window)) for road, rates in zip(roads, wanted)]
+        delay = figures.cost(roads[0].trips, roads[1].trips, window)["delay_hours"]
+        return Day(seed, *({HOURS: one[HOURS], LOST: one[LOST], DELAY: less, **one}
+                           for one, less in zip(both, (0.0, delay))))
+    finally:
+        for road in roads:
+            road.lab.close()
 
 
-def of_road(asked: dict[str, Any], run: figures.Run, wanted: list[int]) -> dict[str, float]:
-    found = figures.road_of(asked, run, wanted)
-    return {HOURS: found["vehicle_hours"], LOST: float(sum(found["lost"])),
-            **{f"cars {detector}": float(passed) for detector, (passed, _) in enumerate(run.counts)}}
-
-
-def demands(asked: dict[str, Any]) -> list[list[int]]:
-    """How many cars each inlet is asked for on both roads; once, where no edit makes them differ."""
-    edits = [asked[side] for side in SIDES]
-    found: list[list[int]] = [[], []]
-    for inlet in range(len(asked["plan"]["inlets"])):
-        first, second = (figures.asking(asked["plan"], one, inlet) for one in edits)
-        found[0].append(figures.on_free_road(asked, edits[0], inlet))
-        found[1].append(found[0][-1] if first == second else figures.on_free_road(asked, edits[1], inlet))
-    return found
+def of_road(found: dict[str, Any]) -> dict[str, float]:
+    """Return the figures of a road by their names: hours, lost demand, then of each detector the cars and the seconds from the inlet."""
+    times = [mean for _, mean in found["travel"]]
+    return {HOURS: found["vehicle_hours"], LOST: sum(found["lost"]),
+            **{f"cars {detector}": float(passed) for detector, (passed, _) in enumerate(found["detectors"])},
+            **{f"seconds {place}": mean for place, mean in enumerate(times) if mean is not None}}
 
 
 if __name__ == "__main__":

@@ -1,41 +1,46 @@
-"""What two roads differ by, exactly: vehicle hours, delay, the demand that could not enter, detectors.
+"""The figures of two roads in a window, by the package zegdrut: vehicle hours, delay, travel times, demand and detectors.
 
-As a program it reads {plan, before, after, first, last, program} from standard input, runs the road by the edits `before`
-and by those of `after`, and prints what it found, all of the steps `first` to `last` - 1.
+What each figure means is said at the head of zegdrut.trips and zegdrut.lost: nothing is computed here.
+
+As a program this module reads a question a line, {plan, before, after, first, last, slots, seconds}, and answers each in a line: the
+figures of the steps `first` to `last` - 1; or {"done": step}, if it has not read so far after `seconds`. A road stays in its slot:
+the next question about it reads what is new, or what an edit has changed.
 """
 from __future__ import annotations
 
 import asyncio
 import contextlib
 import json
-import re
-import subprocess
+import os
+import signal
 import sys
-from concurrent.futures import ThreadPoolExecutor
-from dataclasses import dataclass
-from itertools import accumulate
-from typing import TYPE_CHECKING, Any, AsyncIterator
-
-from refusals import MOST_ROWS
+import time
+from collections import OrderedDict
+from typing import TYPE_CHECKING, Any, AsyncIterator, Sequence
 
 from . import LIVE
 from .asked import Refused
 from .journal import packed
-from .program import import_lines
-from .rows import of_diagram
+from .program import LONGEST_REPLY, dies_with_us, import_lines
 
 if TYPE_CHECKING:
-    from delay import Journeys
+    from zegdrut import Edit, RoadLab
+    from zegdrut.demand import Rates
+    from zegdrut.trips import Trips, TripsCompared, Window
 
-MOST_CELLS = 16_000_000  # of the rows by which delay is reckoned: two hours of 16 km
-PATIENCE = 60.0
-NUMBER = re.compile(rb"\[([0-9]+),")  # of a car, in a reply to `cars`
+PATIENCE = 60.0  # seconds of a question; the next one goes on where it ended
+AT_ONCE = 5.0  # seconds after which a program says how far it is
+HANGS = 600.0  # seconds without a word after which it is ended
+PIECE = 1_920  # steps that are read at a time
+MOST_ROADS = 12  # that are kept
 RUNNING = asyncio.Semaphore(1)
 WAITING: list[int] = []  # seats for which a road is run beside, or will be
 MOST_WAITING = 8
-BEHIND = 64  # cells behind an inlet that are driven for what it is asked for
 NICE = 5  # less than who edits, and more than what takes long
-SEEN = 8  # steps after which it is looked who is on them: at 9 cells a step nobody leaves them sooner
+GUARD = "ROAD_LAB_GUARD"  # by which a program of zegdrut ends with the process that started it
+SIDES = "before", "after"
+NUMBER = 64  # in the stamps of edits: of no replica
+ENTRY = 60  # steps of entry whose travel times are told together
 
 
 @contextlib.asynccontextmanager
@@ -51,153 +56,219 @@ async def alone(index: int) -> AsyncIterator[None]:
         WAITING.remove(index)
 
 
-async def of(index: int, asked: dict[str, Any]) -> dict[str, Any]:
-    """The figures of two roads, for a seat."""
-    async with alone(index):
-        process = await asyncio.create_subprocess_exec(
-            *gently(__name__), stdin=asyncio.subprocess.PIPE, stdout=asyncio.subprocess.PIPE,
-            start_new_session=True, cwd=LIVE)
+class Beside:
+    """A program of this package that answers questions line by line, for which nobody who edits waits longer."""
+
+    def __init__(self, module: str, nice: int = NICE) -> None:
+        self._module, self._nice, self._path = module, nice, ""
+        self._process: asyncio.subprocess.Process | None = None
+
+    async def ask(self, asked: dict[str, Any], path: str) -> dict[str, Any]:
+        """Return the answer to a question; `path` is that of road_lab. If nobody waits for it any more the program ends."""
+        if self._process is None or self._process.returncode is not None or path != self._path:
+            self.close()
+            self._path = path
+            self._process = await asyncio.create_subprocess_exec(
+                *gently(self._module, self._nice), stdin=asyncio.subprocess.PIPE, stdout=asyncio.subprocess.PIPE, env=environment(path),
+                start_new_session=True, cwd=LIVE, limit=LONGEST_REPLY)
+        process = self._process
+        assert process.stdin is not None and process.stdout is not None
+        line = b""
         try:
-            async with asyncio.timeout(PATIENCE):
-                out, _ = await process.communicate(packed(asked).encode())
-        except asyncio.TimeoutError:
-            process.kill()
-            raise Refused("too long", f"this took more than {PATIENCE:.0f} seconds: ask for fewer steps") from None
-    if process.returncode != 0:
-        raise Refused("failed", "the figures failed; the server's log says why")
-    said: dict[str, Any] = json.loads(out)
-    return said
+            process.stdin.write(packed(asked).encode() + b"\n")
+            async with asyncio.timeout(HANGS):
+                line = await process.stdout.readline()
+        except (OSError, asyncio.TimeoutError):
+            pass
+        finally:
+            if not line.endswith(b"\n"):
+                self.close()
+        if not line.endswith(b"\n"):
+            raise Refused("failed", "the figures failed; the server's log says why")
+        said: dict[str, Any] = json.loads(line)
+        return said
+
+    def close(self) -> None:
+        """End the program, with all that it has started; the next question starts another."""
+        if self._process is not None and self._process.returncode is None:
+            kill(self._process)
+            self._process._transport.close()  # type: ignore[attr-defined]  # (nobody waits for it, also where the loop ends)
+        self._process = None
+
+
+class Figures(Beside):
+    """The figures of two roads, for seats."""
+
+    def __init__(self) -> None:
+        super().__init__(__name__)
+
+    async def of(self, index: int, asked: dict[str, Any]) -> dict[str, Any]:
+        """Return the figures that a seat asks for. Refused: they take long, or others wait for theirs."""
+        until = time.monotonic() + PATIENCE
+        async with alone(index):
+            while True:
+                said = await self.ask({**asked, "seconds": AT_ONCE}, asked["program"])
+                if "done" not in said:
+                    return said
+                if time.monotonic() > until:
+                    raise Refused("busy", f"the figures are computed to step {said['done']} of {asked['last']} so far: ask again")
+
+
+def environment(path: str) -> dict[str, str]:
+    """Return the environment of a program that runs road_lab at a path by the package zegdrut."""
+    guard = " ".join(dies_with_us([]))
+    return {**os.environ, "ROAD_LAB": path, **({GUARD: guard} if guard else {})}
 
 
 def gently(module: str, nice: int = NICE) -> list[str]:
     """Runs a module of this package as a program for which nobody who edits waits longer."""
-    return ["nice", "-n", str(nice), sys.executable, "-m", module]
+    return dies_with_us(["nice", "-n", str(nice), sys.executable, "-m", module])
+
+
+def kill(process: asyncio.subprocess.Process) -> None:
+    """End a process that has a session of its own, with all that it has started."""
+    with contextlib.suppress(ProcessLookupError):
+        os.killpg(process.pid, signal.SIGKILL)
 
 
 # The program
 
-@dataclass(frozen=True)
-class Run:
-    """What a road was asked: the counts of its detectors, and its cars, or None where they are too many."""
+Edits = dict[tuple[str, int, int], int]
+"""The values of edits, by kind, index and step."""
 
-    counts: list[list[int]]
-    journeys: Journeys | None
+
+class Road:
+    """A road that is run and read on, and brought to other edits."""
+
+    def __init__(self, plan: dict[str, Any]) -> None:
+        from zegdrut import RoadLab
+        from zegdrut.trips import Trips
+        self.edits: Edits = {}
+        self.plan, self._count = plan, 0
+        self.lab: RoadLab = RoadLab(plan)
+        self.trips: Trips = Trips(plan, plan["detectors"])
+
+    def become(self, edits: Edits) -> None:
+        """Have these edits, and no others."""
+        keys = [key for key in edits.keys() | self.edits.keys() if edits.get(key) != self.edits.get(key)]
+        if not keys:
+            return
+        self._count += 1
+        for line in import_lines("road", [[*key, self._count, NUMBER, edits.get(key)] for key in sorted(keys)]):
+            self.lab.ask(line)
+        self.trips.rewind(min(step for _, _, step in keys))
+        self.edits = edits
+
+    def read(self, to: int, until: float) -> None:
+        """Run and read on to a row, or as far as there is time."""
+        while self.trips.horizon < to and time.monotonic() < until:
+            end = min(to, self.trips.horizon + PIECE)
+            self.lab.command("advance", "road", to=end)
+            self.trips.follow(self.lab, "road", end)
+
+    def demands(self, last: int) -> list[Rates]:
+        """Return the demand of each inlet over time, up to a step."""
+        from zegdrut.lost import compute_demands
+        return compute_demands(self.plan, given(self.edits), last)
+
+    def counts(self, window: Window) -> list[dict[str, Any]]:
+        """Return what each detector counted."""
+        from zegdrut.trips import DetectorCount, count_seconds_on
+        found, watched = [], given(self.edits)
+        for detector in range(len(self.plan["detectors"])):
+            one = self.lab.count("road", detector, *window)
+            found.append(detector_told(DetectorCount(one.cars, one.speeds, count_seconds_on(watched, detector, window), window.steps)))
+        return found
+
+
+def detector_told(one: Any) -> dict[str, Any]:
+    """Return a detector's count as it is told: cars, the sum of speeds, flow in cars per hour, speed in km/h, seconds on."""
+    return {"cars": one.cars, "speeds": one.speeds, "flow": one.flow, "speed": one.time_mean_speed, "on": one.seconds_on}
+
+
+def edits_of(rows: Sequence[Any]) -> Edits:
+    """Return the edits of rows of an import that say something."""
+    return {(kind, index, step): value for kind, index, step, *_, value in rows if value is not None}
+
+
+def given(edits: Edits) -> list[Edit]:
+    """Return edits as the package has them."""
+    from zegdrut import Edit, Stamp
+    return [Edit((kind, index), step, Stamp(1, NUMBER), value) for (kind, index, step), value in edits.items()]
+
+
+def times_told(times: Sequence[Any]) -> list[list[float | None]]:
+    """Return, for each site and last for the road's end, the cars and their mean seconds."""
+    return [[one.cars, one.mean] for one in times]
+
+
+def road_of(road: Road, wanted: list[Rates], window: Window) -> dict[str, Any]:
+    """Return the figures of a road."""
+    from zegdrut.lost import compute_supplies
+    from zegdrut.trips import compute_travel_times, compute_travel_times_by_entry, compute_vehicle_hours, count_admitted_cars
+    supplies = compute_supplies(wanted, count_admitted_cars(road.trips, window), window)
+    counts = road.counts(window)
+    by_entry = compute_travel_times_by_entry(road.trips, window, ENTRY)
+    return {"detectors": [[one["cars"], one["speeds"]] for one in counts], "flows": counts,
+            "asked": [one.demand for one in supplies], "entered": [one.admitted for one in supplies],
+            "lost": [one.lost for one in supplies], "scatter": [one.scatter for one in supplies],
+            "vehicle_hours": compute_vehicle_hours(road.trips, window),
+            "travel": times_told(compute_travel_times(road.trips, window)),
+            "travel_by_entry": {str(step): times_told(times) for step, times in by_entry.items()}}
+
+
+def cost(before: Trips, after: Trips, window: Window) -> dict[str, Any]:
+    """Return what the change costs: the delay in vehicle hours of so many cars, and how much later they are at each detector."""
+    from zegdrut.trips import compare_trips
+    found: TripsCompared = compare_trips(before, after, window)
+    return {"delay_hours": found.delay_hours, "delayed": found.cars, "later": times_told(found.at_sites)}
+
+
+class Roads:
+    """The roads that were asked about last, by the slots that the questions name."""
+
+    def __init__(self) -> None:
+        self._roads: OrderedDict[str, Road] = OrderedDict()
+
+    def road(self, slot: str, plan: dict[str, Any]) -> Road:
+        """Return the road of a slot."""
+        road = self._roads.pop(slot, None)
+        if road is not None and road.plan != plan:
+            road.lab.close()
+            road = None
+        self._roads[slot] = road = road or Road(plan)
+        while len(self._roads) > MOST_ROADS:
+            self._roads.popitem(last=False)[1].lab.close()
+        return road
+
+    def answer(self, asked: dict[str, Any]) -> dict[str, Any]:
+        """Return the figures of two roads, or how far they are read."""
+        from zegdrut.trips import Window
+        plan, window = asked["plan"], Window(asked["first"], asked["last"])
+        until = time.monotonic() + asked["seconds"]
+        roads = [self.road(slot, plan) for slot in asked["slots"]]
+        for road, side in zip(roads, SIDES):
+            road.become(edits_of(asked[side]))
+            road.read(window.last, until)
+        done = min(road.trips.horizon for road in roads)
+        if done < window.last:
+            return {"done": done}
+        told = {side: road_of(road, road.demands(window.last), window) for side, road in zip(SIDES, roads)}
+        return {**told, **cost(roads[0].trips, roads[1].trips, window)}
+
+
+def leave_one_free() -> None:
+    """Others go on editing as fast as before."""
+    processors = sorted(os.sched_getaffinity(0))
+    os.sched_setaffinity(0, processors[1:] or processors)
 
 
 def main() -> None:
-    """Runs both roads side by side, and prints what it found."""
-    asked = json.load(sys.stdin)
-    sides = ("before", "after")
-    start = min([asked["first"], *first_difference(asked["before"], asked["after"])])
-    with ThreadPoolExecutor(4) as pool:
-        demands = [pool.submit(demand, asked, asked[side]) for side in sides]
-        runs = list(pool.map(lambda side: run_of(asked, asked[side], start), sides))
-    told: dict[str, Any] = {"delay": None, "delay_hours": None}
-    for side, run, wanted in zip(sides, runs, demands):
-        told[side] = road_of(asked, run, wanted.result())
-    before, after = (run.journeys for run in runs)
-    if before is not None and after is not None:
-        told.update(cost(before, after))
-    json.dump(told, sys.stdout)
-
-
-def first_difference(before: list[Any], after: list[Any]) -> list[int]:
-    """The first step from which two roads may differ; none where they are one."""
-    one, other = ({(kind, index, step): value for kind, index, step, *_, value in edits if value is not None}
-                  for edits in (before, after))
-    steps = [key[2] for key in one.keys() | other.keys() if one.get(key) != other.get(key)]
-    return [min(steps)] if steps else []
-
-
-def road_of(asked: dict[str, Any], run: Run, wanted: list[int]) -> dict[str, Any]:
-    """The figures of one road. What an inlet lost is what it was asked for and did not enter."""
-    from delay import entry_of, inlet_of, vehicle_hours
-    first, last = asked["first"], asked["last"]
-    found: dict[str, Any] = {"detectors": run.counts, "asked": wanted, "entered": None, "lost": None, "vehicle_hours": None}
-    if run.journeys is not None:
-        entered = [0] * len(wanted)
-        for number in run.journeys.last:
-            entered[inlet_of(number)] += first <= entry_of(number) < last
-        rows = run.journeys.rows[first + 1 - run.journeys.first:]
-        found.update(entered=entered, lost=[one - other for one, other in zip(wanted, entered)],
-                     vehicle_hours=vehicle_hours(sum(rows)))
-    return found
-
-
-def run_of(asked: dict[str, Any], edits: list[Any], start: int) -> Run:
-    """The road by these edits. All lines go to the program at once: a wait for each reply would take far longer where the
-    machine has other work."""
-    from delay import Journeys, meetings
-    plan, first, last = asked["plan"], asked["first"], asked["last"]
-    is_short = (last - start + 1) * plan["length"] <= MOST_CELLS
-    counts = [{"count": {"at": "road", "detector": detector, "from": first, "to": last}}
-              for detector in range(len(plan["detectors"]))]
-    steps = meetings(plan, start, last) if is_short else []
-    cars = [{"cars": {"at": "road", "step": step}} for step in steps]
-    rows = [{"diagram": {"at": "road", "from": begin, "to": min(last, begin + MOST_ROWS - 1)}}
-            for begin in range(start, last + 1, MOST_ROWS) if is_short]
-    driven = [plan, *import_lines("road", edits), {"advance": {"at": "road", "to": last}}]
-    replies = said(asked, [*driven, *counts, *cars, *rows])
-    counted, drove, shown = parts(replies[len(driven):], len(counts), len(cars))
-    pairs = [[one["cars"], one["speeds"]] for one in map(json.loads, counted)]
-    if not is_short:
-        return Run(pairs, None)
-    states = {step: list(map(int, NUMBER.findall(reply))) for step, reply in zip(steps, drove)}
-    return Run(pairs, Journeys.met(states, [row.decode() for reply in shown for row in of_diagram(reply)]))
-
-
-def demand(asked: dict[str, Any], edits: list[Any]) -> list[int]:
-    """How many cars each inlet was asked for: those that would enter, were the road behind it free."""
-    return [on_free_road(asked, edits, inlet) for inlet in range(len(asked["plan"]["inlets"]))]
-
-
-def on_free_road(asked: dict[str, Any], edits: list[Any], inlet: int) -> int:
-    """How many cars enter at an inlet that has a short road of its own, with its chances and the slowing chances of its
-    zone. Cars are named by inlet and step, so these have the same random words as on the road itself."""
-    from delay import entry_of
-    plan, first, last = asked["plan"], asked["first"], asked["last"]
-    zone = plan["inlets"][inlet][0] // plan["zone"]
-    chance = plan["inlets"][inlet][1]
-    road = {**plan, "length": inlet + BEHIND, "exit": 1, "zone": inlet + BEHIND, "zones": [plan["zones"][zone]],
-            "inlets": [*([other, 0] for other in range(inlet)), [inlet, chance]], "detectors": [], "replicas": ["road"]}
-    driven = [road, *import_lines("road", asking(plan, edits, inlet)), {"advance": {"at": "road", "to": last}}]
-    seen = [{"cars": {"at": "road", "step": step}} for step in [*range(first, last, SEEN), last]]
-    numbers = {int(number) for reply in said(asked, [*driven, *seen])[len(driven):] for number in NUMBER.findall(reply)}
-    return sum(first <= entry_of(number) < last for number in numbers)
-
-
-def asking(plan: dict[str, Any], edits: list[Any], inlet: int) -> list[Any]:
-    """The edits by which it is decided what an inlet is asked for, as they are on its short road."""
-    kept = {("inflow", inlet): inlet, ("slow", plan["inlets"][inlet][0] // plan["zone"]): 0}
-    return [[kind, kept[kind, index], *rest] for kind, index, *rest in edits if (kind, index) in kept]
-
-
-def said(asked: dict[str, Any], lines: list[Any]) -> list[bytes]:
-    """The program's replies to these lines."""
-    ran = subprocess.run([asked["program"]], input="\n".join(map(packed, lines)).encode() + b"\n",
-                         stdout=subprocess.PIPE, check=True)
-    replies = ran.stdout.splitlines()
-    refused = [reply for reply in replies if reply.startswith(b'{"refused"')]
-    if refused:
-        raise ValueError(f"the program refused what it had accepted: {refused[0]!r}")
-    return replies
-
-
-def parts(replies: list[bytes], *sizes: int) -> list[list[bytes]]:
-    """The first so many, the next so many, and so on, and the rest."""
-    cuts = [0, *accumulate(sizes), len(replies)]
-    return [replies[one:other] for one, other in zip(cuts, cuts[1:])]
-
-
-def cost(before: Journeys, after: Journeys) -> dict[str, Any]:
-    """What the change costs, by the cars of both runs: in steps of cars, and in vehicle hours of steps of a second."""
-    from delay import delay, vehicle_hours
-    found = delay(before, after)
-    groups = {name: {"cars": group.cars, "delay": group.delay, "mean": group.mean, "greatest": group.greatest}
-              for name, group in (("through", found.through), ("inside", found.inside), ("lost", found.lost),
-                                  ("gained", found.gained))}
-    return {"delay": {"total": found.total, **groups},
-            "delay_hours": vehicle_hours(found.through.delay + found.inside.delay)}
+    """Answer questions until there are no more."""
+    leave_one_free()
+    roads = Roads()
+    for line in sys.stdin:
+        print(json.dumps(roads.answer(json.loads(line))), flush=True)
 
 
 if __name__ == "__main__":

@@ -1,105 +1,84 @@
 """The journal of a folder: what a server has confirmed, a JSON object a line, on the disk before anybody is told.
 
-    entries, size = read(path)         what stands there, without what was never confirmed
-    with lock(folder): ..              one server a folder
+    entries, size = read(path)         what stands there, without what was never confirmed; `Entries` one by one
+    with lock(folder): ..              one server a folder; its journal is locked, too
     journal = Journal(path, size)      cuts that off, and appends
     await journal.write({"clock": ..}) returns once the entry is on the disk; one sync serves all that wait
     await journal.settled()            returns once all is that was written so far
 
-A line ends with the checksum of its entry: as `crc` where a write began with it, as `and` where it went on. So a line
-that is none was never confirmed where no write began behind it. (Lines of older journals have no checksum.)
+Its lines are those of `entries`.
 """
 from __future__ import annotations
 
 import asyncio
 import contextlib
+import ctypes
+import errno
 import fcntl
-import json
+import gc
+import itertools
 import logging
 import os
-import re
+import signal
 import time
-import zlib
 from pathlib import Path
 from typing import Any, Callable, Iterable, Iterator
 
+from .entries import Broken as Broken, Entries as Entries, Entry as Entry
+from .entries import line_of as line_of, packed as packed, read as read
+
+JOURNAL = "journal.jsonl"
 LINES_AT_ONCE = 1_000
 ROOM = 262_144  # bytes
-Entry = dict[str, Any]
+NICE = 5  # less than who edits
+LAST_WAIT = 5.0  # seconds for the disk to answer when the server ends
 Then = Callable[[], None]
-SUMMED = re.compile(rb'(\{.*),"(crc|and)":"([0-9a-f]{8})"\}', re.DOTALL)
-
-
-class Broken(Exception):
-    """The journal has a line that is none, or the folder cannot be used; the text says so in a sentence."""
 
 
 class NotWritten(Exception):
     """An entry is not on the disk."""
 
 
-def packed(value: Any) -> str:
-    """Compact JSON in one line."""
-    return json.dumps(value, separators=(",", ":"), ensure_ascii=False, allow_nan=False)
-
-
-def line_of(text: str, is_first: bool) -> bytes:
-    """The line of an entry, the first of a write or not."""
-    data = text.encode()
-    return data[:-1] + b',"%s":"%08x"}\n' % (b"crc" if is_first else b"and", zlib.crc32(data))
-
-
-def read(path: Path, size: int | None = None) -> tuple[list[Entry], int]:
-    """The entries of a journal (of its first bytes), and how many bytes they take; `Broken` names a line that is no
-    entry, unless it is of a write that never ended."""
-    data = path.read_bytes()[:size] if path.exists() else b""
-    *lines, rest = data.split(b"\n")
-    entries: list[Entry] = []
-    for number, line in enumerate(lines, 1):
-        try:
-            entries.append(entry_of(path, number, line))
-        except Broken:
-            behind = [line.rpartition(b"\0")[2], *lines[number:]]
-            if not (rest or b"\0" in line) or any(begins_a_write(path, one) for one in behind):
-                raise
-            lines = lines[:number - 1]
-            break
-    return entries, sum(len(line) + 1 for line in lines)
-
-
-def entry_of(path: Path, number: int, line: bytes) -> Entry:
-    summed = SUMMED.fullmatch(line)
-    text = summed[1] + b"}" if summed else line
-    try:
-        if summed and zlib.crc32(text) != int(summed[3], 16):
-            raise ValueError("its checksum differs")
-        entry = json.loads(text)
-    except (ValueError, RecursionError) as fault:
-        raise Broken(f"{path}, line {number}, is broken ({fault}): {line[:60]!r}") from None
-    if not isinstance(entry, dict) or [type(value) for value in entry.values()] != [dict]:
-        raise Broken(f"{path}, line {number}, is no entry: {line[:60]!r}")
-    return entry
-
-
-def begins_a_write(path: Path, line: bytes) -> bool:
-    """Whether all lines before were confirmed: this one was written behind them."""
-    try:
-        entry_of(path, 0, line)
-    except Broken:
-        return False
-    summed = SUMMED.fullmatch(line)
-    return summed is None or summed[2] == b"crc"
-
-
 @contextlib.contextmanager
 def lock(folder: Path) -> Iterator[None]:
-    """Holds a folder; two servers there would make one stamp twice."""
-    with open(folder / "lock", "w", encoding="ascii") as file:
+    """Hold a folder; two servers there would make one stamp twice. `Broken` if another server holds it, also where its
+    file `lock` was removed: each holds its journal, too."""
+    with contextlib.ExitStack() as files:
         try:
-            fcntl.flock(file, fcntl.LOCK_EX | fcntl.LOCK_NB)
-        except BlockingIOError:
-            raise Broken(f"another server runs in {folder}") from None
+            file = files.enter_context(open(folder / "lock", "a", encoding="ascii"))
+        except OSError as fault:
+            if not is_read_only(fault):
+                raise
+        else:
+            hold(file.fileno(), folder)
+        with contextlib.suppress(FileNotFoundError):
+            os.close(held(folder / JOURNAL))  # the journal itself holds it from now on
         yield
+
+
+def held(path: Path) -> int:
+    """Open a journal, and lock it until the file is closed; `Broken` if another server has it."""
+    file = os.open(path, os.O_RDONLY)
+    try:
+        hold(file, path.parent)
+        if os.fstat(file).st_ino != os.stat(path).st_ino:  # a server that has ended since put another in its place
+            raise Broken(f"another server ran in {path.parent} until just now: try again")
+    except BaseException:
+        os.close(file)
+        raise
+    return file
+
+
+def hold(file: int, folder: Path) -> None:
+    try:
+        fcntl.flock(file, fcntl.LOCK_EX | fcntl.LOCK_NB)
+    except BlockingIOError:
+        raise Broken(f"another server runs in {folder}") from None
+
+
+def is_read_only(fault: OSError) -> bool:
+    """Return whether a call failed since nothing may be written there."""
+    return fault.errno in (errno.EROFS, errno.EACCES, errno.EPERM)
 
 
 def sync_folder(folder: Path) -> None:
@@ -125,18 +104,62 @@ def write(file: int, pieces: Iterable[bytes]) -> None:
 
 def put_in_place(path: Path, pieces: Iterable[bytes]) -> int:
     """Makes a file, or puts another in its place, whole or not at all; it stays open, to append to."""
-    beside = path.with_name(path.name + ".new")
-    beside.unlink(missing_ok=True)
-    file = appended(beside)
+    file = put_beside(path, pieces)
     try:
-        write(file, pieces)
-        os.rename(beside, path)
+        os.rename(beside(path), path)
     except OSError:
-        os.close(file)
+        close_all(file)
         with contextlib.suppress(OSError):
-            beside.unlink()
+            beside(path).unlink()
         raise
     return file
+
+
+def beside(path: Path) -> Path:
+    """Return where a file is written that takes the place of another."""
+    return path.with_name(path.name + ".new")
+
+
+def put_beside(path: Path, pieces: Iterable[bytes]) -> int:
+    """Write a file that will take the place of another, whole or not at all; it stays open, to append to."""
+    beside(path).unlink(missing_ok=True)
+    file = appended(beside(path))
+    try:
+        write(file, pieces)
+    except OSError:
+        close_all(file)
+        with contextlib.suppress(OSError):
+            beside(path).unlink()
+        raise
+    return file
+
+
+def fork_writing(path: Path, entries: Callable[[], Iterable[Entry]]) -> int:
+    """Let a process that has this one's memory, as it is now, write `entries()` beside a journal. Return its number; its
+    status is 0 if they are on the disk."""
+    process = os.fork()
+    if process:
+        return process
+    status = 1
+    try:
+        ctypes.CDLL(None).prctl(1, signal.SIGKILL)  # PR_SET_PDEATHSIG: it ends with its parent
+        signal.set_wakeup_fd(-1)
+        for one in (signal.SIGINT, signal.SIGTERM):
+            signal.signal(one, signal.SIG_DFL)
+        os.closerange(3, os.sysconf("SC_OPEN_MAX"))  # a connection lasts as long as anybody has it open
+        os.nice(NICE)
+        gc.disable()
+        put_beside(path, lines_of(entries()))
+        status = 0
+    finally:
+        os._exit(status)
+
+
+def lines_of(entries: Iterable[Entry]) -> Iterator[bytes]:
+    """Yield the lines of entries, many at once."""
+    several = iter(entries)
+    while part := list(itertools.islice(several, LINES_AT_ONCE)):
+        yield b"".join(line_of(packed(entry), True) for entry in part)
 
 
 class Journal:
@@ -151,12 +174,36 @@ class Journal:
         self._last: asyncio.Future[None] | None = None
         self._writer: asyncio.Future[None] | None = None
         self._began: float | None = None  # when the disk was asked what it has not answered
-        self._file = appended(path)
-        torn = os.fstat(self._file).st_size - size
+        self._is_read_only = self._is_closed = False
+        self._file = self._opened()
+        self._held = -1
+        try:
+            self._begin(os.fstat(self._file).st_size - size)
+        except BaseException:
+            close_all(self._file, self._held)
+            raise
+
+    def _begin(self, torn: int) -> None:
+        """Lock the journal, and cut off what was never confirmed."""
+        self._held = held(self.path)
         if torn > 0:
-            logging.warning("%s: %d bytes at its end were never confirmed, and are cut off", path, torn)
-        self._cut()
-        sync_folder(path.parent)
+            logging.warning("%s: %d bytes at its end were never confirmed, and are cut off", self.path, torn)
+        if not self._is_read_only:
+            self._cut()
+            sync_folder(self.path.parent)
+
+    def _opened(self) -> int:
+        """Open the journal to append to. A journal that is there and may not be written can be read; what is written is
+        refused until `mend` succeeds."""
+        try:
+            return appended(self.path)
+        except OSError as fault:
+            if not is_read_only(fault) or not self.path.exists():
+                raise
+            logging.warning("%s can only be read (%s): all can be looked at, and nothing put", self.path, fault.strerror)
+            self._failed(fault)
+            self._is_read_only = True
+            return os.open(self.path, os.O_RDONLY)
 
     def write(self, entry: Entry, then: Then = lambda: None) -> asyncio.Future[None]:
         """A future that is done once the entry is on the disk, and `then` was called; or fails with `NotWritten`."""
@@ -192,7 +239,10 @@ class Journal:
                     self._failed(fault)
                     return
                 for _, then, done in batch:
-                    then()
+                    try:
+                        then()
+                    except Exception:  # pylint: disable=broad-except
+                        logging.exception("what follows a write failed: it is on the disk all the same")
                     if not done.done():
                         done.set_result(None)
         finally:
@@ -238,22 +288,65 @@ class Journal:
         self.fault = None
 
     def _mend(self, entry: Entry) -> None:
+        if self._is_read_only:
+            file, old = appended(self.path), self._file
+            self._file, self._is_read_only = file, False
+            os.close(old)
         self._cut()
         sync_folder(self.path.parent)
         self._append(line_of(packed(entry), True), bytes(ROOM))
         self._cut()
 
     async def compact(self, entries: Callable[[], Iterable[Entry]]) -> None:
-        """Puts `entries()` into the place of all that was written; they are asked for when nothing waits."""
+        """Put `entries()` into the place of all that was written so far, and what is written meanwhile behind them. Another
+        process writes them, as they are when nothing waits; nobody waits for it."""
         while self._writer is not None:
             await asyncio.wait([self._writer])
-        if self.fault is None:
-            self._writer = asyncio.ensure_future(self._replace(list(entries())))
-            await asyncio.wait([self._writer])
-
-    async def _replace(self, entries: list[Entry]) -> None:
+        if self.fault is not None:
+            return
+        copied, failures = self.size, self.failures
+        if not await self._is_written(fork_writing(self.path, entries)):
+            logging.warning("the journal stays as long as it is: a shorter one could not be written")
+            return
+        file = appended(beside(self.path))
         try:
-            await self._asks(self._rewrite, entries)
+            while self.size - copied > ROOM and self.failures == failures:
+                copied = await self._asks_beside(self._copy, file, copied)
+            while self._writer is not None:
+                await asyncio.wait([self._writer])
+            if self.failures == failures and not self._is_closed:
+                self._writer = asyncio.ensure_future(self._replace(file, copied))
+                await asyncio.wait([self._writer])
+        except OSError as fault:
+            logging.warning("the journal stays as long as it is: %s", fault)
+        finally:
+            if file != self._file:
+                close_all(file)
+
+    async def _is_written(self, process: int) -> bool:
+        """Wait for a process that writes; return whether all is on the disk."""
+        try:
+            _, status = await self._asks_beside(os.waitpid, process, 0)
+        except asyncio.CancelledError:
+            os.kill(process, signal.SIGKILL)
+            raise
+        return bool(status == 0)
+
+    async def _asks_beside(self, does: Callable[..., Any], *given: Any) -> Any:
+        """Let the disk do something that nobody waits for."""
+        return await asyncio.get_running_loop().run_in_executor(None, does, *given)
+
+    def _copy(self, file: int, begin: int) -> int:
+        """Append what was written from a byte on to another file. Return up to where."""
+        end = self.size
+        with open(self.path, "rb") as journal:
+            journal.seek(begin)
+            write(file, [journal.read(end - begin)])
+        return end
+
+    async def _replace(self, file: int, copied: int) -> None:
+        try:
+            await self._asks(self._rename, file, copied)
         except OSError as fault:
             logging.warning("the journal stays as long as it is: %s", fault)
         else:
@@ -263,13 +356,32 @@ class Journal:
                 self._failed(fault)
         await self._write_all()
 
-    def _rewrite(self, entries: list[Entry]) -> None:
-        """A new file that is renamed over the old one: whoever reads sees the one or the other."""
-        file = put_in_place(self.path, (
-            b"".join(line_of(packed(entry), True) for entry in entries[begin:begin + LINES_AT_ONCE])
-            for begin in range(0, len(entries), LINES_AT_ONCE)))
-        os.close(self._file)
-        self._file, self.size = file, os.fstat(file).st_size
+    def _rename(self, file: int, copied: int) -> None:
+        """A new file that is renamed over the old one: whoever reads sees the one or the other, and it is locked first."""
+        self._copy(file, copied)
+        lock_of_new = held(beside(self.path))
+        try:
+            os.rename(beside(self.path), self.path)
+        except OSError:
+            close_all(lock_of_new)
+            raise
+        # The old file is closed last: if `close` fails, its number may already be that of a socket.
+        olds = self._file, self._held
+        self._file, self._held, self.size = file, lock_of_new, os.fstat(file).st_size
+        close_all(*olds)
 
-    def close(self) -> None:
-        os.close(self._file)
+    async def close(self) -> None:
+        """Close the files when the disk has answered. If it does not answer for some seconds, the end of the process closes
+        them."""
+        if self._writer is not None:
+            await asyncio.wait([self._writer], timeout=LAST_WAIT)
+        if self._writer is None and not self._is_closed:
+            self._is_closed, self.fault = True, self.fault or "the server has ended"
+            close_all(self._file, self._held)
+
+
+def close_all(*files: int) -> None:
+    """Close files of which nothing is needed any more."""
+    for file in files:
+        with contextlib.suppress(OSError):
+            os.close(file)

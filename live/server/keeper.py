@@ -14,18 +14,23 @@ import os
 import secrets
 import time
 from pathlib import Path
-from typing import Any, Awaitable, Callable, Dict
+from typing import Any, Awaitable, Callable, Dict, Iterable
 
 from .asked import Refused, why_refused
-from .journal import Broken, Entry, Journal, NotWritten, packed, put_in_place, read, sync_folder
+from .records import JOURNAL_FORM, AnyEntry, Clock, Folder, Made, Upgraded
+from .journal import Broken, Entries, Entry, Journal, NotWritten, packed, put_in_place, sync_folder
 from .listeners import Listeners
-from .program import PIECE, Gone, Program, command_of, import_lines, start
+from .model.operations import Operation
+from .model.road import Road
+from .program import Gone, Program, command_of, start
+from .screen import Differences, Screen
 from .settings import Settings
-from .stamps import count_after
-from .state import FORM, FORMER, Gesture, State
+from .stamps import StampClock
+from .state import State
+from .supervised import supervised
 from .turns import MORE, Job, Turns
 
-KEPT = 20  # of a seat's gestures that were taken back in private
+KEPT = 20  # of a seat's private operations the newest, which are never forgotten
 LONGEST_PAUSE = 60.0  # seconds between two tries of a disk that took nothing
 STALLS = 5.0  # seconds without an answer of the disk, of which people are told
 A_MOMENT = 1.0  # seconds that a try of the disk may keep others waiting
@@ -51,25 +56,28 @@ class Keeper:
 
     def __init__(self, folder: Path, program: str, settings: Settings) -> None:
         self.folder, self.path, self.settings = folder, program, settings
-        self.state = State(count_after, time.time_ns() // 1_000)
+        self.stamps = StampClock()
+        self.state = State(self.stamps, time.time_ns() // 1_000)
         self.wanted: dict[int, int] = {}  # how far each replica shall have run
         self.here: set[int] = set()  # seats with a tab
         self.turns = Turns(self._around)
         self.changes = 0  # of the program
         self.why_changed: str | None = None  # for people, where it was not to be
-        self.undone = 0  # gestures that were taken back since the oldest were forgotten
+        self.undone = 0  # operations that were undone or withdrawn since the oldest were forgotten
         self._trouble: str | None = None
         self._is_stalled = False
         self._try: asyncio.Future[str | None] | None = None  # of a disk that took nothing
-        self.confirmed = 0  # so many of the shared gestures are on the disk: of no others anybody is told
+        self.confirmed = 0  # so many of the shared operations are on the disk: of no others anybody is told
         self._forgotten = 0  # failures of the journal after which what was not written was forgotten
         self.since = time.monotonic()
-        self._program: Program | None = None
-        self._next: asyncio.Future[Program] | None = None
+        self._former: int | None = None  # the form of a journal that is still to be written anew
+        self.differences = Differences()
+        self._screen: Screen | None = None
+        self._next: asyncio.Future[Screen] | None = None
         self.tasks: list[asyncio.Future[Any]] = []
         self.listeners = Listeners()
         """What others want to know: `shared` edits from a step on, `seats`, the `clock`, `trouble` with the disk, another
-        `program`."""
+        `program`, a part of the server that has `ended`."""
 
     # Start
 
@@ -77,78 +85,98 @@ class Keeper:
         """Reads the journal, or begins one of this plan, and starts the program; whether the journal is new. `Broken`
         says why it cannot be; a program that refuses the plan leaves the folder as it was."""
         path = self.folder / "journal.jsonl"
-        entries, size = read(path)
-        self._replay(entries)
-        if entries and site not in (None, self.state.site):
+        entries = Entries(path)
+        self.state, count, form = self._read(entries)
+        self.confirmed = self.state.shared.size
+        is_new = count == 0
+        if not is_new and site not in (None, self.state.site):
             raise Broken(f"{self.folder} is of site {self.state.site}, which never changes")
-        if not entries:
-            first = {**plan(), "replicas": [seat.at for seat in self.state.seats]}
+        if is_new:
+            first: dict[str, Any] = {**plan(), "replicas": [self.state.replica(seat.index).at for seat in self.state.seats]}
             # A program must take it before it is written that this is the plan.
             await (await start(command_of(self.path, first), packed(first).encode())).close()
-        self.journal = Journal(path, size)
-        if not entries:
-            await self.record({"lab": {"plan": first, "site": site or 1, "folder": secrets.token_hex(8), "form": FORM}})
-        elif self.state.form == FORMER:
-            await self._rewrite()
-        mending = self.state.mend_at_start(self.state.shared)
-        if mending is not None:
-            await self.journal.write({"came": {"gestures": [mending.written()], "unsent": True}})
-            self.confirmed = len(self.state.shared.gestures)
+        self.journal = Journal(path, entries.size)
+        if is_new:
+            await self.record(Folder(first, site or 1, secrets.token_hex(8)))
+        elif form != JOURNAL_FORM:
+            self._former = form
+            await self._upgrade()
         self.since = time.monotonic()
         self._forget()
-        self._program = await self._start()
-        self.tasks = [asyncio.ensure_future(self.turns.run()), asyncio.ensure_future(self._watch_disk())]
-        return not entries
+        self._screen = await self._start()
+        self.tasks = [supervised("what seats ask", self.turns.run, self.ended),
+                      supervised("the look at the disk", self._watch_disk, self.ended)]
+        return is_new
 
-    async def _rewrite(self) -> None:
-        """A journal of the former form is kept beside, and written anew."""
-        kept = self.journal.path.with_name(f"journal.form{FORMER}.jsonl")
+    async def _upgrade(self) -> None:
+        """Keep a journal of a former form beside, and write on in this form; as soon as something can be written."""
+        if self._former is None or self.journal.fault is not None:
+            return
+        kept = self.journal.path.with_name(f"journal.form{self._former}.jsonl")
         if not kept.exists():
             os.close(put_in_place(kept, [self.journal.path.read_bytes()]))
             sync_folder(kept.parent)
-        await self.journal.compact(self.state.entries)
-        logging.warning("the journal was of an older form: it is written anew, and the old one is kept as %s", kept)
+        form, self._former = self._former, None
+        await self.journal.write(Upgraded().written())
+        await self.compact()
+        logging.warning("the journal was of form %d: it is written anew, and the old one is kept as %s", form, kept)
 
-    def _replay(self, entries: list[Entry]) -> None:
-        self.state = State(count_after, time.time_ns() // 1_000)
+    async def compact(self) -> None:
+        """Shorten the journal: each operation once."""
+        await self.journal.compact(lambda: (entry.written() for entry in self.state.entries()))
+
+    def _read(self, entries: Iterable[Entry]) -> tuple[State, int, int]:
+        """Return the state that entries say, how many they are, and of which form."""
+        number = 0
+        state = State(self.stamps, time.time_ns() // 1_000)
         for number, entry in enumerate(entries, 1):
             try:
-                self.state.apply(entry)
+                state.read(entry)
             except Broken as fault:
                 raise Broken(f"{self.folder / 'journal.jsonl'}, line {number}: {fault}") from None
-        if entries and not self.state.plan:
+        if number and not state.plan:
             raise Broken(f"{self.folder / 'journal.jsonl'} does not begin with a plan")
-        self.confirmed = len(self.state.shared.gestures)
+        form = state.form
+        state.end_reading()
+        state.shared.prepare()
+        return state, number, form
+
+    def ended(self, sentence: str) -> None:
+        """Tell people that a part of the server has ended, and is started again."""
+        self.listeners.tell("ended", sentence)
 
     async def close(self) -> None:
         """Ends the program; what was confirmed is on the disk."""
         for task in self.tasks:
             task.cancel()
-        if self._program is not None:
-            self._program.kill()
+        if self._screen is not None:
+            self.program.kill()
         self.no_successor()
+        if hasattr(self, "journal"):
+            await self.journal.close()
 
-    def record(self, entry: Entry) -> asyncio.Future[None]:
+    def record(self, entry: AnyEntry) -> asyncio.Future[None]:
         """Makes it so, here at once; the future is done when it is on the disk."""
         self._check_disk()
-        self.state.make(entry)
-        gesture = entry.get("gesture", {})
-        self.undone += "undoes" in gesture or any(lay[1] is None for lay in gesture.get("lays", ()))
-        upto = len(self.state.shared.gestures)
+        entry.apply(self.state)
+        if isinstance(entry, Made):
+            one = entry.operation
+            self.undone += one.undoes is not None or None in one.sets.values()
+        upto = self.state.shared.size
 
         def is_there() -> None:
             self.confirmed = max(self.confirmed, upto)
-        done = self.journal.write(entry, is_there)
+        done = self.journal.write(entry.written(), is_there)
         done.add_done_callback(self._is_written)
         return done
 
-    def record_late(self, entry: Entry, then: Callable[[], None]) -> asyncio.Future[None]:
+    def record_late(self, entry: AnyEntry, then: Callable[[], None]) -> asyncio.Future[None]:
         """Makes it so here once it is on the disk, when the future is done."""
         def so() -> None:
-            self.state.apply(entry)
+            entry.apply(self.state)
             then()
         self._check_disk()
-        done = self.journal.write(entry, so)
+        done = self.journal.write(entry.written(), so)
         done.add_done_callback(self._is_written)
         return done
 
@@ -198,9 +226,10 @@ class Keeper:
     async def _try_disk(self) -> str | None:
         """Why it does not take anything, where it does not; in the time of others, since it may take for ever."""
         try:
-            await self.journal.mend({"clock": self.clock()})
+            await self.journal.mend(self.clock().written())
         except OSError as fault:
             return f"the disk does not take it ({fault.strerror})"
+        await self._upgrade()
         self._trouble = None
         self.listeners.tell("trouble")
         return None
@@ -215,10 +244,9 @@ class Keeper:
             await asyncio.sleep(pause)
             pause = min(LONGEST_PAUSE, 2 * pause)
 
-    def clock(self) -> dict[str, Any]:
+    def clock(self) -> Clock:
         """How late it is, how many steps pass in a second, and where a fast clock stops."""
-        stop = self.state.stop
-        return {"rate": self.state.rate, "now": self.now(), **({} if stop is None else {"stop": stop})}
+        return Clock(self.state.rate, self.now(), self.state.stop)
 
     async def _start_over(self) -> None:
         """After a failed write: what was not confirmed is forgotten, by the program too. It is done once, and what is
@@ -228,13 +256,11 @@ class Keeper:
         self._trouble = self.journal.fault
         self.listeners.tell("trouble")
         try:
-            entries = await asyncio.get_running_loop().run_in_executor(None, self.journal.confirmed)
+            state, _, _ = await asyncio.to_thread(lambda: self._read(self.journal.confirmed()))
         except (OSError, Broken) as fault:
             raise NotKept(f"what is on the disk cannot be read ({fault})") from None
-        clock = self.clock()
-        self._replay(entries)
-        self.state.shared.begin_list()  # its mendings are in the journal
-        self.state.apply({"clock": clock})
+        clock, self.state, self.confirmed = self.clock(), state, state.shared.size
+        clock.apply(self.state)
         self.since = time.monotonic()
         await self.replace()
         self._forgotten = failures
@@ -248,14 +274,19 @@ class Keeper:
 
     # The program
 
-    async def _start(self) -> Program:
-        """A program that holds nothing yet."""
-        return await start(command_of(self.path, self.state.plan), packed(self.state.plan).encode())
+    async def _start(self) -> Screen:
+        """A program that shows the empty road everywhere."""
+        program = await start(command_of(self.path, self.state.plan), packed(self.state.plan).encode())
+        return Screen(program, self.state.empty)
+
+    @property
+    def screen(self) -> Screen:
+        assert self._screen is not None
+        return self._screen
 
     @property
     def program(self) -> Program:
-        assert self._program is not None
-        return self._program
+        return self.screen.program
 
     async def _around(self, job: Job) -> Any:
         """Does a job by a program that lives and holds nothing that is not written."""
@@ -274,23 +305,20 @@ class Keeper:
         raise Refused("no program", "the program ended over this, twice; the server's log says why")
 
     async def replace(self, why: str | None = None) -> None:
-        """Another program in the place of this one; its replicas get what they hold when they are next asked."""
+        """Start another program in the place of this one. Its replicas are shown their roads when they are next asked."""
         self.no_successor()
         self.why_changed = why
-        old, self._program = self._program, await self._start()
+        old, self._screen = self._screen, await self._start()
         self.changes += 1
         if old is not None:
-            old.kill()
+            old.program.kill()
         self.listeners.tell("program")
 
     def _forget(self) -> None:
-        """What was taken back long ago the next program need never hold. Between jobs: they count what is held."""
+        """Forget private operations that say nothing any more, but for the newest: no road differs without them."""
         self.undone = 0
         for seat in self.state.seats[1:]:
-            fed = seat.gestures[:self._program.fed.get(seat.index, 0)] if self._program is not None else []
-            gone = self.state.forget(seat, KEPT)
-            if gone and self._program is not None:
-                self._program.fed[seat.index] = sum(gesture not in gone for gesture in fed)
+            self.state.forget(seat, KEPT)
 
     def no_successor(self) -> None:
         if self._next is not None:
@@ -298,51 +326,49 @@ class Keeper:
             self._next = None
 
     def _change_in_time(self) -> None:
-        """Near its limit of lines the program gets a successor beside it, which takes over when it is as far."""
+        """Near its limit of lines, or when much that it holds says nothing any more, the program gets a successor beside it,
+        which takes over when it is as far."""
         if self._next is not None and self._next.done():
             successor, self._next = self._next, None
             if successor.exception() is None:
                 asyncio.ensure_future(self.program.close())
-                self._program, self.changes, self.why_changed = successor.result(), self.changes + 1, None
+                self._screen, self.changes, self.why_changed = successor.result(), self.changes + 1, None
                 self.listeners.tell("program")
             else:
                 logging.warning("no successor: %s", successor.exception())
-        is_late = self.program.lines >= self.settings.most_lines or self.undone >= self.settings.most_undone
+        settings = self.settings
+        is_late = (self.program.lines >= settings.most_lines or self.undone >= settings.most_undone
+                   or self.screen.withdrawn >= settings.most_withdrawn)
         if self._next is None and is_late:
             self._forget()
             self._next = asyncio.ensure_future(self._successor())
 
-    async def _successor(self) -> Program:
-        program = await self._start()
+    async def _successor(self) -> Screen:
+        screen = await self._start()
         try:
             for index in (SHARED, *self.here):
-                while not await self._bring(program, index):
+                while not await self._bring(screen, index):
                     pass
         except BaseException:
-            program.kill()
+            screen.program.kill()
             raise
-        return program
+        return screen
 
-    async def _bring(self, program: Program, index: int) -> bool:
-        """One piece of what a replica of this program lacks; whether it lacks nothing."""
-        seat, fed = self.state.seats[index], program.fed.get(index, 0)
-        self.state.mend_at_start(seat)
-        upto = self._upto(index)
-        if fed >= upto:
-            to = self.wanted.get(index, 0)
-            return program.horizons.get(seat.at, 0) >= to or await program.advance(seat.at, to) >= to
-        edits: list[Any] = []
-        while fed < upto and (not edits or len(edits) + len(seat.gestures[fed].edits) <= PIECE):
-            edits += seat.gestures[fed].imported()
-            fed += 1
-        lines = [packed(line).encode() for line in import_lines(seat.at, edits)]
-        for reply in await program.ask_all(lines) if lines else ():
-            if not reply.startswith(b'{"touched"'):
-                logging.error("the program refused what had been checked: %s", reply[:200])
-        program.fed[index] = fed
-        return False
+    def road(self, index: int) -> Road:
+        """The road that a replica of the program shall show: of what was shared what is on the disk."""
+        return self.state.shared.upto(self.confirmed) if index == SHARED else self.state.seats[index].road
 
-    def ask(self, turn: int, replicas: tuple[int, ...], body: Job, at_leisure: bool = False) -> asyncio.Future[Any]:
+    async def _bring(self, screen: Screen, index: int) -> bool:
+        """One piece of what a replica lacks: the difference to its road, or some steps. Return whether it lacks nothing."""
+        at, road, shown = self.state.replica(index).at, self.road(index), screen.shown(index)
+        if shown is not road:
+            await screen.show(index, at, road, await self.differences.between(shown, road))
+            return False
+        to = self.wanted.get(index, 0)
+        return screen.program.horizons.get(at, 0) >= to or await screen.program.advance(at, to) >= to
+
+    def ask(self, turn: int, replicas: tuple[int, ...], body: Job, at_leisure: bool = False,
+            takes_long: bool | None = None) -> asyncio.Future[Any]:
         """Does something in the turn of a seat, when these replicas hold and have run what they shall. Where a write
         fails before it has ended it is `NotKept`: what it has seen so far may not be so."""
         async def job() -> Any:
@@ -350,15 +376,15 @@ class Keeper:
             if len(failures) > 1:
                 raise NotKept(self.journal.fault or "the disk did not take it")
             for index in replicas:
-                if not await self._bring(self.program, index):
+                if not await self._bring(self.screen, index):
                     return MORE
             return await body()
         failures: set[int] = set()
-        return self.turns.ask(turn, job, at_leisure)
+        return self.turns.ask(turn, job, at_leisure, takes_long)
 
-    def is_confirmed(self, gesture: Gesture) -> bool:
-        """Whether a shared gesture is on the disk."""
-        return self.state.shared.holds.get(gesture, self.confirmed) < self.confirmed
+    def is_confirmed(self, one: Operation) -> bool:
+        """Whether a shared operation is on the disk."""
+        return self.state.shared.places.get(one, self.confirmed) < self.confirmed
 
     async def truly(self, look: Callable[[], Awaitable[Any]], may_see: str = "all") -> Any:
         """What `look` gives, once what it may have seen of others is on the disk: nothing, what was `shared`, or `all`; it
@@ -367,7 +393,7 @@ class Keeper:
             failures = self._forgotten  # not those of the journal: what is forgotten just now may still be looked at
             try:
                 found = await look()
-                if may_see == "all" or may_see == "shared" and self.confirmed < len(self.state.shared.gestures):
+                if may_see == "all" or may_see == "shared" and self.confirmed < self.state.shared.size:
                     await self.journal.settled()
             except (NotKept, NotWritten):
                 if failures == self._forgotten == self.journal.failures:
@@ -397,17 +423,6 @@ class Keeper:
         at = str(fields.get("at"))
         why = why_refused(self.state.plan, at, program.horizons.get(at, 0), line, reply)
         raise Refused(reply["refused"], why)
-
-    async def feeds(self, index: int, times: Times) -> bool:
-        """Gives the program a piece of what a replica holds, in a job; whether it has all."""
-        began = time.perf_counter()
-        await self._bring(self.program, index)
-        times["program"] = times.get("program", 0) + time.perf_counter() - began
-        return self.program.fed.get(index, 0) >= self._upto(index)
-
-    def _upto(self, index: int) -> int:
-        """So many gestures the program's replica of a seat shall hold: of what was shared those on the disk."""
-        return self.confirmed if index == SHARED else len(self.state.seats[index].gestures)
 
     def now(self) -> int:
         """The step of the clock."""

@@ -1,181 +1,151 @@
-"""What a page shows of the layers that a seat holds: a line for each, with where it is in force, who covers the rest, and
+"""What a page shows of the changes that a replica holds: a line for each, with where it is in force, who covers the rest, and
 all that was done to it."""
 from __future__ import annotations
 
-import functools
 import time
-from typing import AbstractSet, Any, Callable, Iterable
+from typing import AbstractSet, Any, Iterator
 
-from .layers import END, NOTHING, Laid, Name, Rectangle, Stamp, is_raw
-from .operations import raws
-from .state import Gesture, Seat, State, differ
+from .model.changes import all_lines, operations_on
+from .model.operations import Operation, Stamp, is_line, is_raw
+from .model.road import Road, parts_of, stands
+from .model.seen import Rectangle, lost, shown
+from .state import Replica, Seat, State
 
-Shown = list[list[Any]]
-Shareable = Callable[[], AbstractSet[Gesture]]
-
-
-def line_of(state: State, seat: Seat, line: Stamp, shareable: Shareable | None = None) -> dict[str, Any]:
-    """A line of the list; of one that was put in private and withdrawn again that it is gone. `shareable` gives what sharing
-    all would share."""
-    done = sorted(seat.lines[line], key=lambda one: one.stamp)
-    idle = idle_of(state, seat, done, shareable) if shareable else frozenset()
-    shown = shown_of(seat, line)
-    if not shown and is_private(state, seat, line):
-        return {"name": line, "gone": True}
-    first = next((one for one in done if one.stamp == line), done[0])
-    edits = [[*name, laid_at(seat, name).value] for name in raws(seat, line)]
-    laid = seat.road.laid(line)
-    shape = first.shape if edits and is_whole(first, edits) else laid.shape
-    lost = lost_of(done, line)
-    return {"name": line, "kind": kind_of(done, line), "shape": shape, "who": first.who, "note": first.note,
-            "when": first.when, "height": laid.height if line in seat.road.layers else line,
-            "standing": bool(shown), "shared": done[-1] in state.shared.holds, "shown": shown,
-            "operations": [{**operation_of(state, one, line, lost.get(one)), **({"idle": True} if one in idle else {})}
-                           for one in done],
-            **({"edits": edits} if edits else {})}
+SITE = "site"  # the kind of a line that excludes one
+NONE: frozenset[Operation] = frozenset()
 
 
-def idle_of(state: State, seat: Seat, done: Iterable[Gesture], shareable: Shareable) -> AbstractSet[Gesture]:
-    """Own operations on a line that are not shared, and need not be: nothing is other by them than on the shared road, or some
-    were taken back before anybody else had them."""
-    own = {one for one in done if one.stamp[1] == seat.number and one not in state.shared.holds}
-    if all(one.undoes is None and differs(state, seat, one) for one in own):
-        return frozenset()
-    return own - shareable()
+class Lister:
+    """The list of a replica: as it is, or as it would be on another road."""
 
+    def __init__(self, state: State, replica: Replica, road: Road | None = None) -> None:
+        self._places, self._road = state.shared.places, road or replica.road
+        self._idle: AbstractSet[Operation] = replica.idle if isinstance(replica, Seat) else NONE
 
-def differs(state: State, seat: Seat, gesture: Gesture) -> bool:
-    """Whether a layer of a gesture is another than on the shared road."""
-    return any(differ(seat.road.laid(name), state.shared.road.laid(name)) for name in gesture.lays)
+    def line(self, line: Stamp) -> dict[str, Any]:
+        """Return a line of the list. One that was put in private and withdrawn again is gone."""
+        road = self._road
+        done = operations_on(road, line)
+        is_private = not any(one in self._places for one in done)
+        if not done or is_private and not self._is_standing(line, done):
+            return {"name": line, "gone": True}
+        first = next((one for one in done if one.stamp == line), done[0])
+        order = {name: place for place, name in enumerate(first.sets)}
+        parts = sorted(parts_of(road, line), key=lambda name: (order.get(name, len(order)), name))
+        edits = [[*name, road.layers[name].value] for name in parts]
+        losses = lost(road, line)
+        said = {"name": line, "kind": self.kind(line, done), "shape": self.shape(line, done), "who": first.about.who,
+                "note": first.about.note, "when": first.about.when, "height": road.height_of(line),
+                "standing": self._is_standing(line, done), "shared": done[-1] in self._places, "shown": self.shown(line),
+                "operations": [self.operation(one, line, losses.get(one)) for one in done]}
+        return {**said, "edits": edits} if edits else said
 
+    def shown(self, line: Stamp) -> list[Rectangle]:
+        return shown(self._road, line)
 
-def laid_at(seat: Seat, name: Name) -> Any:
-    return seat.road.laid(name).shape
+    def _is_standing(self, line: Stamp, done: list[Operation]) -> bool:
+        excludes = self._excluded_by(done)
+        return excludes in self._road.record.excluded if excludes is not None else stands(self._road, line)
 
+    def _excluded_by(self, done: list[Operation]) -> int | None:
+        """Return the site that a line excludes; None: it excludes none."""
+        return next((one.excludes[0] for one in done if one.excludes is not None), None)
 
-def is_whole(gesture: Gesture, edits: list[Any]) -> bool:
-    """Whether all that raw edits put still lies there, so that the shape that is told of them is theirs."""
-    return len(edits) == sum(laid.shape is not None for laid in gesture.lays.values())
+    def kind(self, line: Stamp, done: list[Operation]) -> str | None:
+        """Return of what kind a line is; None of raw edits of several, or if nobody knows."""
+        if self._excluded_by(done) is not None:
+            return SITE
+        kinds = {shape.kind for one in done for name, shape in one.sets.items() if shape is not None and (
+            name == line or is_raw(name) and line in (one.stamp, one.heights.get(name)))}
+        return kinds.pop() if len(kinds) == 1 else None
 
+    def shape(self, line: Stamp, done: list[Operation]) -> Any:
+        """Return the shape of a line; of raw edits how they were drawn, if all of them still stand."""
+        site = self._excluded_by(done)
+        if site is not None:
+            return [SITE, site, site, 0, None, 1] if self._is_standing(line, done) else None
+        if line in self._road.layers:
+            layer = self._road.layers[line]
+            return [layer.kind, layer.first, layer.last, layer.begin, self.shape_end(line), layer.value]
+        put = next((one for one in done if one.stamp == line), None)
+        parts = parts_of(self._road, line)
+        is_whole = put is not None and parts and len(parts) == sum(shape is not None for shape in put.sets.values())
+        return put.about.shape if put is not None and is_whole else None
 
-def is_private(state: State, seat: Seat, line: Stamp) -> bool:
-    """Whether nothing of a line has ever been shared."""
-    return not any(gesture in state.shared.holds for gesture in seat.lines[line])
+    def shape_end(self, line: Stamp) -> int | None:
+        setter = self._road.setter(line)
+        shape = None if setter is None else setter.sets[line]
+        return None if shape is None else shape.end
 
+    def operation(self, one: Operation, line: Stamp | None, won: Operation | None = None) -> dict[str, Any]:
+        """Return what was done to a line, or to what lines, and by whom; `won` is the operation to which it lost."""
+        about = one.about
+        more: dict[str, Any] = {"idle": True} if one in self._idle else {}
+        if not self._road.record.counts(one):
+            more["void"] = True
+        if won is not None and line is not None:
+            more["shape"] = one.sets.get(line)
+        return {"stamp": one.stamp, "who": about.who, "note": about.note, "when": about.when,
+                "does": self.does(one, line), "shared": one in self._places, "undoes": one.undoes,
+                "lost": won and won.stamp, **more}
 
-def kind_of(done: list[Gesture], line: Stamp) -> str | None:
-    """Of what kind a line is; None of raw edits of several."""
-    kinds = {laid.shape.kind for one in done for name, laid in {**one.was, **one.lays}.items()
-             if (name == line or is_raw(name)) and laid.shape is not None}
-    return kinds.pop() if len(kinds) == 1 else None
+    def does(self, one: Operation, line: Stamp | None) -> str:
+        """Return what an operation did: put, change, withdraw, top, undo, redo, edits, exclude or include."""
+        if one.undoes is not None:
+            return "redo" if any(undone.undoes is not None for undone in self._road.record.undone_by(one)) else "undo"
+        if one.excludes is not None:
+            return "exclude" if one.excludes[1] else "include"
+        if one.stamp in one.sets:
+            return "put"
+        lines = [line] if line is not None and line in one.sets else [name for name in one.sets if is_line(name)]
+        at = lines[0] if lines else None
+        if at is None:
+            is_edit = any(shape is not None for shape in one.sets.values()) or line in (None, one.stamp)
+            return "top" if not one.sets else "edits" if is_edit else "withdraw"
+        if one.sets[at] is None:
+            return "withdraw"
+        return "top" if at in one.heights else "change"
 
+    def since(self, marks: dict[Stamp, int], version: int, seconds: float) -> tuple[list[dict[str, Any]], int | None]:
+        """Return the lines that were altered behind a version, the newest last, as many as are worked out in about so long;
+        and the version of the last one, if there are more."""
+        found: list[dict[str, Any]] = []
+        after = version
+        until = time.perf_counter() + seconds
+        for mark, line in sorted((mark, line) for line, mark in marks.items() if mark > version):
+            if found and time.perf_counter() > until:
+                return found, after
+            found.append(self.line(line))
+            after = mark
+        return found, None
 
-def shown_of(seat: Seat, line: Stamp) -> Shown:
-    """A line in rectangles: kind, first and last object, from, to, value, and the line that covers it there, None where it is
-    in force; objects and times that agree as one."""
-    names: list[Name] = [line] if line in seat.road.layers else raws(seat, line)
-    found: list[list[Any]] = []
-    for rectangle in (one for name in names for one in seat.road.shown(name)):
-        found.append(rectangle_of(seat, line, rectangle))
-    if len(names) < 2:
-        return found
-    joined: list[list[Any]] = []
-    for one in sorted(found, key=lambda each: (each[0], each[3], each[4] or END, each[5], each[6] or (0, 0), each[1])):
-        last = joined[-1] if joined else None
-        if last and last[2] == one[1] - 1 and [last[0], *last[3:]] == [one[0], *one[3:]]:
-            last[2] = one[2]
-        else:
-            joined.append(one)
-    return joined
+    # The table that is saved
 
+    def table(self) -> Iterator[list[Any]]:
+        """Yield each operation, with where its line is in force, and who covers it from when to when."""
+        for number, line in enumerate(sorted(all_lines(self._road)), 1):
+            done = operations_on(self._road, line)
+            parts = self.shown(line)
+            force = "; ".join(span(one) for one in parts if one.by is None)
+            over = "; ".join(f"{span(one)} by {self.name(one.by)}" for one in parts if one.by is not None)
+            note = next((one.about.note for one in done if one.about.note), "")
+            for one in done:
+                when = time.strftime("%Y-%m-%d %H:%M:%S", time.gmtime(one.about.when))
+                yield [number, one.about.who, one.about.note or note, when, self.does(one, line), *one.stamp,
+                       one in self._places, force, over]
 
-def rectangle_of(seat: Seat, line: Stamp, rectangle: Rectangle) -> list[Any]:
-    *where, since, until, value, by = rectangle
-    over = None if by is None else seat.line_of(by)
-    return [*where, since, None if until == END else until, value, None if over == line else over]
+    def name(self, line: Stamp) -> str:
+        first = next(iter(self._road.record.held.get(line, ())), None)
+        return f"{first.about.who}: {first.about.note}" if first else f"number {line[1]}"
 
-
-def operation_of(state: State, gesture: Gesture, line: Stamp | None, lost: Stamp | None = None) -> dict[str, Any]:
-    """What was done to a line (or to what lines), and by whom; `lost` is who laid the layer at the same time and won."""
-    return {"stamp": gesture.stamp, "who": gesture.who, "note": gesture.note, "when": gesture.when,
-            "does": does(gesture, line), "shared": gesture in state.shared.holds, "undoes": gesture.undoes, "lost": lost}
-
-
-def lost_of(done: Iterable[Gesture], line: Stamp) -> dict[Gesture, Stamp]:
-    """Of a line's operations, the oldest first, those that lost: each with the first one above it whose maker held neither it
-    nor what was made of it, and laid neither."""
-    found: dict[Gesture, Stamp] = {}
-    last: dict[Laid, int] = {}  # which of them laid this last
-    standing: list[tuple[int, Gesture]] = []
-    for place, one in enumerate(one for one in done if line in one.lays):
-        known = max(last.get(laid, -1) for laid in (one.was.get(line, NOTHING), one.lays[line]))
-        while standing and standing[-1][0] > known:
-            found[standing.pop()[1]] = one.stamp
-        standing.append((place, one))
-        last[one.lays[line]] = place
-    return found
-
-
-def does(gesture: Gesture, line: Stamp | None) -> str:
-    """What a gesture did to a line: put, change, withdraw, top, undo, or edits."""
-    if gesture.undoes is not None:
-        return "undo"
-    laid = gesture.lays.get(line) if line is not None else next(
-        (laid for name, laid in gesture.lays.items() if not is_raw(name)), None)
-    if laid is None:
-        return "edits" if line in (None, gesture.stamp) or any(one.shape for one in gesture.lays.values()) else "withdraw"
-    if gesture.stamp in gesture.lays:
-        return "put"
-    if laid.shape is None:
-        return "withdraw"
-    return "top" if laid.height == gesture.stamp else "change"
-
-
-def lines_since(state: State, seat: Seat, version: int, seconds: float = 1e9) -> tuple[list[dict[str, Any]], int, bool]:
-    """The lines that were changed behind a version, the newest last, as many as are worked out in about so long; the
-    version of the last one, and whether there are more."""
-    found: list[dict[str, Any]] = []
-    after = version
-    until = time.perf_counter() + seconds
-    shareable = functools.cache(lambda: set(state.shareable(seat, None)))
-    for mark, line in sorted((mark, line) for line, mark in seat.marks.items() if mark > version and line in seat.lines):
-        if found and time.perf_counter() > until:
-            return found, after, True
-        found.append(line_of(state, seat, line, shareable))
-        after = mark
-    return found, seat.version, False
-
-
-# The table that is saved
 
 HEAD = ["change", "who", "what", "when (UTC)", "does", "count", "number", "shared", "in force", "covered"]
 
 
-def table(state: State, seat: Seat) -> list[list[Any]]:
-    """Each operation, with where its layer is in force, and who covers it from when to when."""
-    found = []
-    for number, line in enumerate(sorted(seat.lines), 1):
-        shown = shown_of(seat, line)
-        force = "; ".join(span(one) for one in shown if one[6] is None)
-        over = "; ".join(f"{span(one)} by {named(seat, one[6])}" for one in shown if one[6] is not None)
-        done = sorted(seat.lines[line], key=lambda one: one.stamp)
-        first = next((one.note for one in done if one.note), "")
-        for gesture in done:
-            when = time.strftime("%Y-%m-%d %H:%M:%S", time.gmtime(gesture.when))
-            found.append([number, gesture.who, gesture.note or first, when, does(gesture, line), *gesture.stamp,
-                          gesture in state.shared.holds, force, over])
-    return found
-
-
-def span(one: list[Any]) -> str:
-    kind, first, last, since, until, value, _ = one
-    return f"{kind} {first}-{last} = {value}, {clock(since)} to {'the end' if until is None else clock(until)}"
+def span(one: Rectangle) -> str:
+    until = "the end" if one.end is None else clock(one.end)
+    return f"{one.kind} {one.first}-{one.last} = {one.value}, {clock(one.begin)} to {until}"
 
 
 def clock(step: int) -> str:
     return f"{step // 3600}:{step // 60 % 60:02}:{step % 60:02}"
-
-
-def named(seat: Seat, line: Stamp) -> str:
-    first = next((one for one in seat.lines.get(line, ()) if one.stamp == line), None)
-    return f"{first.who}: {first.note}" if first else f"number {line[1]}"

@@ -9,11 +9,14 @@ from dataclasses import dataclass, field
 from pathlib import Path
 from typing import Any
 
+from zegdrut.clock import Clock
+
 from .asked import LONGEST_NAME, Asked, Refused, words
 from .journal import Broken, packed
 from .lab import Lab
-from .layers import Shape
+from .model.operations import Shape
 
+KEPT = "freeway.json"  # in a folder: the freeway in km that it began with
 FREEWAY = Path(__file__).resolve().parents[2] / "recipes" / "freeway" / "run"
 OF_A_PLAN = {"zones", "inlets"}  # that no freeway in km has
 DOING = " .."  # ends a line of progress
@@ -26,6 +29,15 @@ class Planned:
     plan: dict[str, Any]
     shapes: list[Shape] = field(default_factory=list)
     name: str = ""
+
+
+def clock_of(folder: Path) -> Clock | None:
+    """Return the clock of the day of a folder whose road came in km, with a `begin`; None: its clock counts from 0:00."""
+    try:
+        value = json.loads((folder / KEPT).read_bytes())
+        return Clock.read(*(value.get(name) for name in ("begin", "date", "timezone"))) if value.get("begin") is not None else None
+    except (OSError, ValueError, AttributeError):  # (an InvalidTime is a ValueError)
+        return None
 
 
 def read(path: Path) -> Any:
@@ -98,13 +110,14 @@ async def lay(lab: Lab, road: Planned) -> None:
     """Puts and shares what a freeway begins with, by a seat that is free again afterwards."""
     if not road.shapes:
         return
-    index, _ = await lab.join(road.name, "", None)
+    index, _ = await lab.seating.join(road.name, "", None)
     try:
         for number, shape in enumerate(road.shapes):
-            await lab.puts(index, {}, key=f"plan {number}", note="", shape=shape)
+            await lab.put_shape(index, {}, key=f"plan {number}", note="", shape=shape)
         await lab.share(index, {}, stamps=None, title="")
-        await lab.give_back(index)
+        await lab.works_are_shared()
+        await lab.seating.give_back(index)
     except Refused as fault:
         raise Broken(f"{road.name}: {fault.why}") from None
     finally:
-        lab.leave(index)
+        lab.seating.leave(index)

@@ -11,6 +11,7 @@ import asyncio
 import contextlib
 import json
 import os
+import shutil
 from pathlib import Path
 from typing import Any, Sequence
 
@@ -38,6 +39,11 @@ def command_of(path: str, plan: dict[str, Any]) -> list[str]:
     return [path, "--workers", "2"] if pays else [path]
 
 
+def dies_with_us(command: list[str]) -> list[str]:
+    """Return a command whose process is killed as soon as this one has ended, however that was."""
+    return [*(["setpriv", "--pdeathsig", "KILL"] if shutil.which("setpriv") else []), *command]
+
+
 def import_lines(at: str, edits: Sequence[Any]) -> list[dict[str, Any]]:
     """The lines that give a replica these edits."""
     return [{"import": {"at": at, "edits": edits[begin:begin + PIECE], "form": 2}}
@@ -45,8 +51,7 @@ def import_lines(at: str, edits: Sequence[Any]) -> list[dict[str, Any]]:
 
 
 class Program:
-    """A process, how many lines it has read, and of each replica how far it has run and how many of its seat's
-    gestures it has been given; `stale` are those that hold what a former owner of the seat put."""
+    """A process, how many lines it has read, and how far each replica has run."""
 
     def __init__(self, process: asyncio.subprocess.Process) -> None:
         self._process, self.lines = process, 0
@@ -54,8 +59,6 @@ class Program:
         self._watch: asyncio.TimerHandle | None = None
         self._fault: str | None = None
         self.horizons: dict[str, int] = {}
-        self.fed: dict[int, int] = {}
-        self.stale: set[int] = set()
 
     async def ask(self, line: bytes) -> bytes:
         """The reply to a line; `Gone` where none comes."""
@@ -73,6 +76,9 @@ class Program:
             while len(replies) < len(lines) and (not replies or replies[-1].endswith(b"\n")):
                 replies.append(await stdout.readline())
                 self._read += 1
+        except asyncio.CancelledError:
+            self.kill()  # nobody reads the replies that it owes
+            raise
         except (OSError, ValueError) as fault:
             self.kill()
             raise Gone(f"the program does not answer: {fault!r}") from None
@@ -130,8 +136,10 @@ class Program:
 async def start(command: list[str], plan: bytes) -> Program:
     """A program that has read the plan line, or `Gone`, or `BadPlan` with its refusal."""
     try:
+        if not os.access(command[0], os.X_OK):
+            raise PermissionError(f"{command[0]} is no program")
         process = await asyncio.create_subprocess_exec(
-            *command, stdin=asyncio.subprocess.PIPE, stdout=asyncio.subprocess.PIPE, limit=LONGEST_REPLY,
+            *dies_with_us(command), stdin=asyncio.subprocess.PIPE, stdout=asyncio.subprocess.PIPE, limit=LONGEST_REPLY,
             start_new_session=True)
     except OSError as fault:
         raise Gone(f"the program cannot be started: {fault}") from None

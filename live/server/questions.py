@@ -1,19 +1,32 @@
 """What a tab may ask of the roads that it sees; nothing changes by it."""
 from __future__ import annotations
 
+import asyncio
 import json
+import time
 from typing import Any, Union
 
-from . import chance, figures, rows, saving
+from zegdrut import Edit
+from zegdrut.rows import count_cars
+from zegdrut.trips import DetectorCount, Window, count_seconds_on
+
+from . import admissions, chance, figures, reports, rows, saving
 from .asked import Refused
 from .journal import packed
 from .keeper import LAST_STEP, SHARED, Times
-from .lab import AHEAD, Lab
-from .layers import Stamp
-from .lines import clock, line_of, shown_of, table
+from .lab import LIST_AT_ONCE, Lab
+from .lines import Lister, clock
+from .model.changes import all_lines, altered
+from .model.choices import sendable
+from .model.operations import Operation, Stamp
+from .model.projection import Edits
+from .model.road import Road as RoadValue
+from .plans import clock_of
 from .program import LONG_ROAD
-from .roads import SIDES, Preview, Previews, Replica, Road, Side
-from .state import Seat
+from .roads import SIDES, KeptRoad, Preview, Previews, Road, Side
+from .screen import first_step, rows_of
+from .state import Replica
+from .timing import AHEAD
 from .turns import MORE, Job
 
 MOST_ROWS, MOST_BYTES = 1_024, 1_100_000  # of the rows in a reply
@@ -22,9 +35,15 @@ MINUTE = 60  # steps
 MOST_MINUTES = 120  # of a question for sums
 LINES_AT_ONCE = 128
 MOST_ANEW = 16  # times that a question is begun anew since its road has become another
-PIECE_OF_LIST = 1_000_000  # bytes, about, of a list of gestures
+PIECE_OF_LIST = 1_000_000  # bytes, about, of a list of operations
+LINES_FOR = 0.02  # seconds for lines of a preview, until others get their turn
 
 Reply = Union[bytes, "dict[str, Any]"]
+
+
+def detector_count(said: dict[str, Any], edits: list[Edit], detector: int, window: Window) -> DetectorCount:
+    """What a detector counted by the program's reply, and for how long it was on by the edits of detectors."""
+    return DetectorCount(said["cars"], said["speeds"], count_seconds_on(edits, detector, window), window.steps)
 
 
 class Questions:
@@ -32,23 +51,26 @@ class Questions:
 
     def __init__(self, lab: Lab) -> None:
         self._lab, self._keeper = lab, lab.keeper
-        self._previews, self._chance = Previews(), chance.Questions()
-        self._saved: tuple[int, list[str]] = -1, []  # the seat that saved last, and its transcript
+        self._previews, self._chance, self._figures = Previews(), chance.Questions(), figures.Figures()
+        self._saved, self._admissions = saving.Saved(), admissions.Admissions()
 
     def road(self, index: int, at: str) -> Road:
         """The road that a seat means: the own or the shared one, or one of its preview."""
         if at in SIDES:
             return Side(self._previews.get(index), at)
-        return Replica(self._keeper, index, 0 if at == "shared" else index)
+        return KeptRoad(self._keeper, index, 0 if at == "shared" else index)
 
     def close(self) -> None:
         self._previews.close()
         self._chance.stop()
+        self._figures.close()
+        self._admissions.close()
 
     def left(self, index: int) -> None:
         """A tab of this seat has gone."""
         self._previews.put(index, None)
         self._chance.stop(index)
+        self._saved.drop(index)
 
     async def plain(self, road: Road, times: Times, verb: str, fields: dict[str, Any]) -> bytes:
         """What the program answers."""
@@ -129,7 +151,7 @@ class Questions:
         async def body() -> Any:
             start = first + 1 + len(cars)
             part = await self._piece(road, list(range(start, min(last + 1, start + self._rows_at_once()))), times)
-            cars.extend(map(rows.cars_in, part))
+            cars.extend(count_cars(row.decode("ascii")) for row in part)
             return MORE if len(cars) < last - first else None
         await self._of_one_road(road, cars, body)
         return {"sums": [sum(cars[begin:begin + MINUTE]) for begin in range(0, len(cars), MINUTE)]}
@@ -138,31 +160,39 @@ class Questions:
         """What all detectors count, in spans of so many steps or as a whole."""
         if first > last:
             raise Refused("Range", f"`from` {first} is above `to` {last}")
-        starts = list(range(first, last, each)) if each else [first]
+        starts = range(first, last, each) if each else range(first, first + 1)
         detectors = len(self._keeper.state.plan["detectors"])
         if len(starts) * detectors > MOST_COUNTS:
             raise Refused("Range", f"{len(starts) * detectors} counts are too many: at most {MOST_COUNTS}")
         lines = [packed({"count": {"at": road.name, "detector": detector, "from": start,
                                    "to": min(last, start + each) if each else last}}).encode()
                  for start in starts for detector in range(detectors)]
-        found = [json.loads(reply) for reply in await self._lines(road, lines, times)]
-        pairs = [[one["cars"], one["speeds"]] for one in found]
+        replies, edits = await self._lines(road, lines, times)
+        watched = [Edit.read(edit) for edit in edits if edit[0] == "watch"]
+        windows = [Window(start, min(last, start + each) if each else last) for start in starts]
+        flows = [figures.detector_told(detector_count(json.loads(replies[place * detectors + detector]), watched, detector, window))
+                 for place, window in enumerate(windows) for detector in range(detectors)]
+        pairs = [[one["cars"], one["speeds"]] for one in flows]
         if each is None:
-            return {"counts": pairs}
-        return {"counts": [pairs[place * detectors:(place + 1) * detectors] for place in range(len(starts))]}
+            return {"counts": pairs, "flows": flows}
+        parts = [slice(place * detectors, (place + 1) * detectors) for place in range(len(windows))]
+        return {"counts": [pairs[part] for part in parts], "flows": [flows[part] for part in parts]}
 
-    async def _lines(self, road: Road, lines: list[bytes], times: Times) -> list[bytes]:
+    async def _lines(self, road: Road, lines: list[bytes], times: Times) -> tuple[list[bytes], list[Any]]:
+        """The replies to lines, all of one road, and its edits as an import has them."""
         found: list[bytes] = []
 
         async def body() -> Any:
             if len(found) < len(lines):
                 found.extend(await road.say_all(lines[len(found):len(found) + LINES_AT_ONCE], times))
             return MORE if len(found) < len(lines) else None
-        await self._of_one_road(road, found, body)
-        return found
+        mark = await self._of_one_road(road, found, body)
+        edits: list[Any] = road.edits if isinstance(road, Side) else rows_of(await self._timeline(mark))
+        return found, edits
 
-    async def _of_one_road(self, road: Road, found: list[Any], body: Job) -> None:
-        """Does at leisure what adds to what is found, from the beginning where the road has become another between."""
+    async def _of_one_road(self, road: Road, found: list[Any], body: Job) -> Any:
+        """Does at leisure what adds to what is found, from the beginning where the road has become another between. Return the
+        mark of the road."""
         marks: list[Any] = []
 
         async def part() -> Any:
@@ -173,38 +203,55 @@ class Questions:
                 found.clear()
             return await body()
         await road.job(part, at_leisure=True)
+        return marks[-1]
 
     # Lists
 
-    async def layers(self, index: int, seat: Seat, version: int) -> Reply:
-        """The lines of a seat's list that were changed behind a version, and what it would take back next; behind one of
-        another list, before a start or a failed write, the whole list."""
+    async def layers(self, index: int, replica: Replica, version: int) -> Reply:
+        """Return the lines of a list that were altered behind a version, and what Z and Redo would do; behind one of another
+        list, before a start or a failed write, the whole list."""
         async def body() -> Reply:
-            return self._lab.list_of(seat, version if seat.begun <= version <= seat.version else 0)
-        reply: Reply = await self._keeper.ask(index, (seat.index,), body)
+            return self._lab.list_of(replica, version if replica.begun <= version <= replica.version else 0)
+        reply: Reply = await self._keeper.ask(index, (replica.index,), body)
         return reply
 
-    async def gestures(self, index: int, seat: Seat, first: int) -> Reply:
-        """A piece of what a replica holds, with its edits."""
+    async def operations(self, index: int, replica: Replica, first: int) -> Reply:
+        """Return a piece of what a replica holds, in the order in which it came."""
         async def body() -> Reply:
-            shared, lines, size = self._keeper.state.shared.holds, list[str](), 0
-            for gesture in seat.since(first):
+            shared, texts, size = self._keeper.state.shared.places, list[str](), 0
+            after, more, began = replica.size, False, time.perf_counter()
+            for one, place in [*replica.places.items()]:
+                if place < first:
+                    continue
+                if time.perf_counter() > began + LINES_FOR:
+                    await asyncio.sleep(0)
+                    began = time.perf_counter()
                 if size > PIECE_OF_LIST:
+                    after, more = place, True
                     break
-                lines.append(packed({**gesture.written(), "shared": gesture in shared}))
-                size += len(lines[-1])
-            held = seat.since(first)
-            after = seat.holds[held[len(lines)]] if len(lines) < len(held) else seat.arrived
-            more = "true" if after < seat.arrived else "false"
-            return f'{{"gestures":[{",".join(lines)}],"next":{after},"more":{more}}}'.encode()
+                texts.append(packed({**one.written(), "shared": one in shared}))
+                size += len(texts[-1])
+            return f'{{"operations":[{",".join(texts)}],"next":{after},"more":{packed(more)}}}'.encode()
         reply: Reply = await self._keeper.ask(index, (), body)
         return reply
 
+    # Demand
+
+    async def admission(self, inlet: int, start: int | None, before: list[tuple[int, int]]) -> Reply:
+        """Return what an inlet admits by each chance, by the drivers of the plan, beside the flow of those that other inlets let in:
+        `before` are their indexes and chances. `start` is the slow-to-start chance of its zone from step 0 on."""
+        plan = self._keeper.state.plan
+        cell = plan["inlets"][inlet][0]
+        limit, slowing = plan["zones"][cell // plan["zone"]]
+        beside = sorted([plan["inlets"][one][0], chance_of] for one, chance_of in before if chance_of)
+        return await self._admissions.curve({"limit": limit, "slowing": slowing, "start": start, "cell": cell if beside else 0,
+                                             "before": beside}, self._keeper.path)
+
     # What would be
 
-    async def preview(self, index: int, _own: Seat, what: str | None, stamps: set[Stamp] | None) -> Reply:
-        """What sharing or taking would change: keeps both roads, to be asked once they are on the disk, and tells which lines
-        would be other."""
+    async def preview(self, index: int, _own: Replica, what: str | None, stamps: set[Stamp] | None) -> Reply:
+        """Return what sharing or taking would change: keep both roads, to be asked once they are on the disk, and tell which
+        lines would differ."""
         if what is None:
             self._previews.put(index, None)
             return {}
@@ -212,25 +259,53 @@ class Questions:
         async def body() -> tuple[Preview, Reply]:
             state = self._keeper.state
             own = state.seats[index]
-            at, added = (state.shared, state.shareable(own, stamps)) if what == "share" else (
-                own, [one for one in state.fresh(own) if not one.is_mending])
-            lines, edits = changes_by(self._lab, at, added)
-            stamp = [1 << 48, 64]  # above all
-            more = [[*key, *stamp, value] for key, value in edits.items()]
-            return Preview(self._keeper, at.scenario(), more), {
-                "what": what, "size": len(added), "layers": lines, "touched": min((key[2] for key in edits), default=None)}
+            if what == "take":
+                return await self._previewed("take", own, state.fresh(own))
+            return await self._previewed("share", state.shared, own.shareable() if stamps is None else sendable(
+                own.road, state.shared.road, own.number, stamps))
         fed = SHARED if what == "share" else index
         found: tuple[Preview, Reply] = await self._keeper.truly(lambda: self._keeper.ask(index, (fed,), body), "shared")
         preview, reply = found
         self._previews.put(index, preview)
         return reply
 
-    async def figures(self, index: int, own: Seat, of: str, first: int, last: int) -> Reply:
+    async def _previewed(self, what: str, replica: Replica, added: list[Operation]) -> tuple[Preview, Reply]:
+        """Return the roads of a replica with and without some operations, and how its list would differ."""
+        before = replica.road
+        after = before.adding(added)
+        edits = await self._keeper.differences.between(before, after)
+        sides = [await self._timeline(road) for road in (before, after)]
+        lines = await self._lines_of(replica, before, after, {one.stamp for one in added})
+        return Preview(self._keeper, *map(rows_of, sides)), {"what": what, "size": len(added), "layers": lines,
+                                                            "touched": first_step(edits)}
+
+    async def _timeline(self, road: RoadValue) -> Edits:
+        return await self._keeper.differences.between(self._keeper.state.empty, road)
+
+    async def _lines_of(self, replica: Replica, before: RoadValue, after: RoadValue,
+                        added: set[Stamp]) -> list[dict[str, Any]]:
+        """Return the lines that show something else on another road, or of which an added operation is lost there, each with
+        what it showed, a few at a time."""
+        now, then = (Lister(self._keeper.state, replica, road) for road in (before, after))
+        listed = all_lines(before)
+        found, began = [], time.perf_counter()
+        for line in sorted(altered(before, after)):
+            said, was = then.line(line), now.shown(line)
+            if "gone" not in said and (said["shown"] != was or any(
+                    one["lost"] and one["stamp"] in added for one in said["operations"])):
+                found.append({**said, "was": was if line in listed else None})
+            if time.perf_counter() > began + LINES_FOR:
+                await asyncio.sleep(0)
+                began = time.perf_counter()
+        return found
+
+    async def figures(self, index: int, own: Replica, of: str, first: int, last: int) -> Reply:
         """What two roads differ by: those of the preview, or the shared and the own one."""
         asked = await self._both(index, own, of, first, last)
-        return {"from": first, "to": last, **await figures.of(index, asked)}
+        slots = [f"{index} before", f"{index} after"] if of == "preview" else ["shared", f"{index} own"]
+        return {"from": first, "to": last, **await self._figures.of(index, {**asked, "slots": slots})}
 
-    async def _both(self, index: int, own: Seat, of: str, first: int, last: int) -> dict[str, Any]:
+    async def _both(self, index: int, own: Replica, of: str, first: int, last: int) -> dict[str, Any]:
         """What a program is asked that runs both roads beside."""
         if first >= last:
             raise Refused("Range", f"`from` {first} is not below `to` {last}")
@@ -238,13 +313,13 @@ class Questions:
         state = self._keeper.state
 
         async def body() -> dict[str, Any]:
-            return {"before": state.shared.scenario(), "after": own.scenario()}
+            return {"before": rows_of(await self._timeline(state.shared.road)), "after": rows_of(await self._timeline(own.road))}
         edits: dict[str, Any] = self._previews.get(index).edits if of == "preview" else await self._keeper.ask(
             index, (0, index), body)
         return {"plan": {**state.plan, "replicas": ["road"]}, "first": first, "last": last, "program": self._keeper.path,
                 **edits}
 
-    async def days(self, index: int, own: Seat, of: str | None, first: int, last: int) -> Reply:
+    async def days(self, index: int, own: Replica, of: str | None, first: int, last: int) -> Reply:
         """The same over many days, with the mean of each figure, and how sure it is; or the end of that question."""
         if of is None:
             return {"stopped": self._chance.stop(index)}
@@ -252,9 +327,6 @@ class Questions:
         if type(plan["words"]) is not int:
             raise Refused("one day", "the words of this road are steady, drawn by no seed: it has one day, and its figures are "
                           "those of each")
-        if (last + 1) * plan["length"] > figures.MOST_CELLS:
-            raise Refused("too long", f"this is too long to follow each car over {days} days: on this road they end at "
-                          f"{clock(figures.MOST_CELLS // plan['length'] - 1)} at the latest")
         question = self._chance.begin(index, days, lambda other: self._keeper.state.seats[other].name)
         try:
             asked = await self._both(index, own, of, first, last)
@@ -265,47 +337,71 @@ class Questions:
 
     # What is saved
 
-    async def transcript(self, index: int, seat: Seat, first: int, last: int, piece: int) -> Reply:
+    async def transcript(self, index: int, replica: Replica, first: int, last: int, piece: int) -> Reply:
         """A piece of what the viewer opens."""
         if first > last:
             raise Refused("Range", f"`from` {first} is above `to` {last}")
         self._reaches(last)
         if piece == 0:
+            self._saved.make_room(index)
             async with figures.alone(index):
-                lines = saving.script(self._keeper.state.plan, seat, first, last)
-                self._saved = index, await saving.transcript(self._keeper.path, self._keeper.state.plan, lines)
-        owner, pieces = self._saved
-        if owner != index or piece >= len(pieces):
-            raise Refused("Range", "there is no such piece: begin anew")
-        is_last = piece + 1 == len(pieces)
-        if is_last:
-            self._saved = -1, []
-        return {"lines": pieces[piece], "next": None if is_last else piece + 1}
+                name = self._keeper.state.seats[replica.index].name or replica.at
+                lines = saving.script(self._keeper.state.plan, name, rows_of(await self._timeline(replica.road)), first, last)
+                self._saved.put(index, await saving.transcript(self._keeper.path, self._keeper.state.plan, lines))
+        text, following = self._saved.take(index, piece)
+        return {"lines": text, "next": following}
 
-    async def table_of_changes(self, index: int, seat: Seat) -> Reply:
+    async def report(self, index: int, own: Replica, of: str, first: int, last: int, title: str, works: list[str]) -> Reply:
+        """Return the report of two roads: those of the preview, or the shared and the own one."""
+        asked = await self._both(index, own, of, first, last)
+        day, seat = clock_of(self._keeper.folder), self._keeper.state.seats[index]
+        names = ["now", "then"] if of == "preview" else ["shared", seat.name or seat.at]
+        clock = (None, None, None) if day is None else (day.to_text(0), day.date and str(day.date), day.zone and str(day.zone))
+        html = await reports.make(index, {**asked, "title": title, "works": works, "names": names, "clock": clock,
+                                          "days": reports.DAYS}, self._keeper.path)
+        return {"from": first, "to": last, "html": html}
+
+    async def table_of_changes(self, index: int, replica: Replica) -> Reply:
         """Each operation, with who covers its layer from when to when."""
-        async def body() -> Reply:
-            return {"csv": saving.table_of_changes(table(self._keeper.state, seat))}
-        reply: Reply = await self._keeper.ask(index, (), body)
+        marks: list[RoadValue] = []
+        found: list[saving.Changes] = []
+
+        async def body() -> Any:
+            state = self._keeper.state
+            now = state.replica(replica.index)
+            if marks[-1:] != [now.road]:
+                if len(marks) > MOST_ANEW:
+                    raise Refused("busy", "the road is changed all the time: ask again later")
+                marks.append(now.road)
+                found[:] = [saving.Changes(Lister(state, now).table())]
+            found[0].add(LIST_AT_ONCE)
+            return MORE if found[0].has_more else found[0].reply()
+        reply: bytes = await self._keeper.ask(index, (), body)
         return reply
 
     async def table_of_counts(self, road: Road, times: Times, first: int, last: int, each: int) -> Reply:
         """What detectors count, span by span."""
         said = await self.counts(road, times, first=first, last=last, each=each)
         assert isinstance(said, dict)
-        return {"csv": saving.table_of_counts(self._keeper.state.plan, first, last, each, said["counts"])}
+        title = f"counts of {self._road_name(road.name)}, {self.say_time(first)} to {self.say_time(last)}"
+        windows = [Window(start, min(last, start + each)) for start in range(first, last, each)]
+        return {"csv": saving.table_of_counts(self._keeper.state.plan, title, self.say_time, windows, said["flows"])}
 
+    def _road_name(self, at: str) -> str:
+        """What a road is called in what is saved."""
+        if at == "shared":
+            return "the shared road"
+        name = next((seat.name for seat in self._keeper.state.seats if seat.at == at), "")
+        return f"the road of {saving.harmless(name) or at}"
 
-def changes_by(lab: Lab, at: Seat, added: list[Any]) -> tuple[list[dict[str, Any]], Any]:
-    """How the lines of a seat's list would be, were these operations held, and the edits by which its road would be so."""
-    state = lab.state
-    with at.trying(added) as (stretches, names):
-        edits = at.road.missing(stretches)
-        names |= {line for line in map(at.line_of, at.road.beneath(stretches, None)) if line is not None}
-        would = {name: line_of(state, at, name) for name in names}
-    lines = []
-    for name in sorted(would):
-        was = shown_of(at, name) if name in at.lines else None
-        if "gone" not in would[name] and would[name]["shown"] != (was or []):
-            lines.append({**would[name], "was": was})
-    return lines, edits
+    def say_time(self, step: int) -> str:
+        """Return a time of the road's clock: of the day, if it has one."""
+        day = clock_of(self._keeper.folder)
+        return clock(step) if day is None else day.to_text(step)
+
+    async def script(self, index: int, replica: Replica) -> Reply:
+        """The commands that make a road as it is, up to the clock."""
+        to = self._keeper.now()
+        name = "shared" if replica.at == "shared" else self._keeper.state.seats[replica.index].name or replica.at
+        edits = rows_of(await self._timeline(replica.road))
+        return {"lines": saving.commands(self._keeper.state.plan, name, edits, to), "to": to}

@@ -28,7 +28,7 @@ class Road(Protocol):
         """Does a piece of work when the road has run as far as it shall; at leisure what a picture does not wait for."""
 
     def mark(self) -> Any:
-        """What is another once the road is another."""
+        """Return what changes whenever the road does."""
 
     async def say_all(self, lines: list[bytes], times: Times) -> list[bytes]:
         """The replies to lines that are sent at once; the first refusal is raised."""
@@ -37,19 +37,18 @@ class Road(Protocol):
         """Lets the road run so far."""
 
 
-class Replica:
+class KeptRoad:
     """A road that is kept: the own or the shared one, asked in the turn of a seat."""
 
     def __init__(self, keeper: Keeper, turn: int, index: int) -> None:
         self._keeper, self._turn, self._index = keeper, turn, index
-        self.name = keeper.state.seats[index].at
+        self.name = keeper.state.replica(index).at
 
     async def job(self, body: Job, at_leisure: bool = False) -> Any:
         return await self._keeper.ask(self._turn, (self._index,), body, at_leisure)
 
     def mark(self) -> Any:
-        seat = self._keeper.state.seats[self._index]
-        return seat.version, len(seat.gestures)
+        return self._keeper.road(self._index)
 
     async def say_all(self, lines: list[bytes], times: Times) -> list[bytes]:
         return await self._keeper.say_all(lines, times)
@@ -67,10 +66,9 @@ class Replica:
 class Preview:
     """Two roads as they were when they were compared: their edits, and a program once they are asked."""
 
-    def __init__(self, keeper: Keeper, before: list[Any], more: list[Any]) -> None:
-        """The edits that win in one, and those that win over them in the other."""
-        after = {tuple(edit[:3]): edit for edit in [*before, *more]}
-        self._keeper, self.edits = keeper, {"before": before, "after": list(after.values())}
+    def __init__(self, keeper: Keeper, before: list[Any], after: list[Any]) -> None:
+        """`before` and `after` are all edits of both."""
+        self._keeper, self.edits = keeper, {"before": before, "after": after}
         self.used = time.monotonic()
         self._is_over = False
         self._program: Program | None = None
@@ -150,6 +148,11 @@ class Side:
 
     def __init__(self, preview: Preview, side: str) -> None:
         self._preview, self.name = preview, side
+
+    @property
+    def edits(self) -> list[Any]:
+        """Its edits, as an import has them."""
+        return self._preview.edits[self.name]
 
     async def job(self, body: Job, at_leisure: bool = False) -> Any:
         return await self._preview.job(self.name, body)

@@ -6,8 +6,6 @@ from __future__ import annotations
 
 from typing import Iterator, Sequence
 
-EMPTY, CLOSED = b".", b"#"
-
 
 def of_diagram(reply: bytes) -> list[bytes]:
     """The rows of `{"rows":["..","..",..]}`."""
@@ -21,11 +19,6 @@ def of_cells(reply: bytes) -> bytes:
 
 def diagram_of(rows: Sequence[bytes]) -> bytes:
     return b'{"rows":["' + b'","'.join(rows) + b'"]}'
-
-
-def cars_in(row: bytes) -> int:
-    """How many cars there are in a row."""
-    return len(row) - row.count(EMPTY) - row.count(CLOSED)
 
 
 def spans(first: int, last: int, most: int) -> Iterator[tuple[int, int]]:

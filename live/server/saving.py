@@ -3,27 +3,32 @@ from __future__ import annotations
 
 import csv
 import io
-from typing import Any, Iterable, Iterator
+import time
+from typing import Any, Callable, Iterable, Iterator, Sequence
+
+from zegdrut.trips import Window
+from zegdrut.units import to_km
 
 from .asked import Refused
 from .journal import packed
 from .lines import HEAD
 from .program import Program, command_of, import_lines, start
-from .state import Seat
 
 MOST = 64_000_000  # bytes of rows in a transcript
 MOST_PIECE = 1_000_000
 EACH = 60  # steps of a count
+MOST_SAVED = 4  # transcripts that are fetched at a time
+UNUSED = 60.0  # seconds after which one that nobody fetches is dropped
 LONGEST_REPLICA = 64  # bytes of a replica's name
 
 
-def script(plan: dict[str, Any], seat: Seat, first: int, last: int) -> Iterator[dict[str, Any]]:
-    """The lines that show a seat's road from a step to another: plan, edits, rows, and counts of a minute each."""
+def script(plan: dict[str, Any], name: str, edits: list[Any], first: int, last: int) -> Iterator[dict[str, Any]]:
+    """The lines that show a road from a step to another: plan, edits, rows, and counts of a minute each."""
     if (last - first + 1) * (plan["length"] + 3) > MOST:
         raise Refused("Range", f"at most {MOST // (plan['length'] + 3)} rows are saved at once")
-    at = (seat.name or seat.at).encode()[:LONGEST_REPLICA].decode(errors="ignore")
+    at = name.encode()[:LONGEST_REPLICA].decode(errors="ignore")
     yield {**plan, "replicas": [at]}
-    yield from import_lines(at, seat.scenario())
+    yield from import_lines(at, edits)
     yield {"advance": {"at": at, "to": last}}
     at_once = min(1_024, MOST_PIECE // (plan["length"] + 3))
     for begin in range(first, last + 1, at_once):
@@ -31,6 +36,13 @@ def script(plan: dict[str, Any], seat: Seat, first: int, last: int) -> Iterator[
     for begin in range(first, last, EACH):
         for detector in range(len(plan["detectors"])):
             yield {"count": {"at": at, "detector": detector, "from": begin, "to": min(last, begin + EACH)}}
+
+
+def commands(plan: dict[str, Any], name: str, edits: list[Any], last: int) -> str:
+    """Return the script of a road: plan, edits, and that it runs to a step."""
+    at = name.encode()[:LONGEST_REPLICA].decode(errors="ignore")
+    lines = [{**plan, "replicas": [at]}, *import_lines(at, edits), {"advance": {"at": at, "to": last}}]
+    return "".join(packed(line) + "\n" for line in lines)
 
 
 async def transcript(path: str, plan: dict[str, Any], lines: Iterable[dict[str, Any]]) -> list[str]:
@@ -48,8 +60,40 @@ async def transcript(path: str, plan: dict[str, Any], lines: Iterable[dict[str, 
             pieces[-1] += f"{line}\n{reply.decode()}\n"
     finally:
         if program is not None:
-            await program.close()
+            program.kill()  # it has said all, or nobody waits for it
     return pieces
+
+
+class Saved:
+    """Transcripts that seats fetch piece by piece: of each seat one, and of all seats a few."""
+
+    def __init__(self, clock: Callable[[], float] = time.monotonic) -> None:
+        self._clock = clock
+        self._of: dict[int, tuple[list[str], float]] = {}  # of a seat: its pieces, and when it asked last
+
+    def make_room(self, index: int) -> None:
+        """Make room for another transcript, of a seat; `Refused` if other seats fetch as many as are kept."""
+        self.drop(index)
+        before = self._clock() - UNUSED
+        self._of = {one: (pieces, used) for one, (pieces, used) in self._of.items() if used > before}
+        if len(self._of) >= MOST_SAVED:
+            raise Refused("busy", f"{MOST_SAVED} others are saving just now: ask again later")
+
+    def put(self, index: int, pieces: list[str]) -> None:
+        self._of[index] = pieces, self._clock()
+
+    def take(self, index: int, piece: int) -> tuple[str, int | None]:
+        """Return a piece of a seat's transcript, and the number of the next one; the last is not kept."""
+        pieces, _ = self._of.pop(index, (list[str](), 0.0))
+        if piece >= len(pieces):
+            raise Refused("Range", "there is no such piece: begin anew")
+        if piece + 1 == len(pieces):
+            return pieces[piece], None
+        self.put(index, pieces)
+        return pieces[piece], piece + 1
+
+    def drop(self, index: int) -> None:
+        self._of.pop(index, None)
 
 
 def harmless(value: Any) -> Any:
@@ -58,20 +102,54 @@ def harmless(value: Any) -> Any:
 
 
 def table(head: list[str], lines: Iterable[list[Any]]) -> str:
+    """Return the text of a table: its head, where it has one, and its lines."""
     text = io.StringIO()
     writer = csv.writer(text, lineterminator="\n")
-    writer.writerow(head)
+    if head:
+        writer.writerow(head)
     writer.writerows([harmless(cell) for cell in line] for line in lines)
     return text.getvalue()
 
 
-def table_of_counts(plan: dict[str, Any], first: int, last: int, each: int, counts: list[list[list[int]]]) -> str:
-    """Cars and the sum of their speeds, span by span and detector by detector."""
-    lines = [[begin, min(last, begin + each), detector, plan["detectors"][detector], *pair]
-             for begin, span in zip(range(first, last, each), counts) for detector, pair in enumerate(span)]
-    return table(["from", "to", "detector", "cell", "cars", "speeds"], lines)
+def table_of_counts(plan: dict[str, Any], title: str, say_time: Callable[[int], str], windows: Sequence[Window],
+                    counts: Sequence[Sequence[dict[str, Any]]]) -> str:
+    """What detectors counted, window by window: the first line says of what it is, the second has the units."""
+    lines = [[say_time(window.first), say_time(window.last), detector, rounded(to_km(plan["detectors"][detector]), 4),
+              one["cars"], rounded(one["flow"], 1), rounded(one["speed"], 1), one["on"]]
+             for window, span in zip(windows, counts) for detector, one in enumerate(span)]
+    head = ["from", "to", "detector", "km", "cars", "flow in cars/h", "time-mean speed in km/h", "seconds on"]
+    return f"# {title}\n" + table(head, lines)
 
 
-def table_of_changes(lines: Iterable[list[Any]]) -> str:
-    """Who changed what when, and who covers it."""
-    return table(HEAD, lines)
+def rounded(value: float | None, digits: int) -> float | str:
+    """Return a number with so many digits; nothing if there is none."""
+    return "" if value is None else round(value, digits)
+
+
+class Changes:
+    """The table of who changed what when, and who covers it, a piece at a time."""
+
+    def __init__(self, lines: Iterable[list[Any]]) -> None:
+        self._lines = iter(lines)
+        self._pieces = [as_text(table(HEAD, []))]
+        self.has_more = True
+
+    def add(self, seconds: float) -> None:
+        """Add lines for about so long."""
+        until, found = time.perf_counter() + seconds, list[list[Any]]()
+        for line in self._lines:
+            found.append(line)
+            if time.perf_counter() > until:
+                break
+        else:
+            self.has_more = False
+        self._pieces.append(as_text(table([], found)))
+
+    def reply(self) -> bytes:
+        """Return the reply with the table."""
+        return b'{"csv":"' + b"".join(self._pieces) + b'"}'
+
+
+def as_text(text: str) -> bytes:
+    """Return what stands between the quotes of a text in JSON."""
+    return packed(text)[1:-1].encode()

@@ -7,6 +7,10 @@
 A sealed payload is a line of JSON {"folder","time","number","mac"} and the body behind it. The MAC (HMAC, SHA-256) is
 over topic, folder, time in milliseconds, a number that rises, and body: so what is played again, or at another topic,
 is left out. Without a key it is the body alone, as scripts and older sites send it, too; it may begin with its folder.
+
+The numbers that were taken are known after a restart, too: for each folder a number above them all is on the disk before
+they are taken, and the greatest of them when the server ends. So what is sent after a restart is heard: after a kill once a
+folder's numbers are above the one on the disk, which takes less time than a start.
 """
 from __future__ import annotations
 
@@ -14,14 +18,17 @@ import collections
 import hashlib
 import hmac
 import json
+import logging
+import os
 import re
 import time
 from pathlib import Path
 from typing import Any, Callable, Dict
 
-from .journal import Broken, packed
+from .journal import Broken, packed, put_in_place, sync_folder
 
 LATE = 600.0  # seconds that a sealed message may be on its way, or two clocks apart
+AHEAD = 200  # numbers, which are milliseconds, by which what is on the disk is above what was taken
 WINDOW = 4_096  # numbers of a folder that may come in another order
 MOST_FOLDERS = 256
 SHORTEST_KEY = 16  # bytes
@@ -37,7 +44,11 @@ class Again(Exception):
 
 
 class Late(Exception):
-    """A message that was sent too long ago to know that, or by a clock that is wrong."""
+    """A message that was sent too long ago to know that, or by a clock that is wrong: of which folder, and when by that clock."""
+
+    def __init__(self, folder: str, when: float) -> None:
+        super().__init__(folder, when)
+        self.folder, self.when = folder, when
 
 
 def key_of(path: Path) -> bytes:
@@ -48,12 +59,57 @@ def key_of(path: Path) -> bytes:
     return key
 
 
+class Taken:
+    """For each folder a number that none of its messages that were taken is above, on the disk."""
+
+    def __init__(self, path: Path | None) -> None:
+        """None: nothing is kept."""
+        self._path = path
+        self._bounds: dict[str, int] = {}
+        self._greatest: dict[str, int] = {}  # that were taken since the start
+        if path is not None and path.exists():
+            try:
+                self._bounds = {str(folder): int(number) for folder, number in json.loads(path.read_bytes()).items()}
+            except (OSError, ValueError, AttributeError, TypeError) as fault:
+                logging.warning("%s cannot be read, and is begun anew: %s", path, fault)
+
+    def bound(self, folder: str) -> int:
+        return self._bounds.get(folder, 0)
+
+    def take(self, folder: str, number: int, oldest: int) -> None:
+        """Write down a bound that a number is not above, if there is none. Forget those below the oldest number that may still
+        be taken."""
+        self._greatest[folder] = max(number, self._greatest.get(folder, 0))
+        if number <= self.bound(folder):
+            return
+        self._bounds = {one: bound for one, bound in self._bounds.items() if bound >= oldest}
+        self._bounds[folder] = number + AHEAD
+        self._greatest = {one: taken for one, taken in self._greatest.items() if one in self._bounds}
+        self._write()
+
+    def end(self, folder: str, number: int) -> None:
+        """Write down the greatest numbers that were taken, and of a folder its last one: what comes after a start is above."""
+        if self._greatest:
+            self._bounds.update({**self._greatest, folder: number})
+            self._write()
+
+    def _write(self) -> None:
+        if self._path is not None:
+            try:
+                os.close(put_in_place(self._path, [packed(self._bounds).encode()]))
+                sync_folder(self._path.parent)
+            except OSError as fault:
+                logging.warning("the numbers of messages are not written down, so after a restart old ones may be played "
+                                "again: %s", fault)
+
+
 class Seen:
     """The numbers of a folder's messages: each counts once, and the oldest are no longer told apart."""
 
-    def __init__(self) -> None:
+    def __init__(self, least: int = 0) -> None:
+        """Numbers up to the least one are not new."""
         self._numbers: set[int] = set()
-        self._least = 0
+        self._least = least
 
     def is_new(self, number: int) -> bool:
         if number <= self._least or number in self._numbers:
@@ -68,9 +124,12 @@ class Seen:
 class Seal:
     """What is sent bears it; what comes is asked for it."""
 
-    def __init__(self, folder: str, key: bytes | None, clock: Callable[[], float] = time.time) -> None:
+    def __init__(self, folder: str, key: bytes | None, taken: Path | None = None,
+                 clock: Callable[[], float] = time.time) -> None:
+        """`taken` is the file of the numbers that were taken."""
         self.folder, self.key, self._clock = folder, key, clock
-        self._number = 0
+        self._taken = Taken(taken)
+        self._number = self._taken.bound(folder)
         self._seen: Dict[str, Seen] = collections.OrderedDict()
 
     def sealed(self, topic: str, body: bytes) -> bytes:
@@ -97,14 +156,20 @@ class Seal:
     def _check(self, topic: str, head: dict[str, Any], body: bytes) -> None:
         if not hmac.compare_digest(self._mac(topic, head, body).encode(), head["mac"].encode()):
             raise Unsealed("its seal is not that of this site's key")
-        if abs(self._clock() - head["time"] / 1_000) > LATE:
-            raise Late
-        seen = self._seen.pop(head["folder"], None) or Seen()
-        self._seen[head["folder"]] = seen
+        now, folder = self._clock(), head["folder"]
+        if abs(now - head["time"] / 1_000) > LATE:
+            raise Late(folder, head["time"] / 1_000)
+        seen = self._seen.pop(folder, None) or Seen(self._taken.bound(folder))
+        self._seen[folder] = seen
         if len(self._seen) > MOST_FOLDERS:
             del self._seen[next(iter(self._seen))]
         if not seen.is_new(head["number"]):
             raise Again
+        self._taken.take(folder, head["number"], int(1_000 * (now - LATE)))
+
+    def end(self) -> None:
+        """Nothing is sealed or opened any more."""
+        self._taken.end(self.folder, self._number)
 
     def _mac(self, topic: str, head: dict[str, Any], body: bytes) -> str:
         assert self.key is not None

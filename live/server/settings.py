@@ -11,10 +11,12 @@ class Settings:
     """Each is the default, unless the environment has LIVE_ and its name in capitals."""
 
     most_lines: int = 900_000  # of a program, which ends at 1,000,000
-    most_undone: int = 1_000  # undoings until the oldest are forgotten
+    most_undone: int = 1_000  # operations that were undone or withdrawn until the oldest are forgotten
+    most_withdrawn: int = 200_000  # edits that a program holds and that say nothing any more
     most_journal: int = 64 << 20  # bytes until the journal is shortened
     day: float = 86_400  # seconds after which a seat that nobody uses is free
     days: int = 20  # of a question over many: seeds, each with drivers of its own
+    watch: float = 0.2  # seconds of processor for which a piece of work may keep others waiting; of more the log tells
     hello: float = 10  # seconds until a tab has shown the token
 
     @classmethod

@@ -1,11 +1,16 @@
-"""Counts of stamps, by hybrid logical clocks: above all that are held, and at least by the clock. So of two changes
-the later one wins, and a folder that was restored, made anew or cloned stamps nothing twice.
+"""Counts of stamps, by hybrid logical clocks: above all that is held here, and at least by the clock. So of two changes the later
+one wins, and a folder that was restored or cloned stamps nothing twice.
+
+    clock = StampClock()
+    count = clock.count_after(greatest)
+    if count > clock.latest_count(): ..     it is taken when its day has come
 """
 from __future__ import annotations
 
 import os
 import random
 import time
+from typing import Callable
 
 A_MILLISECOND = 32  # counts
 A_DAY = 86_400_000 * A_MILLISECOND
@@ -13,26 +18,34 @@ FIXED = os.environ.get("LIVE_MILLISECONDS")  # a clock that stands
 
 
 def milliseconds() -> int:
-    """The clock, since 1970."""
+    """Return the system's clock, since 1970."""
     return int(FIXED) if FIXED else time.time_ns() // 1_000_000
 
 
 def some_bits() -> int:
-    """By which two clones differ that stamp in one millisecond."""
+    """Return bits that let two clones differ that stamp in one millisecond."""
     return 0 if FIXED else random.SystemRandom().randrange(A_MILLISECOND)
 
 
 def next_count(greatest_held: int, now: int, bits: int) -> int:
-    """The count of the next stamp, where so much is held, and the clock is at so many milliseconds."""
+    """Return the count of the next stamp, given the greatest that is held and a clock in milliseconds."""
     return max(greatest_held + 1, now * A_MILLISECOND + bits)
 
 
-def count_after(greatest_held: int) -> int:
-    """The count of the next stamp."""
-    return next_count(greatest_held, milliseconds(), some_bits())
+class StampClock:
+    """The clock of a server's stamps: the system's, less what that is ahead of the clocks of all other sites."""
 
+    def __init__(self) -> None:
+        self.ahead: Callable[[], float] = lambda: 0.0  # seconds
 
-def is_early(count: int) -> bool:
-    """Whether a count is more than a day ahead of the clock: it is taken later, whatever is held, so that what one site
-    takes every site takes."""
-    return count > milliseconds() * A_MILLISECOND + A_DAY
+    def count_after(self, greatest: int) -> int:
+        """Return the count of the next stamp."""
+        return next_count(greatest, self._now(), some_bits())
+
+    def latest_count(self) -> int:
+        """Return the greatest count that is taken: a day ahead of the clock. What is above it is taken later, whatever is held,
+        so that what one site takes every site takes."""
+        return self._now() * A_MILLISECOND + A_DAY
+
+    def _now(self) -> int:
+        return max(0, milliseconds() - int(1_000 * self.ahead()))

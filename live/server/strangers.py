@@ -6,6 +6,8 @@ import collections
 import time
 from typing import Any, Callable, Iterable
 
+from .doors import neighbourhood
+
 FEW, MANY = 64, 512  # of an address, and of all
 SHORT = 60.0  # seconds
 EVERY = 0.2
@@ -38,4 +40,4 @@ class Strangers:
 
 
 def address_of(connection: Any) -> str:
-    return str((connection.transport.get_extra_info("peername") or ("",))[0])
+    return neighbourhood(str((connection.transport.get_extra_info("peername") or ("",))[0]))

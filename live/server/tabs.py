@@ -7,29 +7,31 @@ from __future__ import annotations
 import asyncio
 import collections
 import contextlib
+import functools
 import hmac
 import json
 import logging
-import re
 import socket as sockets
 import struct
 import time
-from pathlib import Path
 from typing import Any, Callable, Deque, Union
 
 from aiohttp import WSMsgType, web
-from programs import standing
+from zegdrut.programs import describe_standing
 
-from . import LIVE, verbs
+from . import plans, verbs
 from .asked import LONGEST_NAME, MOST_EDITS, Asked, Refused, not_a_command
 from .journal import packed
 from .keeper import Times
-from .lab import AHEAD, Lab
+from .lab import Lab
 from .questions import MOST_BYTES, MOST_ROWS, Questions
-from .state import FORM
+from .state import TAB_FORM
+from .supervised import supervised
+from .timing import AHEAD
 
 LONGEST_FRAME = 65_536
 WAITING = 8  # questions of a tab that may wait
+MOST_CHANGING = 2 * WAITING  # commands of a seat that change something and wait, also of tabs that have gone
 PAUSE = 0.01  # seconds that one who floods is not read, for each frame too much
 MOST_FAULTS = 20
 MOST_TABS = 200  # that have shown the token
@@ -39,9 +41,8 @@ ABNORMAL = 1006  # the code of a socket whose other end has not said that it goe
 NAMED = 900.0  # seconds until one that has shown it says who it is: a person may type
 BUFFER = 262_144  # bytes of a tab that the kernel keeps
 TOLD_EVERY = 0.2
+STANDS = 60.0  # seconds for which it is said that a part of the server has ended
 MOST_TOLD = 50
-
-TYPES = {".html": "text/html", ".js": "text/javascript", ".mjs": "text/javascript", ".css": "text/css"}
 
 
 class Tab:
@@ -51,9 +52,11 @@ class Tab:
         self._tabs, self._socket, self.connection = tabs, socket, connection
         self.index: int | None = None  # of its seat, once it has said hello
         self._replies: Deque[str] = collections.deque()
-        self._news: dict[str, dict[str, Any]] = {}
+        self._news: dict[str, Callable[[], Any]] = {}  # by kind, worked out when it is sent
+        self.steps: list[int] = []  # from which on the shared road has changed, that it was not told of
         self._wake, self._read = asyncio.Event(), asyncio.Event()
-        self._waiting = self._faults = 0
+        self._faults = 0
+        self._asked: dict[asyncio.Future[None], str] = {}  # what is being answered, and its commands
         self._is_entering = self.has_token = False
         self._tasks: list[asyncio.Task[None]] = []
         self.bye = 1000, "ended"
@@ -64,7 +67,8 @@ class Tab:
         try:
             await asyncio.wait(self._tasks[:2], return_when=asyncio.FIRST_COMPLETED)
         finally:
-            for task in self._tasks:
+            looks = [task for task, verb in self._asked.items() if verb not in verbs.CHANGES]  # nobody hears the answers
+            for task in [*self._tasks, *looks]:
                 task.cancel()
             for result in await asyncio.gather(*self._tasks, return_exceptions=True):
                 if isinstance(result, Exception):
@@ -77,12 +81,19 @@ class Tab:
             task.cancel()
 
     def tell(self, kind: str, value: Any) -> None:
-        self._news[kind] = {kind: value}
+        self.tell_then(kind, lambda: value)
+
+    def tell_then(self, kind: str, value: Callable[[], Any]) -> None:
+        """Tell what is so when the tab's turn comes: for many tabs at once that would take long."""
+        self._news[kind] = value
         self._wake.set()
 
-    def untold(self, kind: str) -> Any:
-        """What the tab was not told yet of a kind."""
-        return self._news.get(kind, {}).get(kind)
+    def _next(self) -> str:
+        """What is sent next."""
+        if self._replies:
+            return self._replies.popleft()
+        kind = next(iter(self._news))
+        return packed({kind: self._news.pop(kind)()})
 
     async def _hello_in_time(self) -> None:
         await asyncio.sleep(self._tabs.lab.keeper.settings.hello)
@@ -96,7 +107,7 @@ class Tab:
             await self._wake.wait()
             self._wake.clear()
             while self._replies or self._news:
-                text = self._replies.popleft() if self._replies else packed(self._news.pop(next(iter(self._news))))
+                text = self._next()
                 self._read.set()
                 try:
                     async with asyncio.timeout(PATIENCE):  # (`wait_for` may lose that the task was cancelled)
@@ -131,12 +142,13 @@ class Tab:
             await self._enter(number, verb, fields)
         elif self.index is None:
             self.let_go(1008, "hello comes first")
-        elif self._waiting >= WAITING:
+        elif len(self._asked) >= WAITING or verb in verbs.CHANGES and self._tabs.changing[self.index] >= MOST_CHANGING:
             self._send({"id": number, **Refused("busy", f"{WAITING} questions wait: ask again later").reply()})
             await asyncio.sleep(PAUSE)
         else:
-            self._waiting += 1
-            asyncio.ensure_future(self._answered(self.index, number, verb, fields, came))
+            task = asyncio.ensure_future(self._answered(self.index, number, verb, fields, came))
+            self._asked[task] = verb
+            task.add_done_callback(self._asked.pop)
             await asyncio.sleep(0)  # so that what a tab asks is done in its order
 
     async def _enter(self, number: int, verb: str, fields: Any) -> None:
@@ -162,6 +174,8 @@ class Tab:
     async def _answered(self, index: int, number: int, verb: str, fields: Any, came: float) -> None:
         times: Times = {}
         reply: Union[bytes, dict[str, Any]]
+        changes = verb in verbs.CHANGES
+        self._tabs.changing[index] += changes
         try:
             reply = await self._tabs.answer(self, index, verb, fields, times)
         except Refused as fault:
@@ -170,7 +184,7 @@ class Tab:
             logging.exception("`%s` failed", verb)
             reply = Refused("failed", "the server could not do this, and says why in its log").reply()
         finally:
-            self._waiting -= 1
+            self._tabs.changing[index] -= changes
         times["server"] = time.perf_counter() - came
         us = packed({name: round(1e6 * value) for name, value in times.items()})
         text = reply.decode() if isinstance(reply, bytes) else packed(reply)
@@ -213,16 +227,19 @@ class Tabs:
         self.lab, self.token = lab, token
         self._questions = Questions(lab)
         self._all: set[Tab] = set()
-        self._standing = standing(lab.keeper.path)  # what is to be known of the program: that it is unproved
+        self.changing: collections.Counter[int] = collections.Counter()  # commands of a seat, also of tabs that have gone
+        self._standing = describe_standing(lab.keeper.path)  # what is to be known of the program: that it is unproved
         self.broker: Callable[[], Any] = lambda: None  # what is told of it
         listeners, keeper = lab.keeper.listeners, lab.keeper
         listeners.on("shared", self._news)
         listeners.on("seats", self._seats)
         listeners.on("clock", self._clock)
         listeners.on("days", self._days)
-        listeners.on("trouble", lambda: self._tell_all("trouble", keeper.trouble))
+        listeners.on("trouble", self._tell_trouble)
         listeners.on("program", lambda: self._tell_all("program", {"changes": keeper.changes, "why": keeper.why_changed}))
-        self._ticks = asyncio.ensure_future(self._tick())
+        self._ended: str | None = None  # what of the server has ended a moment ago, for people
+        listeners.on("ended", self._part_ended)
+        self._ticks = supervised("the clock that tabs see", self._tick, keeper.ended)
 
     # Coming and going
 
@@ -231,9 +248,9 @@ class Tabs:
         with asked:
             name, key = asked.text("name", LONGEST_NAME, ""), asked.text("key", 100, "")
             take = asked.whole("take") if asked.has("take") else None
-            if asked.whole("form", default=FORM) != FORM:
+            if asked.whole("form", default=TAB_FORM) != TAB_FORM:
                 raise Refused("another form", "this page is older or newer than the server: reload it")
-        index, key = await self.lab.join(name, key, take)
+        index, key = await self.lab.seating.join(name, key, take)
         for other in self._all:
             if other.index == index:
                 other.index = None
@@ -244,12 +261,19 @@ class Tabs:
         state = self.lab.keeper.state
         seat = state.seats[index]
         return {"at": seat.at, "seat": index, "name": seat.name, "key": key, "number": seat.number,
-                "form": FORM, "site": state.site, "plan": {**state.plan, "replicas": []},
-                "horizon": self.lab.keeper.wanted.get(index, 0), **self.lab.keeper.clock(), "ahead": AHEAD,
+                "form": TAB_FORM, "site": state.site, "plan": {**state.plan, "replicas": []},
+                "horizon": self.lab.keeper.wanted.get(index, 0), **self.lab.keeper.clock().fields(), "ahead": AHEAD,
                 "time": round(time.time(), 3),
                 "most": {"edits": MOST_EDITS, "rows": MOST_ROWS, "bytes": MOST_BYTES,
                          "days": self.lab.keeper.settings.days}, "broker": self.broker(),
-                "trouble": self.lab.keeper.trouble, "standing": self._standing}
+                "trouble": self._trouble, "standing": self._standing, "day": self._day()}
+
+    def _day(self) -> dict[str, Any]:
+        """The clock of the day, as far as it is known: seconds after midnight at which it begins, the date, the time zone."""
+        clock = plans.clock_of(self.lab.keeper.folder)
+        if clock is None:
+            return {"begin": None, "date": None, "zone": None}
+        return {"begin": clock.begin, "date": clock.date and str(clock.date), "zone": clock.zone and str(clock.zone)}
 
     def arrived(self, tab: Tab) -> None:
         self._tell_news(tab, None)
@@ -258,7 +282,7 @@ class Tabs:
     def _gone(self, tab: Tab) -> None:
         self._all.discard(tab)
         if tab.index is not None:
-            self.lab.leave(tab.index)
+            self.lab.seating.leave(tab.index)
             self._questions.left(tab.index)
             self._seats()
 
@@ -340,7 +364,22 @@ class Tabs:
         self._tell_all("broker", self.broker())
 
     def _clock(self) -> None:
-        self._tell_all("clock", self.lab.keeper.clock())
+        self._tell_all("clock", self.lab.keeper.clock().fields())
+
+    @property
+    def _trouble(self) -> str | None:
+        """What is wrong, for people."""
+        return self.lab.keeper.trouble or self._ended
+
+    def _tell_trouble(self) -> None:
+        self._tell_all("trouble", self._trouble)
+
+    def _part_ended(self, sentence: str | None) -> None:
+        """Say for a while that a part of the server has ended."""
+        self._ended = sentence
+        self._tell_trouble()
+        if sentence is not None:
+            asyncio.get_running_loop().call_later(STANDS, self._part_ended, None)
 
     def _days(self, index: int, done: int, days: int) -> None:
         """How many days of its question are done."""
@@ -358,19 +397,24 @@ class Tabs:
 
     async def seats(self) -> list[dict[str, Any]]:
         """Who has a seat."""
-        return await self.lab.seats_kept()
+        return await self.lab.seating.seats_kept()
 
     def _news(self, touched: int | None) -> None:
         for tab in self._all:
             self._tell_news(tab, touched)
 
     def _tell_news(self, tab: Tab, touched: int | None) -> None:
-        """What was shared and the tab's seat has not taken; steps that it was not told of stay in it."""
-        if tab.index is None:
+        """Tell what was shared and the tab's seat has not taken."""
+        index = tab.index
+        if index is None:
             return
-        before = tab.untold("news")
-        steps = [step for step in (touched, before and before["touched"]) if step is not None]
-        tab.tell("news", {**self.lab.news(tab.index, MOST_TOLD), "touched": min(steps, default=None)})
+        tab.steps += [] if touched is None else [touched]
+        tab.tell_then("news", functools.partial(self._news_of, tab, index))
+
+    def _news_of(self, tab: Tab, index: int) -> dict[str, Any]:
+        """Steps that the tab was not told of are in it."""
+        first, tab.steps = min(tab.steps, default=None), []
+        return {**self.lab.news(index, MOST_TOLD), "touched": first}
 
     async def _tick(self) -> None:
         while True:
@@ -383,55 +427,3 @@ def socket_of(request: web.Request) -> sockets.socket:
     assert request.transport is not None
     socket: sockets.socket = request.transport.get_extra_info("socket")
     return socket
-
-
-# The page
-
-class Page:
-    """The files that are served, and the headers that keep others out."""
-
-    def __init__(self, tabs: Tabs, hosts: set[str], scheme: str) -> None:
-        self._tabs, self._hosts, self._scheme = tabs, hosts, scheme
-
-    def app(self) -> web.Application:
-        app = web.Application()
-        app.add_routes([web.get("/", self._file), web.get("/live", self._live), web.get("/{name}", self._file),
-                        web.get("/page/{part}", self._file)])
-        return app
-
-    def _check(self, request: web.Request) -> str:
-        host = request.headers.get("Host", "")
-        if host not in self._hosts:
-            raise web.HTTPForbidden(text="this host is not the server's")
-        return host
-
-    async def _live(self, request: web.Request) -> web.StreamResponse:
-        host = self._check(request)
-        if request.headers.get("Origin") != f"{self._scheme}://{host}":
-            raise web.HTTPForbidden(text="this origin is not the server's")
-        return await self._tabs.socket(request)
-
-    async def _file(self, request: web.Request) -> web.StreamResponse:
-        host = self._check(request)
-        path = file_of(request.match_info.get("name"), request.match_info.get("part"))
-        if path is None or not path.is_file():
-            raise web.HTTPNotFound()
-        return web.Response(body=path.read_bytes(), content_type=TYPES[path.suffix], charset="utf-8",
-                            headers=self._headers(host))
-
-    def _headers(self, host: str) -> dict[str, str]:
-        socket = f"{'wss' if self._scheme == 'https' else 'ws'}://{host}"
-        policy = {"default-src": "'none'", "script-src": "'self'", "style-src": "'self'",
-                  "img-src": "'self' data: blob:", "connect-src": f"'self' {socket}", "base-uri": "'none'",
-                  "form-action": "'none'", "frame-ancestors": "'none'"}
-        return {"Content-Security-Policy": "; ".join(" ".join(part) for part in policy.items()),
-                "Referrer-Policy": "no-referrer", "X-Content-Type-Options": "nosniff", "Cache-Control": "no-store",
-                "Cross-Origin-Opener-Policy": "same-origin", "Cross-Origin-Resource-Policy": "same-origin"}
-
-
-def file_of(name: str | None, part: str | None) -> Path | None:
-    """The file that a path names; there are no others."""
-    if part is not None:
-        return LIVE / "page" / part if re.fullmatch(r"[a-z_]+\.mjs", part) else None
-    return {None: LIVE / "page.html", "page.css": LIVE / "page.css",
-            "drawing.js": LIVE.parent / "viewer" / "drawing.js"}.get(name)

@@ -35,7 +35,7 @@ class More:
 
 MORE = More()
 Job = Callable[[], Awaitable[Any]]
-Queue = Deque["tuple[Job, asyncio.Future[Any], float]"]  # with the time when it was asked
+Queue = Deque["tuple[Job, asyncio.Future[Any], float, bool | None]"]  # with the time when it was asked, and whether it takes long
 
 
 class Use:
@@ -65,13 +65,14 @@ class Turns:
         self._uses: Dict[int, Use] = collections.defaultdict(Use)
         self._number = 0  # of the last turn of all
 
-    def ask(self, seat: int, job: Job, at_leisure: bool = False) -> asyncio.Future[Any]:
-        """A future with what the job gives, once it is its seat's turn."""
+    def ask(self, seat: int, job: Job, at_leisure: bool = False, takes_long: bool | None = None) -> asyncio.Future[Any]:
+        """A future with what the job gives, once it is its seat's turn. Whether it takes long is as with the seat's last one,
+        if that is not said."""
         future: asyncio.Future[Any] = asyncio.get_running_loop().create_future()
         future.add_done_callback(lambda one: one.cancelled() or one.exception())
         if not self._first(seat):
             self._turn.append(seat)
-        (self._later if at_leisure else self._queues)[seat].append((job, future, self._clock()))
+        (self._later if at_leisure else self._queues)[seat].append((job, future, self._clock(), takes_long))
         self._work.set()
         return future
 
@@ -81,22 +82,30 @@ class Turns:
         return later if later and (not queue or self._clock() - later[0][2] > LEISURE) else queue
 
     async def run(self) -> None:
-        """Does all jobs, for ever."""
+        """Does all jobs, for ever; begun again, also those of the seat whose turn it was."""
+        self._turn.extend(seat for seat in {*self._queues, *self._later} if self._first(seat) and seat not in self._turn)
         while True:
             while not self._turn:
                 self._work.clear()
                 await self._work.wait()
             seat = self._turn.popleft()
-            if self._uses[seat].last >= LONG:
+            if self._takes_long(seat):
                 await self._others_first(seat)
             await self._one_turn(seat)
 
+    def _takes_long(self, seat: int) -> bool:
+        """Whether what a seat asks next takes long, as far as is known."""
+        said = self._first(seat)[0][3]
+        return self._uses[seat].last >= LONG if said is None else said
+
     async def _others_first(self, seat: int) -> None:
-        """What others who have used little ask before a long turn, and what they ask next once they are answered."""
+        """What others who have used little, or what takes others no long turn, before a long one; and what those ask next who
+        have used little, once they are answered."""
         own = self._uses[seat]
-        left, wait = own.last * PUT_OFF, min(own.last * WAITED, self._most_waited)
+        left, wait = max(LONG, own.last) * PUT_OFF, min(own.last * WAITED, self._most_waited)
         while left > 0:
-            asking = next(filter(self._lighter(seat), [*self._turn]), None)
+            lighter = self._lighter(seat)
+            asking = next((one for one in self._turn if one != seat and (lighter(one) or not self._takes_long(one))), None)
             if asking is not None:
                 self._turn.remove(asking)
                 await self._one_turn(asking)
@@ -124,7 +133,7 @@ class Turns:
 
     async def _one_turn(self, seat: int) -> None:
         queue = self._first(seat)
-        job, future, _ = queue[0]
+        job, future, *_ = queue[0]
         began = self._clock()
         try:
             result = MORE if future.cancelled() else await self._around(job)
@@ -137,6 +146,8 @@ class Turns:
         now = self._clock()
         self._number += 1
         self._uses[seat].add(now - began, now, self._number)
+        if isinstance(result, More):
+            await asyncio.sleep(0)  # a piece may have waited for nothing, and what others ask is heard between two
         if not isinstance(result, More) or future.cancelled():
             queue.popleft()
             if not future.done():

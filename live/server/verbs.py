@@ -5,18 +5,24 @@ import secrets
 from dataclasses import dataclass
 from typing import Any, Awaitable, Callable
 
+from . import peers
 from .asked import LONGEST_NOTE, Asked, Refused, not_a_command
 from .keeper import LAST_STEP, SHARED, Times
-from .lab import FASTEST, Lab
+from .lab import Lab
 from .questions import Questions, Reply
 from .roads import SIDES
-from .state import Seat
+from .state import Replica
+from .timing import FASTEST
 
+MOST_WORKS = 200  # sentences of a report
 ALL = frozenset[str]()  # it is of no road
 OWN = frozenset({"own"})
 SHARED_ROAD = frozenset({"shared"})
 KEPT = OWN | SHARED_ROAD
 ROADS = KEPT | frozenset(SIDES)
+
+
+CHANGES = frozenset({"gesture", "edit", "withdraw", "undo", "again", "site", "send", "take", "leave", "clock", "unbind"})
 
 
 @dataclass
@@ -30,9 +36,9 @@ class Call:
     times: Times
 
     @property
-    def seat(self) -> Seat:
-        """The seat that is asked about."""
-        return self.lab.state.seats[SHARED if self.at == "shared" else self.index]
+    def replica(self) -> Replica:
+        """The seat, or the shared road, that is asked about."""
+        return self.lab.state.replica(SHARED if self.at == "shared" else self.index)
 
     @property
     def road(self) -> Any:
@@ -92,16 +98,16 @@ def a_gesture(asked: Asked) -> dict[str, Any]:
     """What a gesture does, and its fields."""
     fields: dict[str, Any] = {"key": asked.key(), "note": asked.text("note", LONGEST_NOTE, "")}
     if asked.has("edits"):
-        shape = None if not asked.has("shape") or asked.is_null("shape") else list(asked.shape())
-        return {"does": Lab.edits, **fields, "edits": asked.edits(), "shape": shape}
+        shape = None if not asked.has("shape") or asked.is_null("shape") else asked.shape()
+        return {"does": Lab.put_edits, **fields, "edits": asked.edits(), "shape": shape}
     if not asked.has("layer"):
-        return {"does": Lab.puts, **fields, "shape": asked.shape()}
+        return {"does": Lab.put_shape, **fields, "shape": asked.shape()}
     fields["line"], top = asked.called("layer"), asked.yes("top")
     if not asked.has("shape"):
         if not top:
             raise not_a_command("a gesture with a `layer` has a `shape`, which may be null, or `top`")
-        return {"does": Lab.raises, **fields}
-    return {"does": Lab.changes, **fields, "shape": None if asked.is_null("shape") else asked.shape(), "top": top}
+        return {"does": Lab.lift_line, **fields}
+    return {"does": Lab.change_line, **fields, "shape": None if asked.is_null("shape") else asked.shape(), "top": top}
 
 
 def an_edit(asked: Asked) -> dict[str, Any]:
@@ -152,11 +158,24 @@ def a_comparison(asked: Asked) -> dict[str, Any]:
     return {"of": asked.raw("of"), **steps(asked)}
 
 
+def a_report(asked: Asked) -> dict[str, Any]:
+    """A comparison with its title, and sentences of what lies on the roads."""
+    return {**a_comparison(asked), "title": asked.text("title", LONGEST_NOTE), "works": asked.texts("works", MOST_WORKS, LONGEST_NOTE)}
+
+
 def many_days(asked: Asked) -> dict[str, Any]:
     """A comparison over many days; of null ends the one that runs."""
     if asked.is_null("of"):
         return {"of": None, "first": 0, "last": 0}
     return a_comparison(asked)
+
+
+def an_admission(asked: Asked) -> dict[str, Any]:
+    """An inlet, the slow-to-start chance there, and the chances of inlets before it."""
+    inlet = asked.whole("inlet")
+    start = None if asked.is_null("start") else asked.whole("start", 0, 65_536)
+    before = asked.pairs("before")
+    return {"inlet": inlet, "start": start, "before": before}
 
 
 def a_clock(asked: Asked) -> dict[str, Any]:
@@ -216,32 +235,50 @@ def of_road(name: str) -> Callable[..., Awaitable[Reply]]:
 def of_seat(name: str) -> Callable[..., Awaitable[Reply]]:
     """What is answered about what a seat holds."""
     async def does(call: Call, **fields: Any) -> Reply:
-        reply: Reply = await getattr(call.questions, name)(call.index, call.seat, **fields)
+        reply: Reply = await getattr(call.questions, name)(call.index, call.replica, **fields)
         return reply
     return does
 
 
 async def set_clock(call: Call, **fields: Any) -> Reply:
-    return await call.lab.set_clock(**fields)
+    return await call.lab.timing.set_clock(**fields)
 
 
 async def leave(call: Call) -> Reply:
-    await call.lab.give_back(call.index)
+    await call.lab.seating.give_back(call.index)
     return {}
 
 
+async def admission(call: Call, inlet: int, start: int | None, before: list[tuple[int, int]]) -> Reply:
+    inlets = len(call.lab.state.plan["inlets"])
+    for one, chance in [(inlet, 0), *before]:
+        if one >= inlets or chance > 65_536:
+            raise Refused("Range", f"an inlet is 0 to {inlets - 1}, and its chance 0 to 65536")
+    return await call.questions.admission(inlet, start, before)
+
+
 async def edits(call: Call, edits: list[Any]) -> Reply:
-    said = await call.lab.edits(call.index, call.times, key=secrets.token_hex(8), note="", edits=edits)
+    said = await call.lab.put_edits(call.index, call.times, key=secrets.token_hex(8), note="", edits=edits)
     return {"stamp": said["stamp"]}
 
 
 async def seats(call: Call) -> Reply:
-    return {"seats": await call.lab.seats_kept(call.index)}
+    return {"seats": await call.lab.seating.seats_kept(call.index)}
+
+
+async def numbers(call: Call) -> Reply:
+    return {"own": call.lab.state.site, "numbers": [{"site": number, "folder": folder} for number, folder in
+                                                    sorted(peers.bindings(call.lab.state).items())]}
+
+
+async def unbind(call: Call, site: int) -> Reply:
+    await peers.revoke(call.lab, site)
+    return {}
 
 
 async def tables(call: Call, what: str, **fields: Any) -> Reply:
     if what == "changes":
-        return await call.questions.table_of_changes(call.index, call.seat)
+        return await call.questions.table_of_changes(call.index, call.replica)
     return await call.questions.table_of_counts(call.road, call.times, **fields)
 
 
@@ -249,13 +286,16 @@ VERBS: dict[str, Verb] = {
     # Of no road
     "seats": Verb(ALL, nothing, seats),
     "clock": Verb(ALL, a_clock, set_clock),
+    "numbers": Verb(ALL, nothing, numbers),
+    "unbind": Verb(ALL, lambda asked: {"site": asked.whole("site", 1, 1_023)}, unbind),
+    "admission": Verb(ALL, an_admission, admission),
     # The own road is changed, shared, taken
     "gesture": Verb(OWN, a_gesture, makes),
     "edit": Verb(OWN, an_edit, edits),
     "withdraw": Verb(OWN, an_edit, edits),
     "undo": Verb(OWN, an_undo, of_lab("undo")),
-    "again": Verb(OWN, lambda asked: {"key": asked.key(), "stamp": asked.called("stamp")}, of_lab("again")),
-    "site": Verb(OWN, a_site, of_lab("leaves_out")),
+    "again": Verb(OWN, lambda asked: {"key": asked.key(), "stamp": asked.called("stamp")}, of_lab("put_again")),
+    "site": Verb(OWN, a_site, of_lab("exclude_site")),
     "send": Verb(OWN, a_share, of_lab("share")),
     "take": Verb(OWN, a_take, of_lab("take")),
     "leave": Verb(OWN, nothing, leave),
@@ -270,11 +310,13 @@ VERBS: dict[str, Verb] = {
     "counts": Verb(ROADS, some_counts, of_road("counts")),
     # Lists, and what would be
     "layers": Verb(KEPT, lambda asked: {"version": asked.version("from")}, of_seat("layers"), SHARED_ROAD),
-    "gestures": Verb(KEPT, lambda asked: {"first": asked.whole("from", default=0)}, of_seat("gestures"), SHARED_ROAD),
+    "operations": Verb(KEPT, lambda asked: {"first": asked.whole("from", default=0)}, of_seat("operations"), SHARED_ROAD),
     "preview": Verb(OWN, a_preview, of_seat("preview")),  # (which waits itself, before it keeps the two roads)
     "figures": Verb(OWN, a_comparison, of_seat("figures"), OWN),
     "days": Verb(OWN, many_days, of_seat("days"), OWN),
     # What is saved
     "transcript": Verb(KEPT, a_transcript, of_seat("transcript"), SHARED_ROAD),
+    "report": Verb(OWN, a_report, of_seat("report"), OWN),
+    "script": Verb(KEPT, nothing, of_seat("script"), SHARED_ROAD),
     "csv": Verb(KEPT, a_table, tables, SHARED_ROAD),
 }

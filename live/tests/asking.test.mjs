@@ -38,13 +38,15 @@ test("what was asked about what is looked at no more is not told", async () => {
 });
 
 test("one who is busy is asked again until there is an answer, and nothing is told", async (t) => {
-  t.mock.timers.enable({apis: ["setTimeout"]});
+  const wait = t.mock.method(globalThis, "setTimeout", () => {});
   const asked = answering(BUSY, BUSY, {lines: "a"});
   const said = askUntilFree({transcript: {}});
   for (const count of [1, 2, 3]) {
     await settled();
     assert.equal(asked.length, count);
-    t.mock.timers.tick(1000);
+    const calls = wait.mock.calls.map((call) => call.arguments);
+    assert.deepEqual(calls.map(([, delay]) => delay), Array(Math.min(count, 2)).fill(1000));
+    if (count < 3) calls[count - 1][0]();
   }
   assert.deepEqual(await said, {lines: "a"});
   assert.deepEqual(store.said, ["", false]);

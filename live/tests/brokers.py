@@ -9,7 +9,7 @@ import signal
 from typing import Any
 
 from server.client import Seat
-from road_lab import Edit, Plan, RoadLab
+from zegdrut import Edit, Plan, RoadLab
 from running import SMALL, Broker, Case, Server, end, new_folder, until
 
 TOTALS = {"from": 0, "to": 100}
@@ -23,8 +23,9 @@ async def put(seat: Seat, *edits: list[Any]) -> list[int]:
 
 
 async def shared(seat: Seat) -> list[Any]:
+    """What is put on the shared road; the stamps are local to each server."""
     edits: list[Any] = (await seat.ask("scenario", at="shared"))["edits"]
-    return edits
+    return [[*edit[:3], 1, 64, edit[5]] for edit in edits if edit[5] is not None]
 
 
 def broker_of(seat: Seat) -> dict[str, Any]:
@@ -71,7 +72,7 @@ class Brokers(Case):
                 async with second.seat("Sam") as sam:
                     await put(ada, ["limit", 2, 80, 1])
                     await put(sam, ["limit", 2, 80, 2])  # a tie: the greater number wins
-                    self.assertEqual(await self.same(ada, sam, edits=1), [["limit", 2, 80, 1, 129, 2]])
+                    self.assertEqual(await self.same(ada, sam, edits=1), [["limit", 2, 80, 1, 64, 2]])
                     news = next(one["news"] for one in reversed(ada.told) if "news" in one)
                     self.assertIn("Sam", news["from"])
                     key = sam.key
@@ -107,8 +108,8 @@ class Brokers(Case):
                     first.again()
                     broker.start()
                 await until(lambda: self.has_title(sam, title), title)
-            await sam.ask("take", message="shared")
-            self.assertEqual([one["title"] for one in (await sam.ask("gestures"))["gestures"]], ["night works", "by day"])
+            news = next(one["news"] for one in reversed(sam.told) if "news" in one)
+            self.assertEqual([one["title"] for one in news["shares"]], ["night works", "by day"])
 
     async def has_title(self, seat: Seat, title: str) -> bool:
         """Whether the seat is told that Ada shared something so titled, and nothing else was."""
@@ -118,36 +119,36 @@ class Brokers(Case):
     async def test_rubbish_is_left_out_and_told(self) -> None:
         broker = self.broker()
         first, second = self.site(broker, 1), self.site(broker, 2)
-        topic = f"road/{reference(first)}/edits"
+        topic = f"road/{reference(first)}/operations"
+
+        def said(*operations: Any, **more: Any) -> str:
+            return json.dumps({"form": 3, "operations": operations, **more})
+
+        def limit(stamp: list[Any], zone: int, step: int, **more: Any) -> dict[str, Any]:
+            return {"stamp": stamp, "sets": [[["limit", zone, step], 1]], "who": "number 70", **more}
         async with first.seat("Ada") as ada, second.seat("Sam") as sam:
             await put(ada, ["limit", 1, 8, 1])
             await self.same(ada, sam, edits=1)
             for text, why in (
-                    ("good morning", "no message"), ("", "no message"), ("[" * 3_000, "no message"),
-                    ("[1]", "an edit of it is none"),
-                    ('{"edits":7}', "no list"), ('{"edits":[],"form":2}', "no list"),
-                    ('{"edits":[["limit",1,8,1,70,1]],"form":3}', "no list"),
-                    ('{"edits":[["limit",99,8,1,70,1]],"form":2}', "no zone 99"),
-                    ('{"edits":[["limit",1,8,1,3,1]],"form":2}', "is a replica's"),
-                    ('{"edits":[["limit",1,20,281474976710656,70,1]],"form":2}', "[281474976710656, 70] of number 70 is more than a day"),
-                    ('["limit",1,21,2764800001,70,1]', "[2764800001, 70] of number 70 is more than a day ahead"),
-                    ('{"edits":[[{},1]],"form":2}', "is none"),
-                    ('{"edits":[["limit",1,8,"1",70,1]],"form":2}', "is none"),
-                    ('{"edits":[["limit",1,8,1,70,1]],"form":2,"note":"\\ud800"}', "no message"),
+                    ("good morning", "no message"), ("", "no message"), ("[" * 3_000, "no message"), ("[1]", "no list"),
+                    ('{"operations":7}', "no list"), ('{"operations":[],"form":2}', "no list"),
+                    (said(7), "an operation is an object"), (said({"stamp": [1, 70]}), "does nothing"),
+                    (said(limit([1, 70], 99, 8)), "no zone 99"), (said(limit([1, 3], 1, 8)), "belongs to a replica"),
+                    (said(limit([281474976710656, 70], 1, 20)), "[281474976710656, 70] of number 70 is more than a day"),
+                    (said(limit([2764800001, 70], 1, 21)), "[2764800001, 70] of number 70 is more than a day ahead"),
+                    (said(limit([1, "1"], 1, 8)), "is no whole number"), (said(limit([1, 70], 1, 8, note="\ud800")), "no message"),
                     (" " * 2_100_000, "bytes"),
-                    (json.dumps({"edits": [["block", 1, step, 1, 70, 1] for step in range(1_201)], "form": 2}), "no list")):
+                    (said({"stamp": [1, 70], "sets": [[["block", 1, step], 1] for step in range(1_202)]}), "at most 1200 raw edits")):
                 broker.say(topic, text)
                 await until(lambda: self.is_told(why, ada, sam), why)
-            await put(sam, ["limit", 1, 5, 3])  # counts are not spent
+            await put(sam, ["limit", 1, 5, 4])  # counts are not spent
             self.assertLess((await put(ada, ["limit", 1, 6, 3]))[0], 10)
             await self.same(ada, sam, edits=3)
-            broker.say(topic, '["limit",1,9,7,70,1]')  # a lone edit, as a script sends it
-            broker.say(topic, json.dumps({"edits": [["limit", 1, 10, 8, 70, 1]], "form": 2, "who": "x\u202e\n" * 99,
-                                          "note": 7, "shape": [1], "undoes": "x", "when": "now"}))
-            await self.same(ada, sam, edits=5)
-            came = (await ada.ask("gestures", at="shared"))["gestures"][-1]
-            self.assertLessEqual(len(came["who"]), 64)
-            self.assertTrue(came["who"].isprintable())
+            good = {"stamp": [7, 70], "sets": [[["limit", 1, 9], 2]], "who": "Eve", "note": "by a script"}
+            broker.say(topic, said(7, good, {}))
+            await self.same(ada, sam, edits=4)  # what is good in a message is taken
+            came = (await ada.ask("operations", at="shared"))["operations"][-1]
+            self.assertEqual((came["who"], came["note"]), ("Eve", "by a script"))
 
     async def is_told(self, why: str, *seats: Seat) -> bool:
         return all(any(why in sentence for sentence in told(seat)) for seat in seats)

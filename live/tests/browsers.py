@@ -7,9 +7,8 @@ import shutil
 import time
 from pathlib import Path
 from typing import Any, Callable
-from unittest import TestCase as Test
 
-from running import Server, free_port, new_folder
+from running import Server, Watched, free_port, new_folder
 from selenium import webdriver
 from selenium.webdriver.chrome.service import Service
 from selenium.webdriver.common.action_chains import ActionChains
@@ -133,14 +132,14 @@ def free_server(plan: dict[str, Any], *more: str, **environment: str) -> Server:
     return Server(None, plan, "--port", str(free_port()), *more, **environment)
 
 
-def gestures_of(server: Server) -> list[dict[str, Any]]:
-    """The gestures in its journal, in their order."""
-    return [entry["gesture"] for entry in server.journal() if "gesture" in entry]
+def operations_of(server: Server) -> list[dict[str, Any]]:
+    """The operations in its journal, in their order."""
+    return [entry["made"]["operation"] for entry in server.journal() if "made" in entry]
 
 
-def edits_of(gesture: dict[str, Any]) -> list[list[Any]]:
-    """Its edits as [kind, index, step, value], by objects and steps."""
-    return sorted([*edit[:3], edit[-1]] for edit in gesture["edits"])
+def shapes_of(operation: dict[str, Any]) -> list[list[Any]]:
+    """What it sets: shapes, and raw edits as [kind, index, step, value], by objects and steps."""
+    return sorted([*name, shape] if len(name) == 3 else shape for name, shape in operation["sets"])
 
 
 class Tab:
@@ -152,7 +151,8 @@ class Tab:
         for word in ("--headless=new", "--no-sandbox", "--disable-gpu", "--disable-dev-shm-usage",
                      "--window-size=1500,950", "--force-device-scale-factor=1"):
             options.add_argument(word)
-        options.add_experimental_option("prefs", {"download.default_directory": str(downloads)})
+        options.add_experimental_option("prefs", {"download.default_directory": str(downloads),
+                                                  "profile.default_content_setting_values.automatic_downloads": 1})
         options.set_capability("goog:loggingPrefs", {"browser": "ALL"})
         self.driver = webdriver.Chrome(options=options, service=Service(shutil.which("chromedriver")))
         self.driver.set_script_timeout(2 * PATIENCE)
@@ -240,14 +240,29 @@ class Tab:
         self.until(lambda: self.script(PRESS, "", f"#{ident} > summary"), f"to open {ident}")
 
     def save(self, name: str, file: str) -> Path:
-        """Saves by the menu, and gives the file; by a key, since a browser lets a page save once for each press."""
+        """Saves by the menu, and gives the new file whose name begins and ends as this one's; by a key, since a browser lets a
+        page save once for each press."""
+        before = set(self.saved(file))
         if self.part("save").get_attribute("open") is None:
             self.open_part("save")
         self.until(lambda: self.script(FOCUS, name, "#save"), f"a button {name}")
         ActionChains(self.driver, duration=0).send_keys(Keys.ENTER).perform()
-        path = self.downloads / file
-        self.until(path.exists, file)
+        self.until(lambda: set(self.saved(file)) - before, file)
+        path, = set(self.saved(file)) - before
         return path
+
+    def save_both(self, name: str, file: str) -> list[Path]:
+        """Saves two files by one press: that of the own road, and that of the shared one."""
+        self.open_part("save")
+        self.press(name, "#save")
+        shared = lambda: [path for path in self.saved(file) if "-shared-" in path.name]
+        self.until(lambda: shared() and len(self.saved(file)) == 2, f"two of {file}")
+        return sorted(self.saved(file), key=lambda path: path in shared())
+
+    def saved(self, file: str) -> list[Path]:
+        """The files that were saved whose names begin and end as this one's."""
+        stem, _, ending = file.rpartition(".")
+        return [*self.downloads.glob(f"{stem}-*.{ending}")]
 
     def tool(self, kind: str) -> None:
         self.script("document.querySelector(`input[name=tool][value=${arguments[0]}]`).click()", kind)
@@ -364,7 +379,7 @@ def before_rows(tab: Tab) -> dict[str, tuple[float, ...]]:
     return {name: tuple(map(number, values)) for name, *values in rows}
 
 
-class BrowserCase(Test):
+class BrowserCase(Watched):
     """Each test has a server of its own; the browsers stay open."""
 
     names: tuple[str, ...] = ("Ada", "Ben")

@@ -14,7 +14,7 @@ from typing import Any
 
 from aiohttp import ClientError
 
-from crashes import PLAN, Engineer, raw_edits
+from crashes import PLAN, Engineer, numbers, raw_edits
 from running import ALL, PATIENCE, Case, Server, end, new_folder, until
 from server.client import Refused, Seat
 
@@ -42,7 +42,7 @@ class Bursts(Case):
             await self.share(number)
         await until(self.are_same, "all sites have one road", 5 * PATIENCE)
         async with self.two.seat(**self.tom) as tom:
-            shared = {tuple(one["stamp"]) for one in await self.gestures(tom, "shared")}
+            shared = {tuple(one["stamp"]) for one in await self.operations(tom, "shared")}
         for engineer in self.engineers:
             self.assertLessEqual(engineer.shared, shared)
         self.assertNotIn("Two changes have one stamp", self.one.said() + self.two.said())
@@ -128,16 +128,16 @@ class Bursts(Case):
             for key in engineer.sent.keys() - engineer.confirmed.keys():
                 engineer.confirmed[key] = (await seat.ask("gesture", key=key, edits=engineer.sent[key]))["stamp"]
             self.keep(engineer)
-            held = {tuple(one["stamp"]): raw_edits(one) for one in await self.gestures(seat, seat.at) if "lays" in one}
+            held = {tuple(one["stamp"]): raw_edits(one) for one in await self.operations(seat, seat.at)}
             for key, stamp in engineer.confirmed.items():
                 self.assertEqual(held[tuple(stamp)], engineer.sent[key])
 
-    async def gestures(self, seat: Seat, at: str) -> list[Any]:
+    async def operations(self, seat: Seat, at: str) -> list[Any]:
         found: list[Any] = []
         place = 0
         while True:
-            said = await seat.ask("gestures", **{"at": at, "from": place})
-            found, place = found + said["gestures"], said["next"]
+            said = await seat.ask("operations", **{"at": at, "from": place})
+            found, place = found + said["operations"], said["next"]
             if not said["more"]:
                 return found
 
@@ -152,8 +152,8 @@ class Bursts(Case):
         """Both sites hold the same gestures, those that others cover too, and the same edits."""
         async with self.one.seat(key=self.engineers[0].key) as here, self.two.seat(**self.tom) as there:
             self.tom = {"key": there.key}
-            one, other = [{tuple(one["stamp"]) for one in await self.gestures(seat, "shared")} for seat in (here, there)]
+            one, other = [{tuple(one["stamp"]) for one in await self.operations(seat, "shared")} for seat in (here, there)]
             if one != other:
                 return False
-            one, other = [(await seat.ask("scenario", at="shared"))["edits"] for seat in (here, there)]
+            one, other = [numbers((await seat.ask("scenario", at="shared"))["edits"]) for seat in (here, there)]
             return bool(one == other)

@@ -4,16 +4,51 @@ from __future__ import annotations
 import asyncio
 import contextlib
 import os
+import re
 import socket
 import ssl
 import subprocess
 import sys
-from typing import Any
+from typing import Any, Iterator
 
 import aiohttp
 
+from hostile import memory
 from server.client import Seat
 from running import LIVE, PATIENCE, Case, end, free_port, mosquitto, new_folder, started, until
+
+
+FLOOD = """
+import itertools, socket, sys, time
+port, a_second = map(int, sys.argv[1:])
+began, open_now = time.monotonic(), []
+for number in itertools.count():
+    try:
+        one = socket.socket()
+        one.setblocking(False)
+        one.connect_ex(("127.0.0.1", port))
+        open_now.append(one)
+    except OSError:
+        pass
+    if len(open_now) > 900:
+        open_now.pop(0).close()
+    if number == a_second:
+        print("under way", flush=True)
+    time.sleep(max(0, began + number / a_second - time.monotonic()))
+"""
+
+
+@contextlib.contextmanager
+def two_ports() -> Iterator[tuple[int, int]]:
+    """Take two ports, one next to the other."""
+    with contextlib.ExitStack() as taken:
+        is_pair = False
+        while not is_pair:
+            port = taken.enter_context(socket.create_server(("127.0.0.1", 0))).getsockname()[1]
+            with contextlib.suppress(OSError):
+                taken.enter_context(socket.create_server(("127.0.0.1", port + 1)))
+                is_pair = True
+        yield port, port + 1
 
 
 class Certificates(Case):
@@ -49,6 +84,40 @@ class Certificates(Case):
                 self.assertEqual(await asyncio.wait_for(reader.read(), 40), b"")
             writer.close()
 
+    async def test_many_who_do_not_shake_hands_take_little(self) -> None:
+        server = self.server("--listen", "0.0.0.0", "--name", "localhost", "--certificate", self.both)
+        port, before = int(server.address.partition("/#")[0].rpartition(":")[2]), memory(server)
+        silent = [(await asyncio.open_connection("127.0.0.1", port)) for _ in range(800)]
+        async with Seat(server.address, self.authority, name="Ada") as ada:
+            self.assertEqual((await ada.reply("ping"))["pong"], {})
+            self.assertLess(memory(server), before + 60)
+            self.assertLess(len(os.listdir(f"/proc/{server.process.pid}/fd")), 400)
+        for _, writer in silent:
+            writer.close()
+
+    async def test_a_flood_of_one_address_locks_nobody_out_at_another(self) -> None:
+        """By 600 connections a second that say nothing, by TLS: of those that the other opens none is closed, and each has its
+        page in time."""
+        server = self.server("--listen", "0.0.0.0", "--name", "localhost", "--certificate", self.both)
+        port = int(server.address.partition("/#")[0].rpartition(":")[2])
+        context = ssl.create_default_context(cafile=self.authority)
+
+        async def page() -> bytes:
+            reader, writer = await asyncio.open_connection("localhost", port, ssl=context, local_addr=("127.0.0.2", 0))
+            writer.write(f"GET / HTTP/1.1\r\nHost: localhost:{port}\r\nConnection: close\r\n\r\n".encode())
+            try:
+                return await reader.read()
+            finally:
+                writer.close()
+        flood = started([sys.executable, "-c", FLOOD, str(port), "600"], stdout=subprocess.PIPE)
+        self.addCleanup(end, flood)
+        assert flood.stdout is not None
+        await asyncio.to_thread(flood.stdout.readline)
+        for _ in range(20):
+            self.assertIn(b"200 OK", (await asyncio.wait_for(page(), PATIENCE))[:20])
+        self.assertIsNone(flood.poll(), "the flood ended")
+        self.assertLess(memory(server), 200)
+
     async def test_a_broker_by_tls_and_a_password(self) -> None:
         folder, port = self.certificate.parent, free_port()
         subprocess.run(["mosquitto_passwd", "-b", "-c", folder / "passwords", "sites", "secret"], check=True)
@@ -70,7 +139,8 @@ class Certificates(Case):
                 return bool(told and (await sam.ask("scenario", at="shared"))["edits"])
             told: list[Any] = []
             await until(is_told, "the one has the edit, the other is told")
-            self.assertEqual((await sam.ask("scenario", at="shared"))["edits"], [["limit", 1, 5, 1, 65, 1]])
+            kind, index, step, *_, value = (await sam.ask("scenario", at="shared"))["edits"][0]  # stamps are a server's own
+            self.assertEqual((kind, index, step, value), ("limit", 1, 5, 1))
             self.assertIn("does not let this site in", told[-1]["told"][0])
             self.assertEqual((await eve.ask("scenario", at="shared"))["edits"], [])
 
@@ -85,16 +155,17 @@ class Certificates(Case):
         for everywhere in ("0.0.0.0", "::"):
             self.refused(f"--listen {everywhere} wants --name", "--listen", everywhere, "--certificate", self.both)
 
-    def test_a_port_in_use_is_told_at_once_and_names_the_option(self) -> None:
+    def test_a_port_in_use_is_told_at_once_and_names_the_next_free_one(self) -> None:
         """Before the road is opened, which may take long: here the program never answers. Nothing is left of a new folder."""
         silent, folder = new_folder() / "road_lab", new_folder() / "new"
         silent.write_text("#!/bin/sh\nsleep 600\n", encoding="utf-8")
         silent.chmod(0o755)
-        with socket.socket() as taken:
-            taken.bind(("127.0.0.1", 0))
-            taken.listen()
-            self.refused("Address already in use: another --port may be free", "--port", str(taken.getsockname()[1]),
-                         "--program", str(silent), "--folder", str(folder))
+        with two_ports() as (first, second):
+            said = self.refused("Address already in use", "--port", str(first), "--program", str(silent), "--folder", str(folder))
+        named = re.search(r"in use: --port (\d+) is free, and --port 0 takes any that is free", said)
+        assert named is not None, said
+        self.assertGreater(int(named[1]), second)
+        self.assertLess(int(named[1]), second + 100)
         self.assertFalse(folder.exists())
 
     def test_what_is_no_port_is_told(self) -> None:
@@ -104,11 +175,12 @@ class Certificates(Case):
         for broker in ("127.0.0.1:65536", "127.0.0.1:0", "127.0.0.1:", "127.0.0.1:x"):
             self.refused(f"--broker is HOST:PORT, not {broker}", "--broker", broker)
 
-    def refused(self, why: str, *options: str) -> None:
-        """A server that does not start, and says why."""
+    def refused(self, why: str, *options: str) -> str:
+        """A server that does not start, and says why. Return what it says."""
         command = [sys.executable, LIVE / "serve", "--folder", new_folder(), "--port", "0", *options]
         ran = subprocess.run(command, capture_output=True, text=True, timeout=PATIENCE, check=False)
         self.assertNotEqual(ran.returncode, 0)
         self.assertEqual(ran.stdout, "")
         self.assertIn(why, ran.stderr)
         self.assertNotIn("Traceback", ran.stderr)
+        return ran.stderr

@@ -60,6 +60,13 @@ test("what is pending is kept in its order until nothing is", () => {
   assert.deepEqual(kept(there), {at: "seat1", acts: []});
 });
 
+test("a shape that an older page kept is not drawn", () => {
+  const there = storage();
+  const shape = {kind: "block", first: 1, last: 1, from: 0, to: null, value: 1};
+  keep(there, "seat1", new Map([["k1", {shape: ["block", 1, 1, 0, null, 1]}], ["k2", {shape}]]));
+  assert.deepEqual(kept(there).acts, [["k1", {shape: null}], ["k2", {shape}]]);
+});
+
 test("it is known where nothing is kept", () => {
   assert.ok(!keep(storage(true), "seat1", new Map([["k", {}]])));
   assert.ok(!keep(storage(true), "seat1", new Map()));

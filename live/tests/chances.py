@@ -15,10 +15,10 @@ from server.settings import Settings
 # Student's t for 95 % and so many degrees of freedom, from a printed table.
 T_OF = {1: 12.706205, 2: 4.302653}
 SPAN = {"from": 20, "to": 200}
-# A program that answers of the first days, which are the seeds from 1 on, and of no others.
+# A program that answers of the first days, which are the seeds from 1 on, of no others, and of the demand, whose seeds are far above.
 PROGRAM_OF_DAYS = """read -r plan
 seed=${{plan##*'"words":'}}
-[ "${{seed%%,*}}" -le {days} ] || sleep 600
+[ "${{seed%%,*}}" -le {days} ] || [ "${{seed%%,*}}" -ge 1000 ] || sleep 600
 {{ printf '%s\\n' "$plan"; cat; }} | {program}"""
 
 
@@ -63,7 +63,9 @@ class Days(Case):
         sides = ("before", "after")
         return {"vehicle_hours": [[day[side]["vehicle_hours"] for day in found] for side in sides],
                 "lost": [[sum(day[side]["lost"]) for day in found] for side in sides],
-                **{f"cars {at}": [[day[side]["detectors"][at][0] for day in found] for side in sides] for at in range(3)}}
+                "delay": [[0.0] * days, [day["delay_hours"] for day in found]],
+                **{f"cars {at}": [[day[side]["detectors"][at][0] for day in found] for side in sides] for at in range(3)},
+                **{f"seconds {at}": [[day[side]["travel"][at][1] for day in found] for side in sides] for at in range(4)}}
 
     def are_means(self, said: Any, wanted: dict[str, list[list[float]]]) -> None:
         """Whether the figures are the means of these days, with their intervals where there are two or more."""

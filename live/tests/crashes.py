@@ -10,12 +10,15 @@ from typing import Any, Callable
 
 from aiohttp import ClientError
 
+from oracle import by_rows, oracle_of
 from server.client import Seat
+from server.model.reading import read_operation
 from running import PATIENCE, SMALL, Case, Server, until
 
 ROUNDS = 10
 LAST = 60
 PLAN = {**SMALL, "length": 60, "zones": [[5, 6_554]] * 3, "inlets": [[0, 27_918]], "detectors": [30]}
+ORACLE = oracle_of(PLAN, LAST + 1)
 
 
 class Engineer:
@@ -47,9 +50,14 @@ class Engineer:
             pass
 
 
-def raw_edits(gesture: dict[str, Any]) -> list[list[Any]]:
-    """What was sent of a gesture; its edits are those by which the road becomes so."""
-    return [[*name, value] for name, value, *_ in gesture["lays"]]
+def raw_edits(operation: dict[str, Any]) -> list[list[Any]]:
+    """The raw edits of an operation."""
+    return [[*name, value] for name, value in operation["sets"]]
+
+
+def numbers(scenario: list[Any]) -> dict[tuple[Any, ...], int]:
+    """What is put in a program, whatever the stamps."""
+    return {tuple(edit[:3]): edit[5] for edit in scenario if edit[5] is not None}
 
 
 class Crashes(Case):
@@ -87,17 +95,16 @@ class Crashes(Case):
                 for key in engineer.sent.keys() - engineer.confirmed.keys():
                     said = await seat.ask("gesture", key=key, edits=engineer.sent[key])
                     engineer.confirmed[key] = said["stamp"]
-                held = {tuple(one["stamp"]): one for one in (await seat.ask("gestures"))["gestures"]}
-                shared = {tuple(one["stamp"]) for one in (await seat.ask("gestures", at="shared"))["gestures"]}
+                held = {tuple(one["stamp"]): one for one in (await seat.ask("operations"))["operations"]}
+                shared = {tuple(one["stamp"]) for one in (await seat.ask("operations", at="shared"))["operations"]}
                 for key, stamp in engineer.confirmed.items():
                     self.assertEqual(raw_edits(held[tuple(stamp)]), engineer.sent[key])
-                own = [stamp for stamp, one in held.items() if stamp[1] == seat.welcome["number"] and "lays" in one]
+                own = [stamp for stamp, one in held.items() if stamp[1] == seat.welcome["number"]]
                 self.assertEqual(len(own), len(engineer.confirmed))
                 self.assertLessEqual(engineer.shared, shared)
-                scenario = {tuple(edit[:3]): tuple(edit[3:5]) for edit in (await seat.ask("scenario"))["edits"]}
-                for stamp, gesture in held.items():
-                    for edit in gesture["edits"]:
-                        self.assertGreaterEqual(scenario[tuple(edit[:3])], stamp)
+                values = ORACLE.painted([read_operation({name: value for name, value in one.items() if name != "shared"})
+                                         for one in held.values()])
+                self.assertEqual(ORACLE.by_the_program(by_rows((await seat.ask("scenario"))["edits"])), values)
 
     def engineers(self) -> list[Engineer]:
         return [Engineer(f"e{number}", random.Random(number)) for number in range(3)]
@@ -141,7 +148,7 @@ class Crashes(Case):
         await self.rounds(server, engineers, kill)
         async with engineers[0].seat(server) as here, other.seat("Sam") as there:
             async def shared() -> list[Any]:
-                return [(await seat.ask("scenario", at="shared"))["edits"] for seat in (here, there)]
+                return [numbers((await seat.ask("scenario", at="shared"))["edits"]) for seat in (here, there)]
 
             async def are_same() -> bool:
                 one, other = await shared()

@@ -66,14 +66,14 @@ class FairTurns(unittest.IsolatedAsyncioTestCase):
         for one in rows:
             one.cancel()
 
-    async def asks(self, seat: int, name: str, cost: float) -> None:
+    async def asks(self, seat: int, name: str, cost: float, takes_long: bool | None = None) -> None:
         """Asks once, for a turn that takes so many seconds of the test's clock."""
         async def work() -> None:
             self.done.append(name)
             for _ in range(5):
                 await asyncio.sleep(0)  # others may ask meanwhile
             self.now += cost
-        await self.turns.ask(seat, work)
+        await self.turns.ask(seat, work, takes_long=takes_long)
 
     async def always(self, seat: int, name: str, cost: float) -> None:
         while True:
@@ -128,6 +128,20 @@ class FairTurns(unittest.IsolatedAsyncioTestCase):
         for one in busy:
             one.cancel()
 
+    async def test_what_is_said_to_be_short_waits_for_one_long_turn_of_all(self) -> None:
+        """Though its seat has used more than they, and none of theirs was long before."""
+        await self.beside()
+        for _ in range(9):
+            await self.asks(63, "F", 0.15)
+        takes = [asyncio.create_task(self.asks(seat, "t", 0.2, takes_long=True)) for seat in range(1, 63)]
+        while "t" not in self.done:
+            await asyncio.sleep(0)
+        for before in range(20):
+            await self.asks(63, "g", 0.005, takes_long=False)
+            self.assertLessEqual(self.done.count("t"), 2 * before + 2)
+        self.assertLess(self.done.count("t"), 62)
+        await asyncio.gather(*takes)
+
     async def test_it_is_waited_only_for_who_was_answered_since(self) -> None:
         await self.beside()
         for _ in range(3):
@@ -155,7 +169,7 @@ class Figures(Case):
     async def test_a_picture_waits_for_one_piece_of_its_seats_figures(self) -> None:
         async with Here() as here:
             seat, = await here.join("Ada")
-            await here.lab.set_clock(to=7_200)
+            await here.lab.timing.set_clock(to=7_200)
             await here.ask(seat, "advance", to=7_200)
             for verb, more in (("sums", {}), ("counts", {"each": 10})):
                 figures = asyncio.ensure_future(here.ask(seat, verb, **{"from": 0, "to": 7_200}, **more))
@@ -168,7 +182,7 @@ class Figures(Case):
         for verb, more in ("sums", {}), ("counts", {"each": 10}):
             async with Here() as here:
                 seat, = await here.join("Ada")
-                await here.lab.set_clock(to=7_200)
+                await here.lab.timing.set_clock(to=7_200)
                 await here.ask(seat, "advance", to=7_200)
                 span = {"from": 0, "to": 7_200, **more}
                 before = await here.ask(seat, verb, **span)

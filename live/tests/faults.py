@@ -135,10 +135,10 @@ class Story:
         await self.take(self.ada)
         await asyncio.gather(self.put(self.ada, 40), self.put(self.ben, 50), self.share(self.ben), self.put(self.ada, 60),
                              self.share(self.ada), self.from_there(20), self.take(self.ben))
-        await soon(self.here.keeper.journal.compact(self.here.keeper.state.entries))
+        await soon(self.here.keeper.compact())
         await self.put(self.ben, 70)
         await self.share(self.ben)
-        await self.act("clock", self.here.lab.set_clock(to=100))
+        await self.act("clock", self.here.lab.timing.set_clock(to=100))
         await self.tell()
         await self.take(self.ada)
 
@@ -157,14 +157,14 @@ class Story:
     def faults(self, state: State, confirmed: list[tuple[Any, ...]], told: list[tuple[int, int]]) -> list[str]:
         """What of this is not so in a state."""
         lacking = [f"{name} is not there" for name, result in confirmed if not is_there(state, name, result)]
-        known = {gesture.stamp for gesture in state.shared.gestures}
+        known = shared(state)
         return lacking + [f"{stamp} was told, and is not there" for stamp in told if stamp[1] // 64 == 1
                           and stamp not in known]
 
 
 def is_there(state: State, name: str, result: Any) -> bool:
     verb, *words = name.split()
-    held = {gesture.stamp for gesture in state.seats[int(words[0])].gestures} if words else set()
+    held = {one.stamp for one in state.seats[int(words[0])].places} if words else set()
     if verb in ("put", "undo"):
         stamp = result if verb == "put" else result["stamp"]
         return tuple(stamp) in held
@@ -176,20 +176,21 @@ def is_there(state: State, name: str, result: Any) -> bool:
 
 
 def shared(state: State) -> set[tuple[int, int]]:
-    return {gesture.stamp for gesture in state.shared.gestures if not gesture.is_mending}
+    return {one.stamp for one in state.shared.places}
 
 
 def stamps_in(message: Message) -> list[tuple[int, int]]:
-    """The stamps of a message with gestures."""
+    """The stamps of a message with operations."""
     import json
     value = json.loads(message.payload)
-    return [tuple(one["stamp"]) for one in value.get("gestures", [])] + [tuple(edit[3:5]) for edit in value.get("edits", [])]
+    return [tuple(one["stamp"]) for one in value.get("operations", [])]
 
 
 def replayed(path: Path) -> State:
     state = State()
     for entry in read(path)[0]:
-        state.apply(entry)
+        state.read(entry)
+    state.end_reading()
     return state
 
 
@@ -220,7 +221,7 @@ class Faults(Case):
 
     async def test_at_each_call_to_the_disk_once_and_for_good(self) -> None:
         calls = len((await self.whole()).disk.calls)
-        self.assertGreater(calls, 40)
+        self.assertGreater(calls, 30)
         ways = [(number, lasting, fault) for number in range(1, calls + 1)
                 for lasting, fault in ((False, errno.EIO), (True, errno.ENOSPC))]
         some, refused = each(ways), 0

@@ -5,6 +5,7 @@ import argparse
 import asyncio
 import errno
 import json
+import multiprocessing
 import os
 import secrets
 import threading
@@ -17,6 +18,7 @@ from server import verbs
 from server.asked import Asked
 from server.keeper import Keeper
 from server.lab import Lab
+from server.model.operations import Operation
 from server.questions import Questions
 from server.settings import Settings
 from server.sites import Sites
@@ -33,8 +35,9 @@ class Disk:
         self.fault: Callable[[int, str], int | None] = lambda number, name: None  # the number of an error, or none
         self.before: Callable[[str, Any], None] = lambda name, given: None
         self.after: Callable[[str, Any], None] = lambda name, given: None
-        self.free = threading.Event()  # else each call waits
+        self.free = multiprocessing.Event()  # else each call waits, also in the process that shortens the journal
         self.free.set()
+        self.is_asked = threading.Event()  # by a call of this process
 
     def __getattr__(self, name: str) -> Any:
         return self._asked(name) if name in CALLS else getattr(os, name)
@@ -44,6 +47,7 @@ class Disk:
             path = os.readlink(f"/proc/self/fd/{given[0]}") if isinstance(given[0], int) else str(given[0])
             if self.folder is not None and not path.startswith(str(self.folder)):
                 return getattr(os, name)(*given)
+            self.is_asked.set()
             self.free.wait(PATIENCE)
             self.before(name, given)
             self.calls.append(name)
@@ -85,17 +89,21 @@ class Here:
         self.questions = Questions(self.lab)
         self.heard: list[Any] = []
         self.keeper.listeners.on("shared", self.heard.append)
-        await self.lab.open(lambda: {**self.plan}, self.site)
+        try:
+            await self.lab.open(lambda: {**self.plan}, self.site)
+        except BaseException:
+            await self.keeper.close()
+            raise
         return self
 
     async def __aexit__(self, *_: object) -> None:
         self.questions.close()
         await self.keeper.close()
-        if self.keeper._program is not None:
+        if self.keeper._screen is not None:
             await self.keeper.program._process.wait()
 
     async def join(self, *names: str) -> list[int]:
-        joined = [await self.lab.join(name, "", None) for name in names]
+        joined = [await self.lab.seating.join(name, "", None) for name in names]
         self.keys.update(joined)
         return [index for index, _ in joined]
 
@@ -129,6 +137,12 @@ async def soon(waited_for: Any) -> Any:
 class Message(NamedTuple):
     topic: str
     payload: bytes
+
+
+def message_of(site: Sites, *operations: Operation, **more: Any) -> Message:
+    """A message with operations, as a site sends it."""
+    value = {"form": 3, "operations": [one.written() for one in operations], **more}
+    return Message(f"road/{site._road}/operations", json.dumps(value).encode())
 
 
 class Bus:

@@ -8,7 +8,7 @@ import random
 from typing import Any
 
 import running
-from road_lab import Edit, Plan, RoadLab
+from zegdrut import Edit, Plan, RoadLab
 from robots import LAST, PLAN, random_edits
 from running import Case, Server
 
@@ -78,8 +78,8 @@ class Former(Case):
             for _ in range(2):
                 await self.same_rows(server, old)
                 self.assertEqual((folder / "journal.form1.jsonl").read_bytes(), before)
-                self.assertEqual(server.journal()[0]["lab"]["form"], 2)
-                self.assertTrue(all("lays" in entry["gesture"] for entry in server.journal() if "gesture" in entry))
+                self.assertEqual(server.journal()[0]["lab"]["form"], 3)
+                self.assertFalse(any("gesture" in entry for entry in server.journal()))
                 server.again()
             self.addCleanup(running.end, server.process)
 
@@ -106,9 +106,9 @@ class Former(Case):
             line, = (await seat.ask("layers"))["layers"]
             self.assertEqual((line["name"], line["shape"], line["note"], line["who"]),
                              ([7, 65], ["block", 30, 34, 20, 40, 1], "closed", "n1"))
-            changed = await seat.ask("gesture", key="c", layer=[7, 65], shape=["block", 30, 36, 20, 50, 1])
+            await seat.ask("gesture", key="c", layer=[7, 65], shape=["block", 30, 36, 20, 50, 1])
             held = {tuple(edit[:3]): edit[5] for edit in (await seat.ask("scenario"))["edits"] if edit[5] is not None}
             self.assertEqual(held, {("block", cell, step): value for cell in range(30, 37)
                                     for step, value in ((20, 1), (50, 0))})
-            await seat.ask("gesture", key="w", layer=changed["stamp"], shape=None)
+            await seat.ask("gesture", key="w", layer=[7, 65], shape=None)
             self.assertTrue(all(edit[5] is None for edit in (await seat.ask("scenario"))["edits"]))

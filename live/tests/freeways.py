@@ -7,18 +7,24 @@ import os
 import shutil
 import subprocess
 import sys
-from importlib.machinery import SourceFileLoader
 from pathlib import Path
 from typing import Any
 
+from crashes import numbers
 from server.client import Seat
 from running import LIVE, PATIENCE, SMALL, Case, Server, end, new_folder, program, started, until
 
-FREEWAY = LIVE.parent / "recipes" / "freeway"
 KM: dict[str, Any] = {
     "length": 1.5, "main": 900, "ramps": [], "minutes": 15, "stretch": [0.3, 0.6], "detectors": [0.75],
     "sections": [{"first": 0.9, "last": 1.2, "begin": 4, "end": 8, "limit": 54, "slowing": 0.4}, [1.05, 1.2, 5, 6, 27]],
     "stalled": [[0.6, 9, 10]]}
+
+
+def value_at(edits: list[Any], plan: dict[str, Any], inlet: int, step: int) -> int:
+    """Return the inflow chance of an inlet at a step, by a scenario's edits."""
+    puts = sorted((edit[2], edit[-1]) for edit in edits if edit[:2] == ["inflow", inlet] and edit[2] <= step and edit[-1] is not None)
+    chance: int = puts[-1][1] if puts else plan["inlets"][inlet][1]
+    return chance
 
 
 class Freeways(Case):
@@ -35,7 +41,7 @@ class Freeways(Case):
             self.assertEqual({line["who"] for line in lines}, {"plan.json"})
             self.assertEqual(len(lines), 4)
             self.assertEqual([one["name"] for one in (await ada.say("seats"))["seats"]], ["Ada"])
-        puts = self.of_recipe(server.folder / "plan.json").puts
+        puts = self.of_recipe(server.folder / "plan.json").edits
         script = [plan, *({"edit": {"at": "A", "object": [kind, index], "step": step, "value": value}}
                           for kind, index, step, value in puts),
                   {"advance": {"at": "A", "to": 900}}, {"diagram": {"at": "A", "from": 0, "to": 900}}]
@@ -43,17 +49,48 @@ class Freeways(Case):
                              stdout=subprocess.PIPE, check=True)
         self.assertEqual(rows, json.loads(ran.stdout.splitlines()[-1])["rows"])
         self.assertTrue(any("#" in row for row in rows) and plan["inlets"][0][1] > 0)
+        async with server.seat("Eve") as eve:  # the works are on each new seat's road from the start
+            roads = [numbers((await eve.ask("scenario", at=at))["edits"]) for at in (eve.at, "shared")]
+            self.assertEqual(roads[0], roads[1])
+            self.assertEqual((await eve.ask("take", message="shared"))["size"], 0)
         # The same file again starts the same road, at once; another one is told.
         server.stop()
         server.start()
         self.assertNotIn("another plan", server.said())
         async with server.seat("Cleo") as cleo:
-            shared = (await cleo.ask("gestures", at="shared"))["gestures"]
+            shared = (await cleo.ask("operations", at="shared"))["operations"]
             self.assertNotIn(cleo.welcome["number"], [one["stamp"][1] for one in shared])  # else they would be hers
         server.stop()
         (server.folder / "plan.json").write_text(json.dumps({**KM, "main": 800}), encoding="utf-8")
         server.start()
         self.assertIn("has another plan than", server.said())
+
+    async def test_the_demand_is_that_of_the_file_and_the_clock_is_its_day(self) -> None:
+        """900 cars an hour, and 600 from 7:05 on; 200 at a ramp beside them: to half a per cent, and the curve that the page asks for
+        gives the ramp's demand back."""
+        server = self.server(plan={**KM, "main": [["7:00", 900], ["7:05", 600]], "ramps": [[0.45, 200]], "begin": "07:00",
+                                   "date": "2026-03-02", "timezone": "Europe/Berlin"})
+        async with server.seat() as ada:
+            self.assertEqual(ada.welcome["day"], {"begin": 25_200, "date": "2026-03-02", "zone": "Europe/Berlin"})
+            await ada.say("clock", to=900)
+            said = await ada.ask("figures", of="mine", **{"from": 0, "to": 900})
+            wanted = [900 * 300 / 3_600 + 600 * 600 / 3_600, 200 * 900 / 3_600]
+            for asked, one in zip(said["after"]["asked"], wanted):
+                self.assertAlmostEqual(asked, one, delta=0.006 * one)
+            edits = (await ada.ask("scenario", at="shared"))["edits"]
+            plan = ada.welcome["plan"]
+            for step, _ in ((0, 900), (300, 600)):
+                main, ramp = (value_at(edits, plan, inlet, step) for inlet in (0, 1))
+                curve = await ada.say("admission", inlet=1, start=None, before=[[0, main]])
+                (low, less), (high, more) = next((one, other) for one, other in zip(curve["points"], curve["points"][1:])
+                                                 if one[0] <= ramp <= other[0])
+                self.assertAlmostEqual(less + (more - less) * (ramp - low) / (high - low), 200, delta=2)
+            await ada.ask("advance", to=900)
+            self.assertRegex((await ada.ask("csv", what="counts", each=300, **{"from": 0, "to": 900}))["csv"],
+                             r"^# counts of the road of Ada, 07:00 to 07:15\nfrom,to,detector,km,cars,.*\n07:00,07:05,0,0.75,")
+            for wrong in ({"inlet": 2, "start": None, "before": []}, {"inlet": 0, "start": None, "before": [[5, 1]]},
+                          {"inlet": 0, "start": None, "before": [[0, 70_000]]}):
+                self.assertEqual((await ada.reply("admission", **wrong))["refused"], "Range")
 
     async def test_a_freeway_that_was_not_begun_whole_is_begun_anew(self) -> None:
         """Its server was killed before the works were shared."""
@@ -98,20 +135,18 @@ class Freeways(Case):
 
     def of_recipe(self, path: Path) -> Any:
         """The recipe's road in cells and steps."""
-        for folder in (FREEWAY, FREEWAY.parent / "python"):
-            sys.path.insert(0, str(folder))
-            self.addCleanup(sys.path.remove, str(folder))
-        run = SourceFileLoader("run_of_freeway", str(FREEWAY / "run")).load_module()
-        return run.roads_of(run.FIGURES.replaced(path), None)[0]
+        from zegdrut.commands.freeway import FIGURES
+        from zegdrut.freeway import make_roads
+        return make_roads(FIGURES.override(path), None)[0]
 
     def test_what_cannot_be_read_is_refused_and_leaves_nothing(self) -> None:
         free: dict[str, Any] = {**KM, "main": 0}
         for text, said in (
                 ("", "is no plan line, and no freeway in km"), ("[1]", "it is no object of JSON"),
-                ('{"length": 3}', "has no sections"), (json.dumps({**free, "lanes": 3}), "has 'lanes': the figures are"),
+                ('{"length": 3}', "has no sections"), (json.dumps({**free, "lanes": 3}), "unknown field 'lanes': the fields are"),
                 (json.dumps({**free, "ramps": [[7, 100]]}), "the ramp at 7 km is not on the road"),
-                (json.dumps({**free, "sections": [[1, 0.9, 4, 8, 54]]}), "from is before to"),
-                (json.dumps({**free, "sections": [[0.9, 1.2, -4, 8, 54]]}), "minute -4 to 8: from is before to"),
+                (json.dumps({**free, "sections": [[1, 0.9, 4, 8, 54]]}), "it must begin before it ends"),
+                (json.dumps({**free, "sections": [[0.9, 1.2, -4, 8, 54]]}), "minute -4 to 8: it must begin before it ends"),
                 *((json.dumps({**SMALL, **wrong}), "is no plan line") for wrong in ({"words": "\ud800"}, {"length": 1e400})),
                 (json.dumps({**SMALL, "zones": [[12, 0]]}), "the program refuses the plan")):
             folder = new_folder()

@@ -4,9 +4,11 @@ import assert from "node:assert/strict";
 import {readFileSync} from "node:fs";
 import {test} from "node:test";
 
+import {decodeShape} from "../page/decoding.mjs";
 import {cellsOf, edgeNear, isTooLate, nearestIn, objectsIn, objectsNearest, rectangleBetween,
         shapeWithEdge, snapped, zonesIn} from "../page/geometry.mjs";
 
+const shapeOf = (...told) => decodeShape(told);
 const PLAN = JSON.parse(readFileSync(new URL("../plan.json", import.meta.url), "utf8"));
 
 test("objects lie in cells", () => {
@@ -78,22 +80,25 @@ test("places snap to 25 m and to round seconds, unless they are to be exact", ()
 });
 
 test("an edge is drawn to a place, at least one cell and one step from the other", () => {
-  const shape = ["block", 24, 30, 12, 24, 1];
+  const shape = shapeOf("block", 24, 30, 12, 24, 1);
   const drawn = (edge, place) => shapeWithEdge(PLAN, shape, edge, place);
-  assert.deepEqual(drawn("bottom", [0, 30]), ["block", 24, 30, 12, 30, 1]);
-  assert.deepEqual(drawn("bottom", [0, 5]), ["block", 24, 30, 12, 13, 1]);
-  assert.deepEqual(drawn("top", [0, 30]), ["block", 24, 30, 23, 24, 1]);
-  assert.deepEqual(drawn("left", [40, 0]), ["block", 30, 30, 12, 24, 1]);
-  assert.deepEqual(drawn("right", [2000, 0]), ["block", 24, 799, 12, 24, 1]);
-  const limit = (edge, cell, all) =>
-    shapeWithEdge(PLAN, ["limit", 7, 8, 0, null, 2], edge, [cell, 0], all).slice(1, 3);
+  assert.deepEqual(drawn("bottom", [0, 30]), shapeOf("block", 24, 30, 12, 30, 1));
+  assert.deepEqual(drawn("bottom", [0, 5]), shapeOf("block", 24, 30, 12, 13, 1));
+  assert.deepEqual(drawn("top", [0, 30]), shapeOf("block", 24, 30, 23, 24, 1));
+  assert.deepEqual(drawn("left", [40, 0]), shapeOf("block", 30, 30, 12, 24, 1));
+  assert.deepEqual(drawn("right", [2000, 0]), shapeOf("block", 24, 799, 12, 24, 1));
+  const limit = (edge, cell, all) => {
+    const zones = shapeOf("limit", 7, 8, 0, null, 2);
+    const {first, last} = shapeWithEdge(PLAN, zones, edge, [cell, 0], all);
+    return [first, last];
+  };
   assert.deepEqual(limit("right", 475), [7, 9]);
   assert.deepEqual(limit("right", 474), [7, 8]);
   assert.deepEqual(limit("right", 460, true), [7, 9]);
   assert.deepEqual(limit("right", 10), [7, 7]);
   assert.deepEqual(limit("left", 325), [6, 8]);
   assert.deepEqual(limit("left", 449), [8, 8]);
-  const demand = ["inflow", 0, 0, 0, 60, 9];
+  const demand = shapeOf("inflow", 0, 0, 0, 60, 9);
   assert.deepEqual(shapeWithEdge(PLAN, demand, "right", [90, 0]), demand);
 });
 
@@ -107,16 +112,16 @@ test("an edge is taken within so many pixels", () => {
 });
 
 test("the clock ends at step 1,048,575", () => {
-  assert.ok(!isTooLate(["block", 0, 0, 0, 1048575, 1]));
-  assert.ok(isTooLate(["block", 0, 0, 0, 1048576, 1]));
-  assert.ok(isTooLate(["block", 0, 0, 1048576, null, 1]));
+  assert.ok(!isTooLate(shapeOf("block", 0, 0, 0, 1048575, 1)));
+  assert.ok(isTooLate(shapeOf("block", 0, 0, 0, 1048576, 1)));
+  assert.ok(isTooLate(shapeOf("block", 0, 0, 1048576, null, 1)));
 });
 
 test("what of a shape is nearest to a place", () => {
-  const limit = ["limit", 4, 5, 1200, 2400, 2];
+  const limit = shapeOf("limit", 4, 5, 1200, 2400, 2);
   assert.deepEqual(nearestIn(PLAN, limit, [199, 1190.4]), [4, 1200]);
   assert.deepEqual(nearestIn(PLAN, limit, [260.5, 1300.7]), [5, 1300]);
   assert.deepEqual(nearestIn(PLAN, limit, [303, 2404]), [5, 2399]);
-  assert.deepEqual(nearestIn(PLAN, ["block", 10, 20, 0, null, 1], [9.8, 5000]), [10, 5000]);
-  assert.deepEqual(nearestIn(PLAN, ["inflow", 1, 1, 60, 90, 9], [190, 70]), [1, 70]);
+  assert.deepEqual(nearestIn(PLAN, shapeOf("block", 10, 20, 0, null, 1), [9.8, 5000]), [10, 5000]);
+  assert.deepEqual(nearestIn(PLAN, shapeOf("inflow", 1, 1, 60, 90, 9), [190, 70]), [1, 70]);
 });

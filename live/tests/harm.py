@@ -6,11 +6,15 @@ import random
 from typing import Any, Iterator
 from unittest import mock
 
-from faulty import Bus, Here, soon, told
-from running import ALL, Case
+from crashes import numbers
+from faulty import Bus, Here, message_of, soon, told
+from running import ALL, SMALL, Case
 from server import stamps, verbs
 from server.asked import Asked, Refused
-from server.sites import Floods
+from server.model.operations import Operation, Shape, put
+from server.model.projection import timeline
+from server.screen import rows_of
+from server.floods import Floods
 
 JUNK: list[Any] = [None, True, -1, 0, 1, 5, 119, 1 << 20, 1 << 48, 10 ** 30, 0.5, "", "block", "k", "shared", "before", "x" * 300, [], {},
         [[]], [1, 65]]
@@ -26,7 +30,7 @@ def asked_well(number: int) -> list[tuple[str, dict[str, Any]]]:
         ("gesture", {**made, "edits": [["limit", 1, number % 90, 3], ["block", 7, 5, None]]}),
         ("undo", {**made, "stamp": former}), ("again", {"key": f"{number}", "stamp": [1, 65]}),
         ("site", {**made, "site": 2, "out": True}), ("send", {"name": "shared", "stamps": [[1, 65]]}),
-        ("take", {"message": "shared"}), ("layers", {"from": 0}), ("gestures", {"from": 0}), ("advance", {"to": 60}),
+        ("take", {"message": "shared"}), ("layers", {"from": 0}), ("operations", {"from": 0}), ("advance", {"to": 60}),
         ("diagram", {"from": 0, "to": 20, "every": 1, "cells": [0, 50]}), ("cells", {"step": 5}), ("cars", {"step": 5}),
         ("count", {"detector": 1, "from": 0, "to": 5}), ("counts", {"from": 0, "to": 5, "each": 1}), ("scenario", {}),
         ("sums", {"from": 0, "to": 60}), ("preview", {"what": "share", "stamps": [[1, 65]]}), ("seats", {}),
@@ -49,7 +53,7 @@ class Bounds(Case):
         now = [0.0]
         first._floods = Floods(lambda: now[0])
         await bus.rounds()
-        with mock.patch("server.sites.BURST", 20), mock.patch("server.sites.A_SECOND", 1):
+        with mock.patch("server.floods.BURST", 20), mock.patch("server.floods.A_SECOND", 1):
             first._floods = Floods(lambda: now[0])
             for _ in range(30):
                 second._present()
@@ -59,16 +63,16 @@ class Bounds(Case):
             await two.put(1, ["limit", 2, 50, 3])
             await two.share(1)
             await bus.carry()
-            self.assertEqual(len(one.lab.state.shared.gestures), 0)
+            self.assertEqual(one.lab.state.shared.size, 0)
             now[0] += 29
-            first._sites.clear()
+            first._peers.known.clear()
             second._present()
             await bus.carry()
-            self.assertEqual(first._sites, {})
+            self.assertEqual(first._peers.known, {})
             now[0] += 2
             second._sent.clear()
             await bus.rounds(3)
-            self.assertEqual(len(one.lab.state.shared.gestures), 1)
+            self.assertEqual(one.lab.state.shared.size, 1)
             self.assertNotIn("too much", " ".join(first.state()["stays"]))
 
     async def test_who_makes_much_work_is_not_heard_for_a_while_either(self) -> None:
@@ -90,68 +94,78 @@ class Bounds(Case):
                 await two.share(1)
                 await bus.carry()
                 now[0] += seconds
-        self.assertEqual(len(one.lab.state.shared.gestures), 4)
+        self.assertEqual(one.lab.state.shared.size, 4)
         self.assertIn("Site 2 sends too much: it is not heard for 30 seconds", " ".join(first.state()["stays"]))
         self.assertEqual(second._floods.paused(), [])  # not by its own
 
-    async def test_a_message_has_no_more_than_is_soon_worked_out(self) -> None:
-        bus = Bus()
-        one, two = [await self.enterAsyncContext(Here(site=number)) for number in (1, 2)]
-        first, second = bus.site(one), bus.site(two)
+    async def test_an_operation_that_a_tab_may_make_every_site_takes_and_no_other(self) -> None:
+        """One gate: a closure of 600 cells in raw edits, and the drag of its end, which withdraws them all."""
+        bus, plan = Bus(), {**SMALL, "length": 1_300, "zone": 100, "zones": [[5, 0]] * 13, "detectors": []}
+        one, two = [await self.enterAsyncContext(Here(site=number, plan=plan)) for number in (1, 2)]
+        first, _ = bus.site(one), bus.site(two)
         await two.join("Ben")
-        for step in (5, 6):
-            await two.ask(1, "gesture", key=f"{step}", note="", shape=["block", 10, 89, step, None, 1])
-        stamp = [stamps.next_count(0, stamps.milliseconds(), 0), 2 * 64 + 1]
-        lays = [[[stamp[0] - place, stamp[1]], ["block", 0, 119, 5, None, 1], stamp, None, [0, 0]] for place in range(6)]
-        body = json.dumps({"form": 2, "gestures": [{"stamp": stamp, "who": "Eve", "lays": lays, "edits": []}]}).encode()
-        await first._came(f"road/{first._road}/layers", "f", body)
-        self.assertIn("the shapes of a gesture have at most 600 objects", told(first))
-        with mock.patch("server.sites.OBJECTS", 50), mock.patch("server.sites.MOST_OBJECTS", 100):
-            await two.share(1)
-            self.assertEqual(len([one for one in bus.sent if one.topic.endswith("layers")]), 2)
-            await bus.carry()
-            self.assertEqual(len(one.lab.state.shared.gestures), 2)
-            gestures = [gesture.written() for gesture in two.lab.state.shared.gestures]
-            three = await self.enterAsyncContext(Here(site=3))
-            third = Bus().site(three)
-            body = json.dumps({"form": 2, "gestures": gestures}).encode()
-            await third._came(f"road/{third._road}/layers", "f", body)
-            self.assertIn("its shapes have 160 objects, and 100 are the most", told(third))
-            self.assertEqual(three.lab.state.shared.gestures, [])
+        edits = [["block", cell, step, value] for cell in range(600) for step, value in ((5, 1), (15, 0))]
+        line = await two.put(1, *edits)
+        await two.ask(1, "gesture", key="drag", layer=list(line), shape=["block", 0, 599, 5, 25, 1])
+        await two.share(1)
+        await bus.rounds(2)
+        self.assertEqual(one.lab.state.shared.road.layers, two.lab.state.shared.road.layers)
+        self.assertEqual(one.lab.state.shared.road.layers.keys(), {line})
+        stamp = line[0] + 9, 2 * 64 + 1
+        large = Operation(stamp, {(stamp[0] - place, stamp[1]): Shape("block", 0, 300, 5, None, 1) for place in range(2)})
+        good = put((stamp[0] + 1, stamp[1]), Shape("block", 700, 700, 5, None, 1))
+        message = message_of(first, large, good)
+        await first._came(message.topic, "f", message.payload)
+        self.assertIn("at most 600 objects, not 602", told(first))
+        self.assertIn(good.stamp, [each.stamp for each in one.lab.state.shared.places])  # the others of the message came
+        self.assertEqual(first._early, {})
+
+    async def test_an_operation_without_an_effect_is_refused_with_a_sentence(self) -> None:
+        here = await self.enterAsyncContext(Here(site=1))
+        await here.join("Ada")
+        line = list(await here.put(1, ["limit", 1, 50, 4]))
+        await here.ask(1, "gesture", key="w", layer=line, shape=None)
+        for what, why in (({"layer": line, "shape": None}, "to be withdrawn"), ({"layer": line, "top": True}, "to be put on top"),
+                          ({"edits": [["limit", 1, 50, None]]}, "to be withdrawn")):
+            with self.assertRaisesRegex(Refused, "NoEffect") as caught:
+                await here.ask(1, "gesture", key="again", **what)
+            self.assertIn(why, caught.exception.why)
+        self.assertEqual(len(here.lab.state.seats[1].own), 2)
 
     async def test_shapes_and_edits_of_sites_are_checked_against_the_plan(self) -> None:
         here = await self.enterAsyncContext(Here(site=1))
         site = Bus().site(here)
         stamp = [stamps.next_count(0, stamps.milliseconds(), 0), 70 * 64 + 1]
 
-        def put(*shape: Any, name: Any = stamp, height: Any = stamp, was: Any = None) -> dict[str, Any]:
-            return {"lays": [[name, list(shape), height, was, [0, 0]]], "edits": []}
+        def put(*shape: Any, name: Any = stamp, **more: Any) -> dict[str, Any]:
+            return {"sets": [[name, list(shape)]], **more}
 
         def raw(*edit: Any) -> dict[str, Any]:
-            return {"lays": [[list(edit[:3]), edit[3], stamp, None, [0, 0]]], "edits": [list(edit)]}
-        good = {**put("block", 60, 61, 30, None, 1), "edits": [["block", 60, 30, 1], ["block", 61, 30, 1]]}
+            return {"sets": [[list(edit[:3]), edit[3]]]}
+        good = put("block", 60, 61, 30, None, 1)
         for wrong in (
                 put("block", 0, 120, 30, None, 1), put("limit", 6, 6, 30, None, 3), put("block", 61, 60, 30, None, 1),
                 put("block", 60, 60, 1 << 20, None, 1), put("block", 60, 60, 30, 30, 1), put("block", 60, 60, 30, 1 << 20, 1),
                 put("block", 60, 60, 30, None, 2), put("limit", 1, 1, 30, None, 10), put("bloc", 60, 60, 30, None, 1),
                 put("block", 60, 60, -1, None, 1), put("block", 60, 60, 0.5, None, 1), put("block", "60", 60, 30, None, 1),
-                put("block", 60, 60, 30, None, 1, height=[stamp[0] + 1, 1]),
-                put("block", 60, 60, 30, None, 1, name=[stamp[0] + 1, 1]),
-                put("block", 60, 60, 30, None, 1, was=["block", 0, 10 ** 9, 0, None, 1]), put("block", 60, 60, 30, None),
-                put("block", 60, 60, 30, None, 1, name="x"), put("block", 60, 60, 30, None, 1, height=None),
+                put("block", 60, 60, 30, None, 1, heights=[[stamp, [stamp[0] + 1, 1]]]),
+                put("block", 60, 60, 30, None, 1, name=[stamp[0] + 1, 1]), put("block", 60, 60, 30, None),
+                put("block", 60, 60, 30, None, 1, seen=stamp), put("block", 60, 60, 30, None, 1, undoes=[stamp[0] + 1, 1]),
+                put("block", 60, 60, 30, None, 1, name="x"), put("block", 60, 60, 30, None, 1, heights=[[stamp, None]]),
+                put("block", 60, 60, 30, None, 1, who="x\u202e"), put("block", 60, 60, 30, None, 1, note=7),
+                put("block", 60, 60, 30, None, 1, more="x" * 1_001),
                 raw("block", 120, 30, 1), raw("limit", 1, 30, 10), raw("what", 1, 30, 1), raw("limit", 1, 1 << 20, 1),
-                *({"lays": lays, "edits": []} for lays in (good["lays"] * 1_201, [], {}, [7])),
-                {"lays": good["lays"], "edits": [["limit", 99, 30, 3]]}, {"lays": good["lays"]}, {"known": -1, "edits": []},
-                {"known": 5, "edits": [["block", 999, 30, 1]]},
-                *({**good, "stamp": other} for other in ([stamp[0], 70_000], [stamp[0], 3], [1 << 49, 70], "x"))):
+                *({"sets": sets} for sets in (good["sets"] * 2, [], {}, [7], None)), {"known": 5, "edits": []},
+                {"excludes": [0, True]}, {"excludes": [3, 1]}, {"undoes": 7},
+                *({**good, "stamp": other} for other in ([stamp[0], 70_000], [stamp[0], 3], [1 << 49, 70], [0, 70], "x"))):
             site._told.clear()
-            body = json.dumps({"form": 2, "gestures": [{"stamp": stamp, "who": "Eve", **wrong}]}).encode()
-            await site._came(f"road/{site._road}/layers", "", body)
-            self.assertEqual((len(site._told), here.lab.state.shared.gestures), (1, []), wrong)
+            body = json.dumps({"form": 3, "operations": [{"stamp": stamp, "who": "Eve", **wrong}]}).encode()
+            await site._came(f"road/{site._road}/operations", "", body)
+            self.assertEqual((len(site._told), here.lab.state.shared.size), (1, 0), wrong)
             self.assertIn("was left out", site._told[0])
-        body = json.dumps({"form": 2, "gestures": [{"stamp": stamp, "who": "Eve", **good}]}).encode()
-        await site._came(f"road/{site._road}/layers", "", body)
-        self.assertEqual([one.who for one in here.lab.state.shared.gestures if not one.is_mending], ["Eve"])
+        body = json.dumps({"form": 3, "operations": [{"stamp": stamp, "who": "Eve", **good}, 7]}).encode()
+        await site._came(f"road/{site._road}/operations", "", body)
+        self.assertEqual([one.about.who for one in here.lab.state.shared.places], ["Eve"])
 
     async def test_whatever_is_changed_in_a_message_is_taken_or_told(self) -> None:
         """And the program takes all that the server took."""
@@ -160,63 +174,23 @@ class Bounds(Case):
         with mock.patch("logging.error") as error, mock.patch("logging.exception", error):
             for number in range(600 if ALL else 200):
                 stamp = [stamps.next_count(number, stamps.milliseconds(), 0), 70 * 64 + 1]
-                gesture = {"stamp": stamp, "who": "Eve", "note": "", "when": 1, "title": "", "undoes": None,
-                           "edits": [["block", 60, 30, 1], ["limit", 1, 20, 3]],
-                           "lays": [[stamp, ["block", 60, 61, 30, None, 1], stamp, None, [0, 0]],
-                                    [["limit", 1, 20], 3, stamp, None, [0, 0]]]}
-                message: dict[str, Any] = {"form": 2, "gestures": [gesture], "who": "Eve", "title": ""}
+                operation = {"stamp": stamp, "who": "Eve", "note": "", "when": 1, "undoes": [stamp[0] - 1, 70],
+                             "seen": [stamp[0] - 2, 71], "sets": [[stamp, ["block", 60, 61, 30, None, 1]], [["limit", 1, 20], 3]],
+                             "heights": [[[stamp[0] - 1, 70], stamp]], "excludes": [2, False]}
+                message: dict[str, Any] = {"form": 3, "operations": [operation], "who": "Eve", "title": ""}
                 places = list(places_in(message))
                 for _ in range(chance.randrange(1, 3)):
                     parent, key = chance.choice(places)
                     parent[key] = chance.choice([*JUNK, "\ud800"])
-                topic = chance.choice(["layers", "layers", "edits", "sum"])
+                topic = chance.choice(["operations", "operations", "sum"])
                 await site._came(f"road/{site._road}/{topic}", "f", json.dumps(message).encode())
         self.assertEqual(error.call_args_list, [])
         reply = await here.keeper.ask(0, (0,), lambda: here.keeper.say(b'{"scenario":{"at":"shared"}}', {}))
-        self.assertEqual(sorted(json.loads(reply)["edits"]), sorted(here.lab.state.shared.scenario()))
-        self.assertGreater(len(here.lab.state.shared.gestures), 10)
+        self.assertEqual(numbers(json.loads(reply)["edits"]), numbers(rows_of(timeline(here.lab.state.shared.road))))
+        self.assertGreater(here.lab.state.shared.size, 10)
 
-    async def test_nobody_mends_beside_one_that_holds_more(self) -> None:
-        """Two agree, and lack what a third holds that mended: they wait, are told what they lack, and mend then."""
-        bus = Bus()
-        here = [await self.enterAsyncContext(Here(site=number)) for number in (1, 2, 3)]
-        sites = [bus.site(one) for one in here]
-        await bus.rounds()
-        ada, = await here[1].join("Ada")
-        await here[1].put(ada, ["limit", 1, 50, 4])
-        await here[1].share(ada)  # the others lack it
-        mending = {"stamp": [90, 2 * 64], "known": 5, "edits": [["limit", 3, 8, 0]], "who": "mended"}
-        body = json.dumps({"form": 2, "folder": sites[1]._id, "gestures": [mending]}).encode()
-        for site in sites:
-            await site._came(f"road/{site._road}/layers", sites[1]._id, body)
-        for site in sites[::2]:
-            await site.announce()
-        bus.sent = [one for one in bus.sent if one.topic.endswith("sum")]
-        await bus.carry()
-        doubting = [here[0].lab.state.shared, here[2].lab.state.shared]
-        self.assertEqual([(len(one.doubts), len(one.gestures)) for one in doubting], [(1, 1)] * 2)
-        await bus.rounds(4)
-        self.assertEqual([one.lab.state.shared.doubts for one in here], [[]] * 3)
-        roads = [one.lab.state.shared.scenario() for one in here]
-        self.assertEqual(roads, [roads[0]] * 3)
-        self.assertEqual([one.lab.state.shared.numbers("limit", 3).get(8) for one in here], [None] * 3)
-
-    async def test_who_mends_in_the_name_of_another_is_answered_by_that_too(self) -> None:
-        """A restored folder may hear of its own mendings; so by its number alone none is its own."""
-        here = await self.enterAsyncContext(Here(site=1))
-        site = Bus().site(here)
-        ada, = await here.join("Ada")
-        stamp = await here.put(ada, ["limit", 1, 50, 4])
-        await here.share(ada)
-        for known, number in ((0, 64), (0, 3 * 64), (10 ** 9, 64)):
-            mending = {"stamp": [stamp[0] + number, number], "known": known, "edits": [["limit", 1, 50, 0]], "who": "mended"}
-            body = json.dumps({"form": 2, "gestures": [mending]}).encode()
-            await site._came(f"road/{site._road}/layers", "f", body)
-            await site.announce()  # nobody else is there
-            self.assertEqual(here.lab.state.shared.numbers("limit", 1), {50: 4}, (known, number))
-
-    async def test_what_lacks_is_told_while_roads_are_mended(self) -> None:
-        """A site that lacks operations is told them once, though what wins there is another each time."""
+    async def test_what_lacks_is_told_when_it_was_heard_twice(self) -> None:
+        """A site that lacks operations is told them once; one whose protocol is another is told nothing."""
         bus = Bus()
         here = await self.enterAsyncContext(Here(site=1))
         site = bus.site(here)
@@ -224,10 +198,25 @@ class Bounds(Case):
         await here.put(ada, ["limit", 1, 50, 4])
         await here.share(ada)
         await bus.carry()
-        for number in range(3):
-            body = json.dumps({"folder": "f", "sum": f"{number}", "numbers": {"operations": "0"}}).encode()
-            await site._came(f"road/{site._road}/sum", "f", body)
-        self.assertEqual([one.topic.rpartition("/")[2] for one in bus.sent], ["layers"])
+        for form, sent in ((2, []), (3, ["operations"])):
+            for _ in range(3):
+                body = json.dumps({"folder": "f", "form": form, "sum": "0", "numbers": {"all": "0"}, "timeline": "?"}).encode()
+                await site._came(f"road/{site._road}/sum", "f", body)
+            self.assertEqual([one.topic.rpartition("/")[2] for one in bus.sent], sent)
+
+    async def test_two_that_read_the_same_changes_otherwise_say_so(self) -> None:
+        bus = Bus()
+        here = await self.enterAsyncContext(Here(site=1))
+        site = bus.site(here)
+        numbers_here = site._numbers()
+        body = json.dumps({"folder": "f", "form": 3, "sum": numbers_here["all"], "numbers": numbers_here,
+                           "timeline": await site._timeline()}).encode()
+        await site._came(f"road/{site._road}/sum", "f", body)
+        self.assertNotIn("another road", told(site))
+        await site._came(f"road/{site._road}/sum", "f", body.replace(b'"timeline": "', b'"timeline": "x'))
+        self.assertIn("has the same changes and another road by them", told(site))
+        self.assertEqual(bus.sent, [])
+
 
     async def test_what_strangers_say_of_themselves_is_bounded(self) -> None:
         bus = Bus()
@@ -236,10 +225,10 @@ class Bounds(Case):
         for number in range(1_100):
             name = f"{number}" + "x" * 5_000
             for topic, value in (("road/sites", {"site": number % 1_000 + 2, "road": name, "run": name}),
-                                 (f"road/{site._road}/sum", {"sum": name, "numbers": {}}),
-                                 (f"road/{site._road}/sum", {"sum": name, "numbers": {"operations": name}})):
+                                 (f"road/{site._road}/sum", {"form": 3, "sum": name, "numbers": {}}),
+                                 (f"road/{site._road}/sum", {"form": 3, "sum": name, "numbers": {"all": name}})):
                 await site._came(topic, "", json.dumps({"folder": name, **value}).encode())
-        for kept in (site._sites, site._sums, site._operations, site._pauses, here.lab.state.bound):
+        for kept in (site._peers.known, site._sums, site._pauses, here.lab.state.bound):
             self.assertLessEqual(len(kept), 1_024)
             self.assertLess(len(str(kept)), 200_000)
         self.assertLess(len(json.dumps(site.state())), 100_000)
@@ -259,7 +248,7 @@ class Bounds(Case):
             await here.share(1)
             for _ in range(1_000):
                 site._send_unsent()
-                sent += [now[0]] * len([one for one in bus.sent if one.topic.endswith("layers")])
+                sent += [now[0]] * len([one for one in bus.sent if one.topic.endswith("operations")])
                 bus.sent.clear()
                 now[0] += 3
         gaps = [later - sooner for sooner, later in zip(sent, sent[1:])]
@@ -281,9 +270,9 @@ class Bounds(Case):
             for _ in range(6):
                 bus.seen.clear()
                 await bus.rounds()
-                told = [json.loads(each.payload) for each in bus.seen if each.topic.endswith("layers")]
-                counts.append(sum(len(each["gestures"]) for each in told))
-        self.assertEqual((counts, len(two.lab.state.shared.gestures)), ([0, 10, 10, 5, 0, 0], 25))
+                told = [json.loads(each.payload) for each in bus.seen if each.topic.endswith("operations")]
+                counts.append(sum(len(each["operations"]) for each in told))
+        self.assertEqual((counts, two.lab.state.shared.size), ([0, 10, 10, 5, 0, 0], 25))
 
 
 class Tabs(Case):
@@ -308,6 +297,7 @@ class Tabs(Case):
         self.assertEqual(error.call_args_list, [])
         self.assertTrue(100 < refused < number - 100, refused)
         for seat in (0, 1):
-            line = json.dumps({"scenario": {"at": here.lab.state.seats[seat].at}}).encode()
+            replica = here.lab.state.replica(seat)
+            line = json.dumps({"scenario": {"at": replica.at}}).encode()
             reply = await here.keeper.ask(1, (seat,), lambda: here.keeper.say(line, {}))
-            self.assertEqual(sorted(json.loads(reply)["edits"], key=str), sorted(here.lab.state.seats[seat].scenario(), key=str))
+            self.assertEqual(numbers(json.loads(reply)["edits"]), numbers(rows_of(timeline(replica.road))))

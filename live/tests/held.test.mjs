@@ -7,20 +7,20 @@ import {changed, hold, letGo, tell, when} from "../page/store.mjs";
 
 test("what moves buttons waits until none is held down, and is shown once", () => {
   const shown = [];
-  when(["lists"], () => shown.push("lists"));
+  when(["lines"], () => shown.push("lines"));
   when(["news", "before"], () => shown.push("news"));
-  when(["rows"], () => shown.push("rows"));
+  when(["repainted"], () => shown.push("repainted"));
   when(["said"], () => shown.push("said"));
   hold();
-  changed("lists");
-  changed("news", "lists", "rows");
+  changed("lines");
+  changed("news", "lines", "repainted");
   tell("Took 1 change.");
-  assert.deepEqual(shown, ["rows"]);
+  assert.deepEqual(shown, ["repainted"]);
   changed("before");                    // what the press itself opens
-  assert.deepEqual(shown, ["rows", "news"]);
+  assert.deepEqual(shown, ["repainted", "news"]);
   letGo();
-  assert.deepEqual(shown.slice(2).sort(), ["lists", "news", "said"]);
+  assert.deepEqual(shown.slice(2).sort(), ["lines", "news", "said"]);
   letGo();
-  changed("lists");
-  assert.deepEqual(shown.slice(5), ["lists"]);
+  changed("lines");
+  assert.deepEqual(shown.slice(5), ["lines"]);
 });

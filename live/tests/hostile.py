@@ -2,19 +2,23 @@
 from __future__ import annotations
 
 import asyncio
+import contextlib
 import json
 import os
-import statistics
-import time
+from pathlib import Path
 from typing import Any
 from unittest import mock
 
 import aiohttp
 
+from server import verbs
+from server.asked import Asked, Refused
 from server.client import Seat
+from server.doors import neighbourhood
 from server.strangers import Strangers
-from server.tabs import Tab
-from running import PATIENCE, Case, Server, until
+from server.tabs import Tab, taken_apart
+from running import PATIENCE, SMALL, Case, Server, until
+from working import takes_at_most
 
 
 class Frames(Case):
@@ -216,6 +220,27 @@ class Frames(Case):
         return replies[1]
 
 
+class Long(Case):
+    """Frames of 64 KB that are wrong all over hold nobody up."""
+
+    def test_what_is_wrong_is_soon_found(self) -> None:
+        def many(one: str) -> str:
+            return "[" + ",".join([one] * (64_000 // (len(one) + 1))) + "]"
+        wrong = [*map(many, ("1", "[]", "[1]", '["x",1,1,1]', '["limitt",1,1,1]', '["limit",1,1,1.5]', '["limit",1,1,1]', '"x"',
+                             "null", "{}", "9" * 4_200)),
+                 json.dumps("limit" * 12_000), f'["{"limit " * 10_000}",1]', '[["' + "limit" * 12_000 + '",1,1,1]]',
+                 "[" * 900 + "]" * 900, json.dumps("7" * 60_000), json.dumps(" " * 60_000 + "7"), json.dumps('"' * 30_000)]
+        reads: dict[str, Any] = {
+            "edits": Asked.edits, "stamps": Asked.stamps, "shape": Asked.shape, "layer": lambda asked: asked.called("layer"),
+            "to": lambda asked: asked.whole("to"), "key": Asked.key, "note": lambda asked: asked.text("note", 200)}
+        frames = [(f'{{"id":1,"x":{{"{name}":{value}}}}}', read) for name, read in reads.items() for value in wrong]
+        frames += [(f'{{"id":1,"x":{{"object":{value},"step":1}}}}', verbs.an_edit) for value in wrong]
+        for frame, read in frames:
+            with takes_at_most(0.05, frame[:40]), contextlib.suppress(Refused, RecursionError):
+                _, verb, fields = taken_apart(frame)
+                read(Asked(verb, fields))
+
+
 class Connection:
     """One from an address, until it is cut."""
 
@@ -231,6 +256,12 @@ class Connection:
 
 
 class Crowds(Case):
+    def test_a_network_of_one_host_counts_as_one_address(self) -> None:
+        for one, other, is_one in (("1.2.3.4", "1.2.3.5", False), ("2001:db8::1", "2001:db8::ffff:2", True), ("::1", "::1", True),
+                                   ("2001:db8::1", "2001:db8:0:1::1", False), ("fe80::1%eth0", "fe80::2%eth0", True),
+                                   ("::ffff:1.2.3.4", "1.2.3.4", True), ("::ffff:1.2.3.4", "::ffff:1.2.3.5", False)):
+            self.assertEqual(neighbourhood(one) == neighbourhood(other), is_one, (one, other))
+
     def test_strangers_are_64_of_an_address_and_512_of_all_for_a_minute(self) -> None:
         """The oldest are cut; who has shown the token is none."""
         ones: list[Connection] = []
@@ -275,24 +306,40 @@ class Crowds(Case):
 class Neighbours(Case):
     """A tab's gesture and rows beside one that floods, one that never reads, one that edits the first step."""
 
-    async def median(self, seat: Seat, count: int = 15) -> float:
-        took = []
-        for number in range(count):
-            began = time.perf_counter()
-            await seat.ask("gesture", key=f"{began}", edits=[["limit", 3, 150, number % 5]])
+    async def goes_on(self, seat: Seat) -> None:
+        """Gestures and their rows, each of which comes; how soon is measured by live/measure."""
+        for number in range(15):
+            await seat.ask("gesture", key=f"{number}", edits=[["limit", 3, 150, number % 5]])
             await seat.ask("diagram", **{"from": 140, "to": 200})
-            took.append(time.perf_counter() - began)
-        return statistics.median(took)
 
     async def ready(self, server: Server, name: str) -> Seat:
         seat = await self.enterAsyncContext(server.seat(name))
         await seat.ask("advance", to=200)
         return seat
 
+    async def test_what_tabs_asked_that_have_gone_is_not_waited_for(self) -> None:
+        """A seat whose tab is opened anew again and again, each with questions that take long."""
+        plan = {**SMALL, "length": 2_000, "zone": 1_000, "zones": [[5, 6_554]] * 2}
+        server = self.server(plan=plan)
+        async with server.seat("Ada") as ada:
+            await ada.say("clock", to=7_200)
+            await ada.ask("advance", to=7_200)
+            rows = {"from": 0, "to": 7_000, "every": 7, "cells": [0, 1_000]}
+            before = used(server)
+            for _ in range(4):
+                await ada.ask("diagram", **rows)
+            alone, before = (used(server) - before) / 4, used(server)
+        for _ in range(8):
+            async with server.seat(key=ada.key) as tab:
+                for number in range(8):
+                    await tab._socket.send_str(json.dumps({"id": number, "diagram": {"at": tab.at, **rows}}))
+        async with server.seat(key=ada.key) as tab:
+            await tab.ask("scenario")
+        self.assertLess(used(server) - before, 24 * alone)  # of 64
+
     async def test_nobody_waits_for_a_tab_that_floods_or_never_reads(self) -> None:
         server = self.server()
         good = await self.ready(server, "good")
-        alone = await self.median(good)
         flood, deaf = await self.ready(server, "flood"), await self.ready(server, "deaf")
         transport = deaf._socket._response.connection.transport
         transport.pause_reading()
@@ -314,17 +361,21 @@ class Neighbours(Case):
                     await asyncio.wait_for(deaf._socket.send_str(frame), PATIENCE)
         tasks = [asyncio.create_task(floods()), asyncio.create_task(never_reads())]
         await until(is_told_busy, "the flood is told so")
-        beside = await self.median(good)
+        await self.goes_on(good)
         self.assertFalse(tasks[0].done(), "the flood ended")
         tasks[0].cancel()
-        # (How many times alone is measured by live/measure; here only that nobody waits without end.)
-        self.assertLess(beside, 10 * alone + 5)
         await asyncio.wait_for(tasks[1], PATIENCE)  # the server lets it go
         transport.resume_reading()
         with self.assertRaises(ConnectionError):
             await deaf.reply("ping")
         await good.reply("ping")
         self.assertLess(memory(server), 200)
+
+
+def used(server: Server) -> int:
+    """Hundredths of a second of the processor that the program of the roads has used."""
+    fields = Path(f"/proc/{server.program}/stat").read_text(encoding="ascii").rpartition(")")[2].split()
+    return int(fields[11]) + int(fields[12])
 
 
 def memory(server: Server) -> float:

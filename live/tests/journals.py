@@ -9,15 +9,20 @@ import itertools
 import json
 import os
 import resource
+import socket
+import stat
 import subprocess
 import sys
+import time
 import unittest
 from typing import Any
+from unittest import mock
 
 import running
 from faulty import Disk
 from server.client import Seat
 from server.journal import Broken, Journal, NotWritten, lock, put_in_place, read
+from crashes import numbers
 from running import LIVE, SMALL, Case
 from server.state import State
 
@@ -117,6 +122,17 @@ class Writing(unittest.IsolatedAsyncioTestCase):
         await journal.write(GESTURES[2])
         self.assertEqual(read(self.path)[0], GESTURES)
 
+    async def test_a_fault_behind_a_write_keeps_nobody_waiting(self) -> None:
+        """What is on the disk is confirmed, and what comes is written."""
+        journal = Journal(self.path, 0)
+
+        def fails() -> None:
+            raise KeyError("a fault in the server")
+        with self.assertLogs(level="ERROR"):
+            await asyncio.wait_for(asyncio.gather(journal.write(GESTURES[0], fails), journal.write(GESTURES[1])), running.PATIENCE)
+        await journal.write(GESTURES[2])
+        self.assertEqual(read(self.path)[0], GESTURES)
+
     async def test_lines_of_one_write_say_so(self) -> None:
         journal = Journal(self.path, 0)
         await journal.write(GESTURES[0])
@@ -136,6 +152,45 @@ class Writing(unittest.IsolatedAsyncioTestCase):
         self.assertEqual(self.path.stat().st_mode & 0o777, 0o600)
 
 
+    async def test_nobody_waits_while_it_is_shortened(self) -> None:
+        """What is written meanwhile, much of it, stands behind; what is changed meanwhile is not in what stands before."""
+        journal, held, gate = Journal(self.path, 0), [GESTURES[1]], running.new_folder() / "gate"
+        await journal.write(GESTURES[0])
+
+        def entries() -> Any:
+            until = time.monotonic() + running.PATIENCE
+            while not gate.exists() and time.monotonic() < until:
+                time.sleep(0.02)
+            yield from held
+        short = asyncio.ensure_future(journal.compact(entries))
+        await asyncio.sleep(0)
+        held.append(GESTURES[0])
+        many = [{"gesture": {"note": "x" * 60_000, "number": number}} for number in range(20)]
+        for entry in many:
+            await journal.write(entry)
+        self.assertFalse(short.done())
+        gate.touch()
+        await short
+        await journal.write(GESTURES[2])
+        self.assertEqual(read(self.path)[0], [GESTURES[1], *many, GESTURES[2]])
+        self.assertEqual([one.name for one in self.path.parent.iterdir()], [self.path.name])
+
+    async def test_a_shorter_journal_that_cannot_be_written_leaves_the_old_one(self) -> None:
+        """Whichever call fails in the process that writes it, or here."""
+        journal, here = Journal(self.path, 0), os.getpid()
+        await journal.write(GESTURES[0])
+
+        def fails() -> Any:
+            raise OSError(errno.EIO, os.strerror(errno.EIO))
+        await journal.compact(fails)
+        for number, is_here in itertools.product((1, 2), (True, False)):
+            with Disk() as disk:
+                disk.fault = lambda call, name: errno.EIO if call == number and (os.getpid() == here) == is_here else None
+                await journal.compact(lambda: [GESTURES[1]])
+            self.assertIsNone(journal.fault, number)
+            await journal.write(GESTURES[2])
+        self.assertEqual(read(self.path)[0], [GESTURES[0], *[GESTURES[2]] * 4])
+
     async def test_a_shorter_journal_that_may_not_last_takes_nothing(self) -> None:
         """Where the folder cannot be synced the old one may stand there again, without what came since."""
         journal = Journal(self.path, 0)
@@ -148,6 +203,30 @@ class Writing(unittest.IsolatedAsyncioTestCase):
             disk.fault = lambda *_: None
             await journal.mend(GESTURES[2])
         self.assertEqual(journal.confirmed(), GESTURES[1:])
+
+    async def test_where_the_old_file_cannot_be_closed_lines_go_to_no_strangers_socket(self) -> None:
+        """Its number is free all the same, and the next socket gets it."""
+        journal = Journal(self.path, 0)
+        await journal.write(GESTURES[0])
+
+        def closes_badly(file: int) -> None:
+            is_file = stat.S_ISREG(os.fstat(file).st_mode)
+            close(file)
+            if is_file:
+                raise OSError(errno.EIO, os.strerror(errno.EIO))
+        close = os.close
+        with mock.patch("server.journal.os.close", closes_badly):
+            await journal.compact(lambda: [GESTURES[1]])
+        sockets = [socket.socketpair() for _ in range(4)]
+        with contextlib.suppress(NotWritten):
+            await journal.write(GESTURES[2])
+        self.assertEqual(journal.confirmed(), read(self.path)[0])
+        for one in (one for pair in sockets for one in pair):
+            self.addCleanup(one.close)
+            one.setblocking(False)
+            with self.assertRaises(BlockingIOError, msg="a line of the journal was sent to a socket"):
+                one.recv(1_000)
+        self.assertEqual(read(self.path)[0], GESTURES[1:])
 
     async def test_what_is_put_in_place_is_whole_or_not_there(self) -> None:
         """Whichever call fails: the old file or the new one."""
@@ -167,9 +246,8 @@ def seen(state: State) -> Any:
     """What a state says, in a form that can be compared."""
     return (state.plan, state.site, state.folder, state.rate, state.now, state.stop, state.bound, state.shares,
             sorted(one.stamp for one in state.unsent),
-            [(seat.name, seat.key, seat.count, seat.upto, dict(seat.done), seat.seen * bool(seat.key),
-              sorted((one.stamp, one.edits, one.who, one.note, one.undoes, one.title) for one in seat.gestures))
-             for seat in state.seats])
+            [(seat.name, seat.key, seat.count, seat.upto, dict(seat.done), seat.used * bool(seat.key),
+              sorted(one.text() for one in state.replica(seat.index).places)) for seat in state.seats])
 
 
 class Folders(Case):
@@ -188,13 +266,13 @@ class Folders(Case):
         server.kill()
         path = server.folder / "journal.jsonl"
         data = path.read_bytes()
-        gestures = [at for at in range(len(data)) if data.startswith(b'{"gesture"', at)]
+        gestures = [at for at in range(len(data)) if data.startswith(b'{"made"', at)]
         ends = [data.index(b"\n", at) + 1 for at in gestures]
         for cut in range(gestures[-2], ends[-1] + 1, (ends[-1] - gestures[-2]) // 19):
             path.write_bytes(data[:cut])
             server.again()
             async with server.seat(key=key) as seat:
-                held = (await seat.ask("gestures"))["gestures"]
+                held = (await seat.ask("operations"))["operations"]
                 self.assertEqual([one["stamp"][0] for one in held], list(range(1, 1 + sum(cut >= end for end in ends))))
                 await self.shared(seat, 9)
                 await seat.ask("undo", stamp=[len(held) + 1, 65], key="u")
@@ -205,8 +283,8 @@ class Folders(Case):
         server.kill()
         path = server.folder / "journal.jsonl"
         good = path.read_bytes()
-        beyond = {"seat": 1, "stamp": [1, 65], "lays": [], "edits": [["limit", 2, 1 << 32, 3]]}
-        for broken in (b"good morning\n", b'{"gesture":{"seat":99}}\n', b'{"what":{}}\n', line_of({"gesture": beyond})):
+        beyond = {"seat": 1, "operation": {"stamp": [1, 65], "sets": [[["limit", 2, 1 << 32], 3]]}}
+        for broken in (b"good morning\n", b'{"made":{"seat":99}}\n', b'{"what":{}}\n', line_of({"made": beyond})):
             path.write_bytes(good + broken + line_of({"clock": {"rate": 0, "now": 5}}))
             with self.assertRaisesRegex(RuntimeError, r"live/serve: [^\n]*journal\.jsonl, line 2[,:][^\n]*\n\Z"):
                 server.start()
@@ -270,6 +348,63 @@ class Folders(Case):
         self.assertIn("another server runs in", ran.stderr)
         self.assertNotIn("Traceback", ran.stderr)
 
+    async def test_a_second_server_says_so_where_the_file_lock_was_removed(self) -> None:
+        """Also after the journal was shortened, which is another file then."""
+        server = self.server(LIVE_MOST_JOURNAL="2000")
+        path = server.folder / "journal.jsonl"
+        first = path.stat().st_ino
+        async with server.seat() as ada:
+            for is_shortened in (False, True):
+                if is_shortened:
+                    numbers = itertools.count()
+
+                    async def shortened() -> bool:
+                        await self.shared(ada, next(numbers))
+                        return path.stat().st_ino != first
+                    await running.until(shortened, "it is shortened")
+                (server.folder / "lock").unlink()
+                ran = subprocess.run([sys.executable, LIVE / "serve", "--folder", server.folder, "--port", "0"],
+                                     capture_output=True, text=True, timeout=running.PATIENCE, check=False)
+                self.assertEqual((ran.returncode, ran.stdout), (1, ""))
+                self.assertIn("another server runs in", ran.stderr)
+            await self.shared(ada, 5)
+
+    async def test_a_server_starts_where_nothing_can_be_written(self) -> None:
+        """All can be looked at, and what is put is refused until the disk takes it."""
+        server = self.server()
+        async with server.seat() as ada:
+            await self.shared(ada, 1)
+            scenario = await ada.ask("scenario")
+        server.kill()
+        before = {path: path.read_bytes() for path in server.folder.iterdir() if path.is_file()}
+        server.log, switch = running.new_folder() / "server.log", running.new_folder() / "writable"
+        server.prefix = [str(LIVE / "tests" / "read_only.py"), str(server.folder), str(switch)]
+        server.start()
+        async with server.seat(key=ada.key) as ada:
+            self.assertEqual(numbers((await ada.ask("scenario"))["edits"]), numbers(scenario["edits"]))
+            said = await ada.reply("gesture", at=ada.at, key="x", edits=[["limit", 2, 50, 1]])
+            self.assertEqual(said["refused"], "not written")
+            self.assertIn("Read-only file system", said["why"])
+            trouble = ada.welcome["trouble"] or next(one["trouble"] for one in reversed(ada.told) if "trouble" in one)
+            self.assertIn("Read-only file system", trouble)
+            async with server.seat("Ben") as ben:  # who comes now looks, too
+                self.assertEqual((await ben.ask("scenario"))["edits"], [])
+                said = await ben.reply("gesture", at=ben.at, key="x", edits=[["limit", 2, 50, 1]])
+                self.assertEqual(said["refused"], "not written")
+            self.assertEqual({path: path.read_bytes() for path in before}, before)
+            switch.touch()
+            await self.shared(ada, 2)
+            async with server.seat(key=ben.key) as ben:
+                await self.shared(ben, 3)
+
+                async def is_kept() -> bool:
+                    return any(entry["seat"]["name"] == "Ben" for entry in server.journal() if "seat" in entry)
+                await running.until(is_kept, "his seat is written down")
+        server.prefix = []
+        server.again()
+        async with server.seat(key=ben.key) as ben:
+            self.assertEqual(len((await ben.ask("scenario"))["edits"]), 1)
+
     async def test_a_full_disk_is_told_and_what_was_not_written_is_nowhere(self) -> None:
         server = self.server()
         async with server.seat() as ada, server.seat("Ben") as ben:
@@ -295,13 +430,13 @@ class Folders(Case):
             await ada.reply("ping")  # what is told comes behind the reply
             troubles = [one["trouble"] for one in ada.told if "trouble" in one]
             self.assertEqual([bool(one) for one in troubles][-2:], [True, False])
-            held = (await ada.ask("scenario"))["edits"]
+            held = numbers((await ada.ask("scenario"))["edits"])
         server.again()
         async with server.seat(key=ada.key) as ada:
-            self.assertEqual((await ada.ask("scenario"))["edits"], held)
+            self.assertEqual(numbers((await ada.ask("scenario"))["edits"]), held)
 
     async def test_a_long_journal_is_shortened_and_says_the_same(self) -> None:
-        server = self.server(LIVE_MOST_JOURNAL="6000", LIVE_DAY="4")
+        server = self.server(LIVE_MOST_JOURNAL="6000", LIVE_DAY="40")
         async with server.seat() as ada, server.seat("Ben") as ben:
             path = server.folder / "journal.jsonl"
             first = path.stat().st_ino
@@ -311,11 +446,11 @@ class Folders(Case):
                 if number % 10 == 5:
                     await ada.ask("send", name="shared", title="so far")
                     await ben.ask("take", message="shared")
-                    await ada.ask("undo", stamp=[number + 1, 65], key=f"u{number}")
-            numbers = itertools.count(100)
+                    await ada.ask("undo", stamp=f"g{number}", key=f"u{number}")
+            places = itertools.count(100)
 
             async def is_shortened() -> bool:
-                await self.shared(ada, next(numbers))
+                await self.shared(ada, next(places))
                 return path.stat().st_ino != first
             await running.until(is_shortened, "it is shortened")
             await self.shared(ben, 77)
@@ -325,7 +460,7 @@ class Folders(Case):
         server.again()
         async with server.seat(key=ada.key) as ada, server.seat(key=ben.key) as ben:
             now = [await seat.ask("scenario", at=at) for seat, at in ((ada, ada.at), (ben, ben.at), (ada, "shared"))]
-            self.assertEqual([one["edits"] for one in held], [one["edits"] for one in now])
+            self.assertEqual([numbers(one["edits"]) for one in held], [numbers(one["edits"]) for one in now])
             self.assertEqual((await ada.ask("gesture", key="g0", edits=[["limit", 0, 1, 1]]))["stamp"], [1, 65])
 
     async def test_the_shortened_journal_gives_the_same_state(self) -> None:
@@ -346,8 +481,8 @@ class Folders(Case):
         server.kill()
         first, second = State(), State()
         for entry in [*server.journal(), {"bound": {"site": 7, "folder": "of site 7"}}]:
-            first.apply(entry)
-        for entry in json.loads(json.dumps(list(first.entries()))):
-            second.apply(entry)
+            first.read(entry)
+        for entry in json.loads(json.dumps([one.written() for one in first.entries()])):
+            second.read(entry)
         self.assertEqual(len(first.unsent), 9)  # one of Ben is of a place where Ada has shared a later one
         self.assertEqual(seen(first), seen(second))

@@ -7,32 +7,27 @@ import random
 import secrets
 from typing import Any, Iterable
 
-from faulty import Bus, Here, Message
-from road_lab import Edit, Plan, RoadLab
+from faulty import Bus, Here, Message, message_of
+from oracle import oracle_of
+from zegdrut import Edit, Plan, RoadLab
 from running import ALL, SMALL, Case
 from server import stamps
 from server.asked import Refused
+from server.model.operations import Operation, Shape, exclude, put
+from server.model.projection import timeline
+from server.screen import rows_of
 from server.state import State
 
 CELLS, STEPS = range(50, 56), range(0, 30, 5)
 
 
-def by_shapes(gestures: Iterable[Any]) -> dict[tuple[int, int], int]:
-    """The same by the rules alone: of what counts the greatest stamp says what a layer is, the highest layer what holds."""
-    outs: dict[int, bool] = {}
-    for one in sorted(gestures, key=lambda each: each.stamp):
-        for name, laid in one.lays.items():
-            if name[0] == "site" and not outs.get(one.stamp[1] // 64):
-                outs[name[1]] = laid.shape is not None
-    layers: dict[Any, Any] = {}
-    for one in sorted(gestures, key=lambda each: each.stamp):
-        if not outs.get(one.stamp[1] // 64):
-            layers.update((name, laid) for name, laid in one.lays.items() if name[0] != "site")
-    standing = sorted((laid.height, laid.shape) for laid in layers.values() if laid.shape is not None)
-    found = {(cell, step): 0 for cell in CELLS for step in range(50)}
-    for _, (_, first, last, begin, end, value) in standing:
-        found.update(((cell, step), value) for cell in range(first, last + 1) for step in range(begin, end))
-    return found
+ORACLE = oracle_of(SMALL, 50)
+
+
+def by_shapes(operations: Iterable[Operation]) -> dict[tuple[int, int], int]:
+    """Which cells are closed at which steps, by the rules alone."""
+    values = ORACLE.painted(operations)
+    return {(cell, step): values["block", cell][step] for cell in CELLS for step in range(50)}
 
 
 def closed(edits: Iterable[Any]) -> dict[tuple[int, int], int]:
@@ -54,7 +49,7 @@ class LeftOut(Case):
         self.sites = [self.bus.site(here) for here in self.here]
         for here in self.here:
             await here.join(f"of site {here.site}")
-            await here.lab.set_clock(to=100)
+            await here.lab.timing.set_clock(to=100)
 
     async def shape(self, place: int, *shape: Any, **more: Any) -> Any:
         """A shared gesture of a site."""
@@ -96,10 +91,8 @@ class LeftOut(Case):
         await self.everywhere(self.road(limit))
 
         await self.shape(2, "block", 80, 80, 10, None, 1)  # what it sends from then on
-        mending = {"stamp": [stamps.next_count(0, stamps.milliseconds(), 0), 3 * 64], "known": 10 ** 9,
-                   "edits": [["block", 20, 5, 1]], "who": "mended", "note": "", "when": 1}
-        await self.bus.give(self.sites[0], Message(f"road/{self.sites[0]._road}/layers", json.dumps(
-            {"form": 2, "gestures": [mending]}).encode()))
+        stamp_of_3 = stamps.next_count(0, stamps.milliseconds(), 0), 3 * 64
+        await self.bus.give(self.sites[0], message_of(self.sites[0], put(stamp_of_3, Shape("block", 20, 20, 5, None, 1))))
         await self.bus.rounds(4)
         await self.everywhere(self.road(limit))
         key, = self.here[1].keys.values()
@@ -110,14 +103,15 @@ class LeftOut(Case):
         self.here[1] = await self.enterAsyncContext(Here(self.here[1].folder))
         self.bus.sites[1] = self.sites[1] = Bus.site(self.bus, self.here[1])
         del self.bus.sites[-1]
-        self.assertEqual((await self.here[1].lab.join("", key, None))[0], 1)
+        self.assertEqual((await self.here[1].lab.seating.join("", key, None))[0], 1)
 
         await self.here[1].ask(1, "undo", key="in", stamp=list(said["stamp"]))
         await self.share(1)
-        await self.everywhere(self.road(limit, *closure, later))
+        extra = ("block", 20, 5, 1)
+        await self.everywhere(self.road(limit, *closure, later, extra))
         await self.here[2].ask(1, "gesture", key="w", note="", layer=stamp, shape=None)
         await self.share(2)
-        await self.everywhere(self.road(limit, later))
+        await self.everywhere(self.road(limit, later, extra))
 
     async def test_who_left_a_site_out_for_all_has_the_road_without_it_after_a_start(self) -> None:
         """It took what that site made, and not yet that it is left out on the shared road."""
@@ -125,7 +119,7 @@ class LeftOut(Case):
         await self.here[1].take(1)
         await self.here[1].ask(1, "site", key="out", site=3, out=True)
         await self.share(1)
-        self.assertEqual(set(by_shapes(self.here[1].lab.state.seats[1].gestures).values()), {0})
+        self.assertEqual(set(by_shapes(self.here[1].lab.state.seats[1].places).values()), {0})
         self.starts_again(self.here[1], "left out")
 
     async def everywhere(self, rows: list[str]) -> None:
@@ -154,17 +148,16 @@ class LeftOut(Case):
                     site._pauses.clear()
                 await self.bus.rounds(2)
             numbers = [await self.numbers(here) for here in self.here]
-            self.assertEqual(numbers, [by_shapes(here.lab.state.shared.gestures) for here in self.here], seed)
+            self.assertEqual(numbers, [by_shapes(here.lab.state.shared.places) for here in self.here], seed)
             self.assertEqual(numbers, [numbers[0]] * 3, seed)
 
     def starts_again(self, here: Here, what: str) -> None:
         """By its journal the seat has the road of the shapes that count."""
         state = State()
         for entry in here.entries():
-            state.apply(entry)
+            state.read(entry)
         for seat in (state.shared, state.seats[1]):
-            state.mend_at_start(seat)
-            self.assertEqual(closed(seat.scenario()), by_shapes(seat.gestures), f"{what} {seat.at}")
+            self.assertEqual(closed(rows_of(timeline(seat.road))), by_shapes(seat.places), f"{what} {seat.at}")
 
     async def act(self, here: Here, chance: random.Random, key: str) -> None:
         what, first, begin = chance.random(), chance.choice(CELLS), chance.choice(STEPS)
@@ -175,7 +168,7 @@ class LeftOut(Case):
             other = 1 + here.lab.state.site % 3
             await here.ask(1, "site", key=key, site=chance.choice([other, 1 + other % 3]), out=chance.random() < 0.6)
         elif what < 0.75:
-            made = [one.stamp for one in here.lab.state.seats[1].gestures if one.lays]
+            made = [one.stamp for one in here.lab.state.seats[1].places]
             await here.ask(1, "undo", key=key, note="", stamp=list(chance.choice(made or [(1, 1)])))
         elif what < 0.85:
             await here.take(1)
@@ -186,6 +179,26 @@ class LeftOut(Case):
         """Which cells are closed at which steps of the shared road, by what wins in the program."""
         reply = await here.keeper.ask(0, (0,), lambda: here.keeper.say(b'{"scenario":{"at":"shared"}}', {}))
         return closed(json.loads(reply)["edits"])
+
+    async def test_at_the_site_that_is_left_out_people_are_told_and_all_goes_on(self) -> None:
+        await self.shape(2, "block", 60, 60, 30, None, 1)
+        await self.here[2].ask(1, "gesture", key="private", note="", shape=["limit", 1, 1, 20, None, 2])
+        await self.here[0].ask(1, "site", key="out", site=3, out=True)
+        await self.share(0)
+        await self.here[2].take(1)
+        for at in ("seat1", "shared"):
+            self.assertEqual(await self.rows(self.here[2], at), self.road())
+            said = await self.here[2].ask(1, "layers", at=at)
+            self.assertEqual([line["standing"] for line in said["layers"] if "gone" not in line and line["kind"] != "site"], [False])
+        with self.assertRaisesRegex(Refused, "SiteExcluded"):
+            await self.here[2].ask(1, "gesture", key="more", note="", shape=["block", 70, 70, 30, None, 1])
+        self.assertEqual((await self.here[2].share(1))["size"], 0)
+        await self.here[0].ask(1, "site", key="in", site=3, out=False)
+        await self.share(0)
+        await self.here[2].take(1)
+        self.assertEqual((await self.here[2].share(1))["size"], 1)
+        await self.share(2)
+        await self.everywhere(self.road(("block", 60, 30, 1), ("limit", 1, 20, 2)))
 
     async def test_who_is_left_out_lets_nobody_in(self) -> None:
         await self.shape(2, "block", 60, 60, 30, None, 1)
@@ -198,19 +211,16 @@ class LeftOut(Case):
         await self.everywhere(self.road(("limit", 1, 20, 2)))
         with self.assertRaisesRegex(Refused, "own site"):
             await self.here[2].ask(1, "site", key="own", site=3, out=False)
-        for wrong in (["site", 0, 0], ["site", 3, 1], ["site", "3", 0], ["site", 1_024, 0], ["site", 3]):
-            lays = [[wrong, 1, [9, 70], None, [0, 0]]]
-            body = json.dumps({"form": 2, "gestures": [{"stamp": [9, 70], "lays": lays, "edits": []}]}).encode()
-            await self.bus.give(self.sites[0], Message(f"road/{self.sites[0]._road}/layers", body))
+        for wrong in ([0, True], [3, 1], ["3", True], [1_024, True], [3]):
+            body = json.dumps({"form": 3, "operations": [{"stamp": [9, 70], "excludes": wrong}]}).encode()
+            await self.bus.give(self.sites[0], Message(f"road/{self.sites[0]._road}/operations", body))
             self.assertNotIn((9, 70), self.here[0].lab.state.by_stamp)
 
     async def test_of_two_of_one_stamp_the_same_counts_at_all_sites(self) -> None:
         """One leaves a site out, the other lets it in; they come in one order or the other."""
         await self.shape(2, "block", 60, 60, 30, None, 1)
         stamp = [stamps.next_count(0, stamps.milliseconds(), 0), 70 * 64 + 1]
-        twins = [Message(f"road/{self.sites[0]._road}/layers", json.dumps({"form": 2, "gestures": [{
-            "stamp": stamp, "who": "Eve", "edits": [], "lays": [[["site", 3, 0], out, stamp, None, [0, 0]]]}]}).encode())
-                 for out in (1, None)]
+        twins = [message_of(self.sites[0], exclude((stamp[0], stamp[1]), 3, out)) for out in (True, False)]
         for place, site in enumerate(self.sites):
             for message in twins[::-1] if place else twins:
                 await self.bus.give(site, message)
@@ -218,29 +228,5 @@ class LeftOut(Case):
         roads = [await self.rows(here) for here in self.here]
         self.assertEqual(roads, [roads[0]] * 3)
         self.bus.seen.clear()
-        await self.bus.rounds(3)  # and no two mend each other
-        self.assertEqual([one for one in self.bus.seen if one.topic.endswith("layers")], [])
-
-    async def test_what_a_site_mended_before_it_is_left_out_does_not_count(self) -> None:
-        """Though it says that it held far more, and holds something else."""
-        await self.shape(0, "limit", 1, 1, 20, None, 2)
-        del self.bus.sites[2]
-        road = self.sites[0]._road
-        sums = {"folder": "c3", "sum": "of others", "numbers": {"operations": "of others"}}
-        mending = {"stamp": [stamps.next_count(0, stamps.milliseconds(), 0), 3 * 64], "known": 10 ** 9,
-                   "edits": [["block", 20, 5, 1]], "who": "mended", "note": "", "when": 1}
-
-        async def is_there(*gestures: Any) -> None:
-            for topic, value in (("road/sites", {"folder": "c3", "run": "r", "site": 3, "road": road, "form": 2}),
-                                 (f"road/{road}/layers", {"form": 2, "gestures": list(gestures)}), (f"road/{road}/sum", sums)):
-                for site in self.sites[:2]:
-                    await self.bus.give(site, Message(topic, json.dumps(value).encode()))
-            await self.bus.rounds()
-        await is_there(mending)
-        await is_there()
-        self.assertEqual([await self.rows(here) for here in self.here[:2]],
-                         [self.road(("limit", 1, 20, 2), ("block", 20, 5, 1))] * 2)
-        await self.here[1].ask(1, "site", key="out", site=3, out=True)
-        await self.share(1)
-        await is_there()
-        self.assertEqual([await self.rows(here) for here in self.here[:2]], [self.road(("limit", 1, 20, 2))] * 2)
+        await self.bus.rounds(3)  # and there is silence
+        self.assertEqual([one for one in self.bus.seen if one.topic.endswith("operations")], [])

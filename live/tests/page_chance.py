@@ -58,7 +58,8 @@ class TwoTabs(BrowserCase):
         ada.until(lambda: " of 3 days" in ada.text("days"), "how far it is")
         found = over_days(ada, "#over")
         self.assertFalse(ada.part("oneDay").is_displayed())
-        self.assertEqual(list(found), ["Vehicle hours", "Lost demand, cars", "Cars at 0.21 km"])
+        self.assertEqual(list(found), ["Vehicle hours", "Lost demand, cars", "Delay, vehicle hours", "Cars at 0.21 km",
+                                       "Seconds to the road's end"])
         self.assertIn("Over 3 days, 0:00:00 to 0:15:00", ada.text("over"))
         mine, shared, more = map(numbers, found["Vehicle hours"])
         self.assertAlmostEqual(more[0], mine[0] - shared[0], delta=0.11)
@@ -67,7 +68,7 @@ class TwoTabs(BrowserCase):
         self.assertTrue(5 < lost[0] < 60 and lost[1] < lost[0], lost)
         # Both roads have the drivers of a day, so the difference is far surer than either.
         self.assertLess(numbers(found["Cars at 0.21 km"][2])[1], numbers(found["Cars at 0.21 km"][1])[1])
-        ada.press("Share…: Whole road closed")
+        ada.press("Share…: Closed")
         before_rows(ada)
         ada.press("Over 3 days", "#before")
         before = over_days(ada, "#before")
@@ -77,7 +78,7 @@ class TwoTabs(BrowserCase):
         ada.press("Not now")
         self.closed(ada)  # another road: the answer was of the one before
         ada.until(lambda: ada.part("oneDay").is_displayed(), "one day")
-        self.assertEqual(ada.lines("own"), ["Whole road closed 0.18–0.188 km, 0:05:00–0:07:00 private"] * 2)
+        self.assertEqual(ada.lines("own"), ["Closed 0.18–0.188 km, 0:05:00–0:07:00 private"] * 2)
 
     def test_it_is_stopped_and_who_asks_is_told(self) -> None:
         ada, ben = self.over_three(SEEDED)
@@ -109,7 +110,7 @@ class TwoTabs(BrowserCase):
         self.assertAlmostEqual(more[0], mine[0] - shared[0], delta=0.11)
         self.assertIn("Over 2 of 3 days, stopped, 0:00:00 to 0:15:00", ada.text("over"))
         self.assertIn("Means of 2 days: ", ada.text("over"))
-        self.assertTrue(ada.save("Figures", "figures_2_days.csv").read_text(encoding="utf-8").startswith("mean of 2 days,"))
+        self.assertTrue("\nmean of 2 days,unit,mine," in ada.save("Figures", "figures-2-days.csv").read_text(encoding="utf-8"))
         ada.press("One day", "#days")
         self.assertTrue(ada.part("oneDay").is_displayed())
 
@@ -117,10 +118,7 @@ class TwoTabs(BrowserCase):
         ada, = self.over_three(SEEDED)[:1]
         self.run_a_quarter(ada)
         self.closed(ada)
-        saved = [ada.save("Script", "script_mine.jsonl")]
-        ada.script("document.querySelector('input[name=whose][value=shared]').click()")
-        ada.settled()
-        saved.append(ada.save("Script", "script_shared.jsonl"))
+        saved = ada.save_both("Script", "script.jsonl")
         hours = ada.script("return [...document.querySelectorAll('#figures tbody tr')].find((line) => "
                            "line.firstChild.textContent === 'Vehicle hours').lastChild.textContent")
         for words in ([], ["--days", "2"]):
@@ -128,7 +126,7 @@ class TwoTabs(BrowserCase):
                                  stdout=subprocess.PIPE, stderr=subprocess.PIPE, text=True, check=False)
             self.assertEqual(ran.returncode, 0, ran.stderr)
             if not words:
-                rows = dict(line.rsplit(",", 1) for line in ran.stdout.splitlines() if line.startswith("by the cars in all"))
+                rows = dict(line.rsplit(",", 1) for line in ran.stdout.splitlines() if line.startswith("check: cars in all rows"))
                 self.assertEqual([f"{float(value):+.1f}" for value in rows.values()], [hours.replace("−", "-")])
 
     def test_a_road_of_one_day_says_so(self) -> None:

@@ -7,9 +7,11 @@ from __future__ import annotations
 import base64
 import re
 
-from browsers import COLOURS, FREE_ROAD, FREEWAY, BrowserCase, Tab, edits_of, example_rows, gestures_of
+from browsers import COLOURS, FREE_ROAD, FREEWAY, BrowserCase, Tab, example_rows, operations_of, shapes_of
 from selenium.webdriver.common.action_chains import ActionChains
 from selenium.webdriver.common.keys import Keys
+
+TWICE = 500  # milliseconds within which the page takes two clicks for one
 
 
 class OnePicture(BrowserCase):
@@ -28,7 +30,7 @@ class OnePicture(BrowserCase):
 
     def test_a_drag_closes_a_cell_in_the_past(self) -> None:
         tab = self.closed_by_a_drag()
-        self.assertEqual(edits_of(gestures_of(self.server)[0]), [["block", 24, 12, 1], ["block", 24, 24, 0]])
+        self.assertEqual(shapes_of(operations_of(self.server)[0]), [["block", 24, 24, 12, 24, 1]])
         tab.tool("look")
         tab.script("store.layers.mine.frames = []; draw()")  # the frame lies over the pixels of its edges
         tab.settled()
@@ -45,11 +47,10 @@ class OnePicture(BrowserCase):
         tab = self.closed_by_a_drag()
         tab.tool("look")
         tab.drag((24.5, 24), (24.5, 30.1))
-        first, second = gestures_of(self.server)
-        self.assertEqual(len(first["edits"]), 2)
-        # What is other than before: it opens later.
-        self.assertEqual(edits_of(second), [["block", 24, 24, None], ["block", 24, 30, 0]])
-        self.assertEqual(tab.lines("own"), ["Whole road closed 0.18–0.188 km, 0:00:12–0:00:30 private"])
+        first, second = operations_of(self.server)
+        self.assertEqual(shapes_of(second), [["block", 24, 24, 12, 30, 1]])  # it opens later
+        self.assertEqual([name for name, _ in second["sets"]], [first["stamp"]])
+        self.assertEqual(tab.lines("own"), ["Closed 0.18–0.188 km, 0:00:12–0:00:30 private"])
 
     def test_undo_gives_the_picture_back(self) -> None:
         tab = self.closed_by_a_drag()
@@ -65,7 +66,7 @@ class OnePicture(BrowserCase):
         tab = self.closed_by_a_drag()
         tab.tool("look")
         tab.drag((24.5, 24), (24.5, 30.1))
-        first, second = (f"Whole road closed 0.18–0.188 km, 0:00:12–0:00:{end} private" for end in (24, 30))
+        first, second = (f"Closed 0.18–0.188 km, 0:00:12–0:00:{end} private" for end in (24, 30))
         for name, lines in (("Undo", [first]), ("Undo", []), ("Redo", [first]), ("Redo", [second])):
             tab.press(name)
             tab.settled()
@@ -152,7 +153,7 @@ class OneFreeway(BrowserCase):
         tab.begin_drag((360, 1200), (430, 1500))
         # 360 to 430 lie in the zones of the cells 350 to 449: it is said before it is let go.
         self.assertEqual(tab.text("readout"), "54 km/h, 2.625–3.375 km, 2 whole zones of 375 m, 0:20:00–0:25:00")
-        self.assertEqual(gestures_of(self.server), [])
+        self.assertEqual(operations_of(self.server), [])
         tab.drop()
         self.assertNotIn("zones", tab.text("readout"))  # now of the place at which it was let go
         self.assertEqual(tab.lines("own"), ["54 km/h, 2.625–3.375 km, 0:20:00–0:25:00 private"])
@@ -168,11 +169,11 @@ class OneFreeway(BrowserCase):
         tab.begin_drag((402, 3400), (420, 3500))
         self.assertIn("Less than half of a zone is covered", tab.text("readout"))
         tab.drop()
-        self.assertEqual(len(gestures_of(self.server)), 3)
+        self.assertEqual(len(operations_of(self.server)), 3)
         tab.tool("block")
         self.assertNotIn("zones", tab.text("toolHint"))
         tab.begin_drag((500, 1200), (560, 1500))
-        self.assertEqual(tab.text("readout"), "Whole road closed, 3.75–4.2 km, 0:20:00–0:25:00")
+        self.assertEqual(tab.text("readout"), "Closed, 3.75–4.2 km, 0:20:00–0:25:00")
         tab.drop()
 
     def test_what_is_said_of_a_drag_is_what_it_does(self) -> None:
@@ -181,13 +182,13 @@ class OneFreeway(BrowserCase):
         tab.run_an_hour()
         tab.tool("block")
         tab.begin_drag((400, 1200), (440, 1500))
-        said = "Whole road closed, 3–3.3 km, 0:20:00–0:25:00"
+        said = "Closed, 3–3.3 km, 0:20:00–0:25:00"
         self.assertEqual(tab.text("readout"), said)
         tab.script("runAnHour()")
         tab.until(lambda: tab.script("return store.look.step") == 3600, "an hour later")
         self.assertEqual(tab.text("readout"), said)
         tab.drop()
-        self.assertEqual(tab.lines("own"), ["Whole road closed 3–3.3 km, 0:20:00–0:25:00 private"])
+        self.assertEqual(tab.lines("own"), ["Closed 3–3.3 km, 0:20:00–0:25:00 private"])
 
     def test_the_diagram_keeps_its_size_whatever_is_said_of_a_drag(self) -> None:
         """Else its end lies elsewhere below the same pointer."""
@@ -229,9 +230,9 @@ class OneFreeway(BrowserCase):
         for limit, begin, end in (("2", "0:10", "0:30"), ("3", "0:20", "0:40")):
             tab.choose("limit", limit)
             tab.in_figures(kmFrom="0", kmTo="0.3", timeFrom=begin, timeTo=end)
-        # The later one has all of its rectangle: the end of the earlier one is withdrawn, and comes back as its own.
-        self.assertEqual(edits_of(gestures_of(self.server)[1]),
-                         [["limit", 0, 1200, 3], ["limit", 0, 1800, None], ["limit", 0, 2400, 5]])
+        self.assertEqual(shapes_of(operations_of(self.server)[1]), [["limit", 0, 0, 1200, 2400, 3]])
+        self.assertEqual([tab.value_at("limit", 0, step) for step in (600, 1199, 1200, 2399, 2400)],
+                         [[2], [2], [3], [3], [5]])  # the later one has all of its rectangle
 
     def test_too_great_a_closure_is_refused_before_it_is_let_go(self) -> None:
         tab, = self.open(FREEWAY)
@@ -241,7 +242,7 @@ class OneFreeway(BrowserCase):
         # 600 cells are 4.5 km.
         self.assertIn("At most 4.5 km are closed at once.", tab.text("readout"))
         tab.drop()
-        self.assertEqual(gestures_of(self.server), [])
+        self.assertEqual(operations_of(self.server), [])
 
     def test_a_look_ahead_goes_as_far_as_a_road_may(self) -> None:
         tab, = self.open(FREEWAY)
@@ -320,15 +321,23 @@ class OneFreeway(BrowserCase):
         tab.drag((430, 1800), (430, 1800))
         tab.tool("inflow")
         tab.drag((190, 1800), (190, 1800))
-        limit, demand = (edits_of(one) for one in gestures_of(self.server))
+        limit, demand = (shapes_of(one) for one in operations_of(self.server))
         # Zone 8 has the cells 400 to 449; the on-ramp, at cell 200, is the inlet nearest to cell 190.
-        self.assertEqual(limit, [["limit", 8, 1800, 2]])
-        self.assertEqual([edit[:3] for edit in demand], [["inflow", 1, 1800]])
+        self.assertEqual(limit, [["limit", 8, 8, 1800, None, 2]])
+        self.assertEqual([shape[:4] for shape in demand], [["inflow", 1, 1, 1800]])
         tab.tool("limit")
-        ActionChains(tab.driver, duration=0).move_to_element_with_offset(
-            tab.part("diagram"), *tab.place(430, 1200)).double_click().perform()
-        tab.settled()
-        self.assertEqual(len(gestures_of(self.server)), 3)
+        tab.script("window.ends = []; document.getElementById('diagram')"
+                   ".addEventListener('pointerup', (event) => ends.push(event.timeStamp))")
+        milliseconds, count = TWICE, 2
+        while milliseconds >= TWICE:  # a busy machine may take longer, and then these are two clicks
+            tab.script("ends.length = 0")
+            ActionChains(tab.driver, duration=0).move_to_element_with_offset(
+                tab.part("diagram"), *tab.place(430, 1200)).double_click().perform()
+            tab.settled()
+            first, second = tab.script("return ends")
+            milliseconds = second - first
+            count += 1 if milliseconds < TWICE else 2
+            self.assertEqual(len(operations_of(self.server)), count)
 
     def test_a_road_of_8192_cells(self) -> None:
         tab, = self.open({**FREEWAY, "length": 8192, "zone": 128, "zones": [[5, 6554]] * 64, "detectors": [4000, 8000]})

@@ -64,7 +64,8 @@ class ForAll(BrowserCase):
     def test_what_is_asked_before_sharing_is_seen(self) -> None:
         tab, = self.open(FREEWAY)
         tab.run_an_hour()
-        tab.script("for (let zone = 0; zone < 12; zone++) applyArea(areaOfShape(['limit', zone, zone, 1200, 1800, 2]))")
+        tab.script("for (let zone = 0; zone < 12; zone++) applyArea(areaOfShape({kind: 'limit', first: zone, "
+                   "last: zone, from: 1200, to: 1800, value: 2}))")
         self.addCleanup(tab.driver.execute_cdp_cmd, "Emulation.clearDeviceMetricsOverride", {})
         for width, height in ((1366, 768), (768, 1024), (1024, 768)):
             tab.driver.execute_cdp_cmd("Emulation.setDeviceMetricsOverride",
@@ -141,6 +142,52 @@ class ForAll(BrowserCase):
         for ident in ("stays", "diagram", "figures", "figuresNote"):
             top, bottom = tab.script("const {top, bottom} = $(arguments[0]).getBoundingClientRect(); return [top, bottom]", ident)
             self.assertTrue(0 <= top < bottom <= 629, (ident, top, bottom))
+
+    def test_the_program_that_is_not_proved_is_told_calmly_and_can_be_closed(self) -> None:
+        tab, = self.open(FREEWAY)
+        tab.script("store.standing = 'road_lab is not proved: it is tested, and slower'; changed('stays')")
+        said = "Results are tested, not proved: road_lab is not proved: it is tested, and slower"
+        self.assertEqual(tab.text("stays"), said + "Close")
+        high = tab.script("return $('stays').getBoundingClientRect().height")
+        self.assertLess(high, 2 * LINE)  # one line
+        tab.press("Close: this note", "#stays")
+        self.assertEqual(tab.text("stays"), "")
+        tab.script("store.trouble = 'the disk is full'; changed('stays')")
+        self.assertEqual(tab.text("stays"), "the disk is full")
+
+    def test_a_long_status_leaves_the_name_of_who_is_here(self) -> None:
+        tab, = self.open(FREEWAY)
+        self.addCleanup(tab.driver.execute_cdp_cmd, "Emulation.clearDeviceMetricsOverride", {})
+        for width in (1366, 1920):
+            tab.driver.execute_cdp_cmd("Emulation.setDeviceMetricsOverride",
+                                       {"width": width, "height": 768, "deviceScaleFactor": 1, "mobile": False})
+            tab.script("store.lineText = ['connected; ' + 'the broker is away since 10:15, what is shared waits '.repeat(4), true];"
+                       "changed('lineText')")
+            whole = tab.script("return $('me').getBoundingClientRect().right <= $('who').getBoundingClientRect().right + 1")
+            self.assertTrue(whole, width)
+            self.assertTrue(tab.part("line").get_attribute("title").startswith("connected; the broker"))
+
+    def test_a_pressed_button_is_read_under_the_pointer_too(self) -> None:
+        tab, = self.open(FREEWAY)
+        pressed = lambda: tab.driver.find_elements(By.CSS_SELECTOR, "#rates [aria-pressed=true]")
+        tab.until(pressed, "the rate is there")
+        ActionChains(tab.driver, duration=0).move_to_element(pressed()[0]).perform()
+        colours = tab.script("const style = getComputedStyle(document.querySelector('#rates [aria-pressed=true]:hover'));"
+                             "return [style.color, style.backgroundColor]")
+        self.assertEqual(colours, ["rgb(255, 255, 255)", "rgb(11, 61, 99)"])
+
+    def test_the_axis_ends_with_the_roads_end(self) -> None:
+        tab, = self.open(FREEWAY)
+        texts = tab.script("""
+            const found = [], {fillText} = CanvasRenderingContext2D.prototype;
+            CanvasRenderingContext2D.prototype.fillText = function (text, ...where) {
+              found.push(text);
+              return fillText.call(this, text, ...where);
+            };
+            drawDiagram();
+            CanvasRenderingContext2D.prototype.fillText = fillText;
+            return found;""")
+        self.assertIn("6", texts)
 
     def test_what_is_said_is_seen_beside_the_diagram(self) -> None:
         tab, = self.open(FREEWAY)

@@ -3,10 +3,11 @@ from __future__ import annotations
 
 import csv
 import os
+import re
 from pathlib import Path
 from unittest import mock
 
-from browsers import FREE_ROAD, FREEWAY, BrowserCase, Tab, gestures_of
+from browsers import FREE_ROAD, FREEWAY, BrowserCase, Tab, operations_of
 from selenium.webdriver.common.action_chains import ActionChains
 
 
@@ -38,8 +39,8 @@ class OneTab(BrowserCase):
         step = tab.script("return store.look.step")
         tab.drag((300, 1800), (300, 2000))  # (where only the covered one had an edge, at its side)
         self.assertEqual(len(tab.lines("own")), 2)
-        self.assertEqual([line["shape"][3:5] for line in tab.script("return [...store.layers.mine.lines.values()]")],
-                         [[1200, 1800], [600, 2400]])
+        spans = "return [...store.layers.mine.lines.values()].map(({shape: {from, to}}) => [from, to])"
+        self.assertEqual(tab.script(spans), [[1200, 1800], [600, 2400]])
         self.assertEqual(tab.script("return store.look.step"), max(0, step - 200) if step else 0)
 
     def test_edges_that_are_not_seen_cannot_be_drawn(self) -> None:
@@ -53,10 +54,10 @@ class OneTab(BrowserCase):
         tab.settled()
         self.assertEqual(self.pointer(tab, 410, 1800), "grab")
         tab.drag((410, 1800), (410, 2400))
-        self.assertEqual(tab.lines("own"), ["Whole road closed 3–3.15 km, 0:20:00–0:30:00 private"])
+        self.assertEqual(tab.lines("own"), ["Closed 3–3.15 km, 0:20:00–0:30:00 private"])
         tab.keys("z")
         tab.settled()
-        said = "Taken back: Whole road closed 3–3.15 km, 0:20:00–0:30:00: done"
+        said = "Taken back: Closed 3–3.15 km, 0:20:00–0:30:00: done"
         self.assertEqual(tab.text("said"), f"{said}, on your own road.")  # of which nothing is seen
 
     def test_one_rectangle_after_the_other_is_drawn_at_one_place(self) -> None:
@@ -65,7 +66,7 @@ class OneTab(BrowserCase):
         for kind in ("limit", "slow", "block"):
             tab.tool(kind)
             tab.drag((350, 1200), (450, 1800))
-        self.assertEqual(tab.lines("own"), ["Whole road closed 2.625–3.375 km, 0:20:00–0:30:00 private",
+        self.assertEqual(tab.lines("own"), ["Closed 2.625–3.375 km, 0:20:00–0:30:00 private",
                                             "Slowing 25 %, 2.625–3.375 km, 0:20:00–0:30:00 private",
                                             "54 km/h, 2.625–3.375 km, 0:20:00–0:30:00 private"])
         self.assertEqual(self.pointer(tab, 400, 1800), "ns-resize")
@@ -86,17 +87,18 @@ class OneTab(BrowserCase):
         """The server tells a part with its answer, and the page asks for the rest: also after many gestures at once."""
         tab, = self.open(FREEWAY)
         tab.script("""for (let put_ = 0; put_ < 120; put_++) {
-            put({shape: ["limit", 0, 15, 10 * put_, 7200 - 10 * put_, put_ % 5], note: `${put_}`});
+            const shape = {kind: "limit", first: 0, last: 15, from: 10 * put_, to: 7200 - 10 * put_, value: put_ % 5};
+            put({shape, note: `${put_}`});
         }""")
         tab.until(lambda: tab.script("return store.pending.size") == 0, "confirmed")
         tab.settled()
         shown = """
             return [...store.layers.mine.lines.values()].sort((one, other) => byStamp(one.name, other.name))
-              .map(({shown}) => shown.map(([, , , , , , by]) => by === null));"""
+              .map(({shown}) => shown.map(({by}) => by === null));"""
         # Each is in force before and behind the next one, in which it is covered by all that follow; the last one is whole.
         wanted = [[True, *[False] * (2 * (119 - count) - 1), True] for count in range(119)] + [[True]]
         self.assertEqual(tab.script(shown), wanted)
-        tab.script("put({shape: ['limit', 0, 15, 0, 7200, 5], note: 'above all'})")
+        tab.script("put({shape: {kind: 'limit', first: 0, last: 15, from: 0, to: 7200, value: 5}, note: 'above all'})")
         tab.until(lambda: tab.script("return store.pending.size") == 0, "confirmed")
         tab.settled()
         self.assertEqual([any(one) for one in tab.script(shown)], [False] * 120 + [True])
@@ -113,7 +115,7 @@ class OneTab(BrowserCase):
         tab.press_in("#apply")
         tab.settled()
         self.assertEqual(tab.text("said"), "54 km/h, 0.75–4.5 km, 0:20:00–0:30:00: nothing is changed.")
-        self.assertEqual(len(gestures_of(self.server)), 1)
+        self.assertEqual(len(operations_of(self.server)), 1)
         tab.keys("z")
         tab.settled()
         self.assertEqual(tab.lines("own"), [])
@@ -154,7 +156,7 @@ class OneForm(BrowserCase):
         """A closure from 0:20 to 0:30, which is to be changed."""
         tab.tool("block")
         tab.in_figures(kmFrom="3", kmTo="3.15", timeFrom="0:20", timeTo="0:30")
-        tab.press("Change: Whole road closed")
+        tab.press("Change: Closed")
 
     def test_a_change_in_figures_begins_where_the_line_is(self) -> None:
         tab, = self.open(FREEWAY)
@@ -166,23 +168,30 @@ class OneForm(BrowserCase):
         self.assertEqual(values, ["3", "3.3", "0:20:00", "0:40:00"])
         tab.press_in("#apply")
         tab.settled()
-        self.assertEqual(tab.lines("own"), ["Whole road closed 3–3.3 km, 0:20:00–0:40:00 private"])
+        self.assertEqual(tab.lines("own"), ["Closed 3–3.3 km, 0:20:00–0:40:00 private"])
 
     def test_a_demand_is_said_of_the_time_from_which_it_is_put(self) -> None:
         tab, = self.open(FREEWAY)
         tab.run_an_hour()
-        tab.tool("slow")
-        tab.fill(slow="50")
-        tab.in_figures(kmFrom="0", kmTo="0.3", timeFrom="0:50", timeTo="")
         tab.tool("inflow")
-        for begin, chance in (("0:00", "10 %"), ("0:49:59", "10 %"), ("0:50", "50 %"), ("", "50 %")):
+        tab.in_figures(demand="0", timeFrom="0:50", timeTo="")
+        tab.fill(inlet="1", demand="300")
+        found = []
+        for begin in ("0:49:59", "0:50", ""):
             tab.fill(timeFrom=begin)
-            self.assertRegex(tab.text("toolHint"), rf"^inflow chance 0\.\d+ at slowing {chance}$", begin)
+            tab.until(lambda: tab.text("toolHint").startswith("inflow chance"), "it is measured")
+            said = re.fullmatch(r"inflow chance (0\.\d+); this inlet admits up to [\d,]+ cars/h here", tab.text("toolHint"))
+            found.append(float(said[1]) if said else None)
+        beside, alone, now = found
+        # Where nobody passes, a chance q lets in some q / (1 + q q) cars a step; beside the cars of the main road fewer.
+        self.assertAlmostEqual(alone / (1 + alone ** 2), 300 / 3_600, delta=0.002)
+        self.assertGreater(beside, 1.05 * alone)
+        self.assertEqual(now, alone)  # without a time it is that of the clock, at 1:00
 
     def test_what_does_not_stand_is_not_changed(self) -> None:
         tab, = self.open(FREEWAY)
         self.closed(tab)
-        tab.press("Withdraw: Whole road closed")
+        tab.press("Withdraw: Closed")
         tab.settled()
         self.assertFalse(tab.part("dropChange").is_displayed())
         self.assertEqual(tab.text("apply"), "Close")
@@ -197,7 +206,7 @@ class OneForm(BrowserCase):
         self.assertFalse(tab.part("dropChange").is_displayed())
         tab.in_figures(kmFrom="1.5", kmTo="2.25", timeFrom="0:40", timeTo="0:50")
         self.assertEqual(tab.lines("own"), ["54 km/h, 1.5–2.25 km, 0:40:00–0:50:00 private",
-                                            "Whole road closed 3–3.15 km, 0:20:00–0:30:00 private"])
+                                            "Closed 3–3.15 km, 0:20:00–0:30:00 private"])
 
 
 class TwoTabs(BrowserCase):
@@ -205,6 +214,7 @@ class TwoTabs(BrowserCase):
 
     def rows(self, path: Path) -> list[dict[str, str]]:
         with open(path, encoding="utf-8", newline="") as file:
+            next(file)  # of what it is
             return list(csv.DictReader(file))
 
     def test_all_that_was_done_and_what_covers_it_is_listed_and_saved(self) -> None:
@@ -218,9 +228,9 @@ class TwoTabs(BrowserCase):
         ada.take()
         ada.tool("block")
         ada.in_figures(kmFrom="3", kmTo="3.15", timeFrom="0:50", timeTo="0:55")
-        ada.press("Share…: Whole road closed")
+        ada.press("Share…: Closed")
         ada.press("Share now")
-        ada.press("Withdraw: Whole road closed")
+        ada.press("Withdraw: Closed")
         ada.settled()
         ada.open_part("past")
         past = ada.text("history")
@@ -233,7 +243,7 @@ class TwoTabs(BrowserCase):
                          {("Ada", "put"), ("Ben", "put"), ("Ada", "withdraw")})
         covered = [row["covered"] for row in rows if row["covered"]]
         self.assertEqual(len(covered), 1)
-        self.assertIn("0:25:00 to 0:30:00 by Ben: ", covered[0])
+        self.assertEqual(covered[0], "0.75–4.5 km, 0:25:00–0:30:00 by Ben's limit of 54 km/h")
 
     def test_of_a_list_what_stays_is_not_touched(self) -> None:
         """Else each gesture lays out all lines anew, which with a hundred takes longer than the picture."""
@@ -292,8 +302,8 @@ class TwoTabs(BrowserCase):
         rows = {row["figure"]: [row["mine"], row["shared"], row["mine less shared"]]
                 for row in self.rows(ada.save("Figures as CSV", "figures.csv"))}
         number = lambda text: float(text.replace(",", "").replace("−", "-").replace("+", "") or "nan")
-        for name, saved, digits in (("Vehicle hours", "vehicle hours", 1), ("Lost demand, cars", "lost demand in cars", 0),
-                                    ("Delay, vehicle hours", "delay of cars in both in vehicle hours", 1),
+        for name, saved, digits in (("Vehicle hours", "vehicle hours", 1), ("Lost demand, cars", "lost demand", 0),
+                                    ("Delay, vehicle hours", "delay of cars on both roads", 1),
                                     ("Cars at 2.25 km", "cars at 2.25 km", 0)):
             wanted, = ([number(text) for text in values] for head, *values in shown if head == name)
             for one, other in zip(rows[saved], wanted):

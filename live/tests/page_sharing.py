@@ -28,7 +28,7 @@ class Sharing(BrowserCase):
         ben.press("Look first")
         ben.settled()
         self.assertFalse(ben.part("news").is_displayed())  # "Take now" is asked: there is one way to take
-        self.assertIn("Whole road closed 0.18–0.188 km, 0:00:12–0:00:24 Ada, ", ben.text("beforeBody"))
+        self.assertIn("Closed 0.18–0.188 km, 0:00:12–0:00:24 Ada, ", ben.text("beforeBody"))
         # In the cells 15 to 19 of the steps 20 to 24 Ada's cars have, by the example's rows, the speeds 3, 1, 3, 0, 3, 0, 0,
         # 2, 0, 0, 3, 0, 0, 0, and Ben's drive 3: hers are slower, by half of the scale, which is a middling red;
         # for both, as the legend says.
@@ -43,7 +43,7 @@ class Sharing(BrowserCase):
         ben.settled()
         wanted = example_rows(0)[:12] + example_rows(1)[-17:]
         self.assertEqual(ben.signs(12, len(wanted), 40), wanted)
-        self.assertEqual(ben.lines("held"), ["Whole road closed 0.18–0.188 km, 0:00:12–0:00:24 shared"])
+        self.assertEqual(ben.lines("held"), ["Closed 0.18–0.188 km, 0:00:12–0:00:24 shared"])
 
     def test_covered_and_put_on_top(self) -> None:
         ada, ben = self.open(FREE_ROAD)
@@ -164,15 +164,15 @@ class Sharing(BrowserCase):
         self.assertEqual(ben.value_at("block", 20, 599, 600, 1200, 2099, 2100, 2999, 3000), [0, 1, 1, 1, 1, 1, 0])
         labels = "return framesShown().map((one, _, all) => labelOf(one, areOfSeveral(all))).sort()"
         # A frame has the name of who made what is on top there.
-        self.assertEqual(set(ben.script(labels)), {"whole road closed, you", "whole road closed, Ada"})
+        self.assertEqual(set(ben.script(labels)), {"closed, you", "closed, Ada"})
         ben.share_all()
         ada.take()
-        self.assertEqual(set(ada.script(labels)), {"whole road closed, you", "whole road closed, Ben"})
-        ada.press("Withdraw: Whole road closed 0.15–0.21 km")
+        self.assertEqual(set(ada.script(labels)), {"closed, you", "closed, Ben"})
+        ada.press("Withdraw: Closed 0.15–0.21 km")
         ada.settled()
         for cell, values in ((20, [0, 1, 1, 1, 0, 0]), (27, [0, 0, 0, 0, 0, 0])):
             self.assertEqual(ada.value_at("block", cell, 599, 600, 1200, 2099, 2100, 2999), values)
-        self.assertEqual(set(ada.script(labels)), {"whole road closed"})
+        self.assertEqual(set(ada.script(labels)), {"closed"})
         ada.share_all()
         ben.take()
         for tab in (ada, ben):
@@ -193,7 +193,7 @@ class Sharing(BrowserCase):
         # The jams before the closures, half way down: at cell 590 her own, at cell 390 Ben's, at cell 125 what she shares.
         own, his, shared = (590, 1700), (390, 1700), (125, 1700)
         jam = lambda tab, place: (lambda red, green, blue: green < 130 and red > 150)(*tab.pixel(*place))
-        for what, wanted in (("Share…: Whole road closed 1.05", [False, False, True]), ("Look first", [False, True, False])):
+        for what, wanted in (("Share…: Closed 1.05", [False, False, True]), ("Look first", [False, True, False])):
             ada.press(what)
             ada.settled()
             self.assertEqual([jam(ada, place) for place in (own, his, shared)], wanted, what)
@@ -273,7 +273,8 @@ class Sharing(BrowserCase):
         ada.press("Share…: 27 km/h")
         rows = before_rows(ada)
         self.assertEqual(list(rows), ["Vehicle hours", "Cars let in", "Lost demand, cars",
-                                      "Delay of cars in both, vehicle hours", "Cars an hour at 0.21 km"])
+                                      "Delay of cars in both, vehicle hours", "Cars an hour at 0.21 km", "Seconds to 0.21 km",
+                                      "Seconds to the road's end"])
         # A car every other step drives over the 39 cells at 3 cells a step, and in ten of sixty minutes at 1.
         self.assertAlmostEqual(rows["Vehicle hours"][0], 1_800 * 13 / 3_600, delta=0.5)
         self.assertAlmostEqual(rows["Vehicle hours"][1], 1_500 * 13 / 3_600 + 300 * 39 / 3_600, delta=0.5)

@@ -5,7 +5,7 @@ import asyncio
 import time
 
 from brokers import reference
-from browsers import FREE_ROAD, FREEWAY, BrowserCase, Tab, edits_of, gestures_of
+from browsers import FREE_ROAD, FREEWAY, BrowserCase, Tab, operations_of, shapes_of
 from running import Broker, Server
 from selenium.webdriver.common.action_chains import ActionChains
 from selenium.webdriver.common.by import By
@@ -38,11 +38,15 @@ class TwoTabs(BrowserCase):
         ada.until(lambda: ada.text("news").startswith("Cron shared 3 changes: “night”, “works”."), "news")
         ada.press("Look first")
         ada.settled()
-        said = ada.script("return [...document.querySelectorAll('#beforeBody > p, #beforeBody > ul')].slice(0, 2).flatMap((one) => "
-                          "one.children.length ? [...one.children].map((line) => line.firstChild.data) : [one.textContent])")
-        self.assertEqual(said[0], "“night”, “works”")
-        self.assertEqual(sorted(said[1:]), ["Demand 1,500 cars/h, at 0 km, from 0:10:00 on", "Limit withdrawn",
-                                            "Whole road closed 0.75–0.765 km, from 0:10:00 on, and 1 more edit"])
+        lines = ("return [...document.querySelectorAll('#beforeBody > p, #beforeBody > ul')].slice(0, 2).flatMap((one) => "
+                 "one.children.length ? [...one.children].map((line) => line.firstChild.data) : [one.textContent])")
+        ada.until(lambda: "cars/h" in str(ada.script(lines)), "what the inlet admits is measured")
+        title, *said = ada.script(lines)
+        self.assertEqual(title, "“night”, “works”")
+        closed, demand, limit = sorted(said)
+        self.assertEqual((closed, limit), ("Closed 0.75–0.765 km, from 0:10:00 on, and 1 more edit", "Limit withdrawn"))
+        # At a slowing chance of 0.1 a chance of 0.588 admits some 1,500 cars an hour: within half a per cent.
+        self.assertRegex(demand, r"^Demand 1,(49[3-9]|50[0-7]) cars/h, at 0 km, from 0:10:00 on$")
 
     async def at_night(self) -> None:
         async with self.server.seat("Cron") as cron:
@@ -59,17 +63,17 @@ class TwoTabs(BrowserCase):
         ada.take()
         names = ada.script("return [...document.querySelectorAll('#held button')].map((one) => one.ariaLabel)")
         self.assertEqual([name for name in names if name.startswith("Change")],
-                         ["Change: Whole road closed 0.75–0.765 km, 0:10:00–0:11:40",
+                         ["Change: Closed 0.75–0.765 km, 0:10:00–0:11:40",
                           "Change: 54 km/h, 4.125–4.5 km, from 1:30:00 on"])
         ada.press("Change: 54 km/h")
         values = [ada.part(name).get_attribute("value") for name in ("limit", "kmFrom", "kmTo", "timeFrom", "timeTo")]
         self.assertEqual(values, ["2", "4.125", "4.5", "1:30:00", ""])
         ada.choose("limit", "3")
         ada.in_figures(timeTo="1:40")
-        # In the place of zone 11's limit from 1:30 on: another, which ends; the plan's is 5.
-        self.assertEqual(edits_of(gestures_of(self.server)[-1]), [["limit", 11, 5400, 3], ["limit", 11, 6000, 5]])
+        # In the place of zone 11's limit from 1:30 on, which was a raw edit: a shape, which ends.
+        self.assertEqual(shapes_of(operations_of(self.server)[-1]), [["limit", 11, 11, 5400, 6000, 3], ["limit", 11, 5400, None]])
         self.assertEqual(ada.lines("own"), ["81 km/h, 4.125–4.5 km, 1:30:00–1:40:00 private"])
-        ada.press("Change: Whole road closed")
+        ada.press("Change: Closed")
         values = [ada.part(name).get_attribute("value") for name in ("kmFrom", "kmTo", "timeFrom", "timeTo")]
         self.assertEqual(values, ["0.75", "0.765", "0:10:00", "0:11:40"])
 
@@ -104,15 +108,16 @@ class TwoTabs(BrowserCase):
         ada.show(3600)
         ada.tool("block")
         ada.in_figures(kmFrom="0.18", kmTo="0.19", timeFrom="0:10", timeTo="")
-        cells = ada.script("return [...document.querySelectorAll('#figures tbody tr:last-child > *')].map((one) => one.innerText)")
+        ada.until(lambda: "…" not in ada.text("figures"), "what is counted car by car")
+        cells = ada.script("return [...document.querySelectorAll('#figures tbody tr:nth-last-child(2) > *')].map((one) => one.innerText)")
         # A car in two steps (0..2...., .1......, by the example's rows), all at 3 cells a step; the first passes cell 28 at
         # step 10 or so, and the last of mine some steps behind 0:10:00.
         name, mine, shared, change = cells
         self.assertEqual(name, "Cars at 0.21 km")
-        self.assertRegex(shared, r"^1,79[4-6]\n1,79[4-6]/h, 81 km/h$")
-        self.assertRegex(mine, r"^29[5-7]\n29[5-7]/h, 81 km/h$")
+        self.assertRegex(shared, r"^1,79[4-6]\n1[01] s\n1,79[4-6]/h, 81 km/h$")
+        self.assertRegex(mine, r"^29[5-7]\n1[01] s\n29[5-7]/h, 81 km/h$")
         passed = [int(text.split()[0].replace(",", "")) for text in (mine, shared)]
-        self.assertEqual(change, f"−{passed[1] - passed[0]:,}")
+        self.assertEqual(change, f"−{passed[1] - passed[0]:,}\n0 s")
 
     def test_by_the_keyboard_alone(self) -> None:
         ada, ben = self.open(FREE_ROAD)
@@ -122,7 +127,7 @@ class TwoTabs(BrowserCase):
         tab_to(ada, "Space-time diagram")
         type_in(ada, Keys.HOME, "c", " ", *[Keys.ARROW_RIGHT] * 2, *[Keys.ARROW_DOWN] * 3)
         said = ada.text("readout")
-        self.assertTrue(said.startswith("Whole road closed, "), said)
+        self.assertTrue(said.startswith("Closed, "), said)
         type_in(ada, Keys.ENTER)
         ada.settled()
         self.assertEqual(len(ada.lines("own")), 1)
@@ -136,14 +141,14 @@ class TwoTabs(BrowserCase):
         ben.until(lambda: len(ben.lines("held")) == 1, "taken")
         tab_to(ada, "Space-time diagram")
         type_in(ada, "z")
-        ada.until(lambda: "Taken back: Whole road closed" in "".join(ada.lines("own")), "taken back, in private")
+        ada.until(lambda: "Taken back: Closed" in "".join(ada.lines("own")), "taken back, in private")
         ada.settled()
         tab_to(ada, "Redo")
         type_in(ada, Keys.ENTER)
         ada.until(lambda: "Taken back" not in "".join(ada.lines("own")), "put again")
-        tab_to(ada, "Withdraw: Whole road closed")
+        tab_to(ada, "Withdraw: Closed")
         type_in(ada, Keys.ENTER)
-        ada.until(lambda: "Withdrew: Whole road closed" in "".join(ada.lines("own")), "withdrawn")
+        ada.until(lambda: "Withdrew: Closed" in "".join(ada.lines("own")), "withdrawn")
 
     def test_who_withdraws_the_last_change_goes_on_at_the_diagram(self) -> None:
         ada, = self.open(FREE_ROAD, ("Ada",))
@@ -156,7 +161,7 @@ class TwoTabs(BrowserCase):
         ada, = self.open(FREE_ROAD, ("Ada",))
         ada.run_an_hour()
         ada.keys(Keys.HOME, "c", " ", Keys.ARROW_RIGHT, Keys.ARROW_DOWN)
-        self.assertTrue(ada.text("readout").startswith("Whole road closed, "), ada.text("readout"))
+        self.assertTrue(ada.text("readout").startswith("Closed, "), ada.text("readout"))
         ada.keys("v", Keys.ARROW_RIGHT)
         self.assertRegex(ada.text("readout"), r"^0\.\d\d km, \d:\d\d:\d\d: ")
         ada.keys(Keys.ENTER)
@@ -198,7 +203,7 @@ class TwoTabs(BrowserCase):
         ada.keys("z", "z")
         self.server.start()
         ada.until(lambda: len(ada.lines("own")) == 6 and "pending" not in ada.text("own"), "confirmed")
-        self.assertEqual([gesture["lays"][0][1][5] for gesture in gestures_of(self.server)[:8]], [2, 0, 1, 3, 4, 5, 6, 7])
+        self.assertEqual([operation["sets"][0][1][5] for operation in operations_of(self.server)[:8]], [2, 0, 1, 3, 4, 5, 6, 7])
         self.assertEqual(ada.lines("own")[0], "135 km/h, 0–0.3 km, from 0:20:00 on private")
         self.assertEqual(ada.value_at("limit", 0, 1200), [5])
         ada.settled()
@@ -300,7 +305,7 @@ class TwoTabs(BrowserCase):
         self.assertEqual(ada.part("line").get_attribute("class"), "away")
         broker.start()
         ada.until(lambda: ada.text("line") == "connected, with 1 other site, trusted wholly", "it is back")
-        broker.say(f"road/{reference(self.server)}/edits", "good morning")
+        broker.say(f"road/{reference(self.server)}/operations", "good morning")
         ada.until(lambda: ada.text("said") == "A message from the broker was left out: it is no message: good morning",
                   "rubbish is told")
 
@@ -315,6 +320,9 @@ class TwoTabs(BrowserCase):
         self.assertEqual([one.text for one in ada.part("seatList").find_elements(By.TAG_NAME, "button")],
                          ["Ada, seat 1, 1 change not shared"])
         ada.press("Ada, seat 1")
+        ada.until(lambda: "a script that uses it, loses the seat of Ada" in ada.text("seatList"), "it asks first")
+        self.assertEqual([entry["seat"]["seat"] for entry in self.server.journal() if "seat" in entry], [1, 2])
+        ada.press("Take over Ada, seat 1")
         ada.until(lambda: ada.lines("own") == ["27 km/h, 0–0.3 km, 0:20:00–0:30:00 private"], "her changes")
         self.assertEqual(ben.text("others"), ", with Ada")
 
@@ -343,7 +351,7 @@ class ThreeTabs(BrowserCase):
                            "JSON.stringify([name, shape, shown])).sort()") for tab in tabs]
         self.assertEqual(held[0], held[1])
         self.assertEqual(held[0], held[2])
-        self.assertEqual(len(gestures_of(self.server)), 3)
+        self.assertEqual(len(operations_of(self.server)), 3)
         rows = [tab.script("return store.roads.mine.level(everyShown()).rows.filter(Boolean)") for tab in tabs]
         self.assertEqual(rows[0], rows[1])
         self.assertEqual(rows[0], rows[2])

@@ -35,11 +35,11 @@ class OneTab(BrowserCase):
         os.kill(self.server.program, signal.SIGSTOP)
         self.begin_limit(ada, "1")
         sentence = f"The program was replaced: the program owed an answer and used no processor for {HANGS} seconds"
+        ada.until(lambda: ada.text("said").endswith(": done."), "it is confirmed, whatever the program does")
         ada.until(lambda: sentence in ada.text("stays"), "it is told")
         self.assertGreater(time.monotonic() - began, HANGS * 0.8)
         ada.until(lambda: ada.lines("own") == ["27 km/h, 0–0.3 km, 0:20:00–0:30:00 private"], "done by the next program")
         ada.settled()
-        self.assertTrue(ada.text("said").endswith(": done."), ada.text("said"))
         self.assertIn(sentence, ada.text("stays"))
         ada.script(SOONER)
         os.kill(self.server.program, signal.SIGKILL)

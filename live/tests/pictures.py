@@ -73,10 +73,13 @@ class Pictures(Case):
         said = await self.ada.ask("csv", what="counts", each=50, **{"from": 0, "to": 100})
         table = list(csv.reader(io.StringIO(said["csv"])))
         counts = (await self.ada.ask("counts", **{"from": 0, "to": 100, "each": 50}))["counts"]
-        self.assertEqual(table[0], ["from", "to", "detector", "cell", "cars", "speeds"])
-        wanted = [(50 * span, 50 * span + 50, detector, SMALL["detectors"][detector], *pair)
-                  for span, pairs in enumerate(counts) for detector, pair in enumerate(pairs)]
-        self.assertEqual(table[1:], [[str(cell) for cell in line] for line in wanted])
+        self.assertEqual(table[0], ["# counts of the road of Ada", " 0:00:00 to 0:01:40"])
+        self.assertEqual(table[1], ["from", "to", "detector", "km", "cars", "flow in cars/h", "time-mean speed in km/h", "seconds on"])
+        wanted = [(f"0:0{50 * span // 60}:{50 * span % 60:02}", f"0:0{(50 * span + 50) // 60}:{(50 * span + 50) % 60:02}",
+                   detector, SMALL["detectors"][detector] * 7.5 / 1_000, cars, float(cars * 72),
+                   round(speeds / cars * 27, 1) if cars else "", 50)
+                  for span, pairs in enumerate(counts) for detector, (cars, speeds) in enumerate(pairs)]
+        self.assertEqual(table[2:], [[str(cell) for cell in line] for line in wanted])
         for text in ("=a", "+a", "-a", "@a", " =a", "\t=a"):
             self.assertEqual(saving.harmless(text), "'" + text)
         self.assertEqual([saving.harmless(cell) for cell in ("a=", 7, "")], ["a=", 7, ""])

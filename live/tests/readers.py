@@ -7,10 +7,13 @@ from __future__ import annotations
 
 import asyncio
 import random
-from typing import Any, NamedTuple
+from typing import Any, Callable
 
+from crashes import numbers
+from oracle import counting_operations
 from server.client import Refused, Seat
-from road_lab import Plan, RoadLab
+from server.model.operations import Operation, Shape, Stamp
+from zegdrut import Plan, RoadLab
 from running import ALL, SMALL, Case, Server, until
 
 LAST = 80
@@ -19,52 +22,36 @@ BASE = {"block": 0, "limit": 4}
 THERE = {"block": 60, "limit": 3}
 HOURS, ROUNDS = (12 if ALL else 1), (20 if ALL else 6)
 
-Stamp = tuple[int, int]
-Laid = tuple["list[Any] | None", Stamp]  # a shape, and its height
-Lays = dict[Stamp, Laid]
-NOTHING: Laid = (None, (0, 0))
-
-
 KEPT = 20  # of its own operations that are not shared the newest, after a restart too
 NOT_THERE = "no such change"
-
-
-class Made(NamedTuple):
-    """What an operation laid, what was there before, and which one it took back."""
-
-    lays: Lays
-    was: Lays
-    undoes: Stamp | None
+REFUSED = ("nothing to take back", "nothing to put", "NoEffect")
 
 
 class Reader:
     """A seat, and what it holds."""
 
-    def __init__(self, server: Server, seat: Seat, chance: random.Random, made: dict[Stamp, Made]) -> None:
+    def __init__(self, server: Server, seat: Seat, chance: random.Random, made: dict[Stamp, Operation]) -> None:
         self.server, self.seat, self.chance, self.made = server, seat, chance, made
         self.held: set[Stamp] = set()
         self.private: list[Stamp] = []  # own operations that are not shared, in their order
         self.old: set[Stamp] = set()  # of these what a server that was started again need not have
         self.count = 0
 
-    def layers(self) -> dict[Stamp, tuple[Stamp, Laid]]:
-        """Of each layer what the latest operation laid, with its stamp."""
-        return {name: (stamp, laid) for stamp in sorted(self.held) for name, laid in self.made[stamp].lays.items()}
+    def layers(self) -> dict[Stamp, tuple[Stamp, Shape | None]]:
+        """Of each layer its height and its shape, as the operations that count say."""
+        shapes: dict[Stamp, Shape | None] = {}
+        heights: dict[Stamp, Stamp] = {}
+        for one in counting_operations(self.made[stamp] for stamp in self.held):
+            for name, shape in one.sets.items():
+                shapes.setdefault(name[:2], shape)
+            for name, height in one.heights.items():
+                heights.setdefault(name[:2], height)
+        names = {name[:2] for stamp in self.held for name in self.made[stamp].names}
+        return {name: (heights.get(name, name), shapes.get(name)) for name in names}
 
-    def standing(self) -> list[tuple[Stamp, Stamp, list[Any]]]:
+    def standing(self) -> list[tuple[Stamp, Stamp, Shape]]:
         """Height, name and shape of what stands, the highest first."""
-        return sorted(((height, name, shape) for name, (_, (shape, height)) in self.layers().items() if shape), reverse=True)
-
-    def lies_as(self, name: Stamp, stamp: Stamp) -> bool:
-        """Whether a layer is as an operation laid it: nothing was laid there since, or what was has been taken back."""
-        done = [one for one in sorted(self.held) if name in self.made[one].lays]
-        laid = self.made[done[-1]].lays[name]
-        while done and self.made[done[-1]].lays[name] == laid:
-            if done[-1] == stamp:
-                return True
-            undone = self.made[done[-1]].undoes
-            done = done[:done.index(undone)] if undone in done and self.made[undone].was.get(name) == laid else []
-        return False
+        return sorted(((height, name, shape) for name, (height, shape) in self.layers().items() if shape), reverse=True)
 
     # What it does
 
@@ -74,7 +61,8 @@ class Reader:
             what = self.chance.random()
             try:
                 if what < 0.3:
-                    await self.lays("gesture", lambda stamp: {stamp: (shape, stamp)}, shape=(shape := self.shape()))
+                    shape = self.shape()
+                    await self.makes("gesture", lambda stamp: Operation(stamp, {stamp: Shape(*shape)}), shape=shape)
                 elif what < 0.75:
                     await self.acts_on(self.chance.choice([*self.layers()] or [None]))
                 elif what < 0.87:
@@ -82,7 +70,7 @@ class Reader:
                 else:
                     await self.takes()
             except Refused as fault:
-                if fault.reply["refused"] != "nothing to take back":
+                if fault.reply["refused"] not in REFUSED:
                     raise
 
     def shape(self) -> list[Any]:
@@ -92,46 +80,43 @@ class Reader:
         value = self.chance.random() < 0.9 if kind == "block" else self.chance.randrange(5)
         return [kind, first, min(THERE[kind] - 1, first + self.chance.randrange(12)), begin, end, int(value)]
 
-    async def lays(self, verb: str, lays: Any, **fields: Any) -> None:
-        before = self.layers()
+    async def makes(self, verb: str, makes: Callable[[Stamp], Operation], **fields: Any) -> None:
+        """Asks for something, and knows what operation it was."""
         key = f"{self.seat.at}-{self.count}"
         try:
-            stamp = tuple((await self.seat.ask(verb, key=key, **fields))["stamp"])
+            count, number = (await self.seat.ask(verb, key=key, **fields))["stamp"]
         except Refused as fault:
             if fault.reply["refused"] == NOT_THERE and self.is_forgotten(fields.get("layer"), fields.get("stamp")):
                 return
             raise
-        laid = lays(stamp)
-        self.made[stamp] = Made(laid, {name: before[name][1] if name in before else NOTHING for name in laid},
-                                fields["stamp"] if verb == "undo" else None)
-        self.held.add(stamp)
-        self.private.append(stamp)
+        self.made[count, number] = makes((count, number))
+        self.held.add((count, number))
+        self.private.append((count, number))
 
     def is_forgotten(self, name: Stamp | None, stamp: Stamp | None) -> bool:
         """Whether a line may be forgotten, since it was put in private and withdrawn long ago; or an operation."""
-        return stamp in self.old if name is None else name in self.old and self.layers()[name][1][0] is None
+        return stamp in self.old if name is None else name in self.old and self.layers()[name][1] is None
 
     async def acts_on(self, name: Stamp | None) -> None:
         """Something that is done to what is there."""
         if name is None:
             return
-        shape, height = self.layers()[name][1]
+        _, shape = self.layers()[name]
         what = self.chance.choice(["change", "change", "top", "withdraw", "withdraw", "undo", "again"])
         if what == "change":
             new = self.shape()
             if shape is not None and self.chance.random() < 0.5:  # an end is dragged
                 new = [*shape[:4], shape[3] + self.chance.randrange(1, 40), shape[5]]
-            await self.lays("gesture", lambda stamp: {name: (new, height if shape else stamp)}, layer=name, shape=new)
+            await self.makes("gesture", lambda stamp: Operation(stamp, {name: Shape(*new)}, {} if shape else {name: stamp}),
+                             layer=name, shape=new)
         elif what == "withdraw":
-            await self.lays("gesture", lambda stamp: {name: (None, height)}, layer=name, shape=None)
+            await self.makes("gesture", lambda stamp: Operation(stamp, {name: None}), layer=name, shape=None)
         elif what == "top":
-            await self.lays("gesture", lambda stamp: {name: (shape, stamp)}, layer=name, top=True)
+            await self.makes("gesture", lambda stamp: Operation(stamp, {}, {name: stamp}), layer=name, top=True)
         else:
-            old = self.chance.choice(sorted(self.held))
-            back = {one: laid for one, laid in self.made[old].was.items() if self.lies_as(one, old)}
-            again = {one: laid for one, (laid, _) in self.made[old].lays.items()}
-            await self.lays(what, lambda stamp: back if what == "undo" else {one: (laid, stamp) for one, laid in again.items()},
-                            stamp=old)
+            old = self.made[self.chance.choice(sorted(self.held))]
+            await self.makes(what, lambda stamp: Operation(stamp, undoes=old.stamp) if what == "undo" else Operation(
+                stamp, old.sets, {one: stamp for one in old.names}), stamp=old.stamp)
 
     async def shares(self) -> None:
         own = [stamp for stamp in self.held if stamp[1] == self.seat.welcome["number"]]
@@ -163,7 +148,7 @@ class Reader:
 
     # What is so
 
-    def covering(self, kind: str, index: int, step: int) -> tuple[Stamp, list[Any]] | None:
+    def covering(self, kind: str, index: int, step: int) -> tuple[Stamp, Shape] | None:
         return next(((name, shape) for _, name, shape in self.standing_now if shape[0] == kind
                      and shape[1] <= index <= shape[2] and shape[3] <= step and (shape[4] is None or step < shape[4])), None)
 
@@ -212,7 +197,7 @@ class Readers(Case):
         self.mosquitto = self.broker(keeps=bool(seed % 2))
         sites = [self.server("--broker", self.mosquitto.address, "--site", number, plan=PLAN, LIVE_MILLISECONDS="")
                  for number in "12"]
-        made: dict[Stamp, Made] = {}
+        made: dict[Stamp, Operation] = {}
         readers = [Reader(site, await self.enterAsyncContext(site.seat(name)), random.Random(f"{seed} {name} {number}"), made)
                    for number, site in enumerate(sites) for name in ("Ada", "Ben")]
         for reader in readers:
@@ -241,7 +226,7 @@ class Readers(Case):
         """All is shared, exchanged and taken, until nothing is left to share: there is one road. (What laid what was so
         anyway need not be shared, and is something again where another laid the line meanwhile.)"""
         async def are_same() -> bool:
-            one, other = [(await reader.seat.ask("scenario", at="shared"))["edits"] for reader in readers[::2]]
+            one, other = [numbers((await reader.seat.ask("scenario", at="shared"))["edits"]) for reader in readers[::2]]
             return bool(one == other) and not any([await self.unsent(reader) for reader in readers[::2]])
         while any([await reader.sends() for reader in readers]):
             await until(are_same, "both sites have the same")
@@ -256,7 +241,7 @@ class Readers(Case):
         async def is_one_road() -> bool:
             roads = [await reader.rows(at) for reader in readers for at in (reader.seat.at, "shared")]
             return roads == [roads[0]] * len(roads)
-        await until(is_one_road, "one road, once each site has heard that the other holds what it mends")
+        await until(is_one_road, "one road")
 
     async def unsent(self, reader: Reader) -> int:
         told = [one["broker"] for one in reader.seat.told if one.get("broker")]

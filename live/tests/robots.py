@@ -6,9 +6,10 @@ import random
 from typing import Any
 
 from server.client import Refused, Seat
-from server.state import Gesture
-from road_lab import Plan, RoadLab
-from histories import Oracle
+from server.model.operations import Operation
+from server.model.reading import read_operation
+from zegdrut import Plan, RoadLab
+from oracle import oracle_of
 from running import ALL, SMALL, Case, Server, until
 
 LAST = 80
@@ -18,7 +19,7 @@ SITES = 12 if ALL else 3  # runs of several servers
 PLAN = {**SMALL, "length": 60, "zones": [[4, 9_000]] * 3, "inlets": [[0, 30_000], [25, 9_000]], "detectors": [20, 45]}
 OBJECTS = [("limit", 3, 5), ("slow", 3, 40_000), ("block", 60, 1), ("inflow", 2, 65_536), ("watch", 2, 1),
            ("start", 3, 50_000)]
-ORACLE = Oracle(PLAN, LAST)
+ORACLE = oracle_of(PLAN, LAST + 1)
 
 
 def random_edits(chance: random.Random) -> list[list[Any]]:
@@ -58,7 +59,7 @@ class Acts(Case):
             else:
                 await seat.ask("advance", to=chance.randrange(LAST + 1))
         except Refused as fault:
-            self.assertIn(fault.reply["refused"], ("nothing to take back", "no such change"))
+            self.assertIn(fault.reply["refused"], ("nothing to take back", "nothing to put", "NoEffect", "no such change"))
 
     async def act_on(self, seat: Seat, chance: random.Random, key: str) -> None:
         """Something that is done to what is there."""
@@ -77,7 +78,8 @@ class Acts(Case):
     async def compare(self, server: Server, seat: Seat, at: str) -> list[str]:
         """A road beside one of the journal's operations alone: who holds what is worked out here again. Gives its rows."""
         await seat.ask("advance", at=at, to=LAST)
-        values = ORACLE.by_layers(operations(server.journal(), at))
+        values = {(*thing, step): value for thing, line in ORACLE.painted(operations(server.journal(), at)).items()
+                  for step, value in enumerate(line)}
         with RoadLab(Plan(**{**PLAN, "replicas": ["A"]})) as lab:
             for (kind, index, step), value in values.items():
                 if step == 0 or values[kind, index, step - 1] != value:
@@ -125,50 +127,37 @@ class Robots(Acts):
                     broker.kill()
                 elif number in (40, 70):
                     broker.start()
-            for site, seat in seats:
-                await seat.ask("send", name="shared")
-            await until(lambda: self.have_one_road([seat for _, seat in seats]), "all have the same")
-            await until(lambda: self.are_of_the_shapes(seats[::2]), "what is doubted is mended")
-            roads = [await self.compare(site, seat, "shared") for site, seat in seats[::2]]
-            for site, seat in seats:
-                await seat.ask("take", message="shared")
-                roads.append(await self.compare(site, seat, seat.at))
+            while any([(await seat.ask("send", name="shared"))["size"] for _, seat in seats]):
+                await until(lambda: self.have_one_road([seat for _, seat in seats]), "all have the same")
+                for _, seat in seats:  # by which something may be to share that was so anyway before
+                    await seat.ask("take", message="shared")
+            roads = [await self.compare(site, seat, at) for site, seat in seats for at in (seat.at, "shared")]
             self.assertEqual(roads, [roads[0]] * len(roads), seed)
-
-    async def are_of_the_shapes(self, seats: list[tuple[Server, Seat]]) -> bool:
-        """Whether all sites have mended what they are to."""
-        try:
-            for site, seat in seats:
-                await self.compare(site, seat, "shared")
-        except AssertionError:
-            return False
-        return True
 
     async def have_one_road(self, seats: list[Seat]) -> bool:
         """Whether all sites hold the same, and nothing is on its way."""
-        held = [(await seat.ask("scenario", at="shared"))["edits"] for seat in seats[::2]]
+        held = [{tuple(one["stamp"]) for one in (await seat.ask("operations", at="shared"))["operations"]} for seat in seats[::2]]
         brokers = [next((one["broker"] for one in reversed(seat.told) if "broker" in one), {"unsent": 1})
                    for seat in seats[::2]]
         return all(one == held[0] for one in held) and not any(one["unsent"] for one in brokers)
 
 
-def operations(entries: list[dict[str, Any]], at: str) -> list[Gesture]:
+def operations(entries: list[dict[str, Any]], at: str) -> list[Operation]:
     """All operations that a replica holds, by the journal's entries."""
-    own: dict[int, list[Gesture]] = {}
-    shared: list[Gesture] = []
+    own: dict[int, list[Operation]] = {}
+    shared: list[Operation] = []
     upto: dict[int, int] = {}
     for entry in entries:
         kind, value = next(iter(entry.items()))
-        if kind == "gesture":
-            own.setdefault(value["seat"], []).append(Gesture.read(value))
+        if kind == "made":
+            own.setdefault(value["seat"], []).append(read_operation(value["operation"]))
         elif kind == "share":
             shared += [one for one in own[value["seat"]] if list(one.stamp) in value["stamps"]]
         elif kind == "came":
-            shared += map(Gesture.read, value["gestures"])
+            shared += map(read_operation, value["operations"])
         elif kind == "take":
             upto[value["seat"]] = value["upto"]
-        shared += [Gesture.read(value["mending"])] if "mending" in value else []
     if at == "shared":
         return shared
     seat = int(at.removeprefix("seat"))
-    return own.get(seat, []) + shared[:upto.get(seat, 0)]
+    return [*{one.text(): one for one in own.get(seat, []) + shared[:upto.get(seat, 0)]}.values()]

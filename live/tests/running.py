@@ -5,10 +5,13 @@ import asyncio
 import atexit
 import contextlib
 import ctypes
+import functools
+import gc
 import json
 import logging
 import os
 import random
+import re
 import shutil
 import signal
 import statistics
@@ -21,7 +24,9 @@ from pathlib import Path
 from typing import Any, Awaitable, Callable, Iterator
 
 from server.client import Seat
-from road_lab import program_path
+from server.watch import SAID, Watch, is_of_server
+from working import is_too_long
+from zegdrut import program_path
 
 LIVE = Path(__file__).resolve().parent.parent
 PATIENCE = 120.0  # seconds; what is waited for comes far sooner where the machine has nothing else to do
@@ -31,6 +36,10 @@ SMALL: dict[str, Any] = {
 ALL = os.environ.get("LIVE_TEST") == "all"  # `live/test --all`
 FIXED = {"LIVE_MILLISECONDS": "0"}  # counts are the greatest that is held and one more, but where a test wants a clock
 STARTED: list[subprocess.Popen[Any]] = []
+LONGEST = 0.2  # seconds of processor that a piece of a server's work may take on a quiet machine
+PIECE = re.compile(rf"{SAID} for a piece of work of ([\d.]+) s")
+HELD_UP: list[str] = []  # by what of a server in this process all others waited for longer
+LOGS: dict[Path, int] = {}  # of servers, and how much of them was looked at
 FOLDERS: list[Path] = []
 logging.getLogger("asyncio").setLevel(logging.ERROR)  # it warns where the machine is slow
 DIES_WITH_PARENT, GETS_ORPHANS = 1, 36  # PR_SET_PDEATHSIG, PR_SET_CHILD_SUBREAPER
@@ -117,7 +126,9 @@ class Server:
     def __init__(self, folder: Path | None = None, plan: dict[str, Any] | None = None, *more: str, **environment: str):
         self.folder = folder or new_folder()
         self.arguments, self.environment = list(more), environment
+        self.prefix: list[str] = []  # a program of Python that runs the server
         self.log = self.folder / "server.log"
+        LOGS[self.log] = 0
         (self.folder / "plan.json").write_text(json.dumps(plan or SMALL))
         self.start()
 
@@ -125,9 +136,9 @@ class Server:
         """Starts it, and waits until it answers."""
         with open(self.log, "ab") as log:
             self.process = started(
-                [sys.executable, str(self.serve), "--folder", str(self.folder), "--port", "0", *self.arguments,
+                [sys.executable, *self.prefix, str(self.serve), "--folder", str(self.folder), "--port", "0", *self.arguments,
                  str(self.folder / "plan.json")], stdout=subprocess.PIPE, stderr=log, text=True,
-                env={**os.environ, **FIXED, **self.environment})
+                env={**os.environ, **FIXED, "LIVE_WATCH": str(LONGEST), **self.environment})
         assert self.process.stdout is not None
         self.address = self.process.stdout.readline().strip()
         if not self.address:
@@ -225,7 +236,36 @@ def free_port() -> int:
             return port
 
 
-class Case(unittest.IsolatedAsyncioTestCase):
+@functools.cache
+def watch() -> Watch:
+    """Looks at the servers in this process from now on."""
+    return Watch(LONGEST, HELD_UP.append, is_of_server)
+
+
+class Watched(unittest.TestCase):
+    """Fails where a piece of a server's work kept all others waiting: in this process, or by its log. Garbage is collected
+    between tests alone: a collection looks at all that the tests hold, and is none of the server's work."""
+
+    def run(self, result: Any = None) -> Any:
+        watch()
+        HELD_UP.clear()
+        gc.collect()
+        gc.disable()
+        self.addCleanup(self._held_nobody_up)  # what was added first is done last
+        return super().run(result)
+
+    def _held_nobody_up(self) -> None:
+        said = list(HELD_UP)
+        for log, begin in LOGS.items():
+            text = log.read_text(errors="replace") if log.exists() else ""
+            LOGS[log] = len(text)
+            said += [line for line in text[begin:].splitlines() if SAID in line]
+        long = [one for one in said if is_too_long(float(PIECE.findall(one)[0]), LONGEST)]
+        if long:
+            raise AssertionError("\n".join(long))
+
+
+class Case(Watched, unittest.IsolatedAsyncioTestCase):
     """A test with servers."""
 
     def _setupAsyncioRunner(self) -> None:

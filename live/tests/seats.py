@@ -11,6 +11,8 @@ from faulty import Here, soon
 from running import Case, new_folder
 from server import verbs
 from server.asked import Asked, Refused
+from server.clocks import SteadyClock
+from server.lab import Lab
 
 
 def copied(folder: Path) -> Path:
@@ -24,7 +26,7 @@ class Seats(Case):
 
     async def together(self, *names: str) -> list[Any]:
         """The seats of those who come at once, or why they get none."""
-        said = await soon(asyncio.gather(*(self.here.lab.join(name, "", None) for name in names), return_exceptions=True))
+        said = await soon(asyncio.gather(*(self.here.lab.seating.join(name, "", None) for name in names), return_exceptions=True))
         return [one.text if isinstance(one, Refused) else one[0] for one in said]
 
     async def test_no_two_get_one_seat_or_one_name(self) -> None:
@@ -32,42 +34,79 @@ class Seats(Case):
         self.assertEqual(sorted(seats), list(range(1, 61)))
         self.assertEqual(sorted(map(str, await self.together("Ada", "Ada", "Ada"))), ["61", "NameTaken", "NameTaken"])
         for seat in (3, 5):
-            await self.here.lab.give_back(seat)
+            await self.here.lab.seating.give_back(seat)
             self.here.keeper.here.discard(seat)
         # Each free seat but 62 and 63 was somebody's, and the program still holds what they put.
         self.assertEqual(len(set(await self.together("Ben", "Cleo", "Dan", "Eve"))), 4)
         self.assertEqual(await self.together("Fay"), ["all seats are taken"])
 
+    async def test_a_name_that_looks_like_anothers_is_refused(self) -> None:
+        """By case, width, style, what is not seen, how it is composed, and letters of other scripts."""
+        await self.here.join("Ada", "Zoé 1", "straße", "Βίκα")
+        for name in ("ada", "ADA", "Ａｄａ", "\U0001d400da", "A da", "Ad\ufe0fa", "Аdа", "Ad\u034fa", "Zoe\u0301 1",
+                     "ZOÉ 1", "zoé  1", "Zoé ①", "STRASSE", "strasse", "Bίκα"):
+            with self.assertRaises(Refused, msg=name) as caught:
+                await self.here.lab.seating.join(name, "", None)
+            self.assertEqual(caught.exception.text, "NameTaken")
+            self.assertIn(f"{name} looks like it", caught.exception.why)
+        await self.here.join("Adam", "Zoe 1", "Zoé 2", "語", "語語", "Ad-a")
+
     async def test_of_two_who_take_a_seat_over_one_gets_it(self) -> None:
         index, = await self.here.join("Ada")
         self.here.keeper.here.discard(index)
         lab = self.here.lab
-        said = await asyncio.gather(*(lab.join("", "", index) for _ in range(2)), return_exceptions=True)
+        said = await asyncio.gather(*(lab.seating.join("", "", index) for _ in range(2)), return_exceptions=True)
         self.assertEqual([getattr(one, "text", "seat") for one in said], ["seat", "seat is connected"])
 
     async def test_a_seat_that_was_used_until_a_kill_is_not_free_after_it(self) -> None:
         """Though its tab came days ago, and never left."""
         now = [1_000_000.0]
-        with mock.patch("server.lab.time.time", lambda: now[0]):
+        with mock.patch("server.seating.time.time", lambda: now[0]):
+            self.here.lab.seating.steady = SteadyClock(3_600, lambda: now[0], lambda: now[0])
             ada, ben = await self.here.join("Ada", "Ben")
-            self.here.lab.leave(ben)
+            self.here.lab.seating.leave(ben)
             for _ in range(2 * 24 * 6):
                 now[0] += 600
-                self.here.lab.free_unused()
+                self.here.lab.seating.free_unused()
             await self.here.keeper.journal.settled()
             self.assertLess(len(self.here.entries()), 60)
             again = await self.enterAsyncContext(Here(copied(self.here.folder)))  # as it is when the server is killed
+            again.lab.seating.steady = SteadyClock(3_600, lambda: now[0], lambda: now[0])
             now[0] += 22 * 3_600
-            again.lab.free_unused()
-            self.assertEqual((await again.lab.join("", self.here.keys[ada], None))[0], ada)
+            again.lab.seating.free_unused()
+            self.assertEqual((await again.lab.seating.join("", self.here.keys[ada], None))[0], ada)
             with self.assertRaisesRegex(Refused, "unknown key"):
-                await again.lab.join("", self.here.keys[ben], None)
+                await again.lab.seating.join("", self.here.keys[ben], None)
+
+    async def test_a_clock_that_jumps_frees_no_seats(self) -> None:
+        """Ahead by three days for a moment, or when the server starts; days that have passed free them an hour later."""
+        wall, passed = [1_000_000.0], [0.0]
+        with mock.patch("server.seating.time.time", lambda: wall[0]):
+            def looks(lab: Lab, minutes: int) -> str:
+                """Who has a seat after so many minutes."""
+                for _ in range(minutes):
+                    wall[0], passed[0] = wall[0] + 60, passed[0] + 60
+                    lab.seating.free_unused()
+                return self.here.lab.state.seats[1].name
+            lab = self.here.lab
+            lab.seating.steady = SteadyClock(3_600, lambda: wall[0], lambda: passed[0])
+            index, = await self.here.join("Ada")
+            lab.seating.leave(index)
+            self.assertEqual(looks(lab, 180), "Ada")
+            wall[0] += 3 * 86_400
+            self.assertEqual(looks(lab, 50), "Ada")
+            wall[0] -= 3 * 86_400
+            self.assertEqual(looks(lab, 180), "Ada")
+            wall[0] += 3 * 86_400
+            lab.seating.steady = SteadyClock(3_600, lambda: wall[0], lambda: passed[0])  # as after a start
+            self.assertEqual(looks(lab, 50), "Ada")
+            self.assertEqual(looks(lab, 11), "")
 
     async def test_a_freed_seats_changes_bear_the_name_of_who_made_them(self) -> None:
         ada, = await self.here.join("Ada")
         await self.here.put(ada, ["limit", 2, 50, 3])
         await self.here.share(ada)
-        await self.here.lab.give_back(ada)
+        await self.here.lab.seating.give_back(ada)
         self.here.keeper.here.discard(ada)
         others = await self.here.join(*(f"n{number}" for number in range(63)))  # one of them has her seat
         self.assertIn(ada, others)
@@ -85,7 +124,7 @@ class Seats(Case):
         ada, ben = await self.here.join("Ada", "Ben")
         busy = keeper.turns.ask(ada, is_free.wait)
         asked = [asyncio.create_task(self.here.ask(ada, verb, **more)) for verb, more in (
-            ("layers", {}), ("gestures", {}), ("csv", {"what": "changes"}), ("scenario", {}))]
+            ("layers", {}), ("operations", {}), ("csv", {"what": "changes"}), ("scenario", {}))]
         asked.append(asyncio.create_task(verbs.answer(self.here.lab, self.here.questions, ada, Asked("seats", {}), {})))
         await asyncio.sleep(0.2)
         self.assertEqual([one for one in asked if one.done()], [])
@@ -101,7 +140,7 @@ class Seats(Case):
             with self.assertRaisesRegex(Refused, "too far ahead"):
                 await self.here.ask(ada, verb, **more)
         with self.assertRaisesRegex(Refused, "Range"):
-            await self.here.lab.set_clock(to=now + 36_001)
+            await self.here.lab.timing.set_clock(to=now + 36_001)
 
     async def clock(self, rate: float, seconds: float) -> int:
         """How far a clock of this rate goes in some seconds."""
@@ -111,19 +150,19 @@ class Seats(Case):
             before = keeper.now()
             for _ in range(int(seconds)):
                 self.time += 1
-                lab._keep_clock()
+                lab.timing.keep()
                 await keeper.journal.settled()
                 await asyncio.sleep(0)
             return keeper.now() - before
 
     async def test_a_clock_goes_forward_alone_and_keeps_what_others_set_at_once(self) -> None:
         keeper, lab, is_free = self.here.keeper, self.here.lab, asyncio.Event()
-        await soon(asyncio.gather(lab.set_clock(rate=60), lab.set_clock(to=3_600), lab.set_clock(to=3_500)))
-        self.assertEqual(keeper.clock()["rate"], 60)
+        await soon(asyncio.gather(lab.timing.set_clock(rate=60), lab.timing.set_clock(to=3_600), lab.timing.set_clock(to=3_500)))
+        self.assertEqual(keeper.clock().rate, 60)
         self.assertGreaterEqual(keeper.now(), 3_600)
-        await lab.set_clock(rate=600)
+        await lab.timing.set_clock(rate=600)
         busy = keeper.turns.ask(0, is_free.wait)
-        sets = asyncio.create_task(lab.set_clock(to=keeper.now() + 1))
+        sets = asyncio.create_task(lab.timing.set_clock(to=keeper.now() + 1))
         await asyncio.sleep(0.2)
         before = keeper.now()
         is_free.set()
@@ -137,10 +176,39 @@ class Seats(Case):
 
     async def test_a_fast_clock_stops_in_an_hour_and_says_so(self) -> None:
         told: list[Any] = []
-        self.here.keeper.listeners.on("clock", lambda: told.append(self.here.keeper.clock()))
+        self.here.keeper.listeners.on("clock", lambda: told.append(self.here.keeper.clock().fields()))
         self.assertEqual(await self.clock(60, 100), 6_000)
         self.assertEqual(await self.clock(600, 5), 3_000)
         self.assertEqual(told[-1], {"rate": 600, "now": 6_000, "stop": 9_600})
         self.assertEqual(await self.clock(500, 20), 3_600)  # again from where it is
         self.assertEqual(told[-1], {"rate": 0, "now": 12_600})
         self.assertEqual(self.here.keeper.state.rate, 0)
+
+    async def test_what_several_save_at_once_is_whole(self) -> None:
+        """Piece by piece, by turns; those who come too late are told to ask again."""
+        with mock.patch("server.saving.MOST_PIECE", 2_000):
+            seats = await self.here.join("Ada", "Ben", "Cleo", "Dan", "Eve")
+            alone = [await self.saved(seat) for seat in seats]
+            pieces = [[await self.piece(seat, 0)] for seat in seats[:4]]
+            with self.assertRaisesRegex(Refused, "busy"):
+                await self.piece(seats[4], 0)
+            while any(one[-1]["next"] is not None for one in pieces):
+                for seat, one in zip(seats, pieces):
+                    one.append(await self.piece(seat, one[-1]["next"]))
+            self.assertEqual(["".join(each["lines"] for each in one) for one in pieces], alone[:4])
+            self.assertGreater(len(pieces[0]), 2)
+            self.assertEqual(await self.saved(seats[4]), alone[4])
+            for seat in seats[:4]:
+                await self.piece(seat, 0)
+            with mock.patch("server.saving.UNUSED", 0):
+                await self.piece(seats[4], 0)  # of those that nobody fetches
+
+    async def piece(self, seat: int, number: int) -> Any:
+        return await self.here.ask(seat, "transcript", **{"from": 0, "to": 60, "next": number})
+
+    async def saved(self, seat: int) -> str:
+        """All pieces."""
+        said = [await self.piece(seat, 0)]
+        while said[-1]["next"] is not None:
+            said.append(await self.piece(seat, said[-1]["next"]))
+        return "".join(one["lines"] for one in said)

@@ -4,9 +4,50 @@ from __future__ import annotations
 import asyncio
 import json
 import os
+import re
 import sys
+import unittest
 
-from running import LIVE, PATIENCE, Broker, Case, Server, new_folder
+from running import LIVE, PATIENCE, SMALL, Broker, Case, Server, new_folder
+from server.words import InvalidWords, find_chance, find_state, read_change
+from zegdrut.clock import Clock
+
+
+class Written(unittest.TestCase):
+    """Changes in words; zones of this road have 20 cells, 150 m."""
+
+    def test_changes_in_km_and_clock_times(self) -> None:
+        clock = Clock.read("06:30")
+        for words, shape, said in (
+                (("close", "0.45", "0.5", "7:00", "07:10"), ["block", 60, 66, 1_800, 2_400, 1], "closed, km 0.45 to 0.5025, 07:00 to 07:10"),
+                (("slowing", "25", "0.3", "0.31", "10", "20.5"), ["slow", 2, 2, 600, 1_230, 16_384],
+                 "slowing 25 %, km 0.3 to 0.45, 06:40 to 06:50:30"),
+                (("slow-to-start", "50", "0", "0.9", "6:31", "6:32"), ["start", 0, 5, 60, 120, 32_768],
+                 "slow-to-start 50 %, km 0 to 0.9, 06:31 to 06:32"),
+                (("detector", "off", "0.5", "06:45"), ["watch", 1, 1, 900, None, 0], "detector off, at km 0.525, from 06:45 on"),
+                (("demand", "1200.5", "0.2", "06:45"), ["inflow", 1, 1, 900, None, 0], "1200.5 cars/h, at km 0.3, from 06:45 on")):
+            written = read_change(words, SMALL, clock)
+            self.assertEqual((written.shape, written.sentence), (shape, said))
+        self.assertEqual(written.demand, 1_200.5)
+
+    def test_what_is_written_wrongly_is_told(self) -> None:
+        for words, why in ((("jump", "1"), "'jump' is not a change: write close, limit"), (("limit", "54", "0"), "limit is followed by KMH"),
+                           (("limit", "300", "0", "0.1", "1"), "0 to 243 km/h, not 300"), (("close", "2", "3", "1"), "0 to 0.9 km"),
+                           (("close", "0.2", "0.1", "1"), "the greater one second"), (("slowing", "101", "0", "0.1", "1"), "0 to 100 percent"),
+                           (("detector", "1", "0", "1"), "on or off"), (("close", "a", "0.1", "1"), "'a' is not a number of km"),
+                           (("close", "0", "0.1", "soon"), "BEGIN: 'soon' is not a time"), (("close", "0", "0.1", "9", "8"), "not later than"),
+                           ((), "'' is not a change")):
+            with self.assertRaisesRegex(InvalidWords, re.escape(why)):
+                read_change(words, SMALL, Clock())
+
+    def test_a_curve_is_read_back(self) -> None:
+        curve = {"points": [[0, 0.0], [1_000, 100.0], [2_000, 150.0], [3_000, 150.0]], "capacity": 150.0}
+        self.assertEqual([find_chance(curve, cars) for cars in (0, 50, 100, 125, 150)], [0, 500, 1_000, 1_500, 2_000])
+        with self.assertRaisesRegex(InvalidWords, "admits 0 to 150 cars"):
+            find_chance(curve, 151)
+        edits = [["inflow", 0, 60, 1, 64, 7], ["inflow", 0, 90, 1, 64, None], ["start", 2, 0, 1, 64, 99], ["start", 2, 5, 1, 64, 98]]
+        self.assertEqual(find_state(SMALL, edits, 1, 59), {"inlet": 1, "start": 99, "before": [[0, 27_918]]})
+        self.assertEqual(find_state(SMALL, edits, 1, 90), {"inlet": 1, "start": 99, "before": [[0, 7]]})
 
 
 class Shell(Case):
@@ -39,13 +80,13 @@ class Shell(Case):
     async def test_a_script_takes_part(self) -> None:
         self.assertEqual(await self.road("cron", "edit", "limit", "2", "50", "1"), (0, "[1, 65]", ""))
         self.assertEqual((await self.road("cron", "share", "night"))[:2], (0, "shared 1 change"))
-        self.assertEqual(await self.road("Ada", "edit", "limit", "0", "50", "4"), (0, "[1, 66]", ""))
-        self.assertEqual(await self.road("Ada", "edit", "limit", "2", "50", "4"), (0, "[2, 66]", ""))
+        self.assertEqual(await self.road("Ada", "edit", "limit", "0", "50", "4"), (0, "[2, 66]", ""))
+        self.assertEqual(await self.road("Ada", "edit", "limit", "2", "50", "4"), (0, "[3, 66]", ""))
         self.assertEqual((await self.road("Ada", "share"))[1], "shared 2 changes")
         self.assertEqual((await self.road("cron", "take"))[1], "took 2 changes\nchanged: limit of stamp [1, 65], by Ada")
-        self.assertEqual(await self.road("cron", "withdraw", "limit", "2", "50"), (0, "[3, 65]", ""))
-        self.assertEqual(json.loads((await self.road("cron", "ask", '{"scenario":{"at":"shared"}}'))[1])["edits"],
-                         [["limit", 0, 50, 1, 66, 4], ["limit", 2, 50, 2, 66, 4]])
+        self.assertEqual(await self.road("cron", "withdraw", "limit", "2", "50"), (0, "[4, 65]", ""))
+        held = json.loads((await self.road("cron", "ask", '{"scenario":{"at":"shared"}}'))[1])["edits"]
+        self.assertEqual([[*one[:3], one[5]] for one in held], [["limit", 0, 50, 4], ["limit", 2, 50, 4]])
         said = [await self.road("cron", *words) for words in (("out", "2"), ("in", "2"), ("out", "1"))]
         self.assertEqual([status for status, _, _ in said], [0, 0, 1])
         self.assertIn("1 is this site", said[2][2])
@@ -54,6 +95,29 @@ class Shell(Case):
         await self.road("cron", "share")
         status, _, said = await self.road("cron", "tell", PATIENCE="1")
         self.assertEqual((status, said.split(";")[0]), (1, "1 change has not come back"))
+
+    async def test_changes_are_written_in_km_and_clock_times(self) -> None:
+        """The demand is that of the package's curve: within half a car per hour."""
+        (self.a6.folder / "freeway.json").write_text('{"begin": "06:30"}', encoding="utf-8")
+        said = [await self.road("cron", "put", *words) for words in (
+            ("limit", "50", "0.2", "0.45", "6:40"), ("demand", "1200", "0", "06:45", "07:00"), ("demand", "1900", "0", "1"))]
+        self.assertEqual([(status, out.partition("] ")[2]) for status, out, _ in said], [
+            (0, "limit 54 km/h, km 0.15 to 0.45, from 06:40 on"), (0, "1200 cars/h, at km 0, 06:45 to 07:00"), (2, "")])
+        self.assertIn("this inlet admits 0 to 1,7", said[2][2])
+        async with self.a6.seat("Ada") as ada:
+            await self.road("cron", "share")
+            shapes = {line["kind"]: line["shape"] for line in (await ada.ask("layers", at="shared", **{"from": 0}))["layers"]}
+        chance = shapes.pop("inflow")[5]
+        self.assertEqual(shapes, {"limit": ["limit", 1, 2, 600, None, 2]})
+        from zegdrut.demand import Drivers, measure_admission
+        self.assertAlmostEqual(measure_admission(Drivers(5, 6_554)).admitted(chance), 1_200, delta=0.5)
+
+    async def test_the_clock_is_set_and_seats_are_listed(self) -> None:
+        self.assertEqual(await self.road("cron", "clock", "0:10"), (0, "the clock is at 00:10", ""))
+        self.assertEqual((await self.road("cron", "ask", '{"clock":{"to":700}}'))[0], 0)
+        self.assertEqual((await self.road("cron", "seats"))[1], "seat 1: cron, here")
+        async with self.a6.seat("Ada") as ada:
+            self.assertEqual(ada.welcome["now"], 700)
 
     async def test_six_at_once_get_six_stamps(self) -> None:
         said = await asyncio.gather(*(self.road("cron", "edit", "limit", "2", str(step), "1") for step in range(6)))
@@ -72,7 +136,7 @@ class Shell(Case):
     async def test_faults_are_told(self) -> None:
         for words, status, why in (
                 (("cron", "edit", "limit", "99", "50", "1"), 1, "no zone 99"),
-                (("cron", "edit", "limt", "2", "50", "1"), 1, "`limit` is meant"),
+                (("cron", "edit", "limt", "2", "50", "1"), 1, "use `limit`"),
                 (("cron", "edit", "limit", "2", "50"), 2, "wrong words"),
                 (("cron", "edit", "limit", "2", "x", "1"), 2, "no whole number"),
                 (("cron", "ask", "nonsense"), 2, "JSON is wanted"),

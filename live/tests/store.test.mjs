@@ -7,15 +7,15 @@ import {test} from "node:test";
 const PAGE = new URL("../page/", import.meta.url);
 const SOURCES = new Map(readdirSync(PAGE).filter((name) => name.endsWith(".mjs")).map((name) =>
   [name.replace(".mjs", ""), readFileSync(new URL(name, PAGE), "utf8")]));
-const ACTIONS = ["acting", "days", "drafting", "fetching", "joining", "looking", "store"];
-const PURE = ["chain", "estimates", "geometry", "kept", "labels", "layers", "line", "listing",
+const ACTIONS = ["acting", "days", "demand", "drafting", "fetching", "joining", "looking", "store"];
+const PURE = ["assign", "chain", "decoding", "estimates", "geometry", "kept", "labels", "layers", "line", "listing",
               "rows", "sentences", "stamps", "tables", "units"];
 const importsOf = (source) =>
   [...source.matchAll(/from "\.\/(\w+)\.mjs"/g)].map(([, name]) => name);
 
 test("only actions change the store", () => {
   const writes = new RegExp([
-    /\bstore(?:\.\w+)*(?:\[\w+\])?\s*(?:[-+*|&?]{0,2}=[^=>]|\+\+|--)/, /Object\.assign\(store/,
+    /\bstore(?:\.\w+)*(?:\[\w+\])?\s*(?:[-+*|&?]{0,2}=[^=>]|\+\+|--)/, /\bassign\(store/,
     /\bstore\.[\w.]+\.(?:push|pop|set|delete|splice)\(/].map(({source}) => source).join("|"));
   for (const [name, source] of SOURCES) {
     if (!ACTIONS.includes(name)) assert.doesNotMatch(source, writes, name);
@@ -37,6 +37,21 @@ test("pure modules import pure ones alone", () => {
     const others = importsOf(SOURCES.get(name));
     assert.deepEqual(others.filter((other) => !PURE.includes(other)), [], name);
     assert.doesNotMatch(SOURCES.get(name), /\bdocument\.|\bstore\./, name);
+  }
+});
+
+test("no module opts out of its types", () => {
+  const out = new RegExp([/@ts-\w+/, /\{[^{}]*\bany\b[^{}]*\}/, /\bas any\b/]
+    .map(({source}) => source).join("|"));
+  for (const [name, source] of SOURCES) {
+    const comments = source.match(/\/\*\*[\s\S]*?\*\/|\/\/.*/g).join("\n");
+    assert.doesNotMatch(comments, out, name);
+  }
+});
+
+test("fields are set so that their names are checked", () => {
+  for (const [name, source] of SOURCES) {
+    if (name !== "assign") assert.doesNotMatch(source, /Object\.assign\(/, name);
   }
 });
 

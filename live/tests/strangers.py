@@ -1,6 +1,8 @@
 """Sites that have another's number, a clock that is wrong, or no key, or that play again what was sent."""
 from __future__ import annotations
 
+import argparse
+import asyncio
 import json
 import shutil
 import time
@@ -9,12 +11,21 @@ from pathlib import Path
 from typing import Any
 from unittest import mock
 
-from faulty import Bus, Here, Message, told
+from crashes import numbers
+from faulty import Bus, Here, Message, message_of, told
 from running import SMALL, Case, new_folder
-from server import seals, stamps
+from server import seals, stamps, verbs
+from server.asked import Asked, Refused
+from server.floods import Floods
+from server.model.operations import About, edit
 from server.sites import Sites
 
 DAY = 86_400_000  # milliseconds
+
+
+def steps(here: Here) -> list[int]:
+    """The steps of the raw edits that a shared road has."""
+    return sorted(name[2] for one in here.lab.state.shared.places for name in one.sets if len(name) == 3)
 
 
 class Strangers(Case):
@@ -42,7 +53,7 @@ class Strangers(Case):
         """It is heard no more."""
         self.bus.sites.remove(site)
         for one in self.bus.sites:
-            one._sites.clear()
+            one._peers.known.clear()
 
     # Numbers and folders
 
@@ -106,12 +117,73 @@ class Strangers(Case):
         await self.bus.rounds()
         self.assertEqual(len(await self.shared(third)), 1)
 
+    async def ask(self, here: Here, verb: str, **fields: Any) -> Any:
+        """What a person is answered."""
+        return await verbs.answer(here.lab, here.questions, 1, Asked(verb, fields), {})
+
+    async def announce(self, site: Sites, folder: str, number: int, **more: Any) -> None:
+        value = {"folder": folder, "run": "r", "site": number, "road": site._road, "form": 3, **more}
+        await self.bus.give(site, Message("road/sites", json.dumps(value).encode()))
+
+    async def test_a_person_revokes_what_one_message_said_of_a_number(self) -> None:
+        """Else the site would be mute for ever; it stays so after a restart, whatever is said again."""
+        (one, first), (two, _) = await self.here(1), await self.here(2)
+        await self.bus.rounds()
+        with self.assertRaisesRegex(Refused, "NotBound"):
+            await self.ask(one, "unbind", site=1)
+        await self.announce(first, "f" * 16, 9, bound={"1": "nowhere"})
+        await self.put(one, "limit", 2, 50, 3)
+        await self.bus.carry()
+        self.assertEqual(await self.shared(two), [])
+        self.assertIn("live/road NAME unbind 1", told(first))
+        self.assertIn({"site": 1, "folder": "nowhere"}, (await self.ask(one, "numbers"))["numbers"])
+        await self.ask(one, "unbind", site=1)
+        await self.announce(first, "f" * 16, 9, bound={"1": "nowhere"})
+        self.assertIn("Site 9 says that this site's number, 1, is another folder's", told(first))
+        await self.bus.rounds()
+        self.assertEqual(len(await self.shared(two)), 1)
+        await one.keeper.close()
+        again = await self.enterAsyncContext(Here(one.folder))
+        site = Bus().site(again)
+        await self.announce(site, "f" * 16, 9, bound={"1": "nowhere"})
+        self.assertNotIn("nothing is sent", told(site))
+
+    async def test_numbers_of_folders_that_do_not_exist_are_bounded_and_can_be_forgotten(self) -> None:
+        (one, first), (two, _) = await self.here(1), await self.here(900)
+        for number in range(2, 900):
+            await self.announce(first, f"{number:016x}", number)
+        bound = (await self.ask(one, "numbers"))["numbers"]
+        self.assertEqual(len(bound), 64)
+        self.assertIn("64 numbers of sites are written down with their folders, and no more", told(first))
+        await self.put(two, "limit", 2, 50, 3)  # who came later exchanges all the same
+        await self.bus.rounds(2)
+        self.assertEqual(len(await self.shared(one)), 1)
+        self.assertNotIn({"site": 900, "folder": two.lab.state.folder}, bound)
+        await self.ask(one, "unbind", site=bound[0]["site"])
+        self.assertNotIn("and no more", told(first))
+        await self.bus.rounds()
+        self.assertIn({"site": 900, "folder": two.lab.state.folder}, (await self.ask(one, "numbers"))["numbers"])
+        await one.keeper.close()
+        again = await self.enterAsyncContext(Here(one.folder))
+        self.assertEqual(len((await self.ask(again, "numbers"))["numbers"]), 64)
+
+    async def test_two_clones_of_a_machine_have_two_names_at_the_broker(self) -> None:
+        """Else it lets in one and then the other, neither hears of the other, and both send."""
+        first, _ = await self.here(7)
+        options = argparse.Namespace(broker="127.0.0.1:1", broker_user=None, broker_authority=None, site_key=None)
+        names = {Sites(first.lab, lambda: None, options)._client._client_id for _ in range(2)}
+        self.assertEqual(len(names), 2)
+        for name in names:
+            self.assertIn(first.lab.state.folder.encode(), name)
+
     async def test_an_older_site_is_the_same_folder_when_it_is_new(self) -> None:
         """It said its folder's place behind the token, which moves with the folder."""
         (one, first), (two, second) = await self.here(1), await self.here(2)
-        older = {"folder": f"{two.lab.state.folder}-12345678", "site": 2, "road": first._road}
-        await self.bus.give(first, Message("road/sites", json.dumps(older).encode()))
-        self.assertIn("is of an older form", told(first))
+        for form, update in (({"form": 2}, "site 2"), ({"form": 4}, "this site"), ({}, "site 2")):
+            older = {"folder": f"{two.lab.state.folder}-12345678", "site": 2, "road": first._road, **form}
+            await self.bus.give(first, Message("road/sites", json.dumps(older).encode()))
+            self.assertIn(f"Nothing is exchanged with site 2, whose server has another version: update {update}", told(first))
+            self.assertEqual(first.state()["sites"], [])
         await self.bus.rounds(2)
         self.assertNotIn("another folder", told(second))
         await self.put(two, "limit", 2, 50, 3)
@@ -121,18 +193,17 @@ class Strangers(Case):
     async def test_two_gestures_of_one_stamp_are_told_and_all_have_one_road(self) -> None:
         sites = [await self.here(number) for number in (1, 2, 3)]
         stamp = [stamps.next_count(0, stamps.milliseconds(), 0), 70 * 64 + 1]
-        twins = [{"edits": [["limit", 2, 50, *stamp, value]], "form": 2, "who": who, "note": note, "when": 1}
-                 for value, who, note in ((3, "Eve", "slow"), (4, "Eva", ""))]
-        messages = [Message(f"road/{sites[0][1]._road}/edits", json.dumps(one).encode()) for one in twins]
+        messages = [message_of(sites[0][1], edit((stamp[0], stamp[1]), {("limit", 2, 50): value}, About(who, note, 1)))
+                    for value, who, note in ((3, "Eve", "slow"), (4, "Eva", ""))]
         for place, (_, site) in enumerate(sites):
             for message in messages if place else messages[::-1]:
                 await self.bus.give(site, message)
         await self.bus.rounds(3)
-        roads = [await self.shared(here) for here, _ in sites]
+        roads = [numbers(await self.shared(here)) for here, _ in sites]
         self.assertEqual(roads, [roads[0]] * 3)
         for here, site in sites:
             self.assertIn(f"Two changes have one stamp, {stamp}: of Eva and of Eve, slow", told(site))
-            self.assertEqual(sorted(one.who for one in here.lab.state.shared.gestures), ["Eva", "Eve"])
+            self.assertEqual(sorted(one.about.who for one in here.lab.state.shared.places), ["Eva", "Eve"])
 
     async def test_a_gesture_is_one_message_and_then_there_is_silence(self) -> None:
         """With five sites, of which two share at once what meets on the road."""
@@ -144,7 +215,7 @@ class Strangers(Case):
             self.bus.seen.clear()
             await self.bus.carry()
             await self.bus.rounds(4)
-            return sum(one.topic.endswith(("layers", "edits")) for one in self.bus.seen)
+            return sum(one.topic.endswith("operations") for one in self.bus.seen)
         for here, _ in sites[:2]:
             await here.join("Ada")
         for place, last in ((0, 61), (1, 62), (0, 63)):
@@ -156,41 +227,49 @@ class Strangers(Case):
         await sites[0][0].ask(1, "gesture", key="w", note="", layer="61", shape=None)
         await sites[0][0].share(1)
         await sites[1][0].share(1)
-        mended = await told()
-        self.assertLessEqual(mended, 2 + 5)  # each site may mend what it found, once
+        self.assertEqual(await told(), 2)  # what was shared, and nothing because it came
         self.assertEqual(await told(), 0)
-        roads = [await self.shared(here) for here, _ in sites]
+        roads = [numbers(await self.shared(here)) for here, _ in sites]
         self.assertEqual(roads, [roads[0]] * 5)
 
-    async def test_what_was_not_sent_is_sent_after_a_start_with_what_it_mended(self) -> None:
-        """Two closures that overlap: where the one ends the other goes on."""
+    async def test_what_was_not_sent_is_sent_after_a_start(self) -> None:
         here = await self.enterAsyncContext(Here(site=1))
         for seat, begin, end in zip(await here.join("Ada", "Ben"), (10, 20), (30, 40)):
             await here.ask(seat, "gesture", key="k", note="", shape=["block", 60, 60, begin, end, 1])
         for seat in (1, 2):
             await here.share(seat)
-        shared = [gesture.stamp for gesture in here.lab.state.shared.gestures]
-        self.assertEqual([gesture.is_mending for gesture in here.lab.state.shared.gestures], [False, False, True])
+        shared = [one.stamp for one in here.lab.state.shared.places]
         await here.keeper.close()
         again = await self.enterAsyncContext(Here(here.folder))
         self.bus.site(again)._send_unsent()
         message, = self.bus.sent
-        self.assertEqual([tuple(one["stamp"]) for one in json.loads(message.payload)["gestures"]], shared)
+        self.assertEqual([tuple(one["stamp"]) for one in json.loads(message.payload)["operations"]], shared)
 
-    async def test_who_is_alone_mends_what_others_mended_by_more_than_it_holds(self) -> None:
-        (one, first), (_, second) = await self.here(1), await self.here(2)
+    async def test_a_restored_folder_whose_private_change_was_shared_since_holds_it_once(self) -> None:
+        (one, first), (two, second) = await self.here(1), await self.here(2)
+        await self.bus.rounds()
+        await one.join("Ada")
+        await one.put(1, ["limit", 2, 50, 3])
+        await one.keeper.close()
+        kept = (one.folder / "journal.jsonl").read_bytes()
+        self.leave(first)
+        again, third = await self.here(1, one.folder)
+        await again.share(1)
         await self.bus.rounds(2)
-        stamp = await self.put(one, "limit", 2, 50, 3)
-        await self.bus.carry()
-        mending = {"stamp": [stamp[0] + 1, 7 * 64], "known": 10 ** 9, "edits": [["limit", 2, 50, 1]], "who": "mended", "note": "",
-                   "when": 1}
-        body = json.dumps({"form": 2, "gestures": [mending]}).encode()
-        await self.bus.give(first, Message(f"road/{first._road}/layers", body))
-        await first.announce()
-        self.assertEqual([edit[5] for edit in await self.shared(one)], [1])  # of what another may lack it is not known
-        self.leave(second)
-        await first.announce()
-        self.assertEqual([edit[5] for edit in await self.shared(one)], [3])
+        self.assertEqual(two.lab.state.shared.size, 1)
+        await again.keeper.close()
+        self.leave(third)
+        (one.folder / "journal.jsonl").write_bytes(kept)  # from a copy
+        (one.folder / "seen.json").unlink(missing_ok=True)
+        restored, fourth = await self.here(1, one.folder)
+        await self.bus.rounds(3)
+        self.assertEqual((restored.lab.state.shared.size, len(restored.lab.state.seats[1].own)), (1, 1))
+        self.assertEqual(fourth._numbers(), second._numbers())
+        self.assertEqual((await restored.take(1))["size"], 0)
+        self.assertEqual((await restored.share(1))["size"], 0)
+        line, = (await restored.ask(1, "layers"))["layers"]
+        self.assertTrue(line["shared"])
+        self.assertEqual(len(line["operations"]), 1)
 
     # Clocks
 
@@ -202,19 +281,19 @@ class Strangers(Case):
             (one, first), (two, second) = await self.here(1), await self.here(2)
             await self.put(two, "limit", 1, 40, 2)
             for ahead, count in ((DAY, 1), (DAY + 2_000, 1)):
-                edit = ["limit", 2, ahead % DAY // 100, 32 * (now + ahead), 70, 3]
-                self.bus.sent.append(Message(f"road/{first._road}/edits", json.dumps(edit).encode()))
+                one_edit = edit((32 * (now + ahead), 70), {("limit", 2, ahead % DAY // 100): 3}, About("number 70"))
+                self.bus.sent.append(message_of(first, one_edit))
             await self.bus.rounds()
-            self.assertEqual([len(await self.shared(here)) for here in (one, two)], [2, 2])
+            self.assertEqual([here.lab.state.shared.size for here in (one, two)], [2, 2])
             for site in (first, second):
                 self.assertIn("of number 70 is more than a day ahead of the clock", told(site))
                 self.assertIn("1 changes are more than a day ahead", told(site))
             clock[0] += 1_000
             await self.bus.rounds()
-            self.assertEqual([len(await self.shared(here)) for here in (one, two)], [2, 2])
+            self.assertEqual([here.lab.state.shared.size for here in (one, two)], [2, 2])
             clock[0] += 2_000
             await self.bus.rounds()
-            self.assertEqual([len(await self.shared(here)) for here in (one, two)], [3, 3])
+            self.assertEqual([here.lab.state.shared.size for here in (one, two)], [3, 3])
             self.assertNotIn("1 changes are more than a day ahead", told(first))
 
     async def test_what_is_early_keeps_nothing_else_and_waits_once(self) -> None:
@@ -224,26 +303,111 @@ class Strangers(Case):
         with mock.patch("server.stamps.milliseconds", lambda: clock[0]):
             here, site = await self.here(1)
 
-            async def comes(*gestures: tuple[int, int]) -> None:
-                """Gestures of so many milliseconds ahead, each with a limit from a step on."""
-                body = {"form": 2, "gestures": [{
-                    "stamp": [32 * (now + ahead), 70], "edits": [["limit", 2, step, 3]], "who": "Eve",
-                    "lays": [[["limit", 2, step], 3, [32 * (now + ahead), 70], None, [0, 0]]]} for ahead, step in gestures]}
-                await self.bus.give(site, Message(f"road/{site._road}/layers", json.dumps(body).encode()))
+            async def comes(*some: tuple[int, int]) -> None:
+                """Operations of so many milliseconds ahead, each with a limit from a step on."""
+                await self.bus.give(site, message_of(site, *(edit((32 * (now + ahead), 70), {("limit", 2, step): 3}, About("Eve"))
+                                                             for ahead, step in some)))
             for _ in range(3):
                 await comes((0, 1), (DAY + 1_000, 2), (DAY + 2_000, 3))
-            self.assertEqual([edit[2] for edit in await self.shared(here)], [1])
+            self.assertEqual(steps(here), [1])
             self.assertIn("2 changes are more than a day ahead", told(site))
             await comes((DAY + 1_000, 1 << 20))
             self.assertIn("2 changes are more than a day ahead", told(site))  # what is not of the plan does not wait
-            with mock.patch("server.sites.MOST_EARLY", 9), mock.patch("server.sites.LONGEST_EARLY", 16):
+            with mock.patch("server.sites.MOST_EARLY", 9), mock.patch("server.sites.LONGEST_EARLY", 650):
                 await comes(*((DAY + 3_000, step) for step in range(4, 30)))
                 self.assertIn("8 changes are more than a day ahead", told(site))
             await comes((DAY + 1_000, 2), (DAY + 2_000, 3))
             clock[0] += 1_500
             await self.bus.rounds()
-            self.assertEqual([edit[2] for edit in await self.shared(here)], [1, 2])
+            self.assertEqual(steps(here), [1, 2])
             self.assertIn("9 changes are more than a day ahead", told(site))
+
+    async def test_what_a_wrong_clock_stamped_in_private_is_stamped_anew(self) -> None:
+        """Three days ahead for one gesture: all goes on, and other sites take it as soon as it is shared."""
+        clock = [stamps.milliseconds()]
+        with mock.patch("server.stamps.milliseconds", lambda: clock[0]):
+            (one, first), (two, _) = await self.here(1), await self.here(2)
+            await one.join("Ada")
+            clock[0] += 3 * DAY
+            old = await one.ask(1, "gesture", key="ahead", note="", shape=["block", 60, 60, 20, 40, 1])
+            clock[0] -= 3 * DAY
+            await one.ask(1, "gesture", key="later", note="", layer=list(old["stamp"]), shape=["block", 60, 60, 20, 50, 1])
+            held = sorted(each.stamp for each in one.lab.state.seats[1].own)
+            self.assertFalse(any(count > one.keeper.stamps.latest_count() for count, _ in held))
+            line, = (await one.ask(1, "layers"))["layers"][-1:]
+            self.assertEqual((line["shape"], [each["does"] for each in line["operations"]]),
+                             (["block", 60, 60, 20, 50, 1], ["put", "change"]))
+            self.assertEqual((await one.ask(1, "gesture", key="ahead", note="", shape=["block", 1, 1, 1, 2, 1]))["stamp"], held[0])
+            await one.share(1)
+            await self.bus.rounds(2)
+            self.assertEqual([each.stamp for each in two.lab.state.shared.places], held)
+            self.assertEqual(first._early, {})
+            await one.keeper.close()
+            again = await self.enterAsyncContext(Here(one.folder))
+            self.assertEqual(sorted(each.stamp for each in again.lab.state.seats[1].own), held)
+
+    async def test_a_clock_ahead_of_all_others_is_told_there(self) -> None:
+        """By more than five minutes, of those that were heard within the last one."""
+        (_, first), (_, second), (_, third) = [await self.here(number) for number in (1, 2, 3)]
+        await self.bus.rounds()
+        real, steady = time.time, time.monotonic
+
+        async def told_ahead(site: Sites, seconds: float) -> bool:
+            """Whether a site whose clock is so far ahead says so, and no other does."""
+            self.bus.sites.remove(site)
+            for other in self.bus.sites:
+                other._present()
+            with mock.patch("server.peers.time.time", lambda: real() + seconds):
+                for message in self.bus.sent:
+                    await self.bus.give(site, message)
+                site._present()
+                said = told(site)
+            self.bus.sites.append(site)
+            await self.bus.carry()
+            self.assertNotIn("ahead of all", told(second) + told(third))
+            return f"This server's clock is {seconds / 60:.0f} minutes ahead of all other sites'" in said
+        with mock.patch("server.peers.time.monotonic", lambda: steady() + later[0]):
+            later = [0.0]
+            for seconds, is_told in ((290, False), (310, True), (3 * 86_400, True), (0, False)):
+                later[0] += 61
+                self.assertEqual(await told_ahead(first, seconds), is_told, seconds)
+            later[0] += 61
+            await self.announce(first, "f" * 16, 9, time=1_000 * int(time.time() - 900))  # one alone is behind
+            await self.bus.rounds()
+            self.assertNotIn("ahead of all", told(first))
+            later[0] += 61
+            await self.announce(first, "f" * 16, 9, time=1_000 * int(time.time() - 900))
+            self.assertIn("15 minutes ahead of all other sites'", told(first))
+            later[0] += 61
+            self.assertNotIn("ahead of all", told(first))
+
+    async def test_who_is_ahead_of_all_others_stamps_by_their_clocks(self) -> None:
+        """From the greatest stamp of theirs on, so what is put here beats nothing that is put there later."""
+        for seconds in (310, 86_000, 3 * 86_400):
+            here, site = await self.here(1)
+            await here.join("Ada")
+            theirs = stamps.milliseconds() - 1_000 * seconds
+            await self.announce(site, "f" * 16, 9, time=theirs)
+            came = edit((32 * theirs, 9 * 64 + 1), {("limit", 1, 30): 3}, About("Sam"))
+            await self.bus.give(site, message_of(site, came))
+            stamp = await here.put(1, ["limit", 2, 50, 3])
+            self.assertGreater(stamp[0], came.stamp[0])
+            self.assertLess(stamp[0], 32 * (theirs + 300_000))
+            await self.announce(site, "e" * 16, 8, time=stamps.milliseconds())  # one is as late as this one
+            stamp = await here.put(1, ["limit", 2, 50, 1])
+            self.assertGreater(stamp[0], 32 * (stamps.milliseconds() - 300_000))
+
+    async def test_what_was_stamped_far_ahead_before_others_were_heard_is_stamped_anew(self) -> None:
+        here, site = await self.here(1)
+        await here.join("Ada")
+        early = await here.put(1, ["limit", 1, 40, 2])
+        theirs = stamps.milliseconds() - 3 * DAY
+        await self.announce(site, "f" * 16, 9, time=theirs)
+        stamp = await here.put(1, ["limit", 2, 50, 3])
+        held = sorted(one.stamp for one in here.lab.state.seats[1].own)
+        self.assertEqual((len(held), held[1]), (2, stamp))
+        self.assertNotIn(early, held)
+        self.assertLess(stamp[0], 32 * (theirs + 300_000))
 
     # Roads
 
@@ -275,16 +439,16 @@ class Keys(Case):
         await self.bus.carry()
 
     def held(self, here: Here) -> int:
-        return len(here.lab.state.shared.gestures)
+        return here.lab.state.shared.size
 
     async def test_what_bears_the_seal_is_taken_and_nothing_else(self) -> None:
         await self.share(50)
         self.assertEqual(self.held(self.two), 1)
-        edits = next(one for one in self.bus.seen if one.topic.endswith("/layers"))
+        edits = next(one for one in self.bus.seen if one.topic.endswith("/operations"))
         head, _, body = edits.payload.partition(b"\n")
         fields = json.loads(head)
         other = seals.Seal("x", b"another secret of others").sealed(edits.topic, body)
-        changed = body.replace(b"50,", b"51,")
+        changed = body.replace(b"50]", b"51]")
         for number, payload in enumerate((
                 body, changed, head + b"\n" + changed, other,
                 json.dumps({**fields, "number": fields["number"] + 1}).encode() + b"\n" + body,
@@ -298,6 +462,45 @@ class Keys(Case):
         self.assertEqual(self.second.state()["left_out"], 10)
         self.assertIn("10 messages without the sites' seal were left out", " ".join(self.second.state()["stays"]))
 
+    async def test_a_flood_without_the_seal_is_paused_and_named(self) -> None:
+        """It costs the loop nothing, and who bears the seal is heard."""
+        now = [0.0]
+        await self.bus.rounds()
+        with mock.patch("server.floods.BURST", 20), mock.patch("server.floods.A_SECOND", 1):
+            self.second._floods = Floods(lambda: now[0])
+            said = []
+            with mock.patch.object(self.second, "_say", said.append):
+                for number in range(300):
+                    await self.bus.give(self.second, Message("road/sites", json.dumps({"folder": f"{number:x}"}).encode()))
+            self.assertLess(len(said), 30)
+            self.assertEqual(self.second.state()["left_out"], 300)
+            self.assertIn("Somebody without the sites' key sends too much", told(self.second))
+            await self.share(50)
+            self.assertEqual(self.held(self.two), 1)
+            now[0] += 31
+            self.assertNotIn("too much", told(self.second))
+
+    async def test_a_flood_of_many_names_is_paused_and_named(self) -> None:
+        """Where sites have no key each message may say another name; a site that is there is heard."""
+        here = await self.enterAsyncContext(Here(site=3))
+        bus, now, came = Bus(), [0.0], []
+        site, _ = bus.site(here), bus.site(self.one)
+        await bus.rounds()
+        with mock.patch("server.floods.BURST", 20), mock.patch("server.floods.A_SECOND", 1):
+            site._floods = Floods(lambda: now[0])
+            with mock.patch.object(Sites, "_came", lambda _, topic, folder, body: came_in(folder)):
+                async def came_in(folder: str) -> None:
+                    came.append(folder)
+                for number in range(300):
+                    await bus.give(site, Message("road/sites", json.dumps({"folder": f"{number:040x}"}).encode()
+                                                 .replace(b": ", b":")))
+            self.assertLess(len(came), 30)
+            self.assertIn("Somebody who does not say who it is sends too much", told(site))
+            await self.one.put(1, ["limit", 2, 50, 3])
+            await self.one.share(1)
+            await bus.carry()
+            self.assertEqual(self.held(here), 1)
+
     async def test_what_is_played_again_is_left_out(self) -> None:
         await self.share(50)
         seen = []
@@ -307,6 +510,61 @@ class Keys(Case):
             for message in list(self.bus.seen):
                 await self.bus.give(self.second, message)
         self.assertEqual((seen, self.second.state()["left_out"]), ([], 0))
+
+    async def test_what_is_played_again_after_a_restart_is_left_out(self) -> None:
+        """Else an announcement of this very folder, or of another with its number, would mute it."""
+        with mock.patch("server.seals.AHEAD", 1):
+            await self.bus.rounds(2)
+            await self.share(50)
+            caught = list(self.bus.seen)
+            self.bus.sites.remove(self.second)
+            await self.two.keeper.close()
+            again = await self.enterAsyncContext(Here(self.two.folder))
+            site = self.bus.site(again, self.key)
+            for message in caught:
+                await self.bus.give(site, message)
+            self.assertEqual((site.state()["sites"], told(site), site.state()["left_out"]), ([], "", 0))
+            await self.share(51)
+            self.assertEqual(self.held(again), 2)
+            await self.bus.rounds(2)  # and it is heard
+            self.assertEqual([one["site"] for one in self.first.state()["sites"]], [2])
+
+    async def test_what_is_sent_after_a_restart_is_heard_at_once(self) -> None:
+        """The server ended, or was killed; what was there before is not."""
+        for is_killed in (True, False):
+            with mock.patch("server.seals.AHEAD", 200 if is_killed else 3_600_000):
+                await self.bus.rounds(2)
+                await self.share(50 + is_killed)
+                caught, held = list(self.bus.seen), self.held(self.two)
+                self.bus.sites.remove(self.second)
+                if is_killed:
+                    await asyncio.sleep(0.3)  # as long as a start takes at the least
+                else:
+                    self.second._seal.end()
+                await self.two.keeper.close()
+                self.two = await self.enterAsyncContext(Here(self.two.folder))
+                self.second = self.bus.site(self.two, self.key)
+                for message in caught:
+                    await self.bus.give(self.second, message)
+                self.assertEqual((self.held(self.two), self.second.state()["sites"]), (held, []))
+                await self.share(60 + is_killed)
+                self.assertEqual(self.held(self.two), held + 1)
+
+    def test_of_what_was_taken_a_number_above_it_is_on_the_disk_first(self) -> None:
+        """Whenever the server is killed; it is not written for each message."""
+        path = new_folder() / "seen.json"
+        for number in range(10_000, 20_000, 100):
+            seals.Taken(path).take("a1", number, 9_000)
+            self.assertGreaterEqual(seals.Taken(path).bound("a1"), number)
+        with mock.patch("server.seals.put_in_place", side_effect=OSError) as writes:
+            taken = seals.Taken(path)
+            for number in range(20_000, 21_000, 10):
+                taken.take("a1", number, 9_000)
+        self.assertLess(writes.call_count, 6)
+        seals.Taken(path).take("b2", 50_000, 40_000)
+        self.assertEqual((seals.Taken(path).bound("a1"), seals.Taken(path).bound("b2")), (0, 50_200))
+        path.write_text("[")
+        self.assertEqual(seals.Taken(path).bound("b2"), 0)
 
     async def test_what_is_old_is_left_out(self) -> None:
         """A message that was caught a quarter of an hour ago, and never came."""
@@ -323,6 +581,15 @@ class Keys(Case):
             await self.share(50)
         self.assertEqual(self.held(self.two), 0)
         self.assertIn("more than 10 minutes old, by this site's clock", told(self.second))
+
+    async def test_a_clock_days_ahead_is_told_though_what_others_send_is_old_there(self) -> None:
+        self.first._present()
+        clock = time.time
+        with mock.patch("server.peers.time.time", lambda: clock() + 86_400), \
+                mock.patch.object(self.second._seal, "_clock", lambda: clock() + 86_400):
+            for message in self.bus.sent:
+                await self.bus.give(self.second, message)
+            self.assertIn("1440 minutes ahead of all other sites'", told(self.second))
 
     async def test_without_a_key_the_page_says_so(self) -> None:
         here = await self.enterAsyncContext(Here(site=3))
@@ -347,7 +614,7 @@ class Counting(unittest.TestCase):
 
     def test_clones_that_stamp_in_one_millisecond_differ_by_five_bits(self) -> None:
         with mock.patch("server.stamps.milliseconds", lambda: 1_000):
-            counts = {stamps.count_after(7) for _ in range(2_000)}
+            counts = {stamps.StampClock().count_after(7) for _ in range(2_000)}
         self.assertEqual(counts, set(range(32_000, 32_032)))
 
     def test_the_numbers_of_a_window_count_once(self) -> None:

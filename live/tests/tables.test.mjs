@@ -3,49 +3,70 @@
 import assert from "node:assert/strict";
 import {test} from "node:test";
 
-import {csvOf, tableOfDays, tableOfFigures} from "../page/tables.mjs";
+import {decodeDays, decodeFigures, decodeList} from "../page/decoding.mjs";
+import {Layers} from "../page/layers.mjs";
+import {csvOf, tableOfChanges, tableOfDays, tableOfFigures} from "../page/tables.mjs";
 
-const PLAN = {inlets: [[0, 1], [200, 1]], detectors: [50]};
-const SAID = {delay_hours: 41.5025, before: {vehicle_hours: 62.25, asked: [1224, 242],
-                entered: [1224, 213], lost: [0, 29], detectors: [[1219, 6029]]},
-              after: {vehicle_hours: 102.5, asked: [1224, 242], entered: [1216, 184], lost: [8, 58],
-                      detectors: [[1211, 5741]]}};
+const PLAN = {length: 400, zone: 50, zones: Array(8).fill([5, 0]), inlets: [[0, 1], [200, 1]], detectors: [50]};
+const flows = (cars, flow, speed, on) => [{cars, speeds: 0, flow, speed, on}];
+const SAID = decodeFigures({delay_hours: 41.5025, later: [[1190, 12.25], [1180, null]],
+  before: {vehicle_hours: 62.25, asked: [1224, 242.5], entered: [1224, 213], lost: [0, 29.5], flows: flows(1219, 1219, 133.55, 3600),
+           travel: [[1219, 14.5], [1100, 210]]},
+  after: {vehicle_hours: 102.5, asked: [1224, 242.5], entered: [1216, 184], lost: [8, 58.5], flows: flows(1211, null, null, 0),
+          travel: [[1211, 26.75], [1090, null]]}});
 
-test("a saved table has vehicle hours, delay and lost demand, mine beside the shared road", () => {
-  assert.deepEqual(csvOf(tableOfFigures(PLAN, "mine", SAID)).split("\n"), [
-    "figure,mine,shared,mine less shared", "vehicle hours,102.5,62.25,40.25",
-    "delay of cars in both in vehicle hours,,,41.5025", "cars asked for,1466,1466,0",
-    "cars let in,1400,1437,-37", "lost demand in cars,66,29,37", "lost demand at 0 km,8,0,8",
-    "lost demand at 1.5 km,58,29,29", "cars at 0.375 km,1211,1219,-8", ""]);
+test("a saved table says what it is of, and has units, mine beside the shared road", () => {
+  assert.deepEqual(csvOf("the road of Ada, 06:30 to 07:30", tableOfFigures(PLAN, "mine", SAID)).split("\n"), [
+    "# the road of Ada, 06:30 to 07:30", "figure,unit,mine,shared,mine less shared", "vehicle hours,h,102.5,62.25,40.25",
+    "delay of cars on both roads,vehicle hours,,,41.5025", "demand,cars,1466.5,1466.5,0",
+    "admitted cars,cars,1400,1437,-37", "lost demand,cars,66.5,29.5,37", "demand at 0 km,cars,1224,1224,0",
+    "admitted cars at 0 km,cars,1216,1224,-8", "lost demand at 0 km,cars,8,0,8", "demand at 1.5 km,cars,242.5,242.5,0",
+    "admitted cars at 1.5 km,cars,184,213,-29", "lost demand at 1.5 km,cars,58.5,29.5,29", "cars at 0.375 km,cars,1211,1219,-8",
+    "flow at 0.375 km,cars/h,,1219,", "time-mean speed at 0.375 km,km/h,,133.55,", "time on at 0.375 km,s,0,3600,-3600",
+    "travel time to 0.375 km,s,26.75,14.5,12.25", "delay of cars on both roads to 0.375 km,s,,,12.25",
+    "travel time to the road's end,s,,210,", "delay of cars on both roads to the road's end,s,,,", ""]);
 });
 
 test("before sharing or taking it is what is, and what would be", () => {
   const [head, hours] = tableOfFigures(PLAN, "preview", SAID);
-  assert.deepEqual(head, ["figure", "now", "then", "then less now"]);
-  assert.deepEqual(hours, ["vehicle hours", "62.25", "102.5", "40.25"]);
-});
-
-test("of a run that is too long to follow each car the detectors' counts are left", () => {
-  const long = (side) => ({...side, vehicle_hours: null, entered: null, lost: null});
-  const lines = tableOfFigures(PLAN, "mine", {delay_hours: null, before: long(SAID.before),
-                                              after: long(SAID.after)});
-  assert.deepEqual(lines[1], ["vehicle hours", "", "", ""]);
-  assert.deepEqual(lines.at(-1), ["cars at 0.375 km", "1211", "1219", "-8"]);
+  assert.deepEqual(head, ["figure", "unit", "now", "then", "then less now"]);
+  assert.deepEqual(hours, ["vehicle hours", "h", "62.25", "102.5", "40.25"]);
 });
 
 test("many days are saved with their intervals", () => {
-  const figures = [{name: "lost", before: [29.75, 2.1], after: [84.8, 5.9],
-                    difference: [55.05, 4.5]}, {name: "cars 0", before: [2, 1], after: [1, 1], difference: [-1, 0]}];
-  assert.deepEqual(tableOfDays(PLAN, "mine", {days: 20, figures}), [
-    ["mean of 20 days", "mine", "±", "shared", "±", "mine less shared", "±"],
-    ["lost demand in cars", "84.8", "5.9", "29.75", "2.1", "55.05", "4.5"],
-    ["cars at 0.375 km", "1", "1", "2", "1", "-1", "0"]]);
-  assert.equal(tableOfDays(PLAN, "preview", {days: 20, figures})[1][1], "29.75");
+  const figures = [{name: "lost", before: [29.75, 2.1], after: [84.8, 5.9], difference: [55.05, 4.5]},
+                   {name: "cars 0", before: [2, 1], after: [1, 1], difference: [-1, 0]},
+                   {name: "seconds 1", before: [200, 1], after: [201, 1], difference: [1, 0.5]}];
+  assert.deepEqual(tableOfDays(PLAN, "mine", decodeDays({days: 20, figures})), [
+    ["mean of 20 days", "unit", "mine", "±", "shared", "±", "mine less shared", "±"],
+    ["lost demand", "cars", "84.8", "5.9", "29.75", "2.1", "55.05", "4.5"],
+    ["cars at 0.375 km", "cars", "1", "1", "2", "1", "-1", "0"],
+    ["travel time to the road's end", "s", "201", "1", "200", "1", "1", "0.5"]]);
+  assert.equal(tableOfDays(PLAN, "preview", decodeDays({days: 20, figures}))[1][2], "29.75");
 });
 
 test("of one day, where it was stopped, no interval is known", () => {
   const lost = {name: "lost", before: [30, null], after: [91, null], difference: [61, null]};
-  assert.deepEqual(tableOfDays(PLAN, "mine", {days: 1, figures: [lost]}), [
-    ["mean of 1 day", "mine", "±", "shared", "±", "mine less shared", "±"],
-    ["lost demand in cars", "91", "", "30", "", "61", ""]]);
+  assert.deepEqual(tableOfDays(PLAN, "mine", decodeDays({days: 1, figures: [lost]}))[1],
+                   ["lost demand", "cars", "91", "", "30", "", "61", ""]);
+});
+
+test("changes are named as on the page, with real names, and what covers them", () => {
+  const stamp = [5, 65];
+  const line = (name, who, begin, shown) => ({name, kind: "limit", shape: ["limit", 2, 3, begin, 1800, 2], who, note: "", when: 0,
+    height: name, standing: true, shared: true, shown,
+    operations: [{stamp: name, who, note: "", when: 0, does: "put", shared: true, undoes: null, lost: null}]});
+  const layers = new Layers(PLAN);
+  layers.take(decodeList({next: 1, layers: [line([6, 66], "=Ben", 900, [["limit", 2, 3, 900, 1800, 2, null]]),
+    line(stamp, "Ada", 600, [["limit", 2, 3, 600, 900, 2, null], ["limit", 2, 3, 900, 1800, 2, [6, 66]]])]}));
+  assert.deepEqual(csvOf("x", tableOfChanges(layers)).split("\n").slice(1), [
+    "change,who,what,when,does,shared,in force,covered",
+    '1,Ada,"54 km/h, 0.75–1.5 km, 0:10:00–0:30:00",,put,yes,"0.75–1.5 km, 0:10:00–0:15:00",'
+      + '"0.75–1.5 km, 0:15:00–0:30:00 by =Ben\'s limit of 54 km/h"',
+    '2,\'=Ben,"54 km/h, 0.75–1.5 km, 0:15:00–0:30:00",,put,yes,"0.75–1.5 km, 0:15:00–0:30:00",', ""]);
+});
+
+test("no cell of a saved table is run as a formula, and numbers stay numbers", () => {
+  for (const text of ["=a", "+a", "-a", "@a", " =a", "\t=a"]) assert.ok(csvOf("", [[text]]).includes("'"), text);
+  assert.equal(csvOf("", [["-12.5", "a=", '"']]), '# \n-12.5,a=,""""\n');
 });

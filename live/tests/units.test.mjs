@@ -1,11 +1,10 @@
 // Cells and steps in an engineer's units.
 
 import assert from "node:assert/strict";
-import {readFileSync} from "node:fs";
 import {test} from "node:test";
 
-import {cellOfKm, chanceOfDemand, dayText, demandOfChance, durationText, kmText, limitText,
-        mostDemand, plural, roundedKm, signedText, stepOfText, timeText} from "../page/units.mjs";
+import {beginClock, cellOfKm, chanceOfDemand, runningClockText, dayIn, dayText, demandOfChance, durationText, fileTime,
+        kmText, limitText, plural, roundedKm, signedText, stepOfText, timeHint, timeText} from "../page/units.mjs";
 
 test("a cell is 7.5 m, a cell a step 27 km/h", () => {
   assert.equal(kmText(400), "3");
@@ -74,41 +73,56 @@ test("a time of day is written by formats that are kept: lists have hundreds, tw
   assert.ok(one - plain < 0.3 * (made - plain), `${one}, kept ${plain}, made anew ${made}`);
 });
 
-/** The rows of the table of docs/TRAFFIC of inflow chances: p, the chances, and the most cars an hour. */
-function tableOfTraffic() {
-  const text = readFileSync(new URL("../../docs/TRAFFIC.md", import.meta.url), "utf8");
-  const fraction = (cell) => cell.split("/").map(Number).reduce((one, other) => one / other);
-  return text.split("\n").filter((line) => /^\| (0|0\.1|1\/4|1\/2) \|/.test(line)).map((line) => {
-    const cells = line.split("|").slice(1, -1).map((cell) => cell.trim());
-    const chances = cells.slice(1, 6).map((one) => (one ? Number(one) : null));
-    return {slow: fraction(cells[0]), chances,
-            most: Number(cells[6].split(" ")[0].replace(",", ""))};
-  });
-}
+// Without slowing an inlet by itself admits q / (1 + q q) cars a step by a chance q.
+const CURVE = {points: Array.from({length: 129}, (_, place) =>
+  [512 * place, 3600 * (place / 128) / (1 + (place / 128) ** 2)]), capacity: 1800};
 
-test("demands have the chances of the table of docs/TRAFFIC", () => {
-  const rows = tableOfTraffic();
-  assert.equal(rows.length, 4);
-  for (const {slow, chances, most} of rows) {
-    assert.equal(mostDemand(slow), most);
-    [500, 1000, 1250, 1500, 1700].forEach((cars, column) => {
-      if (chances[column] === null) return;
-      assert.ok(Math.abs(chanceOfDemand(cars, slow) - chances[column]) < 1e-9, `${slow} ${cars}`);
-      assert.ok(Math.abs(demandOfChance(chances[column], slow) - cars) < 0.5, `${slow} ${cars}`);
-    });
-    assert.equal(chanceOfDemand(0, slow), 0);
-    assert.ok(Number.isNaN(chanceOfDemand(most + 1, slow)));
-    assert.ok(Number.isNaN(chanceOfDemand(-1, slow)));
+test("a chance is cars per hour by the curve of its inlet, and back", () => {
+  for (const [chance, cars] of [[0, 0], [0.142, 500], [0.302, 1000], [0.536, 1500], [1, 1800]]) {
+    assert.ok(Math.abs(demandOfChance(65536 * chance, CURVE) - cars) < 4, `${chance}`);
+    const found = chanceOfDemand(cars, CURVE) / 65536;
+    assert.ok(Math.abs(found / (1 + found ** 2) - cars / 3600) < 1e-4, `${cars}`);
   }
+  for (const cars of [-1, 1801, NaN]) assert.ok(Number.isNaN(chanceOfDemand(cars, CURVE)));
 });
 
-test("between the table's chances demands rise, and above them there is none", () => {
-  let before = 0;
-  for (let cars = 50; cars <= 1600; cars += 50) {
-    const chance = chanceOfDemand(cars, 0.05);
-    assert.ok(chance > before && chance <= 1, `${cars}`);
-    before = chance;
+test("where more chance admits no more, the first chance that does is taken", () => {
+  const full = {points: [[0, 0], [512, 600], [1024, 600]], capacity: 600};
+  assert.equal(chanceOfDemand(600, full), 512);
+  assert.equal(demandOfChance(800, full), 600);
+});
+
+test("times are those of the day where the road's clock has one", () => {
+  beginClock(6.5 * 3600);
+  try {
+    for (const [step, text, file] of [[0, "06:30", "0630"], [1800, "07:00", "0700"], [1830, "07:00:30", "070030"],
+                                      [63_000, "00:00 (day 2)", "0000"]]) {
+      assert.equal(timeText(step), text);
+      assert.equal(stepOfText(text), step);
+      assert.equal(fileTime(step), file);
+    }
+    for (const [text, step] of [["7:00", 1800], ["07:00", 1800], ["20", 1200], ["6:29", 86_340]]) {
+      assert.equal(stepOfText(text), step);
+    }
+    assert.ok(Number.isNaN(stepOfText("24:00")));
+    assert.equal(runningClockText(1800), "07:00:00");
+    assert.equal(runningClockText(1801), "07:00:01");
+    assert.match(timeHint(), /minutes after 06:30/);
+  } finally {
+    beginClock(null);
   }
-  assert.ok(Number.isNaN(mostDemand(0.51)));
-  assert.ok(Number.isNaN(demandOfChance(0.3, 0.6)));
+  assert.equal(runningClockText(1800), "0:30:00");
+  assert.equal(fileTime(1800), "0030");
+  assert.equal(fileTime(1830), "03030");
+});
+
+test("when something was done is told in the time zone of the road's file", () => {
+  const noon = Date.UTC(2020, 0, 1, 12) / 1000;
+  const told = (zone) => { dayIn(zone); return dayText(noon); };
+  try {
+    assert.match(told("Asia/Tokyo"), /09:00|21:00/);
+    assert.notEqual(told("Asia/Tokyo"), told("America/New_York"));
+  } finally {
+    dayIn(null);
+  }
 });

@@ -5,7 +5,9 @@ import asyncio
 import contextlib
 import errno
 import json
+import multiprocessing
 import threading
+import time
 from typing import Any, Coroutine, Iterator
 from unittest import mock
 
@@ -13,11 +15,12 @@ from faulty import Bus, Disk, Here, soon
 from running import Case, until
 from server import chance, figures
 from server.asked import Refused
+from server.records import SeatUsed
 from server.journal import Journal
+from server.model.operations import About, Operation, edit
 from server.program import Gone, Program
 from server.settings import Settings
-from server.stamps import count_after
-from server.state import Gesture
+from server.stamps import StampClock
 from server.turns import MORE
 
 LIMIT = ["limit", 2, 50]
@@ -31,8 +34,10 @@ class Written(Case):
 
     async def begun(self, act: Coroutine[Any, Any, Any]) -> asyncio.Task[Any]:
         """An act that waits for the disk, and what the laboratory does by it is done."""
+        self.disk.is_asked.clear()
         self.disk.free.clear()
         task = asyncio.create_task(act)
+        await soon(asyncio.to_thread(self.disk.is_asked.wait))
         for _ in range(20):
             await asyncio.sleep(0.01)
         self.assertFalse(task.done())
@@ -62,7 +67,7 @@ class Written(Case):
         self.goes_on()
         stamp = await self.here.put(self.ada, [*LIMIT, 3], key="b")
         self.assertEqual(stamp, await self.here.put(self.ada, [*LIMIT, 3], key="b"))
-        self.assertEqual([one["gesture"]["key"] for one in self.here.entries() if "gesture" in one], ["a", "b"])
+        self.assertEqual([one["made"]["key"] for one in self.here.entries() if "made" in one], ["a", "b"])
 
     async def test_a_take_and_a_share_across_a_failed_write_end(self) -> None:
         await self.here.put(self.ada, [*LIMIT, 3])
@@ -89,7 +94,7 @@ class Written(Case):
             rounds += 1
             if rounds == 2:
                 self.goes_on(errno.EIO)
-                await asyncio.wait([keeper.record({"left": {"seat": 1, "when": 0}})])
+                await asyncio.wait([keeper.record(SeatUsed(1, 0))])
             return MORE
         self.assertEqual(await self.refused(keeper.ask(self.ben, (), piece)), "not written")
         self.assertEqual(rounds, 2)
@@ -100,7 +105,7 @@ class Written(Case):
 
         async def body() -> None:
             self.goes_on(errno.EIO)
-            await asyncio.wait([keeper.record({"left": {"seat": 1, "when": 0}})])
+            await asyncio.wait([keeper.record(SeatUsed(1, 0))])
             self.goes_on()
             await keeper.writable()
         self.assertEqual(await self.refused(keeper.ask(self.ben, (), body)), "not written")
@@ -117,14 +122,14 @@ class Written(Case):
             return await ask_all(program, lines)
         for step in (50, 60, 70):
             await self.here.put(self.ada, ["limit", 2, step, step % 9])
-        with mock.patch.object(Program, "ask_all", held_up), mock.patch("server.keeper.PIECE", 1):
+        with mock.patch.object(Program, "ask_all", held_up), mock.patch("server.program.PIECE", 1):
             share = asyncio.create_task(self.here.share(self.ada))
 
             async def is_kept() -> bool:
                 return any("share" in one for one in self.here.entries())
             await until(is_kept, "the share is on the disk")
             self.goes_on(errno.EIO)
-            await asyncio.wait([keeper.record({"left": {"seat": self.ben, "when": 0}})])
+            await asyncio.wait([keeper.record(SeatUsed(self.ben, 0))])
             is_free.set()
             self.assertEqual(len((await soon(share))["stamps"]), 3)
         self.goes_on()
@@ -142,7 +147,7 @@ class Written(Case):
             with mock.patch("server.keeper.start", none):
                 await soon(act)
                 self.assertEqual(await self.refused(self.here.ask(self.ben, "scenario", at="shared")), "no program")
-        self.assertEqual([next(iter(one)) for one in self.here.entries()][-3:], ["gesture", "share", "take"])
+        self.assertEqual([next(iter(one)) for one in self.here.entries()][-3:], ["made", "share", "take"])
         self.assertEqual(self.here.heard[-1:], [50])
         self.assertEqual((await self.edits(self.ben), len((await self.here.ask(self.ada, "scenario"))["edits"])), (1, 2))
 
@@ -158,7 +163,7 @@ class Written(Case):
             self.here.heard.clear()
             share = await self.begun(self.here.share(self.ada))
             looks = [asyncio.create_task(self.here.ask(cleo, verb, at="shared", **more)) for verb, more in (
-                ("layers", {}), ("gestures", {}), ("csv", {"what": "changes"}), ("transcript", {"from": 0, "to": 0}))]
+                ("layers", {}), ("operations", {}), ("csv", {"what": "changes"}), ("transcript", {"from": 0, "to": 0}))]
             self.assertEqual((lab.news(cleo, 9)["size"], lab.news(cleo, 9)["shares"][1:]), (1, []))
             first = asyncio.create_task(self.first(cleo))
             self.assertEqual(await self.edits(cleo), 1)  # the road is asked, and is what is there
@@ -167,7 +172,7 @@ class Written(Case):
             self.assertEqual(self.here.heard, [])
             self.goes_on(fault)
             layers, gestures, table, transcript = [await soon(look) for look in looks]
-            self.assertEqual([len(layers["layers"]), len(gestures["gestures"]), table["csv"].count("\n") - 1,
+            self.assertEqual([len(layers["layers"]), len(gestures["operations"]), table["csv"].count("\n") - 1,
                               transcript["lines"].count('["limit",')], [edits] * 4)
             if fault:
                 self.assertEqual(await self.refused(share), "not written")
@@ -177,18 +182,18 @@ class Written(Case):
 
     async def test_who_goes_while_a_seat_is_given_harms_nobody(self) -> None:
         """Others, who wait for the same write, are answered, and the seat can be taken over."""
-        join = await self.begun(self.here.lab.join("Cleo", "", None))
-        looks = [asyncio.create_task(self.here.lab.seats_kept(turn)) for turn in (self.ben, None)]
+        join = await self.begun(self.here.lab.seating.join("Cleo", "", None))
+        looks = [asyncio.create_task(self.here.lab.seating.seats_kept(turn)) for turn in (self.ben, None)]
         await asyncio.sleep(0.1)
         join.cancel()
-        looks.append(asyncio.create_task(self.here.lab.seats_kept()))
+        looks.append(asyncio.create_task(self.here.lab.seating.seats_kept()))
         await asyncio.sleep(0.1)
         self.goes_on()
         for look in looks:
             self.assertEqual([one["name"] for one in await soon(look)][:2], ["Ada", "Ben"])
-        seats = {one["name"]: one for one in await soon(self.here.lab.seats_kept())}
+        seats = {one["name"]: one for one in await soon(self.here.lab.seating.seats_kept())}
         self.assertEqual([seats[name]["here"] for name in ("Ada", "Ben", "Cleo")], [True, True, False])
-        index, _ = await soon(self.here.lab.join("", "", seats["Cleo"]["seat"]))
+        index, _ = await soon(self.here.lab.seating.join("", "", seats["Cleo"]["seat"]))
         await soon(self.here.put(index, [*LIMIT, 3]))
 
     async def test_the_list_is_whole_after_a_failed_write(self) -> None:
@@ -218,29 +223,27 @@ class Written(Case):
             self.goes_on(errno.EIO)
             await asyncio.get_running_loop().run_in_executor(None, is_read.wait)
             asked: list[tuple[str, dict[str, Any]]] = [
-                ("layers", {"at": "shared"}), ("gestures", {"at": "shared"}), ("csv", {"at": "shared", "what": "changes"}),
+                ("layers", {"at": "shared"}), ("operations", {"at": "shared"}), ("csv", {"at": "shared", "what": "changes"}),
                 ("figures", {"of": "mine", "from": 0, "to": 60})]
             looks = [asyncio.create_task(self.here.ask(self.ben, verb, **fields)) for verb, fields in asked]
             await asyncio.sleep(0.2)
             may_read.set()
             layers, gestures, table, figures_of = [await soon(look) for look in looks]
-        self.assertEqual((layers["layers"], gestures["gestures"], table["csv"].count("\n")), ([], [], 1))
+        self.assertEqual((layers["layers"], gestures["operations"], table["csv"].count("\n")), ([], [], 1))
         self.assertEqual(figures_of["before"], figures_of["after"])
         self.assertEqual(await self.refused(share), "not written")
 
     async def test_what_comes_from_another_site_is_told_once_it_is_on_the_disk(self) -> None:
-        def gesture() -> Gesture:
-            stamp = count_after(0), 2 * 64 + 1
-            lays = [[LIMIT, 3, stamp, None, (0, 0)]]
-            return Gesture.read({"stamp": stamp, "edits": [[*LIMIT, 3]], "lays": lays, "who": "Sam"})
+        def one() -> Operation:
+            return edit((StampClock().count_after(0), 2 * 64 + 1), {("limit", 2, 50): 3}, About("Sam"))
         lab = self.here.lab
         for fault, size in ((errno.EIO, 0), (None, 1)):
             self.goes_on()
             await self.here.keeper.until_writable()
             self.here.heard.clear()
-            gestures = [gesture()]
-            came = await self.begun(lab.came(gestures, {}))
-            again = asyncio.create_task(lab.came(gestures, {}))
+            operations = [one()]
+            came = await self.begun(lab.came(operations, "", {}))
+            again = asyncio.create_task(lab.came(operations, "", {}))
             self.assertEqual((lab.news(self.ben, 9)["size"], lab.news(self.ben, 9)["shares"], self.here.heard), (0, [], []))
             self.assertEqual(await self.edits(self.ben), 0)
             self.assertEqual((await soon(self.here.take(self.ben)))["size"], 0)
@@ -310,7 +313,7 @@ class Written(Case):
         lab, keeper = self.here.lab, self.here.keeper
         told: list[Any] = []
         keeper.listeners.on("trouble", lambda: told.append(keeper.trouble))
-        await lab.set_clock(rate=60)
+        await lab.timing.set_clock(rate=60)
         await self.here.put(self.ada, [*LIMIT, 3])
         self.disk.is_full()
 
@@ -321,15 +324,16 @@ class Written(Case):
         for _ in range(3):
             self.assertEqual(await self.refused(self.here.put(self.ada, [*LIMIT, 4])), "not written")
             await asyncio.sleep(1)
-        tries = self.disk.calls.count("write")
+        tries, since = self.disk.calls.count("write"), time.monotonic()
         await asyncio.sleep(5)
-        self.assertLessEqual(self.disk.calls.count("write") - tries, 2)  # it is tried after 1, 2, 4 seconds
+        passed = time.monotonic() - since
+        self.assertLessEqual(self.disk.calls.count("write") - tries, max(2, passed / 3))  # it is tried after 1, 2, 4 seconds
         self.assertGreater(keeper.now(), began + 200)  # it goes on
         self.assertEqual((keeper.changes, len(told)), (1, 1))
         self.disk.is_full(False)
         await self.here.put(self.ben, [*LIMIT, 4])
         self.assertEqual((keeper.changes, told[1:]), (1, [None]))
-        self.assertEqual(len([one for one in self.here.entries() if "gesture" in one]), 2)
+        self.assertEqual(len([one for one in self.here.entries() if "made" in one]), 2)
 
     async def test_a_disk_that_is_free_again_is_found_by_the_clock(self) -> None:
         keeper = self.here.keeper
@@ -352,8 +356,37 @@ class Written(Case):
             self.assertIn(b",3]]", reply)
         self.assertIn("read-only", str(keeper.trouble).lower())
         self.assertEqual(keeper.changes, 1)
-        self.assertEqual(await soon(lab.join("", self.here.keys[self.ada], None)), (self.ada, self.here.keys[self.ada]))
-        self.assertEqual(await self.refused(lab.join("Cleo", "", None)), "not written")
+        self.assertEqual(await soon(lab.seating.join("", self.here.keys[self.ada], None)), (self.ada, self.here.keys[self.ada]))
+        cleo, _ = await soon(lab.seating.join("Cleo", "", None))  # who comes now looks, too
+        self.assertEqual((await self.here.ask(cleo, "scenario"))["edits"], [])
+        self.assertEqual(await self.refused(self.here.put(cleo, [*LIMIT, 4])), "not written")
+        self.assertNotIn("Cleo", str(self.here.entries()))
+        self.disk.is_read_only(False)
+        await soon(self.here.put(cleo, [*LIMIT, 4]))
+        kinds = [kind for entry in self.here.entries() for kind, value in entry.items() if value.get("seat") == cleo]
+        self.assertEqual(kinds, ["seat", "made"])  # in this order
+
+
+    async def test_a_seat_that_was_given_while_the_disk_took_nothing_is_given_again_after_a_kill(self) -> None:
+        """By its key alone, as often as the server is killed, and to nobody by another key."""
+        self.disk.is_read_only()
+        self.assertEqual(await self.refused(self.here.put(self.ada, [*LIMIT, 4])), "not written")
+        index, key = await soon(self.here.lab.seating.join("Zoé Ü", "", None))
+        there = self.here
+        for is_free in (False, False, True, True):
+            await there.keeper.close()
+            self.disk.is_read_only(False)
+            there, secret = await self.enterAsyncContext(Here(self.here.folder)), there.lab.seating.secret
+            there.lab.seating.secret = secret
+            self.disk.is_read_only(not is_free)
+            for other in (f"{key}e", key.replace(f".{index}.", ".9."), key[:20], f"..{key}"):
+                self.assertEqual(await self.refused(there.lab.seating.join("", other, None)), "unknown key")
+            self.assertEqual(await soon(there.lab.seating.join("", key, None)), (index, key))
+            self.assertEqual(there.lab.state.seats[index].name, "Zoé Ü")
+        await there.lab.seating.give_back(index)
+        there.keeper.here.discard(index)
+        await there.join("Zoe U", "Zoé ü")
+        self.assertEqual(await self.refused(there.lab.seating.join("", key, None)), "unknown key")
 
 
 @contextlib.contextmanager
@@ -366,7 +399,7 @@ def counted() -> Iterator[list[Any]]:
             computed.append(found := await does(*given))
             return found
         return also
-    with mock.patch.object(figures, "of", kept(figures.of)), mock.patch.object(
+    with mock.patch.object(figures.Figures, "of", kept(figures.Figures.of)), mock.patch.object(
             chance.Question, "answer", kept(chance.Question.answer)):
         yield computed
 
@@ -378,7 +411,8 @@ class Stalled(Case):
         self.disk = self.enterContext(Disk())
         for name, seconds in (("STALLS", 0.3), ("A_MOMENT", 0.2)):
             self.enterContext(mock.patch(f"server.keeper.{name}", seconds))
-        self.enterContext(mock.patch("server.lab.A_MOMENT", 0.2))
+        for module in ("seating", "timing"):
+            self.enterContext(mock.patch(f"server.{module}.A_MOMENT", 0.2))
         self.here = await self.enterAsyncContext(Here(site=1))
         self.keeper = self.here.keeper
         self.told: list[Any] = []
@@ -388,17 +422,19 @@ class Stalled(Case):
         await self.here.share(self.ben)
         await self.here.take(self.ben)
         await self.here.put(self.ben, ["limit", 1, 60, 3])
-        await self.here.lab.seats_kept()
+        await self.here.lab.seating.seats_kept()
 
     async def stalls(self, *names: str) -> None:
         """From the next such call on."""
-        held = self.disk.free
+        held, is_stalled = self.disk.free, threading.Event()
+        self.is_stalled = is_stalled
         held.clear()
-        self.disk.free = threading.Event()
+        self.disk.free = multiprocessing.Event()
         self.disk.free.set()
 
         def waits(name: str, _given: Any) -> None:
             if name in names:
+                is_stalled.set()
                 held.wait()  # without an end, but that of the test
         self.disk.before = waits
         self.addCleanup(held.set)
@@ -419,16 +455,16 @@ class Stalled(Case):
                 await soon(ask(ben, verb, at=at, **fields))
         await soon(ask(ben, "layers"))
         for turn in (ben, None):
-            self.assertEqual([one["name"] for one in await soon(self.here.lab.seats_kept(turn))], ["Ada", "Ben"])
+            self.assertEqual([one["name"] for one in await soon(self.here.lab.seating.seats_kept(turn))], ["Ada", "Ben"])
 
     async def test_what_is_put_is_pending_and_all_else_goes_on(self) -> None:
-        await self.here.lab.set_clock(rate=60)
+        await self.here.lab.timing.set_clock(rate=60)
         for names in (("write",), ("fsync",)):
             self.told.clear()
             await self.stalls(*names)
-            before = len([one for one in self.here.entries() if "gesture" in one])
+            before = len([one for one in self.here.entries() if "made" in one])
             gestures = [asyncio.create_task(self.here.put(seat, [*LIMIT, 3])) for seat in (self.ada, self.ben, self.ada)]
-            joins = asyncio.create_task(self.here.lab.join(f"Cleo {names}", "", None))
+            joins = asyncio.create_task(self.here.lab.seating.join(f"Cleo {names}", "", None))
             await self.is_told(1)
             self.assertIn("the disk has not answered for", self.told[0])
             now = self.keeper.now()
@@ -445,10 +481,10 @@ class Stalled(Case):
             stamps = [await soon(one) for one in gestures]
             index, _ = await soon(joins)
             await soon(self.here.ask(index, "leave"))
-            self.here.lab.leave(index)
+            self.here.lab.seating.leave(index)
             await self.is_told(2)
             self.assertIsNone(self.told[1])
-            held = [tuple(one["gesture"]["stamp"]) for one in self.here.entries() if "gesture" in one]
+            held = [tuple(one["made"]["operation"]["stamp"]) for one in self.here.entries() if "made" in one]
             self.assertEqual(held[before:], stamps)
             self.assertEqual(self.keeper.changes, 0)  # of the program
 
@@ -466,21 +502,21 @@ class Stalled(Case):
         layers = asyncio.create_task(self.here.ask(self.ben, "layers", at="shared"))
         await self.is_told(1)
         await self.looks(2)
-        second._sites.clear()
+        second._peers.known.clear()
         await soon(first.announce())
         first._tell_what_may_lack("another", {}, "")
-        told = [one for one in bus.sent if one.topic.endswith("layers")]
-        self.assertEqual([len(json.loads(one.payload)["gestures"]) for one in told], [2])  # what is on the disk
+        told = [one for one in bus.sent if one.topic.endswith("operations")]
+        self.assertEqual([len(json.loads(one.payload)["operations"]) for one in told], [2])  # what is on the disk
         bus.sent = [one for one in bus.sent if one not in told]
         await soon(bus.carry())
         self.assertEqual([one["site"] for one in second.state()["sites"]], [1])  # it is there all the same
-        self.assertEqual(len(there.lab.state.shared.gestures), 2)
+        self.assertEqual(there.lab.state.shared.size, 2)
         self.assertEqual([one for one in (share, layers) if one.done()], [])
         self.held.set()
         await soon(share)
         self.assertEqual(len((await soon(layers))["layers"]), 3)
         await soon(bus.carry())
-        self.assertEqual(len(there.lab.state.shared.gestures), 3)
+        self.assertEqual(there.lab.state.shared.size, 3)
         await self.looks(3)
 
     async def test_a_stalled_try_of_a_disk_that_took_nothing_and_a_stalled_compaction(self) -> None:
@@ -498,8 +534,9 @@ class Stalled(Case):
         await soon(self.here.put(self.ada, [*LIMIT, 3], key="k"))
         for name in ("rename", "fsync"):
             await self.stalls(name)
-            compacted = asyncio.create_task(self.keeper.journal.compact(self.keeper.state.entries))
-            await asyncio.sleep(0.1)
+            compacted = asyncio.create_task(self.keeper.compact())
+            if name == "rename":  # (what is synced first is written by a process of its own, for which nobody waits)
+                await soon(asyncio.to_thread(self.is_stalled.wait))
             gesture = asyncio.create_task(self.here.put(self.ada, [*LIMIT, 4]))
             await asyncio.sleep(0.4)
             await self.looks(1)
@@ -507,4 +544,4 @@ class Stalled(Case):
             self.held.set()
             await soon(compacted)
             stamp = await soon(gesture)
-            self.assertIn(stamp, [tuple(one["gesture"]["stamp"]) for one in self.here.entries() if "gesture" in one])
+            self.assertIn(stamp, [tuple(one["made"]["operation"]["stamp"]) for one in self.here.entries() if "made" in one])

@@ -4,7 +4,8 @@
 """
 import sys
 
-from road_lab import NO_NUMPY, Plan, RoadLab, as_array
+from zegdrut import Plan, RoadLab, to_array
+from zegdrut.rows import NO_NUMPY
 
 try:
     import numpy
@@ -19,7 +20,7 @@ def main() -> None:
         lab.advance("A", 40)
         lab.edit("A", ("block", 24), step=12, value=1)
         lab.edit("A", ("block", 24), step=24, value=0)
-        road = as_array(lab.diagram("A", 24, 40))
+        road = to_array(lab.diagram("A", 24, 40))
     cells = numpy.arange(road.shape[1])
     print(f"{road.shape[0]} steps of {road.shape[1]} cells, {(road >= 0).sum()} cars in all")
     print("step  density  mean speed  standing cars, from cell to cell")

@@ -17,13 +17,13 @@ from simulator import replies
 TOP = os.path.join(os.path.dirname(os.path.abspath(__file__)), "..", "..")
 PROGRAM = os.path.join(TOP, "crates", "road_lab", "out", "road_lab")
 FOLDERS = os.path.join(TOP, "examples"), os.path.join(TOP, "tests", "scripts")
-# A program that has not ended after so many seconds is killed.
+# The seconds after which a program is killed.
 PATIENCE = 120
 SHOWN = 300
 
 
 def of_program(program, given):
-    """The lines that the program answers to a script, and its status last."""
+    """Return the lines that the program answers to a script, and its status last."""
     try:
         ended = subprocess.run([program], input=given, stdout=subprocess.PIPE, stderr=subprocess.PIPE, timeout=PATIENCE)
     except subprocess.TimeoutExpired:
@@ -32,14 +32,14 @@ def of_program(program, given):
 
 
 def of_simulator(given):
-    """The same of the simulator."""
+    """Return the lines that the simulator answers to a script, and its status last."""
     answers = list(replies(given))
     refused = len(answers) == 1 and answers[0].startswith(b'{"refused":')
     return answers + [b"status 2 bad plan\n" if refused else b"status 0 "]
 
 
 def first_difference(program, given):
-    """The place of the first line that is answered otherwise, and both answers; or None."""
+    """Return the place of the first line with different answers, and both answers; or None."""
     theirs, ours = of_program(program, given), of_simulator(given)
     for place, pair in enumerate(zip(theirs, ours), 1):
         if pair[0] != pair[1]:
@@ -48,7 +48,7 @@ def first_difference(program, given):
 
 
 def smallest(program, given):
-    """The script without the lines that can be left out while the answers still differ."""
+    """Return the script without the lines that can be left out while the answers still differ."""
     kept, place = given.split(b"\n"), 1
     while place < len(kept):
         fewer = kept[:place] + kept[place + 1:]
@@ -60,13 +60,13 @@ def smallest(program, given):
 
 
 def kind_of(answer):
-    """What an answer is called in the table at the end."""
+    """Return the name of an answer in the final table."""
     reply = json.loads(answer)
     return "refused: " + reply["refused"] if "refused" in reply else " ".join(reply)
 
 
 def cases(scripts, seed):
-    """The name of each script, and the script: those written by hand, then for each seed a plan line alone and a script."""
+    """Yield the name of each script, and the script: those written by hand, then for each seed a plan line alone and a script."""
     for folder in FOLDERS:
         for name in sorted(os.listdir(folder)):
             if name.endswith(".jsonl"):

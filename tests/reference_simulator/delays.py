@@ -1,15 +1,15 @@
 #!/usr/bin/env python3
-"""The delay between two scripts of one plan, by the simulator: what recipes/delay/run prints, found in another way.
+"""Compute the delay between two scripts of one plan with the simulator: the expected output of recipes/delay/run.
 
     tests/reference_simulator/delays.py BEFORE AFTER > recipes/delay/expected
     tests/reference_simulator/delays.py BEFORE AFTER 5 > recipes/delay/days.expected
 
-With a number, over so many days: means and 95 % intervals, by Python's `statistics` and printed values of Student's t.
+With a number, over that many days: means and 95 % intervals, by Python's `statistics` and printed values of Student's t.
 
-Each script is a plan line, edits of one replica and an advance; both advance to the same step. The gates of a road
-are watched, not its rows: in which step each car enters, and in which it is gone. A car's time is the one less the
-other, what all spend is the sum of the cars that have come and not gone, and a car that is there at the end has
-gone in the last step. A step is a second, and entries are told minute by minute.
+Each script has a plan line, edits of one replica and an advance; both advance to the same step. This watches the ends of the road
+and not its rows: in which step each car enters and in which it leaves. The travel time of a car is the difference. The time that
+all cars spend is the sum over all steps of the cars that have entered and not left. A car that is still on the road at the end
+counts as leaving in the last step. A step is a second, a cell is 7.5 m, and entries are grouped by minutes.
 """
 import json
 import math
@@ -20,13 +20,15 @@ sys.dont_write_bytecode = True
 from simulator import Plan, run
 
 MINUTE = 60
+CELL = 7.5
+"""The length of a cell in metres."""
 STUDENT = {4: 2.776445, 8: 2.306004}
 """The value that Student's t exceeds by a chance of 2.5 %, by degrees of freedom."""
 
 
 def gates(path, days=0, counted=None):
-    """The plan, the steps of entry and of leaving by the cars' numbers, the last step, and the cars that have come and not
-    gone, summed over all steps; so many days after the plan's. What detectors count is put into a list."""
+    """Run a script. Return its plan, the steps of entry and of leaving by the cars' numbers, the last step, and the number of cars
+    on the road, summed over all steps. The seed is `days` above that of the plan. Append the detectors' counts to `counted`."""
     with open(path, encoding="utf-8") as script:
         given, *commands = map(json.loads, script)
     given["words"] += days
@@ -53,6 +55,10 @@ def comma(*words):
     print(*words, sep=",")
 
 
+def km(cell):
+    return f"{cell * CELL / 1000:.10g}"
+
+
 def hours(steps):
     return f"{steps / 3600:.3f}"
 
@@ -66,13 +72,13 @@ def most(values):
 
 
 def interval(values, freedom):
-    """Mean, and half of the interval."""
+    """Return the mean, and half the width of its interval."""
     half = STUDENT[freedom] * statistics.stdev(values) / math.sqrt(len(values))
     return [f"{statistics.mean(values):.3f}", f"{half:.3f}"]
 
 
 def day(paths, number):
-    """What a day has of each figure, before and after."""
+    """Return each figure of a day, before and after."""
     counts = [], []
     (plan, come, gone, _, spent), (_, other, left, _, spent_after) = (
         gates(path, number, counted) for path, counted in zip(paths, counts))
@@ -80,14 +86,14 @@ def day(paths, number):
     found = {"vehicle hours on the road": (spent / 3600, spent_after / 3600),
              "vehicle hours of cars through in both": (sum(gone[car] - come[car] for car in both) / 3600,
                                                        sum(left[car] - other[car] for car in both) / 3600),
-             "cars that came in (fewer: lost demand)": (len(come), len(other))}
+             "cars that entered": (len(come), len(other))}
     sums = [[sum(cars) for cars in zip(*counted)] for counted in counts]
-    return {**found, **{f"cars at cell {cell}": pair for cell, pair in zip(plan.detectors, zip(*sums))}}
+    return {**found, **{f"cars at km {km(cell)}": pair for cell, pair in zip(plan.detectors, zip(*sums))}}
 
 
 def over_days(paths, number):
     days = [day(paths, one) for one in range(number)]
-    comma("mean of a day", "before", "±", "after", "±", "difference", "±", "unpaired ±", "days of the other sign")
+    comma("mean of a day", "before", "±", "after", "±", "difference", "±", "unpaired ±", "days of opposite sign")
     for name in days[0]:
         before, after = ([found[name][which] for found in days] for which in (0, 1))
         more = [late - early for early, late in zip(before, after)]
@@ -110,7 +116,7 @@ def main():
     late = {car: takes[car] - took[car] for car in took if car in takes}
     ended = {car for car in late if car in gone and car in left}
 
-    comma("minute of entry", "cars", "before s", "after s", "mean delay s", "greatest s", "veh·h", "lost", "gained")
+    comma("minute of entry", "cars", "before s", "after s", "mean delay s", "greatest s", "veh·h", "only before", "only after")
     for minute in sorted({car // 16 // MINUTE for car in all_cars}):
         cars = [car for car in all_cars if car // 16 // MINUTE == minute]
         through = [car for car in cars if car in ended]
@@ -121,29 +127,29 @@ def main():
               sum(car not in other for car in cars), sum(car not in come for car in cars))
     print()
 
-    comma("inlet", "at cell", "entered before", "entered after", "before alone (lost)", "after alone (gained)")
+    comma("inlet", "at km", "entered before", "entered after", "only before", "only after")
     for inlet, (cell, _) in enumerate(plan.inlets):
         first, second = [{car for car in cars if car % 16 == inlet} for cars in (come, other)]
-        comma(inlet, cell, len(first), len(second), len(first - second), len(second - first))
+        comma(inlet, km(cell), len(first), len(second), len(first - second), len(second - first))
     print()
 
     comma("cars", "number", "mean delay s", "greatest s", "veh·h")
     sums = sum(late.values())
     later = {car for car in ended if late[car] > 0}
-    for name, cars in (("through in both runs", ended), ("of these later than before", later), ("not yet through", late.keys() - ended)):
+    for name, cars in (("through in both runs", ended), ("of these, delayed", later), ("still on the road", late.keys() - ended)):
         total = sum(late[car] for car in cars)
         comma(name, len(cars), mean(total, len(cars)), most([late[car] for car in cars]), hours(total))
     lost, gained = sum(took[car] for car in took.keys() - late), sum(takes[car] for car in takes.keys() - late)
-    comma("in the first run alone (lost)", len(took) - len(late), "", "", hours(-lost))
-    comma("in the second alone (gained)", len(takes) - len(late), "", "", hours(gained))
-    comma("all together", "", "", "", hours(sums - lost + gained))
-    comma("by the cars in all rows", "", "", "", hours(spent_after - spent))
+    comma("only in the first run", len(took) - len(late), "", "", hours(-lost))
+    comma("only in the second run", len(takes) - len(late), "", "", hours(gained))
+    comma("all cars", "", "", "", hours(sums - lost + gained))
+    comma("check: cars in all rows", "", "", "", hours(spent_after - spent))
     print()
 
     fewer = len(come) - len(other)
     if fewer:
-        print(f"{abs(fewer)} cars {'fewer' if fewer > 0 else 'more'} came in: who finds no place at an inlet is on no road, "
-              "and is in no delay.")
+        print(f"{abs(fewer)} {'fewer' if fewer > 0 else 'more'} cars entered. They are not in the delay; --demand shows whether "
+              "demand was lost.")
 
 
 if __name__ == "__main__":

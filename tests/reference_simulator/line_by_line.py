@@ -12,7 +12,7 @@ sys.dont_write_bytecode = True
 import lines
 from simulator import LAST_HORIZON, Laboratory, Plan, Refused, require, run, winners, written
 
-# So many courses of a road are kept.
+# The number of runs of a road that are kept.
 KEPT = 4
 
 
@@ -23,7 +23,7 @@ class Course:
         self.steps, self.states = run(plan, edits, 0, LAST_HORIZON), []
 
     def state(self, step):
-        """What `run` gives for a step."""
+        """Return the result of `run` for a step."""
         self.states += itertools.islice(self.steps, max(step + 1 - len(self.states), 0))
         return self.states[step][1:]
 

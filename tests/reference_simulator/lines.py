@@ -13,13 +13,13 @@ class Refused(Exception):
 
 
 def cut(script):
-    """The lines of an input: a last piece without a newline is one where it is not empty."""
+    """Return the lines of an input. A last piece without a newline is a line unless it is empty."""
     lines = script.split(b"\n")
     return lines if lines[-1] else lines[:-1]
 
 
 def reading(line, otherwise):
-    """The command or plan that a line writes, as `otherwise` reads its JSON value."""
+    """Return the command or plan that a line writes, as `otherwise` reads its JSON value."""
     if len(line) > LONGEST_LINE:
         raise Refused("line too long")
     try:
@@ -33,7 +33,7 @@ def reading(line, otherwise):
 
 def json_value(text):
     hooks = {"parse_int": whole, "parse_float": finite, "parse_constant": no_number}
-    # As lists of pairs nothing is lost where a field stands twice: a text that is no Unicode is refused there too.
+    # Lists of pairs keep duplicate fields, so that a string with invalid Unicode is refused there, too.
     json.dumps(json.loads(text, object_pairs_hook=list, **hooks), ensure_ascii=False).encode()
     if depth(text) > DEEPEST:
         raise ValueError("too deep")
@@ -41,7 +41,7 @@ def json_value(text):
 
 
 def whole(text):
-    """A number without point and exponent: whole, unless it has a sign or is far too large for what it may mean."""
+    """Return a number without point and exponent: whole, unless it has a sign or is far too large for what it may mean."""
     number = finite(text)
     return int(text) if text.isdigit() else number
 
@@ -58,7 +58,7 @@ def no_number(text):
 
 
 def depth(text):
-    """How deep the lists and objects of a JSON text are nested."""
+    """Return how deep the lists and objects of a JSON text are nested."""
     deepest = now = 0
     for letter in re.sub(r'"(\\.|[^"\\])*"', "", text):
         now += (letter in "[{") - (letter in "]}")
@@ -66,10 +66,10 @@ def depth(text):
     return deepest
 
 
-# The parts of plans and commands: each gives what a JSON value means, or is no such part
+# The parts of plans and commands: each returns the meaning of a JSON value, or raises if it is not valid
 
 class Wrong(Exception):
-    """A value is no such part."""
+    """A value is not a valid part."""
 
 
 def number(value, most=2 ** 32 - 1):
@@ -113,14 +113,14 @@ def pair(value):
 
 
 def thing(value):
-    """An object, as (kind, index)."""
+    """Return an object, as (kind, index)."""
     if type(value) is not list or len(value) != 2 or value[0] not in KINDS:
         raise Wrong
     return value[0], number(value[1])
 
 
 def edit(value):
-    """An edit, as (kind, index, step, count, number, value), the value None for a withdrawal."""
+    """Return an edit, as (kind, index, step, count, number, value), the value None for a withdrawal."""
     if type(value) is not list or len(value) != 6:
         raise Wrong
     kind, index, step, count, replica, put = value
@@ -170,7 +170,7 @@ def plan(value):
 
 
 def command(value):
-    """The name of a command, and its fields."""
+    """Return the name of a command, and its fields."""
     try:
         if type(value) is not dict or len(value) != 1:
             raise Wrong

@@ -94,7 +94,7 @@ class Writer:
         return [kind, self.random.randrange(sizes[kind])]
 
     def place(self):
-        """An object and a step, often one that was edited before."""
+        """Return an object and a step, often one that was edited before."""
         if not self.places or self.chance(65):
             last = min(max(self.begin, *self.horizons.values()) + 3, LAST_STEP)
             step = self.random.choice((self.begin, LAST_STEP, *[self.random.randint(self.begin, last) for _ in range(12)]))
@@ -107,7 +107,7 @@ class Writer:
                 "inflow": self.new_chance((0, ALWAYS)), "watch": draw.choice((0, 0, 1)), "start": self.new_chance((0, ALWAYS))}[kind]
 
     def outer_edit(self):
-        """An edit from outside, at times one that was there before with another value."""
+        """Return an edit from outside, at times one that was there before with another value."""
         draw = self.random
         if self.outer and self.chance(25):
             edit = draw.choice(self.outer[-6:])
@@ -135,7 +135,7 @@ class Writer:
     # Commands
 
     def command(self):
-        """A command that is accepted, as far as its writer can see."""
+        """Return a command that is accepted, as far as its writer can see."""
         draw = self.random
         weights = {"edit": 24, "withdraw": 7, "advance": 8, "cells": 6, "cars": 6, "count": 7, "diagram": 6, "scenario": 4,
                    "import": 6, "send": 7, "heads": 5, "beyond": 6, "take": 12, "crowd": 5}
@@ -209,7 +209,7 @@ class Writer:
         return {"message": self.message(self.sent)}
 
     def spoilt(self, fields):
-        """The fields of a command, some with what is refused there, or would be elsewhere."""
+        """Spoil some fields of a command by values that are refused there or elsewhere."""
         draw = self.random
         refused = {
             "at": ("nobody", "D"), "object": ([draw.choice(KINDS), draw.choice((64, 8192, 2 ** 32 - 1))],),
@@ -239,7 +239,7 @@ class Writer:
     # Lines
 
     def line(self, value):
-        """A JSON value in one of the ways to write it."""
+        """Return a JSON value in one of the ways to write it."""
         if type(value) is dict:
             value = dict(self.random.sample(list(value.items()), len(value)))
         separators = self.random.choice(((",", ":"), (",", ":"), (", ", ": "), (" ,\t", "\r: ")))
@@ -247,7 +247,7 @@ class Writer:
         return text.encode()
 
     def hostile(self, value):
-        """A line that is near the one of a value. Some are accepted all the same."""
+        """Return a line that is near the one of a value. Some are accepted all the same."""
         draw = self.random
         line = self.line(value)
         cut = draw.randrange(len(line) + 1)
@@ -276,7 +276,7 @@ class Writer:
         ))()
 
     def fields_of(self, value):
-        """The fields of a command or plan, in a copy of it."""
+        """Return the fields of a command or plan, in a copy of it."""
         copy = json.loads(json.dumps(value))
         return copy, copy if "zones" in copy else next(iter(copy.values()))
 
@@ -286,7 +286,7 @@ class Writer:
         return self.line(copy)
 
     def renumbered(self, value):
-        """One of the numbers written as one that is none, or as a large one."""
+        """Return a line with one number replaced by something that is not a number, or by a large one."""
         copy, fields = self.fields_of(value)
         places = []
 
@@ -306,7 +306,7 @@ class Writer:
         return self.line(copy).replace(json.dumps(NUMERAL).encode(), written.encode())
 
     def doubled(self, value, before=None):
-        """One of the fields twice: the last one counts."""
+        """Return a line with a duplicate field: the last one counts."""
         copy, fields = self.fields_of(value)
         if not fields:
             return self.line(copy)
@@ -320,19 +320,19 @@ class Writer:
         return line[:-1 if copy is fields else -2] + b"," + name + other + line[-1 if copy is fields else -2:]
 
     def plan_line(self):
-        """A plan line that is mostly refused."""
+        """Return a plan line that is mostly refused."""
         if self.chance(60):
             self.spoilt_plan()
         return self.line(self.plan) if self.chance(60) else self.hostile(self.plan)
 
     def script(self):
-        """The bytes of the script."""
+        """Return the bytes of the script."""
         advances = [self.line({"advance": {"at": at, **self.new_advance(at)}}) for at in self.horizons if self.chance(70)]
         written = [self.line(self.plan), *advances, *self.openings(), *self.some(20, 150, self.next_line)]
         return b"\n".join(written) + self.random.choice((b"\n", b"\n", b"\n", b"", b"\n\n", b"\r\n", b"\n "))
 
     def openings(self):
-        """Where nobody enters by the plan: edits that open inlets later."""
+        """Return edits that open inlets later, for plans without inflow."""
         inlets = range(len(self.plan["inlets"])) if self.begin else ()
         return [self.line({"edit": {"at": at, "object": ["inflow", inlet], "step": self.begin, "value": ALWAYS}})
                 for at in self.horizons for inlet in inlets if self.chance(60)]

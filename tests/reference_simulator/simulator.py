@@ -41,7 +41,7 @@ class Plan:
             **{("start", zone): None for zone in range(len(self.zones))}}
 
     def faults(self):
-        """Each fault of a plan, and whether it stands, in their order."""
+        """Yield each refusal of a plan, and whether it applies, in order."""
         cells = [cell for cell, _ in self.inlets]
         yield "Names", not (1 <= len(self.names) <= MOST_REPLICAS and len(set(self.names)) == len(self.names)
                             and all(1 <= len(name.encode()) <= 64 for name in self.names))
@@ -59,7 +59,7 @@ class Plan:
         return self.length - self.exit
 
     def happens(self, chance, stream, step):
-        """Whether the event of a chance happens, by the word of the stream at the step."""
+        """Return whether the event of a chance happens, by the word of the stream at the step."""
         return word(self.seed, stream, step) >> 16 < chance
 
 
@@ -72,13 +72,13 @@ def place_of(edit):
 
 
 def strength_of(edit):
-    """The stamp decides, then the value, a withdrawal being below every number."""
+    """Return the key that decides between edits: the stamp, then the value, with a withdrawal below every number."""
     *_, count, number, value = edit
     return count, number, -1 if value is None else value
 
 
 def winners(edits):
-    """Of the edits of one object and step the strongest, listed."""
+    """Return the strongest edit of each object and step, listed."""
     best = {}
     for edit in sorted(edits, key=strength_of):
         best[place_of(edit)] = edit
@@ -90,24 +90,24 @@ def head_of(edit):
 
 
 def beyond(edits, heads):
-    """The winners that have no head, or one whose stamp is not greater."""
+    """Return the winners that have no head, or one whose stamp is not greater."""
     stamps = {place_of(head): head[3:5] for head in heads}
     return [edit for edit in winners(edits) if stamps.get(place_of(edit), (0, 0)) <= edit[3:5]]
 
 
 def put(edits):
-    """The number that is put for each object and step."""
+    """Return the value that is set for each object and step."""
     return {place_of(edit): edit[5] for edit in winners(edits) if edit[5] is not None}
 
 
 def touched(before, after):
-    """The first step at which another number is put."""
+    """Return the first step at which a value has changed."""
     changed = set(put(before).items()) ^ set(put(after).items())
     return min((step for (_, _, step), _ in changed), default=None)
 
 
 def settings_at(plan, listed, step):
-    """The number of each object at a step: the latest-dated that is put up to it, else the plan's. (Winners are listed by step.)"""
+    """Return the value of each object at a step: the latest one set up to it, or the plan's. (Winners are listed by step.)"""
     numbers = dict(plan.defaults)
     for kind, index, date, _, _, value in listed:
         if date <= step and value is not None:
@@ -121,7 +121,7 @@ def settings_at(plan, listed, step):
 # The road: for each cell None, or a car's number and speed
 
 def run(plan, edits, first, to):
-    """For each step from zero up to `to`: the step, the road, the settings, and what each detector counts in that step. Up to `first`
+    """Yield, for each step from zero up to `to`, the step, the road, the settings, and what each detector counts in that step. Up to `first`
     those steps are passed over in which no car is on the road and none can enter: so it stays up to the next edit."""
     road, listed, step = [None] * plan.length, winners(edits), 0
     while step <= to:
@@ -135,12 +135,12 @@ def run(plan, edits, first, to):
 
 
 def is_closed(plan, numbers):
-    """Whether no car can enter at any inlet."""
+    """Return whether no car can enter at any inlet."""
     return all(numbers["block", cell] or not numbers["inflow", inlet] for inlet, (cell, _) in enumerate(plan.inlets))
 
 
 def one_step(plan, numbers, step, road):
-    """The road after a step, and the cars that passed each detector with the sum of their speeds."""
+    """Return the road after a step, and the cars that passed each detector with the sum of their speeds."""
     road = entered(plan, numbers, step, road)
     after, counts = [None] * plan.length, [(0, 0)] * len(plan.detectors)
     for cell, car in enumerate(road):
@@ -158,7 +158,7 @@ def one_step(plan, numbers, step, road):
 
 
 def entered(plan, numbers, step, road):
-    """The road with the cars that enter in a step."""
+    """Return the road with the cars that enter in a step."""
     road = list(road)
     for inlet, (cell, _) in enumerate(plan.inlets):
         if is_free(numbers, road, cell) and plan.happens(numbers["inflow", inlet], 2 ** 63 + inlet, step):
@@ -172,7 +172,7 @@ def is_free(numbers, road, cell):
 
 
 def new_speed(plan, numbers, step, road, cell):
-    """The speed of the car at the cell in a step."""
+    """Return the speed of the car at the cell in a step."""
     number, speed = road[cell]
     zone = cell // plan.zone_width
     chance = numbers["start" if speed == 0 else "slow", zone]
@@ -208,7 +208,7 @@ class Laboratory:
         self.sent, self.asked = {}, {}
 
     def answer(self, verb, fields):
-        """The reply to a command; its fields stand as the grammar lists them."""
+        """Return the reply to a command, with its fields in the order of the grammar."""
         if verb == "crowd":
             return self.answer_crowd(**fields)
         replica = self.replicas.get(fields.pop("at"))
@@ -318,7 +318,7 @@ class Laboratory:
         return [row_of(road, numbers) for road, numbers, _ in self.states(replica, first, last)]
 
     def states(self, replica, first, last):
-        """What `run` gives for some steps."""
+        """Return the results of `run` for some steps."""
         require(last <= replica.horizon, "NotSimulated")
         return [state for step, *state in run(self.plan, replica.edits, first, last) if step >= first]
 
@@ -335,7 +335,7 @@ def written(reply):
 
 
 def replies(script):
-    """The reply to each line of an input, of at most a million lines. A refused plan line ends it."""
+    """Yield the reply to each line of an input, of at most a million lines. A refused plan line ends it."""
     first, *others = lines.cut(script) or [None]
     try:
         require(first is not None, "no plan")

@@ -10,7 +10,7 @@ QUARTERS = ((0, 4, 8, 12), (1, 5, 9, 13), (2, 6, 10, 14), (3, 7, 11, 15),
 
 
 def word(seed, stream, place):
-    """The word of a stream at a place; the seed is a number, or the text "steady"."""
+    """Return the word of a stream at a place; the seed is a number, or the text "steady"."""
     if seed == "steady":
         return (stream * 40503 + place * 30011) % 65536 * 65536
     return block(seed, stream, place // 16)[place % 16]
@@ -18,7 +18,7 @@ def word(seed, stream, place):
 
 @functools.lru_cache(maxsize=None)
 def block(seed, stream, number):
-    """The 16 words of a block of ChaCha with 8 rounds."""
+    """Return the 16 words of a block of ChaCha with 8 rounds."""
     key = struct.unpack("<8I", seed.to_bytes(8, "big") + bytes(24))
     start = [*CONSTANTS, *key, *halves(number), *halves(stream)]
     words = list(start)
@@ -29,7 +29,7 @@ def block(seed, stream, number):
 
 
 def halves(number):
-    """A number of 64 bits as two words, the lower one first."""
+    """Return a number of 64 bits as two words, the lower one first."""
     return number % 2 ** 32, number >> 32
 
 

@@ -1,4 +1,4 @@
--- The page of a key among pages by rising key: what is found in it, joined in at it, and split.
+-- The page of a key among pages by rising key: look-up in it, joining in at it, and splitting it.
 use Rattle.std.specs.Prelude.{◌≡◌, ℕ, zero, suc, ◌<◌, ◌-◌, false, T, List, [], ◌∷◌, ◌++◌, length, take}
 use Rattle.std.proofs.Common.{arith, refl, sym, ap, subst, drop, ◌∙◌, append_assoc, append-nil}
 use Rattle.std.specs.List.{insert, slice_index_or, slice_set}
@@ -20,7 +20,7 @@ module _ {K V : Type 0} where
   all_entries-append [] qs = refl
   all_entries-append (p ∷ ps) qs = ap (λ es. p.1 ++ es) (all_entries-append ps qs) ∙ sym (append_assoc p.1 (all_entries ps) (all_entries qs))
 
-  -- the entries of the pages before a place, at it and behind it
+  -- the entries of the pages before a place, of the page there, and of the pages after it
   pub all_entries-parted : (ps : List (K × List (K × V))) (i : ℕ) (d : K × List (K × V)) → i < length ps
       → all_entries ps ≡ all_entries (take i ps) ++ ((slice_index_or ps i d).1 ++ all_entries (drop (suc i) ps))
   all_entries-parted ps i d within = ap all_entries (parted ps i d within) ∙ all_entries-append (take i ps) (slice_index_or ps i d ∷ drop (suc i) ps)
@@ -32,7 +32,7 @@ module _ {K V : Type 0} where
   all_entries-split (p ∷ ps) zero d lower upper within h = sym (append_assoc lower.1 upper.1 (all_entries ps)) ∙ ap (λ es. es ++ all_entries ps) h
   all_entries-split (p ∷ ps) (suc i) d lower upper within h = ap (λ es. p.1 ++ es) (all_entries-split ps i d lower upper (omega (arith, within)) h)
 
-  -- the last page is begun from the back, of which nothing was left
+  -- the last page is begun from the back when nothing is left of the page begun before
   pub all_entries-last : (front : List (K × V)) (ps others : List (K × List (K × V))) (p : K × List (K × V)) (back es whole : List (K × V)) → ps ≡ others ++ p ∷ [] → back ≡ [] → es ≡ p.1
       → front ++ (all_entries ps ++ back) ≡ whole → front ++ (all_entries others ++ es) ≡ whole
   all_entries-last front ps others p back es whole last none is was =
@@ -40,7 +40,7 @@ module _ {K V : Type 0} where
       ap all_entries last ∙ all_entries-append others (p ∷ []) ∙ ap (λ x. all_entries others ++ x) (append-nil p.1 ∙ sym is) in
       ap (λ x. front ++ x) (sym pages ∙ sym (append-nil (all_entries ps)) ∙ ap (λ x. all_entries ps ++ x) (sym none)) ∙ was
 
-  -- where there is no page, there is no entry
+  -- there is no entry if there is no page
   pub no_page-no_entry : (ps : List (K × List (K × V))) → ArePages ps → (length ps == 0) ≡ is_empty (all_entries ps)
   no_page-no_entry [] h = refl
   no_page-no_entry ((k, []) ∷ ps) h = absurd h.0
@@ -56,7 +56,7 @@ module _ {K V : Type 0} (cmp : K → K → Ordering) (total : IsTotalOrder cmp) 
   below-firsts q ((k, e ∷ es) ∷ ps) h b =
       both-hold _ _ (subst (λ x. T (is_lt (cmp q x))) h.0 (first_of_both _ (below_all cmp q (es ++ all_entries ps)) b)) (below-firsts q ps h.1 (below-back cmp q (e ∷ es) (all_entries ps) b))
 
-  -- where the keys of the entries rise, the first keys of the pages do
+  -- if the keys of the entries rise, so do the first keys of the pages
   pub firsts-rise : (ps : List (K × List (K × V))) → ArePages ps → T (is_sorted cmp (all_entries ps)) → T (is_sorted cmp ps)
   firsts-rise [] h s = tt
   firsts-rise ((k, []) ∷ ps) h s = absurd h.0
@@ -64,7 +64,7 @@ module _ {K V : Type 0} (cmp : K → K → Ordering) (total : IsTotalOrder cmp) 
       both-hold _ _ (subst (λ x. T (below_all cmp x ps)) h.0 (below-firsts e.0 ps h.1 (below-back cmp e.0 es (all_entries ps) (first-below cmp e (es ++ all_entries ps) s))))
       (firsts-rise ps h.1 (sorted-back cmp (e ∷ es) (all_entries ps) s))
 
-  -- what is below the first keys is below all entries
+  -- a key below the first keys of the pages is below all entries
   pub below-entries : (q : K) (ps : List (K × List (K × V))) → ArePages ps → T (is_sorted cmp (all_entries ps)) → T (below_all cmp q ps) → T (below_all cmp q (all_entries ps))
   below-entries q [] h s b = tt
   below-entries q ((k, []) ∷ ps) h s b = absurd h.0
@@ -72,14 +72,14 @@ module _ {K V : Type 0} (cmp : K → K → Ordering) (total : IsTotalOrder cmp) 
       let first = subst (λ x. T (is_lt (cmp q x))) (sym h.0) (first_of_both _ (below_all cmp q ps) b) in
       both-hold _ _ first (below-lower cmp total q e.0 (less_by_T _ first) (es ++ all_entries ps) (first-below cmp e (es ++ all_entries ps) s))
 
-  -- no page begins up to a key
+  -- if no page begins up to a key, the key is below all entries
   pub key-before-all : (k : K) (ps : List (K × List (K × V))) → ArePages ps → T (is_sorted cmp (all_entries ps)) → count_up_to cmp k ps ≡ 0 → T (below_all cmp k (all_entries ps))
   key-before-all k ps h s count = below-entries k ps h s (none-up_to cmp total k ps (firsts-rise ps h s) count)
 
   pub find-no_page : (k : K) (ps : List (K × List (K × V))) → ArePages ps → T (is_sorted cmp (all_entries ps)) → count_up_to cmp k ps ≡ 0 → find cmp k [] ≡ find cmp k (all_entries ps)
   find-no_page k ps h s count = sym (find-between cmp k [] [] (all_entries ps) tt (key-before-all k ps h s count))
 
-  -- a page in which a key belongs: it is above all entries before the page, and below all behind it
+  -- the page where a key belongs: the key is above all entries before the page, and below all entries after it
   pub record IsPageOf (k : K) (ps : List (K × List (K × V))) (i : ℕ) (d : K × List (K × V)) : Type 0 where
     pub within : i < length ps
     pub first : BeginsWith (slice_index_or ps i d).0 (slice_index_or ps i d).1
@@ -90,7 +90,7 @@ module _ {K V : Type 0} (cmp : K → K → Ordering) (total : IsTotalOrder cmp) 
   find-page k ps i d page =
       sym (ap (find cmp k) (all_entries-parted ps i d page.within) ∙ find-between cmp k (all_entries (take i ps)) (slice_index_or ps i d).1 (all_entries (drop (suc i) ps)) page.before page.behind)
 
-  -- what is joined in at the page is joined in
+  -- joining in at the page where a key belongs joins in at the key
   pub join-page : (join : V → V → V) (k : K) (v : V) (ps : List (K × List (K × V))) (i : ℕ) (d new : K × List (K × V)) → IsPageOf k ps i d → new.1 ≡ put_joined cmp join (slice_index_or ps i d).1 k v
       → all_entries (slice_set ps i new) ≡ put_joined cmp join (all_entries ps) k v
   join-page join k v ps i d new page made =
@@ -107,7 +107,7 @@ module _ {K V : Type 0} (cmp : K → K → Ordering) (total : IsTotalOrder cmp) 
     above-earlier-pages k before q [] behind h l s = absurd h
     above-earlier-pages k before q (e ∷ es) behind h l s = above-before cmp total exact k before e (es ++ behind) (subst (λ x. is_lt (cmp k x) ≡ false) (sym h) l) s
 
-    -- the last page that begins up to a key
+    -- the last page that begins up to a key is where the key belongs
     pub page-of-count : (k : K) (ps : List (K × List (K × V))) (i : ℕ) (d : K × List (K × V)) → ArePages ps → T (is_sorted cmp (all_entries ps)) → count_up_to cmp k ps ≡ suc i → IsPageOf k ps i d
     page-of-count k ps i d h s count =
         let last = last-of-count cmp total exact k ps i d (firsts-rise ps h s) count in
@@ -124,7 +124,7 @@ module _ {K V : Type 0} (cmp : K → K → Ordering) (total : IsTotalOrder cmp) 
               last.behind;
         }
 
-    -- the page at which a key is joined in: the first one where none begins up to the key
+    -- the page at which a key is joined in: the first page if no page begins up to the key
     pub page-to-join : (k : K) (ps : List (K × List (K × V))) (n i : ℕ) (d : K × List (K × V)) → ArePages ps → T (is_sorted cmp (all_entries ps)) → 0 < length ps → n ≡ count_up_to cmp k ps → i ≡ n - 1
         → IsPageOf k ps i d
     page-to-join k [] n i d h s some count at = absurd (omega (arith, some))

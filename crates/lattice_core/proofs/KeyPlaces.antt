@@ -1,4 +1,4 @@
--- Where a key stands among pairs by rising key, what is found at it, and where a value at it is put.
+-- Where a key stands among pairs by rising key, what a look-up finds there, and where a value is put.
 use Rattle.std.specs.Prelude.{◌≡◌, ℕ, zero, suc, ◌<◌, ◌≤◌, Bool, true, false, not, cond, ◌&&◌, T, List, [], ◌∷◌, ◌++◌, length, take}
 use Rattle.std.proofs.Common.{arith, refl, sym, ap, subst, drop, ◌∙◌, take-append-drop}
 use Rattle.std.proofs.lemmas.Bool.{not-false, not-true, true≢false}
@@ -80,7 +80,7 @@ module _ {K X : Type 0} (cmp : K → K → Ordering) where
   abbrev pub IsAbove : K → List (K × X) → Type 0
   IsAbove k es = AllByRecursion (λ e. cmp k e.0 ≡ Greater) es
 
-  -- ---- a key that is above those before it and below those behind it
+  -- ---- a key above all keys before it and below all keys after it
   find-front : (k : K) (mid ys : List (K × X)) → T (below_all cmp k ys) → find cmp k (mid ++ ys) ≡ find cmp k mid
   find-front k [] ys b = find-below cmp k ys b
   find-front k (e ∷ mid) ys b = ap (cond (is_eq (cmp k e.0)) (Some e.1)) (find-front k mid ys b)
@@ -152,7 +152,7 @@ module _ {K X : Type 0} (cmp : K → K → Ordering) where
       at (suc j) f l g = f j (omega (arith, g))
 
   module _ (total : IsTotalOrder cmp) where
-    -- what is less than a key is less than all above that
+    -- a key below q is below all keys that q is below
     pub below-lower : (k q : K) → cmp k q ≡ Less → (es : List (K × X)) → T (below_all cmp q es) → T (below_all cmp k es)
     below-lower k q l [] b = tt
     below-lower k q l (e ∷ es) b = both-hold _ _ (less-holds _ (total.trans k q e.0 l (less-first q e es b))) (below-lower k q l es (below-others q e es b))
@@ -192,7 +192,7 @@ module _ {K X : Type 0} (cmp : K → K → Ordering) where
     insert-before-all join k v es s h = insert-between join k v es 0 tt (none-up_to k es s h)
 
     module _ (exact : IsExact cmp) where
-      -- a key is above the pairs before one that is up to it
+      -- if a pair's key is at most k, then k is above the pairs before it
       pub above-before : (k : K) (es : List (K × X)) (e : K × X) (fs : List (K × X)) → is_lt (cmp k e.0) ≡ false → T (is_sorted cmp (es ++ e ∷ fs)) → IsAbove k es
       above-before k [] e fs h s = tt
       above-before k (x ∷ es) e fs h s = (
@@ -200,7 +200,7 @@ module _ {K X : Type 0} (cmp : K → K → Ordering) where
         above-before k es e fs h (others-sorted x (es ++ e ∷ fs) s),
       )
 
-      -- what stands before and behind the last pair up to a key
+      -- the pairs before and after the last pair up to a key
       pub record IsLastUpTo (k : K) (es : List (K × X)) (i : ℕ) (d : K × X) : Type 0 where
         pub within : i < length es
         pub whole : es ≡ take i es ++ slice_index_or es i d ∷ drop (suc i) es
@@ -228,7 +228,7 @@ module _ {K X : Type 0} (cmp : K → K → Ordering) where
           ap (find cmp k) last.whole ∙ find-between k (take i es) (slice_index_or es i d ∷ []) (drop (suc i) es) last.before last.behind
           ∙ ap (λ r. cond (is_eq r) (Some (slice_index_or es i d).1) None) e
 
-      -- the last pair up to a key, which is not before it, stands at the key
+      -- the last pair up to a key is at the key if its key is not below it
       pub find-there : (k : K) (es : List (K × X)) (i : ℕ) (d : K × X) → T (is_sorted cmp es) → count_up_to cmp k es ≡ suc i → is_lt (cmp (slice_index_or es i d).0 k) ≡ false
           → Some (slice_index_or es i d).1 ≡ find cmp k es
       find-there k es i d s h l =
@@ -249,7 +249,7 @@ module _ {K X : Type 0} (cmp : K → K → Ordering) where
           ∙ sym (joined-between join k v (take i es) (e ∷ []) (drop (suc i) es) last.before last.behind)
           ∙ ap (λ x. put_joined cmp join x k v) (sym last.whole)
 
-      -- one that is before the key: nothing stands at the key, and a value at it goes behind
+      -- if the last pair's key is below k, nothing is at k, and a value put at k goes after that pair
       above-last : (k : K) (es : List (K × X)) (i : ℕ) (d : K × X) → IsAbove k (take i es) → i < length es → cmp k (slice_index_or es i d).0 ≡ Greater → IsAbove k (take (suc i) es)
       above-last k [] i d a within g = tt
       above-last k (e ∷ es) zero d a within g = (g, tt)

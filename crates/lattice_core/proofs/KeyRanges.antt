@@ -1,4 +1,4 @@
--- Entries parted at a key: those up to it, and those after it.
+-- Entries split at a key: those up to it, and those after it.
 use Rattle.std.specs.Prelude.{◌≡◌, ℕ, suc, Bool, true, false, not, cond, T, List, [], ◌∷◌, ◌++◌, take}
 use Rattle.std.proofs.Common.{refl, sym, ap, subst, drop, ◌∙◌, append-nil}
 use Rattle.std.proofs.lemmas.List.Elements.{filter-append}
@@ -46,7 +46,7 @@ module _ {K V : Type 0} (cmp : K → K → Ordering) where
           | false ↦ λ l. one-up_to k e es (take (count_up_to cmp k es) es) (drop (count_up_to cmp k es) es) l (parted-at-count k es (others-sorted cmp e es s))
         ] refl
 
-    -- pages, at the page of the key
+    -- pages split at the page of the key
     pub parted-at-page : (k : K) (ps : List (K × List (K × V))) (i : ℕ) (d : K × List (K × V)) → IsPageOf cmp total k ps i d → T (is_sorted cmp (slice_index_or ps i d).1)
         → AreParted k (all_entries ps) (all_entries (take i ps) ++ take (count_up_to cmp k (slice_index_or ps i d).1) (slice_index_or ps i d).1)
         (drop (count_up_to cmp k (slice_index_or ps i d).1) (slice_index_or ps i d).1 ++ all_entries (drop (suc i) ps))
@@ -66,6 +66,6 @@ module _ {K V : Type 0} (cmp : K → K → Ordering) where
               ∙ filter-append is_after es behind ∙ ap (λ x. x ++ entries_after cmp k behind) here.1 ∙ ap (λ x. drop (count_up_to cmp k es) es ++ x) last.1,
         )
 
-    -- where no page begins up to the key
+    -- the same if no page begins up to the key
     pub parted-before-all : (k : K) (ps : List (K × List (K × V))) → ArePages ps → T (is_sorted cmp (all_entries ps)) → count_up_to cmp k ps ≡ 0 → AreParted k (all_entries ps) [] (all_entries ps)
     parted-before-all k ps h s count = all-after k (all_entries ps) (key-before-all cmp total k ps h s count)

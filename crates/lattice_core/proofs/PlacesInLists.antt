@@ -1,22 +1,22 @@
--- What stands at a place of a list, before it and behind it.
+-- The elements of a list at a place, before it and after it.
 use Rattle.std.specs.Prelude.{◌≡◌, ℕ, zero, suc, ◌<◌, ◌≤◌, ◌-◌, List, [], ◌∷◌, ◌++◌, length, take}
 use Rattle.std.proofs.Common.{arith, refl, ap, drop}
 use Rattle.std.specs.List.{AllByRecursion, insert, slice_index_or, slice_set}
 
 module _ {X : Type 0} where
-  -- a list is what stands before a place, at it and behind it
+  -- a list is the elements before a place, the element there, and the elements after it
   pub parted : (xs : List X) (i : ℕ) (d : X) → i < length xs → xs ≡ take i xs ++ slice_index_or xs i d ∷ drop (suc i) xs
   parted [] i d h = absurd (omega (arith, h))
   parted (x ∷ xs) zero d h = refl
   parted (x ∷ xs) (suc i) d h = ap (λ ys. x ∷ ys) (parted xs i d (omega (arith, h)))
 
-  -- what is set at a place stands between the same
+  -- an element set at a place stands between the same elements as before
   pub parted-set : (xs : List X) (i : ℕ) (y : X) → i < length xs → slice_set xs i y ≡ take i xs ++ y ∷ drop (suc i) xs
   parted-set [] i y h = absurd (omega (arith, h))
   parted-set (x ∷ xs) zero y h = refl
   parted-set (x ∷ xs) (suc i) y h = ap (λ ys. x ∷ ys) (parted-set xs i y (omega (arith, h)))
 
-  -- what stands at a place that there is, needs no default
+  -- the default does not matter at a place within the list
   pub same-default : (xs : List X) (i : ℕ) (d e : X) → i < length xs → slice_index_or xs i d ≡ slice_index_or xs i e
   same-default [] i d e h = absurd (omega (arith, h))
   same-default (x ∷ xs) zero d e h = refl
@@ -44,9 +44,9 @@ module _ {X : Type 0} where
     all-insert (x ∷ xs) zero y p a = (p, a)
     all-insert (x ∷ xs) (suc i) y p a = (a.0, all-insert xs i y p a.1)
 
--- ---- counts that tell a place
+-- ---- counts that determine a place
 
--- a count that is not zero counts one more than its last place
+-- a positive count is one more than its last place
 pub last-place : (n m : ℕ) → n ≡ m → 0 < n → m ≡ suc (n - 1)
 last-place n m e h = omega (arith, e, h)
 

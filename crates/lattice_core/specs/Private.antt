@@ -1,2 +1,2 @@
--- What the contracts of private functions say; no public contract names it.
+-- Definitions for the contracts of private functions. No public contract names them.
 pub mod Entries

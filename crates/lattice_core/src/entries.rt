@@ -11,12 +11,13 @@ use crate::lattice::Lattice;
 use crate::page::Page;
 use std::marker::Model;
 
-/// Iterates over entries of a map by rising key, from either end. Contracts see the list of those that are left.
+/// Iterator over entries of a map by rising key, from either end. Contracts see it as the list of the entries that are
+/// left.
 #[derive(Drop)]
 pub struct Entries<'a, K: Exact, V: Lattice> {
     // What is left of the page that was begun from the front.
     front: &'a [(K, V)],
-    // The pages between, none of them begun.
+    // The pages between. None of them is begun.
     pages: &'a [(K, Page<K, V>)],
     // What is left of the page that was begun from the back.
     back: &'a [(K, V)],
@@ -81,7 +82,7 @@ impl<'a, K: Exact, V: Lattice> DoubleEndedIterator for Entries<'a, K, V> {
     }
 }
 
-/// Iterates over keys of a map, rising. Contracts see the list of those that are left.
+/// Iterator over keys of a map, rising. Contracts see it as the list of the keys that are left.
 #[derive(Drop)]
 pub struct Keys<'a, K: Exact, V: Lattice> {
     pub(crate) entries: Entries<'a, K, V>,
@@ -111,7 +112,7 @@ impl<'a, K: Exact, V: Lattice> Iterator for Keys<'a, K, V> {
     }
 }
 
-// Takes the first of some entries from them.
+// Remove the first of some entries and return it.
 fn take_first<'a, K, V>(left: &mut &'a [(K, V)]) -> Option<(&'a K, &'a V)>
     ensures { TakesFirst deref_pair left.old.now result left.new.now }
 {
@@ -124,7 +125,7 @@ fn take_first<'a, K, V>(left: &mut &'a [(K, V)]) -> Option<(&'a K, &'a V)>
     }
 }
 
-// Takes the last of some entries from them.
+// Remove the last of some entries and return it.
 fn take_last<'a, K, V>(left: &mut &'a [(K, V)]) -> Option<(&'a K, &'a V)>
     ensures { TakesLast deref_pair left.old.now result left.new.now }
 {

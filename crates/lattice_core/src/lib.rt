@@ -1,8 +1,8 @@
 //! Join semilattices: values that replicas merge, and that agree whatever the order, grouping and repetition of the
 //! merges (Shapiro, Preguiça, Baquero, Zawirski, "Conflict-free Replicated Data Types", 2011).
 //!
-//! A `Lattice` has a least value, the bottom, and a join of two values. `Greatest` keeps the greatest value that came,
-//! `Both` joins pairs part by part, and `LatMap` joins maps key by key. `laws` has what holds of all of them.
+//! A `Lattice` has a least value, the bottom, and a join of two values. `Greatest` keeps the greatest value received,
+//! `Both` joins pairs part by part, and `LatMap` joins maps key by key. `laws` has the laws that hold for all of them.
 //!
 //! ```rust
 //! use lattice_core::greatest::Greatest;

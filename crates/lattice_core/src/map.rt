@@ -13,19 +13,19 @@ use crate::entries::{Entries, Keys};
 use crate::exact::Exact;
 use crate::lattice::Lattice;
 use crate::page::Page;
-use crate::pages::{join_in, shared, value_in};
+use crate::pages::{join_in, share, value_in};
 use crate::search::count_up_to;
 use std::alloc::Global;
 use std::marker::Model;
 use std::sync::Arc;
 
-/// A map to a lattice, joined key by key. It never holds a bottom, so that two maps which give equal values at every
-/// key are equal. Contracts see the list of its entries by rising key. They lie in pages, which maps share: a copy is
-/// one more owner of all, and a join copies the list of pages of the map that has more of them, and those pages in which
-/// the other map has a key.
+/// A map to a lattice, joined key by key. It never holds a bottom, so two maps that have equal values at every key are
+/// equal. Contracts see it as the list of its entries by rising key. The entries lie in pages, which maps share. A copy
+/// is one more owner of all pages. A join copies the list of pages of the map that has more of them, and each page in
+/// which the other map has a key.
 #[derive(Drop)]
 pub struct LatMap<K: Exact, V: Lattice> {
-    // Each page with its first key. Where there is no entry, there is no list either.
+    // Each page with its first key. If there is no entry, there is no list either.
     pages: Option<Arc<Vec<(K, Page<K, V>)>>>,
     alloc: Global,
 }
@@ -44,14 +44,14 @@ impl<K: Exact, V: Lattice> Model for LatMap<K, V> {
 }
 
 impl<K: Exact, V: Lattice> LatMap<K, V> {
-    /// Makes the map without entries, the bottom. Its joins and copies take their memory from `alloc` too.
+    /// Make the map without entries, the bottom. Its joins and copies allocate from `alloc` too.
     pub fn empty(alloc: Global) -> Self
         ensures { result ≡ [] }
     {
         LatMap { pages: None, alloc }
     }
 
-    /// Returns the value at a key, never a bottom.
+    /// Return the value at a key, never a bottom.
     pub fn get(&self, key: K) -> Option<&V>
         ensures value { option_copied result ≡ find K.cmp key self.now }
         ensures held { IfSome result (λ value. IsHeld V.is_proper V.is_least value.now) }
@@ -59,7 +59,7 @@ impl<K: Exact, V: Lattice> LatMap<K, V> {
         value_in(self.pages(), key)
     }
 
-    /// Iterates over the keys, rising.
+    /// Iterate over the keys, rising.
     pub fn keys(&self) -> Keys<'_, K, V>
         ensures all { result ≡ keys_of self.now }
         ensures rising { T (is_sorted K.cmp self.now) }
@@ -69,7 +69,7 @@ impl<K: Exact, V: Lattice> LatMap<K, V> {
         }
     }
 
-    /// Iterates over the entries by rising key, none of them a bottom.
+    /// Iterate over the entries by rising key. No value is a bottom.
     pub fn iter(&self) -> Entries<'_, K, V>
         ensures all { result ≡ self.now }
         ensures proper { IsProperMap K.cmp V.is_proper V.is_least self.now }
@@ -77,34 +77,34 @@ impl<K: Exact, V: Lattice> LatMap<K, V> {
         Entries::of(&[], self.pages(), &[])
     }
 
-    /// Iterates over the entries up to a key, by rising key, from either end. It takes one look-up.
+    /// Iterate over the entries up to and including a key, by rising key, from either end. It takes one look-up.
     pub fn up_to(&self, key: K) -> Entries<'_, K, V>
         ensures { result ≡ entries_up_to K.cmp key self.now }
     {
-        let (up_to, _) = self.parted(key);
+        let (up_to, _) = self.split_at_key(key);
         up_to
     }
 
-    /// Iterates over the entries after a key, by rising key, from either end. It takes one look-up.
+    /// Iterate over the entries after a key, by rising key, from either end. It takes one look-up.
     pub fn after(&self, key: K) -> Entries<'_, K, V>
         ensures { result ≡ entries_after K.cmp key self.now }
     {
-        let (_, after) = self.parted(key);
+        let (_, after) = self.split_at_key(key);
         after
     }
 
-    /// Copies the map, with `value` joined in at `key`. A bottom adds nothing.
+    /// Copy the map, with `value` joined in at `key`. A bottom adds nothing.
     ///
     /// # Errors
     ///
-    /// `OutOfMemory` where an allocation failed. Map and value are then as before.
+    /// `OutOfMemory` if an allocation failed. Map and value are then unchanged.
     pub fn with(&self, key: K, value: &V) -> Result<Self, OutOfMemory>
         ensures { IfOk result (λ new. new ≡ map_with K.cmp V.join V.is_least self.now key value.now) }
     {
         if value.is_bottom() {
             return self.copied();
         }
-        let mut pages = shared(self.alloc, self.pages())?;
+        let mut pages = share(self.alloc, self.pages())?;
         join_in(self.alloc, &mut pages, key, value)?;
         let pages = Arc::new(self.alloc, pages)?;
         Ok(LatMap {
@@ -123,8 +123,8 @@ impl<K: Exact, V: Lattice> LatMap<K, V> {
         }
     }
 
-    // The entries up to a key, and those after it.
-    fn parted(&self, key: K) -> (Entries<'_, K, V>, Entries<'_, K, V>)
+    // Return the entries up to a key, and the entries after it.
+    fn split_at_key(&self, key: K) -> (Entries<'_, K, V>, Entries<'_, K, V>)
         ensures up_to { result.0 ≡ entries_up_to K.cmp key self.now }
         ensures after { result.1 ≡ entries_after K.cmp key self.now }
     {
@@ -141,11 +141,11 @@ impl<K: Exact, V: Lattice> LatMap<K, V> {
         )
     }
 
-    // Shares the pages, and joins in each entry of `other`.
+    // Share the pages, and join in each entry of `other`.
     fn with_all(&self, other: &Self) -> Result<Self, OutOfMemory>
         ensures { IfOk result (λ new. new ≡ map_join K.cmp V.join V.is_least self.now other.now) }
     {
-        let mut pages = shared(self.alloc, self.pages())?;
+        let mut pages = share(self.alloc, self.pages())?;
         for (key, value) in other.iter() {
             join_in(self.alloc, &mut pages, *key, value)?;
         }
@@ -169,11 +169,11 @@ impl<K: Exact, V: Lattice> Lattice for LatMap<K, V> {
 
     ghost laws = { map_laws K.cmp K.total K.exact V.is_proper V.join V.is_least V.laws };
 
-    /// Joins the two key by key. It takes no memory where neither map has an entry.
+    /// Join the two key by key. It takes no memory if neither map has an entry.
     ///
     /// # Errors
     ///
-    /// `OutOfMemory` where an allocation failed. Both maps are then as before.
+    /// `OutOfMemory` if an allocation failed. Both maps are then unchanged.
     fn joined(&self, other: &Self) -> Result<Self, OutOfMemory>
         ensures made { IfOk result (λ joined. joined ≡ map_join K.cmp V.join V.is_least self.now other.now) }
         ensures grows_nothing { self.now ≡ [] → other.now ≡ [] → IsOk result }
@@ -187,11 +187,11 @@ impl<K: Exact, V: Lattice> Lattice for LatMap<K, V> {
         self.with_all(other)
     }
 
-    /// Shares the pages. It takes no memory.
+    /// Share the pages. It takes no memory.
     ///
     /// # Errors
     ///
-    /// `OutOfMemory` where the pages can have no more owners.
+    /// `OutOfMemory` if the pages can have no more owners.
     fn copied(&self) -> Result<Self, OutOfMemory>
         ensures made { IfOk result (λ copy. copy ≡ self.now) }
         ensures grows_nothing { self.now ≡ [] → IsOk result }
@@ -224,7 +224,7 @@ impl<K: Exact, V: Lattice> Lattice for LatMap<K, V> {
     }
 }
 
-// Returns whether there is another value, and this one is at most it.
+// Return whether there is another value, and this value is at most it.
 fn is_up_to<V: Lattice>(value: &V, other: Option<&V>) -> bool
     ensures { IsTrue result ↔ IsAtMostOption V.join value.now (option_copied other.entry) }
 {

@@ -12,11 +12,11 @@ use std::alloc::Global;
 use std::marker::Model;
 use std::sync::Arc;
 
-// How many entries a page has at most. A map that takes one more entry copies one page and counts one more owner of
-// each other: shorter pages make a map of 100,000 entries dearer, longer ones a map of some hundreds.
+// The greatest number of entries of a page. A map that takes one more entry copies one page and counts one more owner
+// of each other page. Shorter pages make a map of 100,000 entries more expensive, longer pages a map of some hundreds.
 pub(crate) const PAGE_LENGTH: usize = 256;
 
-// Some of a map's entries by rising key, at least one. Contracts see the list of them.
+// Some of a map's entries by rising key, at least one. Contracts see it as the list of them.
 #[derive(Drop)]
 pub(crate) struct Page<K: Exact, V: Lattice> {
     entries: Arc<Vec<(K, V)>>,
@@ -36,7 +36,7 @@ impl<K: Exact, V: Lattice> Model for Page<K, V> {
 }
 
 impl<K: Exact, V: Lattice> Page<K, V> {
-    // Makes a page of one entry.
+    // Make a page of one entry.
     pub(crate) fn of_one(alloc: Global, key: K, value: &V) -> Result<Self, OutOfMemory>
         ensures { IfOk result (λ page. page ≡ (key, value.now) ∷ []) }
     {
@@ -48,7 +48,7 @@ impl<K: Exact, V: Lattice> Page<K, V> {
         })
     }
 
-    // Makes a page that has copies of these entries, and gives it with its first key.
+    // Make a page of copies of these entries, and return it with its first key.
     pub(crate) fn of_entries(alloc: Global, entries: &[(K, V)]) -> Result<(K, Self), OutOfMemory>
         requires some { 0 < length entries.now }
         requires rising { T (is_sorted K.cmp entries.now) }
@@ -71,8 +71,8 @@ impl<K: Exact, V: Lattice> Page<K, V> {
         &self.entries
     }
 
-    // Counts one more owner of the page.
-    pub(crate) fn shared(&self) -> Result<Self, OutOfMemory>
+    // Count one more owner of the page.
+    pub(crate) fn share(&self) -> Result<Self, OutOfMemory>
         ensures { IfOk result (λ page. page ≡ self.now) }
     {
         Ok(Page {
@@ -81,7 +81,7 @@ impl<K: Exact, V: Lattice> Page<K, V> {
         })
     }
 
-    // Joins a value in at a key: in place where the page has one owner, else in a copy.
+    // Join a value in at a key: in place if the page has one owner, else in a copy.
     pub(crate) fn join_in(&mut self, key: K, value: &V) -> Result<(), OutOfMemory>
         ensures { IfOk result (λ _. self.new ≡ put_joined K.cmp V.join self.old key value.now) }
     {
@@ -97,7 +97,7 @@ impl<K: Exact, V: Lattice> Page<K, V> {
     }
 }
 
-// Copies entries, with room for one more.
+// Copy entries, with room for one more.
 fn copied<K: Exact, V: Lattice>(
     alloc: Global,
     entries: &[(K, V)],
@@ -111,7 +111,7 @@ fn copied<K: Exact, V: Lattice>(
     Ok(copies)
 }
 
-// Joins a value in at a key. The keys rise also where memory is out.
+// Join a value in at a key. The keys rise even if memory runs out.
 fn join_in<K: Exact, V: Lattice>(
     entries: &mut Vec<(K, V)>,
     key: K,

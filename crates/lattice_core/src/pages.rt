@@ -12,8 +12,8 @@ use crate::page::{PAGE_LENGTH, Page};
 use crate::search::{count_up_to, is_before, value_at};
 use std::alloc::Global;
 
-// Makes a list of the same pages, each with one more owner, and with room for one more.
-pub(crate) fn shared<K: Exact, V: Lattice>(
+// Make a list of the same pages, each with one more owner, and with room for one more.
+pub(crate) fn share<K: Exact, V: Lattice>(
     alloc: Global,
     pages: &[(K, Page<K, V>)],
 ) -> Result<Vec<(K, Page<K, V>)>, OutOfMemory>
@@ -21,12 +21,12 @@ pub(crate) fn shared<K: Exact, V: Lattice>(
 {
     let mut same = Vec::with_capacity(alloc, pages.len().saturating_add(1))?;
     for (first, page) in pages {
-        same.push((*first, page.shared()?))?;
+        same.push((*first, page.share()?))?;
     }
     Ok(same)
 }
 
-// Returns the value at a key.
+// Return the value at a key.
 pub(crate) fn value_in<K: Exact, V: Lattice>(pages: &[(K, Page<K, V>)], key: K) -> Option<&V>
     requires pages { ArePages pages.now }
     requires rising { T (is_sorted K.cmp (all_entries pages.now)) }
@@ -39,7 +39,7 @@ pub(crate) fn value_in<K: Exact, V: Lattice>(pages: &[(K, Page<K, V>)], key: K) 
     value_at(pages[count - 1].1.entries(), key)
 }
 
-// Joins a value in at a key. A page that others own too is copied before.
+// Join a value in at a key. A page that has other owners is copied first.
 pub(crate) fn join_in<K: Exact, V: Lattice>(
     alloc: Global,
     pages: &mut Vec<(K, Page<K, V>)>,
@@ -61,7 +61,7 @@ pub(crate) fn join_in<K: Exact, V: Lattice>(
     split(alloc, pages, at)
 }
 
-// Joins a value in at a key of a page, which may become its first.
+// Join a value in at a key of a page. The key may become the page's first.
 fn join_in_page<K: Exact, V: Lattice>(
     page: &mut (K, Page<K, V>),
     key: K,
@@ -78,8 +78,8 @@ fn join_in_page<K: Exact, V: Lattice>(
     Ok(())
 }
 
-// Splits a page that has too many entries: the last page before its last entry, so that a map that grows by rising keys
-// has full pages, each other one in the middle.
+// Split a page that has too many entries. The last page is split before its last entry, so that a map which grows by
+// rising keys has full pages. Every other page is split in the middle.
 fn split<K: Exact, V: Lattice>(
     alloc: Global,
     pages: &mut Vec<(K, Page<K, V>)>,

@@ -9,7 +9,7 @@ ghost use Rattle.lattice_core.specs.Private.Entries.{count_up_to};
 use crate::exact::Exact;
 use std::cmp::Ordering;
 
-// Counts the pairs up to a key.
+// Count the pairs up to and including a key.
 pub(crate) fn count_up_to<K: Exact, X>(pairs: &[(K, X)], key: K) -> usize
     requires { T (is_sorted K.cmp pairs.now) }
     ensures bound { result ≤ length pairs.now }
@@ -22,7 +22,7 @@ pub(crate) fn count_up_to<K: Exact, X>(pairs: &[(K, X)], key: K) -> usize
     )
 }
 
-// Returns what stands at a key.
+// Return the value at a key.
 pub(crate) fn value_at<K: Exact, X>(pairs: &[(K, X)], key: K) -> Option<&X>
     requires { T (is_sorted K.cmp pairs.now) }
     ensures { option_copied result ≡ find K.cmp key pairs.now }
@@ -38,7 +38,7 @@ pub(crate) fn value_at<K: Exact, X>(pairs: &[(K, X)], key: K) -> Option<&X>
     Some(value)
 }
 
-// Returns whether a key is before another.
+// Return whether a key is before another.
 pub(crate) fn is_before<K: Exact>(key: K, other: K) -> bool
     ensures { result ≡ is_lt (K.cmp key other) }
 {

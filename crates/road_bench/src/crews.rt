@@ -1,4 +1,4 @@
-//! Runs that are timed, by one crew after another.
+//! Timed runs, by one crew after another.
 
 ghost use Rattle.std.specs.Prelude.{◌<◌, ◌≤◌};
 
@@ -13,8 +13,8 @@ use std::thread::Threads;
 use std::time::{Clock, Instant};
 use tests_plans::StepByStep;
 
-// Takes a replica up to a step by a crew: the cars on the road after it, and the nanoseconds that it took.
-fn advanced<R: Clock, C: Crew>(
+// Advance a replica to a step with a crew. Return the cars on the road after it, and the nanoseconds that it took.
+fn advance<R: Clock, C: Crew>(
     rt: &R,
     alloc: Global,
     replica: &mut Replica,
@@ -28,8 +28,8 @@ fn advanced<R: Clock, C: Crew>(
     Ok((cars, nanoseconds))
 }
 
-// Does the same with a replica of a plan, from step zero.
-fn timed<R: Clock, C: Crew>(
+// Do the same with a new replica of a plan, from step zero.
+fn advance_new<R: Clock, C: Crew>(
     rt: &R,
     alloc: Global,
     plan: &Arc<Plan>,
@@ -37,10 +37,10 @@ fn timed<R: Clock, C: Crew>(
     crew: &mut C,
 ) -> Result<(usize, u128)> {
     let mut replica = Replica::open(alloc, Arc::try_clone(plan)?, 0)?;
-    advanced(rt, alloc, &mut replica, steps, crew)
+    advance(rt, alloc, &mut replica, steps, crew)
 }
 
-// Times a run of a plan from step zero up to a step by a crew, and writes its line.
+// Time a run of a plan from step zero to a step with a crew, and write its line.
 fn time<R: Clock + Print, C: Crew>(
     rt: &R,
     alloc: Global,
@@ -50,12 +50,12 @@ fn time<R: Clock + Print, C: Crew>(
     workers: u32,
     crew: &mut C,
 ) -> Result<()> {
-    let (cars, nanoseconds) = timed(rt, alloc, plan, steps, crew)?;
+    let (cars, nanoseconds) = advance_new(rt, alloc, plan, steps, crew)?;
     println!(rt; "{name} {workers} {steps} {cars} {nanoseconds}")?;
     Ok(())
 }
 
-// Does so by threads made for each step.
+// Do so with threads made for each step.
 fn time_threads<R: Threads + Wait + Clock + Print>(
     rt: &R,
     alloc: Global,
@@ -70,7 +70,7 @@ fn time_threads<R: Threads + Wait + Clock + Print>(
     time(rt, alloc, plan, steps, "scoped", workers, &mut crew)
 }
 
-// Does so by lasting workers, who are asked at each step; their start and end are not timed.
+// Do so with lasting workers, which get work at each step. Their start and end are not timed.
 fn time_pool<R: Threads + Wait + Clock + Print + Clone + Drop + Send + 'static>(
     rt: &R,
     alloc: Global,
@@ -90,22 +90,8 @@ fn time_pool<R: Threads + Wait + Clock + Print + Clone + Drop + Send + 'static>(
     timed
 }
 
-/// Times a run by the crew of one, as often as asked.
-pub(crate) fn time_alone<R: Clock + Print>(
-    rt: &R,
-    alloc: Global,
-    plan: &Arc<Plan>,
-    steps: u32,
-    turns: u32,
-) -> Result<()> {
-    for _ in 0..turns {
-        time(rt, alloc, plan, steps, "alone", 1, &mut Alone)?;
-    }
-    Ok(())
-}
-
-/// Times a run by each crew in turn, step by step, as often as asked: by the crew of one each time before the two of so
-/// many workers.
+/// Time a run with each crew in turn, step by step, `turns` times. For each number of workers the crew of one comes
+/// first, and then the two crews of that number.
 pub(crate) fn time_all<R: Threads + Wait + Clock + Print + Clone + Drop + Send + 'static>(
     rt: &R,
     alloc: Global,

@@ -1,4 +1,4 @@
-//! Runs of the dense road, each by a crew of its own.
+//! Runs of the dense road, each by its own crew.
 
 ghost use Rattle.std.specs.Prelude.{◌<◌, ◌≤◌};
 
@@ -12,7 +12,7 @@ use std::sync::{Arc, Wait};
 use std::thread::Threads;
 use tests_plans::{DENSE, DENSE_ROWS, StepByStep, plan_of};
 
-// Answers whether a crew takes a replica of the road through its worked rows.
+// Return whether a crew takes a replica of the road through its worked rows.
 fn takes_rows<C: Crew>(alloc: Global, replica: &mut Replica, crew: &mut C) -> Result<bool> {
     let last = DENSE_ROWS.len() as u32;
     replica.advance(alloc, last, crew, &mut Meter::new())?;
@@ -24,13 +24,13 @@ fn takes_rows<C: Crew>(alloc: Global, replica: &mut Replica, crew: &mut C) -> Re
     )
 }
 
-// Answers the same of a new replica.
+// Return the same for a new replica.
 fn gives<C: Crew>(alloc: Global, plan: &Arc<Plan>, crew: &mut C) -> Result<bool> {
     let mut replica = Replica::open(alloc, Arc::try_clone(plan)?, 0)?;
     takes_rows(alloc, &mut replica, crew)
 }
 
-// Answers whether a new crew of threads made for each step takes a new replica of the road through its worked rows.
+// Return whether a new crew of threads made for each step takes a new replica of the road through its worked rows.
 fn gives_by_threads<R: Threads + Wait>(
     rt: &R,
     alloc: Global,
@@ -44,8 +44,8 @@ fn gives_by_threads<R: Threads + Wait>(
     gives(alloc, plan, &mut crew)
 }
 
-// Returns how many of some runs give the worked rows, each by a new crew of threads made for each step.
-fn runs_by_threads<R: Threads + Wait>(
+// Return the number of runs that give the worked rows, each by a new crew of threads made for each step.
+fn count_runs_by_threads<R: Threads + Wait>(
     rt: &R,
     alloc: Global,
     plan: &Arc<Plan>,
@@ -64,7 +64,8 @@ fn runs_by_threads<R: Threads + Wait>(
     Ok(good)
 }
 
-// Answers whether a new crew of lasting workers, who are asked at each step, takes a new replica of the road through its worked rows.
+// Return whether a new crew of lasting workers, which get work at each step, takes a new replica of the road through
+// its worked rows.
 fn gives_by_pool<R: Threads + Wait + Clone + Drop + Send + 'static>(
     rt: &R,
     alloc: Global,
@@ -83,8 +84,8 @@ fn gives_by_pool<R: Threads + Wait + Clone + Drop + Send + 'static>(
     is_good
 }
 
-// Returns how many of some runs give the worked rows, each by a new crew of lasting workers.
-fn runs_by_pools<R: Threads + Wait + Clone + Drop + Send + 'static>(
+// Return the number of runs that give the worked rows, each by a new crew of lasting workers.
+fn count_runs_by_pools<R: Threads + Wait + Clone + Drop + Send + 'static>(
     rt: &R,
     alloc: Global,
     plan: &Arc<Plan>,
@@ -103,7 +104,7 @@ fn runs_by_pools<R: Threads + Wait + Clone + Drop + Send + 'static>(
     Ok(good)
 }
 
-// Lets 1 to 16 workers take this plan's road through its rows.
+// Let 1 to 16 workers take this plan's road through its rows.
 fn run_on<R: Threads + Wait + Print + Clone + Drop + Send + 'static>(
     rt: &R,
     alloc: Global,
@@ -112,15 +113,15 @@ fn run_on<R: Threads + Wait + Print + Clone + Drop + Send + 'static>(
     runs: u32,
 ) -> Result<()> {
     let workers = workers.clamp(1, 16);
-    let by_threads = runs_by_threads(rt, alloc, plan, workers, runs)?;
+    let by_threads = count_runs_by_threads(rt, alloc, plan, workers, runs)?;
     println!(rt; "{by_threads} of {runs} runs by threads made for each step gave the worked rows")?;
-    let by_pools = runs_by_pools(rt, alloc, plan, workers, runs)?;
+    let by_pools = count_runs_by_pools(rt, alloc, plan, workers, runs)?;
     println!(rt; "{by_pools} of {runs} runs by lasting workers gave the worked rows")?;
     Ok(())
 }
 
-/// Lets 1 to 16 workers take the road through its worked rows, so many times by each kind of crew, and writes how often
-/// they gave them.
+/// Let 1 to 16 workers take the road through its worked rows, `runs` times by each kind of crew, and write how often
+/// the rows were right.
 pub(crate) fn run<R: Threads + Wait + Print + Clone + Drop + Send + 'static>(
     rt: &R,
     alloc: Global,

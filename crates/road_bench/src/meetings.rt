@@ -1,4 +1,5 @@
-//! Runs of a long road, in which all lasting workers are to meet: the crew cuts the road where that pays by its own measure.
+//! Runs of a long road, in which all lasting workers must meet. The crew divides the road if that is faster by its own
+//! measure.
 
 ghost use Rattle.std.specs.Prelude.{◌<◌, ◌≤◌};
 
@@ -13,17 +14,17 @@ use std::thread::Threads;
 use std::time::Clock;
 use tests_plans::{LONG, Meeting, plan_of};
 
-// How often a worker looks for the others at most.
+// The most times that a worker looks for the others.
 const TURNS: u32 = 1_000_000;
 
-// The steps that the caller runs alone, until there are cars enough for 2 to 16 workers that have a processor each, as they
-// are told.
+// The steps that the caller runs alone, until there are enough cars for 2 to 16 workers that have a processor each, as
+// they are told.
 const ALONE: u32 = 1_024;
 
-// Two intervals later: the workers are asked for each.
+// Two intervals later. The workers get work in each.
 const END: u32 = 1_152;
 
-// Answers whether all workers of a new lasting crew meet in each of two intervals of a new replica of the road.
+// Return whether all workers of a new lasting crew meet in each of two intervals of a new replica of the road.
 fn meet<R: Threads + Wait + Clock + Clone + Drop + Send + Sync + 'static>(
     rt: &R,
     alloc: Global,
@@ -44,7 +45,7 @@ fn meet<R: Threads + Wait + Clock + Clone + Drop + Send + Sync + 'static>(
     Ok(meeting.was_held(2))
 }
 
-// Lets 1 to 16 workers run this plan's road so often, and writes how often they all met.
+// Let 1 to 16 workers run this plan's road this number of times, and write how often they all met.
 fn run_on<R: Threads + Wait + Clock + Print + Clone + Drop + Send + Sync + 'static>(
     rt: &R,
     alloc: Global,
@@ -63,7 +64,7 @@ fn run_on<R: Threads + Wait + Clock + Print + Clone + Drop + Send + Sync + 'stat
     Ok(())
 }
 
-/// Lets 1 to 16 lasting workers run the long road so often, and writes in how many runs they all met.
+/// Let 1 to 16 lasting workers run the long road this number of times, and write in how many runs they all met.
 pub(crate) fn run<R: Threads + Wait + Clock + Print + Clone + Drop + Send + Sync + 'static>(
     rt: &R,
     alloc: Global,

@@ -1,4 +1,4 @@
-//! Sessions at work on threads of their own, on a free road of 12 cells but where another is named.
+//! Sessions at work on their own threads, on a free road of 12 cells if no other is named.
 
 mod bare;
 mod crowd;
@@ -6,7 +6,7 @@ mod looking;
 mod merge;
 
 use crate::sessions::crowd::merges;
-use crate::sessions::looking::{Done, Work, timed};
+use crate::sessions::looking::{Done, Work, time};
 use anyhow::{Context, Result};
 use road_plan::{Plan, WordKind};
 use std::alloc::Global;
@@ -24,7 +24,7 @@ const LONG: Parts = Parts {
     words: WordKind::Seeded(7),
 };
 
-// Returns the plan on which a kind of work is timed.
+// Return the plan with which a kind of work is timed.
 fn plan_for(alloc: Global, kind: &str) -> Result<Arc<Plan>> {
     let plan = if kind == "steps" {
         plan_of(alloc, &LONG)
@@ -34,8 +34,8 @@ fn plan_for(alloc: Global, kind: &str) -> Result<Arc<Plan>> {
     Ok(Arc::new(alloc, plan?)?)
 }
 
-// Returns how many of some runs leave the merge of all writes as their journal.
-fn merged_runs<R: Threads + Wait + Sync>(
+// Return the number of runs whose journal is the merge of all writes.
+fn count_merged_runs<R: Threads + Wait + Sync>(
     rt: &R,
     alloc: Global,
     plan: &Arc<Plan>,
@@ -58,7 +58,7 @@ fn merge_all<R: Threads + Wait + Print + Sync>(
     writes: u32,
     runs: u32,
 ) -> Result<()> {
-    let good = merged_runs(rt, alloc, plan, writes, runs)?;
+    let good = count_merged_runs(rt, alloc, plan, writes, runs)?;
     println!(rt; "{good} of {runs} journals are the merge of all writes")?;
     Ok(())
 }
@@ -70,7 +70,7 @@ fn time_looks<R: Threads + Wait + Clock + Print + Sync>(
     readers: u32,
     work: Work,
 ) -> Result<()> {
-    let all = timed(rt, alloc, plan, readers, work)?;
+    let all = time(rt, alloc, plan, readers, work)?;
     print_all(rt, all.as_slice())
 }
 
@@ -80,11 +80,11 @@ fn time_bare<R: Threads + Wait + Clock + Print + Clone + Drop + Sync>(
     looks: u32,
     writes: u32,
 ) -> Result<()> {
-    let all = bare::timed(rt, alloc, looks, writes)?;
+    let all = bare::time(rt, alloc, looks, writes)?;
     print_all(rt, all.as_slice())
 }
 
-// Writes a line for each.
+// Write a line for each result.
 fn print_all<R: Print>(rt: &R, all: &[Option<Done>]) -> Result<()> {
     for done in all {
         let done = (*done).context("no clock")?;
@@ -93,7 +93,7 @@ fn print_all<R: Print>(rt: &R, all: &[Option<Done>]) -> Result<()> {
     Ok(())
 }
 
-/// Does a kind of work with these numbers; nothing where there is none of that kind.
+/// Do a kind of work with these numbers, or nothing if there is no work of that kind.
 pub(crate) fn work<R: Threads + Wait + Clock + Print + Clone + Drop + Sync>(
     rt: &R,
     alloc: Global,

@@ -12,10 +12,10 @@ use std::alloc::Global;
 use std::sync::Arc;
 use std::time::{Clock, Instant};
 
-/// How often the same is timed.
+/// The number of times that the same work is timed.
 const RUNS: u32 = 5;
 
-/// Times steps, and then the drawing of as many words as they drew, and writes a line for each run of both.
+/// Time steps, and then the drawing of as many words as they drew, and write a line for each run of both.
 pub(crate) fn time<R: Clock + Print>(
     rt: &R,
     alloc: Global,
@@ -30,7 +30,7 @@ pub(crate) fn time<R: Clock + Print>(
     Ok(())
 }
 
-// Times so many steps and so many words of a source, and writes a line.
+// Time this number of steps and of words of a source, and write a line.
 fn time_once<R: Clock + Print>(
     rt: &R,
     alloc: Global,
@@ -43,14 +43,14 @@ fn time_once<R: Clock + Print>(
     let cars = cars_of(alloc, plan, steps)?;
     let stepping = start.elapsed(rt)?.as_nanos();
     let start = Instant::now(rt)?;
-    let mixed = drawn(source, words);
+    let mixed = draw(source, words);
     let drawing = start.elapsed(rt)?.as_nanos();
     println!(rt; "{steps} {cars} {words} {stepping} {drawing} {mixed}")?;
     Ok(())
 }
 
-// Returns a step of a road with the plan's own settings, which are made anew.
-fn stepped(
+// Return a step of a road with the plan's own settings, which are made again each time.
+fn step_road(
     alloc: Global,
     plan: &Arc<Plan>,
     step: u32,
@@ -60,19 +60,19 @@ fn stepped(
     step_alone(alloc, plan, settings, step, road, &mut Meter::new())
 }
 
-// Takes a road through a step, and gives the number of cars moved.
+// Take a road through a step, and return the number of cars moved.
 fn cars_of_step(
     alloc: Global,
     plan: &Arc<Plan>,
     step: u32,
     road: &mut Road,
 ) -> Result<u64, OutOfMemory> {
-    let done = stepped(alloc, plan, step, road)?;
+    let done = step_road(alloc, plan, step, road)?;
     *road = done.road;
     Ok(done.speeds.len() as u64)
 }
 
-// Takes a road through some steps, and gives the number of cars moved, each counted once a step.
+// Take a road through some steps, and return the number of cars moved, each counted once in each step.
 fn cars_from(
     alloc: Global,
     plan: &Arc<Plan>,
@@ -86,13 +86,13 @@ fn cars_from(
     Ok(cars)
 }
 
-// Does the same from the empty road.
+// Do the same from the empty road.
 fn cars_of(alloc: Global, plan: &Arc<Plan>, steps: u32) -> Result<u64, OutOfMemory> {
     let mut road = Road::empty(alloc);
     cars_from(alloc, plan, steps, &mut road)
 }
 
-// Takes a road through a step, and gives the number of words that it draws.
+// Take a road through a step, and return the number of words that it draws.
 fn words_of_step(
     alloc: Global,
     plan: &Arc<Plan>,
@@ -100,12 +100,12 @@ fn words_of_step(
     road: &mut Road,
 ) -> Result<u64, OutOfMemory> {
     let words = words_of_entries(plan, road);
-    let done = stepped(alloc, plan, step, road)?;
+    let done = step_road(alloc, plan, step, road)?;
     *road = done.road;
     Ok(words.saturating_add(words_of_cars(&done.input)))
 }
 
-// Takes a road through some steps, and gives the number of words that they draw.
+// Take a road through some steps, and return the number of words that they draw.
 fn words_from(
     alloc: Global,
     plan: &Arc<Plan>,
@@ -119,13 +119,14 @@ fn words_from(
     Ok(words)
 }
 
-// Does the same from the empty road.
+// Do the same from the empty road.
 fn words_of(alloc: Global, plan: &Arc<Plan>, steps: u32) -> Result<u64, OutOfMemory> {
     let mut road = Road::empty(alloc);
     words_from(alloc, plan, steps, &mut road)
 }
 
-// Returns the words drawn for the inlets of a step: one for each that is free and whose inflow leaves its entry open.
+// Return the number of words drawn for the inlets of a step: one for each that is free and whose inflow leaves its
+// entry open.
 fn words_of_entries(plan: &Plan, road: &Road) -> u64 {
     let mut words = 0u64;
     for inlet in plan.inlets() {
@@ -136,8 +137,8 @@ fn words_of_entries(plan: &Plan, road: &Road) -> u64 {
     words
 }
 
-// Returns the words drawn for the cars of a step: one for each that wants to drive and whose slowing chance leaves that
-// open. The plan's own settings block no cell.
+// Return the number of words drawn for the cars of a step: one for each that wants to drive and whose slowing chance
+// leaves that open. The plan's own settings block no cell.
 fn words_of_cars(input: &StepInput) -> u64 {
     let mut words = 0u64;
     for place in 0..input.road().cars().len() {
@@ -154,13 +155,13 @@ fn words_of_cars(input: &StepInput) -> u64 {
     words
 }
 
-// Answers whether a chance leaves its event open.
+// Return whether a chance leaves its event open.
 fn is_open(chance: u32) -> bool {
     0 < chance && chance < CERTAIN
 }
 
-// Draws so many words, of streams and places as steps ask for them, and mixes them.
-fn drawn(source: &PlanWords, words: u64) -> u32 {
+// Draw this number of words, of streams and places as steps draw them, and mix them.
+fn draw(source: &PlanWords, words: u64) -> u32 {
     let mut mixed = 0;
     for place in 0..words {
         mixed ^= source.word(place % 1_024 * 16, place / 1_024);

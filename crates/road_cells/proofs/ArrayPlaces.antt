@@ -1,4 +1,4 @@
--- Laws of arrays: what stands where, and when two are the same.
+-- Laws of arrays: the vehicle at each place, and when two arrays are the same.
 use Rattle.std.specs.Prelude.{◌≡◌, ℕ, zero, suc, ◌+◌, ◌<◌, ◌≤◌, List, [], ◌∷◌, map, length, refl}
 use Rattle.std.specs.List.{range_with_len}
 use Rattle.std.specs.declared.option.Option.{Option}
@@ -8,7 +8,7 @@ use Rattle.std.proofs.lemmas.List.FromFn.{length-map-range_with_len}
 use Rattle.std.proofs.lemmas.Bool.{cases_lt}
 use Rattle.road_cells.specs.Array.{Array, Vehicle, vehicle_at, array, array_of_places, with_first_place}
 
--- a place in front of lists that agree, one of them cut
+-- a place in front of two lists with the same vehicles; the first list has dropped its empty end
 vehicle_at-before : (xs ys : Array) (x : Option Vehicle) → ((j : ℕ) → vehicle_at xs j ≡ vehicle_at ys j) → (j : ℕ) → vehicle_at (x ∷ xs) j ≡ vehicle_at (with_first_place x ys) j
 vehicle_at-before xs ys (Some v) same zero = refl
 vehicle_at-before xs ys (Some v) same (suc j) = same j
@@ -17,12 +17,12 @@ vehicle_at-before xs [] None same (suc j) = same j
 vehicle_at-before xs (y ∷ ys) None same zero = refl
 vehicle_at-before xs (y ∷ ys) None same (suc j) = same j
 
--- leaving out the empty places at the end changes no place
+-- dropping the empty places at the end changes no place
 pub vehicle_at-array_of_places : (xs : List (Option Vehicle)) (j : ℕ) → vehicle_at (array_of_places xs) j ≡ vehicle_at xs j
 vehicle_at-array_of_places [] j = refl
 vehicle_at-array_of_places (x ∷ xs) j = sym (vehicle_at-before xs (array_of_places xs) x (λ i. sym (vehicle_at-array_of_places xs i)) j)
 
--- where nothing stands there is no place left
+-- if there is no vehicle, no place is left
 array_of_places-empty : (xs : List (Option Vehicle)) → ((j : ℕ) → vehicle_at xs j ≡ None) → array_of_places xs ≡ []
 array_of_places-empty [] empty = refl
 array_of_places-empty (None ∷ xs) empty = ap (with_first_place None) (array_of_places-empty xs (λ j. empty (suc j)))
@@ -34,7 +34,7 @@ array_of_places-same [] ys same = sym (array_of_places-empty ys (λ j. sym (same
 array_of_places-same (x ∷ xs) [] same = array_of_places-empty (x ∷ xs) same
 array_of_places-same (x ∷ xs) (y ∷ ys) same = λ i. with_first_place (same 0 i) (array_of_places-same xs ys (λ j. same (suc j)) i)
 
--- what a function gives at n numbers from a on
+-- the values of a function at n numbers from a on
 vehicle_at-range_with_len : (f : ℕ → Option Vehicle) (n a j : ℕ) → j < n → vehicle_at (map f (range_with_len a n)) j ≡ f (a + j)
 vehicle_at-range_with_len f zero a j below = absurd (omega arith)
 vehicle_at-range_with_len f (suc n) a zero below = let here : a ≡ a + 0 = omega arith in ap f here
@@ -46,7 +46,7 @@ past_numbers f zero a j past = refl
 past_numbers f (suc n) a zero past = absurd (omega arith)
 past_numbers f (suc n) a (suc j) past = past_numbers f n (a + 1) j (omega arith)
 
--- below its bound an array has what its function gives
+-- below its bound an array has the values of its function
 pub vehicle_at-array : (n : ℕ) (f : ℕ → Option Vehicle) (j : ℕ) → j < n → vehicle_at (array n f) j ≡ f j
 vehicle_at-array n f j below = let here : 0 + j ≡ j = omega arith in vehicle_at-array_of_places (map f (range_with_len 0 n)) j ∙ vehicle_at-range_with_len f n 0 j below ∙ ap f here
 
@@ -58,7 +58,7 @@ past_array n f j past = vehicle_at-array_of_places (map f (range_with_len 0 n)) 
 pub array-same : (n m : ℕ) (f g : ℕ → Option Vehicle) → ((j : ℕ) → vehicle_at (array n f) j ≡ vehicle_at (array m g) j) → array n f ≡ array m g
 array-same n m f g same = array_of_places-same (map f (range_with_len 0 n)) (map g (range_with_len 0 m)) (λ j. sym (vehicle_at-array_of_places (map f (range_with_len 0 n)) j) ∙ same j ∙ vehicle_at-array_of_places (map g (range_with_len 0 m)) j)
 
--- cutting makes no list longer
+-- dropping empty places makes no list longer
 length-before : (x : Option Vehicle) (xs : Array) → length (with_first_place x xs) ≤ suc (length xs)
 length-before None [] = omega arith
 length-before None (y ∷ ys) = omega arith

@@ -14,7 +14,7 @@ module _ (blocks : List ℕ) (cell : ℕ) (rising : IsNonDecreasing blocks) wher
   answers_rise : IsNonDecreasingBy (λ block. ordering_index (nat_cmp block cell)) blocks
   answers_rise = IsNonDecreasingBy-from_default (λ block. ordering_index (nat_cmp block cell)) blocks 0 (λ i j le below. let rise = rising i j 0 le below in grind (arith, nat_tests))
 
-  -- a search finds a cell exactly where it is blocked
+  -- a search finds a cell exactly if it is blocked
   pub searched : (r : Result ℕ ℕ) → IsSearchInRange r (length blocks) → IsBinarySearchResult (λ block. nat_cmp block cell) blocks r → is_ok r ≡ is_blocked blocks cell
   searched (Ok place) in_list equal =
       let test : nat_cmp (slice_index blocks place) cell ≡ Equal = equal 0 in

@@ -1,4 +1,4 @@
--- How many cars stand before a cell.
+-- The number of cars before a cell.
 use Rattle.std.specs.Prelude.{◌≡◌, ℕ, zero, suc, ◌+◌, ◌≤◌, Bool, true, false, cond, List, [], ◌∷◌, length, nat_lt, refl}
 use Rattle.std.specs.List.{slice_index_or, count_by}
 use Rattle.std.specs.List.Sorted.{IsPartitionPoint, IsPartitionedBy}
@@ -15,7 +15,7 @@ use Rattle.road_cells.specs.declared.car.Car.{Car}
 count-first : (test : Car → Bool) (car : Car) (cars : List Car) (b : Bool) → test car ≡ b → count_by test (car ∷ cars) ≡ cond b 1 0 + count_by test cars
 count-first test car cars b is = sum_by-cons (λ x. cond (test x) 1 0) car cars ∙ ap (λ b. cond {A = ℕ} b 1 0 + count_by test cars) is
 
--- where the first n pass a test and the others do not, n pass
+-- if the first n pass a test and the others do not, n pass
 pub count-parted : (test : Car → Bool) (cars : List Car) (n : ℕ) → n ≤ length cars → IsPartitionPoint (λ car. test car ≡ true) (λ car. test car ≡ false) cars n → count_by test cars ≡ n
 count-parted test [] zero below point = refl
 count-parted test [] (suc n) below point = absurd (omega arith)
@@ -28,7 +28,7 @@ count-parted test (car ∷ cars) (suc n) below point =
     let rest = count-parted test cars n (omega arith) ((λ i d below lt. point.0 (suc i) d (omega arith) (omega arith)), (λ i d le below. point.1 (suc i) d (omega arith) (omega arith))) in
     omega arith
 
--- cars in rising cells are parted by a cell
+-- a cell divides cars in rising cells
 pub parted_by_cell : (cars : List Car) (cell : ℕ) → AreRising cars → IsPartitionedBy (λ car. nat_lt car.cell cell) cars
 parted_by_cell cars cell rise i j d le below before = elim (cases_lt i j) as (λ _. nat_lt (slice_index_or cars i d).cell cell ≡ true) [
   | inl lt ↦

@@ -10,11 +10,11 @@ use Rattle.road_cells.proofs.ArrayPlaces.{vehicle_at-array, past_array, array-sa
 use Rattle.road_cells.specs.Cars.{cars_from, cars_of, car_of, vehicle_of, AreRisingFrom, AreRising, vehicle_among, end_of, array_of}
 use Rattle.road_cells.specs.declared.car.Car.{Car}
 
--- a car at another cell does not stand here
+-- a car at another cell is not at this cell
 pub vehicle_among-other : (car : Car) (cars : List Car) (c : ℕ) → car.cell ≢ c → vehicle_among c (car ∷ cars) ≡ vehicle_among c cars
 vehicle_among-other car cars c apart = ap (λ b. cond b (Some (vehicle_of car)) (vehicle_among c cars)) (ne_eqb car.cell c apart)
 
--- a car at this cell does
+-- a car at this cell is
 pub vehicle_among-here : (car : Car) (cars : List Car) (c : ℕ) → car.cell ≡ c → vehicle_among c (car ∷ cars) ≡ Some (vehicle_of car)
 vehicle_among-here car cars c same = ap (λ b. cond b (Some (vehicle_of car)) (vehicle_among c cars)) (eq-eqb car.cell c same)
 
@@ -23,7 +23,7 @@ pub vehicle_among-past : (cars : List Car) (c : ℕ) → end_of cars ≤ c → v
 vehicle_among-past [] c past = refl
 vehicle_among-past (car ∷ cars) c past = vehicle_among-other car cars c (λ same. absurd (omega arith)) ∙ vehicle_among-past cars c (omega arith)
 
--- cars that rise from behind a cell leave it empty
+-- cars that rise from a later cell on leave this cell empty
 pub vehicle_among-below : (k c : ℕ) (cars : List Car) → AreRisingFrom k cars → c < k → vehicle_among c cars ≡ None
 vehicle_among-below k c [] rise below = refl
 vehicle_among-below k c (car ∷ cars) rise below =
@@ -37,13 +37,13 @@ vehicle_at-array_of cars c = elim (cases_lt c (end_of cars)) as (λ _. vehicle_a
   | inr past ↦ past_array (end_of cars) (λ c. vehicle_among c cars) c past ∙ sym (vehicle_among-past cars c past)
 ]
 
--- an empty place that is left out in front of others has no car
+-- an empty place dropped in front of others has no car
 cars_from-before : (k : ℕ) (x : Option Vehicle) (xs ys : Array) → ((j : ℕ) → cars_from j ys ≡ cars_from j xs) → cars_from k (with_first_place x ys) ≡ cars_from k (x ∷ xs)
 cars_from-before k (Some v) xs ys same = ap (λ cars. car_of k v ∷ cars) (same (k + 1))
 cars_from-before k None xs [] same = same (k + 1)
 cars_from-before k None xs (y ∷ ys) same = same (k + 1)
 
--- leaving out the empty places at the end leaves out no car
+-- dropping the empty places at the end drops no car
 pub cars_from-array_of_places : (k : ℕ) (xs : List (Option Vehicle)) → cars_from k (array_of_places xs) ≡ cars_from k xs
 cars_from-array_of_places k [] = refl
 cars_from-array_of_places k (x ∷ xs) = cars_from-before k x xs (array_of_places xs) (λ j. cars_from-array_of_places j xs)
@@ -55,7 +55,7 @@ from_here k v xs x taken = ap (λ y. cars_from k (y ∷ xs)) taken
 pub from_later : (k : ℕ) (xs : Array) (x : Option Vehicle) → x ≡ None → cars_from k (x ∷ xs) ≡ cars_from (k + 1) xs
 from_later k xs x empty = ap (λ y. cars_from k (y ∷ xs)) empty
 
--- the cars of places that hold what the cars say, from cell k on, are these cars
+-- places from cell k on that hold these cars have these cars
 listed : (n k : ℕ) (cars : List Car) (f : ℕ → Option Vehicle) → ((c : ℕ) → k ≤ c → f c ≡ vehicle_among c cars) → AreRisingFrom k cars → end_of cars ≤ k + n → cars_from k (map f (range_with_len k n)) ≡ cars
 listed zero k [] f is rise ends = refl
 listed zero k (car ∷ cars) f is rise ends = absurd (let from = rise.0 in omega arith)
@@ -84,7 +84,7 @@ rise-cars_from k (None ∷ places) = later k (cars_from (k + 1) places) (rise-ca
     later k (car ∷ cars) rise = ((let le = rise.0 in omega arith), rise.1)
 rise-cars_from k (Some v ∷ places) = ((omega arith), rise-cars_from (k + 1) places)
 
--- which of the cars of a list of places stands at a cell
+-- the car of a list of places at a cell
 pub vehicle_among-cars_from : (k j : ℕ) (places : List (Option Vehicle)) → vehicle_among (k + j) (cars_from k places) ≡ vehicle_at places j
 vehicle_among-cars_from k j [] = refl
 vehicle_among-cars_from k zero (None ∷ places) = vehicle_among-below (k + 1) (k + 0) (cars_from (k + 1) places) (rise-cars_from (k + 1) places) (omega arith)

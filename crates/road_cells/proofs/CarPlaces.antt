@@ -8,7 +8,7 @@ use Rattle.road_cells.specs.Cars.{cars_from, AreRisingFrom, vehicle_among, vehic
 use Rattle.road_cells.proofs.CarLists.{vehicle_among-other, vehicle_among-here}
 use Rattle.road_cells.specs.declared.car.Car.{Car}
 
--- where cars rise from k on, each cell is k at least
+-- if cars rise from k on, each cell is at least k
 pub rise-from : (k : ℕ) (cars : List Car) (j : ℕ) → AreRisingFrom k cars → j < length cars → k ≤ cell_at cars j
 rise-from k [] j rise below = absurd (omega arith)
 rise-from k (car ∷ cars) zero rise below = rise.0
@@ -21,7 +21,7 @@ rise-at k (car ∷ cars) i zero rise lt below = absurd (omega arith)
 rise-at k (car ∷ cars) zero (suc j) rise lt below = let rest = rise-from (car.cell + 1) cars j rise.1 (omega arith) in omega arith
 rise-at k (car ∷ cars) (suc i) (suc j) rise lt below = rise-at (car.cell + 1) cars i j rise.1 (omega arith) (omega arith)
 
--- a cell that is no car's is empty
+-- a cell at which no car is has no vehicle
 pub vehicle_among-absent : (cars : List Car) (c : ℕ) → ((i : ℕ) → i < length cars → cell_at cars i ≢ c) → vehicle_among c cars ≡ None
 vehicle_among-absent [] c absent = refl
 vehicle_among-absent (car ∷ cars) c absent = vehicle_among-other car cars c (absent 0 (omega arith)) ∙ vehicle_among-absent cars c (λ i below. absent (suc i) (omega arith))
@@ -34,7 +34,7 @@ vehicle_among-at k (car ∷ cars) (suc i) d rise below =
     let further = rise-from (car.cell + 1) cars i rise.1 (omega arith) in
     vehicle_among-other car cars (cell_at cars i) (λ same. absurd (omega arith)) ∙ vehicle_among-at (car.cell + 1) cars i d rise.1 (omega arith)
 
--- there are no more cars than places
+-- there are at most as many cars as places
 pub length-cars_from : (k : ℕ) (places : Array) → length (cars_from k places) ≤ length places
 length-cars_from k [] = omega arith
 length-cars_from k (None ∷ places) = let rest = length-cars_from (k + 1) places in omega arith

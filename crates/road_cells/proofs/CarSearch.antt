@@ -28,7 +28,7 @@ module _ (cars : List Car) (cell : ℕ) (rise : AreRising cars) where
     | inr ge ↦ let same : i ≡ j = omega arith in let cells = ap (λ k. ordering_index (nat_cmp (cell_at cars k) cell)) same in omega arith
   ])
 
-  -- the car that was found stands there
+  -- the car that was found is at the cell
   pub found : (place : ℕ) (car : Car) → place < length cars → ((d : Car) → nat_cmp (slice_index_or cars place d).cell cell ≡ Equal) → car ≡ slice_index_or cars place car → Some car ≡ option_map (car_of cell) (vehicle_at (array_of cars) cell)
   found place car in_list equal is =
       let at : cell_at cars place ≡ cell = (let test = equal nobody in grind (arith, nat_tests)) in
@@ -36,7 +36,7 @@ module _ (cars : List Car) (cell : ℕ) (rise : AreRising cars) where
       (λ i. Some (record { number = car.number; cell = mine i; speed = car.speed }))
       ∙ ap (option_map (car_of cell)) (ap (λ x. Some (vehicle_of x)) is ∙ sym (vehicle_among-at 0 cars place car rise in_list) ∙ ap (λ c. vehicle_among c cars) at ∙ sym (vehicle_at-array_of cars cell))
 
-  -- where none was found the cell is empty
+  -- the cell is empty if no car was found
   pub not_found : (gap : ℕ) → IsPartitionPoint (λ car. nat_cmp car.cell cell ≡ Less) (λ car. nat_cmp car.cell cell ≡ Greater) cars gap → None ≡ option_map (car_of cell) (vehicle_at (array_of cars) cell)
   not_found gap point = ap (option_map (car_of cell)) (sym (vehicle_among-absent cars cell apart) ∙ sym (vehicle_at-array_of cars cell))
     where

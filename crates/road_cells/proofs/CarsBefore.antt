@@ -1,4 +1,4 @@
--- Laws of how many cars stand before a cell.
+-- Laws of the number of cars before a cell.
 use Rattle.std.specs.Prelude.{◌≡◌, ℕ, zero, suc, ◌+◌, ◌<◌, ◌≤◌, cond, List, [], ◌∷◌, length, nat_lt, refl}
 use Rattle.std.proofs.Common.{ap, ◌∙◌, arith, inl, inr}
 use Rattle.std.proofs.lemmas.Bool.{cases_lt, lt-ltb, le-ltb}
@@ -10,13 +10,13 @@ use Rattle.road_cells.specs.declared.car.Car.{Car}
 before-step : (c : ℕ) (car : Car) (cars : List Car) → cars_before c (car ∷ cars) ≡ cond (nat_lt car.cell c) 1 0 + cars_before c cars
 before-step c car cars = sum_by-cons (λ x. cond (nat_lt x.cell c) 1 0) car cars
 
--- a car that stands before the cell is one more
+-- a car before the cell adds one
 pub before-more : (c : ℕ) (car : Car) (cars : List Car) → car.cell < c → cars_before c (car ∷ cars) ≡ suc (cars_before c cars)
 before-more c car cars lt =
     let more : 1 + cars_before c cars ≡ suc (cars_before c cars) = omega arith in
     before-step c car cars ∙ ap (λ b. cond {A = ℕ} b 1 0 + cars_before c cars) (lt-ltb car.cell c lt) ∙ more
 
--- of cars that rise from the cell on none stands before it
+-- no car is before the cell if the cars rise from the cell on
 pub before-none : (c k : ℕ) (cars : List Car) → c ≤ k → AreRisingFrom k cars → cars_before c cars ≡ 0
 before-none c k [] le rise = refl
 before-none c k (car ∷ cars) le rise =
@@ -25,7 +25,7 @@ before-none c k (car ∷ cars) le rise =
     let none : 0 + cars_before c cars ≡ 0 = omega arith in
     before-step c car cars ∙ ap (λ b. cond {A = ℕ} b 1 0 + cars_before c cars) (le-ltb car.cell c (omega arith)) ∙ none
 
--- where cars rise, those before a cell are the first ones of the list
+-- if cars rise, the cars before a cell are the first ones of the list
 pub record IsFirstBehind (c : ℕ) (cars : List Car) (k : ℕ) : Type 0 where
   pub stands_before : k < cars_before c cars → cell_at cars k < c
   pub stands_behind : cars_before c cars ≤ k → c ≤ cell_at cars k

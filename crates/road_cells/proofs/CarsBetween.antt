@@ -10,7 +10,7 @@ use Rattle.road_cells.proofs.CarsBefore.{before-more, before-none}
 use Rattle.road_cells.proofs.CarLists.{from_here, from_later, vehicle_among-other, vehicle_among-here, vehicle_among-below, vehicle_among-cars_from, rise-cars_from}
 use Rattle.road_cells.specs.declared.car.Car.{Car}
 
--- the cars of n places that hold what the cars say, from cell k on, are the first of these cars
+-- places from cell k to k + n that hold these cars have the first of these cars
 taken : (n k : ℕ) (cars : List Car) (f : ℕ → Option Vehicle) → ((c : ℕ) → k ≤ c → c < k + n → f c ≡ vehicle_among c cars) → AreRisingFrom k cars
     → cars_from k (map f (range_with_len k n)) ≡ take (cars_before (k + n) cars) cars
 taken zero k cars f is rise = sym (ap (λ m. take m cars) (before-none (k + 0) k cars (omega arith) rise))
@@ -30,7 +30,7 @@ taken (suc n) k (car ∷ cars) f is rise = elim (cases_eq car.cell k) as (λ _. 
       ∙ ap (λ m. take (cars_before m (car ∷ cars)) (car ∷ cars)) next
 ]
 
--- what is left without the cars before a cell
+-- the cars that remain without those before a cell
 record IsRest (from : ℕ) (cars rest : List Car) : Type 0 where
   rises : AreRisingFrom from rest
   stands : (c : ℕ) → from ≤ c → vehicle_among c rest ≡ vehicle_among c cars

@@ -1,4 +1,4 @@
--- What is free in front of a car: up to the next car of the list, up to the next block of the list.
+-- The free cells in front of a car: up to the next car of the list, and up to the next block of the list.
 use Rattle.std.specs.Prelude.{◌≡◌, ◌≢◌, ℕ, suc, ◌+◌, ◌-◌, ◌<◌, ◌≤◌, ◌||◌, min, true, false, List, [], ◌∷◌, length, is_some, nat_eq, nat_le, slice_index, refl}
 use Rattle.std.specs.List.{slice_index_or}
 use Rattle.std.specs.List.Sorted.{IsNonDecreasing, IsPartitionedBy, IsPartitionPoint}
@@ -52,7 +52,7 @@ free_to_none cars place n rise here last = free_before-none (λ c. is_some (vehi
       | inr later ↦ let is : i ≡ place = omega arith in let cell = ap (cell_at cars) is in omega arith
     ]
 
--- a cell that is none of the blocks is not blocked
+-- a cell that is not in the list of blocks is not blocked
 pub not_blocked : (blocks : List ℕ) (k : ℕ) → ((i : ℕ) → i < length blocks → slice_index blocks i ≢ k) → is_blocked blocks k ≡ false
 not_blocked [] k apart = refl
 not_blocked (block ∷ blocks) k apart =
@@ -63,11 +63,11 @@ not_blocked (block ∷ blocks) k apart =
 pub blocked_at : (blocks : List ℕ) (i : ℕ) → i < length blocks → is_blocked blocks (slice_index blocks i) ≡ true
 blocked_at blocks i below = list_any_at (nat_eq (slice_index blocks i)) blocks i 0 below (eq-eqb (slice_index blocks i) (slice_index blocks i) refl)
 
--- blocks that do not fall are parted by a cell
+-- a cell divides blocks that do not fall
 pub parted : (blocks : List ℕ) (cell : ℕ) → IsNonDecreasing blocks → IsPartitionedBy (λ block. nat_le block cell) blocks
 parted blocks cell rising i j d le below reached = grind (arith, nat_tests, rising i j d le below)
 
--- where a search parts the blocks
+-- the place at which a search divides the blocks
 pub parted_at : (blocks : List ℕ) (cell n : ℕ) → IsPartitionPoint (λ block. nat_le block cell ≡ true) (λ block. nat_le block cell ≡ false) blocks n → ArePartedAt blocks cell n
 parted_at blocks cell n point = record {
   reached = λ i before below. let test : nat_le (slice_index blocks i) cell ≡ true = point.0 i 0 (omega arith) before in grind (arith, nat_tests);
@@ -75,7 +75,7 @@ parted_at blocks cell n point = record {
 }
 
 module _ (blocks : List ℕ) (cell next : ℕ) (rising : IsNonDecreasing blocks) (point : ArePartedAt blocks cell next) where
-  -- the block after the parting is the first one in front of the cell
+  -- the block after that place is the first one in front of the cell
   pub free_to_point : (n : ℕ) → next < length blocks → free_before (is_blocked blocks) (cell + 1) n ≡ min n (slice_index blocks next - (cell + 1))
   free_to_point n in_list =
       let far = point.ahead next (omega arith) in_list in
@@ -87,6 +87,6 @@ module _ (blocks : List ℕ) (cell next : ℕ) (rising : IsNonDecreasing blocks)
         | inr after ↦ let high : slice_index blocks next ≤ slice_index blocks i = rising next i 0 after below in omega arith
       ]
 
-  -- where no block is left there is none in front of it
+  -- if no block is left, no block is in front of the cell
   pub free_to_end : (n : ℕ) → length blocks ≤ next → free_before (is_blocked blocks) (cell + 1) n ≡ n
   free_to_end n past = free_before-none (is_blocked blocks) n (cell + 1) (λ k le lt. not_blocked blocks k (λ i below same. let low = point.reached i (omega arith) below in absurd (omega arith)))

@@ -41,7 +41,7 @@ vehicle_at-free : vehicle_at road 4 ≡ None
 unfolding road vehicle
 vehicle_at-free = refl
 
--- every cell behind the last car is empty
+-- every cell past the last car is empty
 vehicle_at-behind : vehicle_at road 9000 ≡ None
 unfolding road vehicle
 vehicle_at-behind = refl
@@ -81,7 +81,7 @@ free_cells-last : free_cells [] road 7 ≡ 9
 unfolding road vehicle free_before
 free_cells-last = refl
 
--- none where the next car stands in the next cell
+-- none if the next car is in the next cell
 free_cells-next : free_cells [] (array_of (car 1 4 0 ∷ car 2 5 0 ∷ [])) 4 ≡ 0
 unfolding car free_before
 free_cells-next = refl
@@ -99,7 +99,7 @@ free_cells-eleventh : free_cells [] (array_of (car 1 0 0 ∷ car 2 11 0 ∷ []))
 unfolding car free_before
 free_cells-eleventh = refl
 
--- up to a blocked cell, where it comes before the next car
+-- up to a blocked cell, if it comes before the next car
 free_cells-block : free_cells (5 ∷ []) road 3 ≡ 1
 unfolding road vehicle free_before
 free_cells-block = refl
@@ -121,7 +121,7 @@ free_cells-block_behind : free_cells (2 ∷ 3 ∷ []) road 3 ≡ 3
 unfolding road vehicle free_before
 free_cells-block_behind = refl
 
--- a car on a blocked cell is as far as that cell
+-- a car on a blocked cell counts only up to that cell
 free_cells-block_under_car : free_cells (7 ∷ []) road 3 ≡ 3
 unfolding road vehicle free_before
 free_cells-block_under_car = refl

@@ -16,11 +16,11 @@ free_before-zero test c = refl
 pub free_before-taken : (test : ℕ → Bool) (c n : ℕ) → test c ≡ true → free_before test c (suc n) ≡ 0
 free_before-taken test c n taken = free_before-suc test c n ∙ ap (λ b. cond (not b) (1 + free_before test (c + 1) n) 0) taken
 
--- a cell that does not pass is free, and then those behind it count
+-- a cell that does not pass is free, and then the cells after it count
 pub free_before-free : (test : ℕ → Bool) (c n : ℕ) → test c ≡ false → free_before test c (suc n) ≡ 1 + free_before test (c + 1) n
 free_before-free test c n free = free_before-suc test c n ∙ ap (λ b. cond (not b) (1 + free_before test (c + 1) n) 0) free
 
--- no more are free than are asked
+-- no more are free than the limit
 pub free_before-most : (test : ℕ → Bool) (c n : ℕ) → free_before test c n ≤ n
 free_before-most test c zero = let none = free_before-zero test c in omega arith
 free_before-most test c (suc n) = elim (test c) as (λ b. test c ≡ b → free_before test c (suc n) ≤ suc n) [
@@ -28,7 +28,7 @@ free_before-most test c (suc n) = elim (test c) as (λ b. test c ≡ b → free_
   | false ↦ λ free. let is = free_before-free test c n free in let rest = free_before-most test (c + 1) n in omega arith
 ] refl
 
--- the first that passes is no later than one that does
+-- the first cell that passes is no later than any cell that does
 pub free_before-le : (test : ℕ → Bool) (n c d : ℕ) → c ≤ d → test d ≡ true → free_before test c n ≤ d - c
 free_before-le test zero c d le taken = let none = free_before-zero test c in omega arith
 free_before-le test (suc n) c d le taken = elim (test c) as (λ b. test c ≡ b → free_before test c (suc n) ≤ d - c) [
@@ -40,7 +40,7 @@ free_before-le test (suc n) c d le taken = elim (test c) as (λ b. test c ≡ b 
       omega arith
 ] refl
 
--- tests that agree on the cells asked give the same
+-- tests that agree on the searched cells give the same count
 pub free_before-same : (f g : ℕ → Bool) (n c : ℕ) → ((k : ℕ) → c ≤ k → k < c + n → f k ≡ g k) → free_before f c n ≡ free_before g c n
 free_before-same f g zero c same = free_before-zero f c ∙ sym (free_before-zero g c)
 free_before-same f g (suc n) c same =
@@ -48,7 +48,7 @@ free_before-same f g (suc n) c same =
     ∙ (λ i. cond (not (same c (omega arith) (omega arith) i)) (1 + free_before-same f g n (c + 1) (λ k le lt. same k (omega arith) (omega arith)) i) 0)
     ∙ sym (free_before-suc g c n)
 
--- where the first that passes is known
+-- the count if the first cell that passes is known
 pub free_before-first : (test : ℕ → Bool) (n c d : ℕ) → c ≤ d → ((k : ℕ) → c ≤ k → k < d → test k ≡ false) → test d ≡ true → free_before test c n ≡ min n (d - c)
 free_before-first test zero c d le below taken = let none = free_before-zero test c in omega arith
 free_before-first test (suc n) c d le below taken = elim (test c) as (λ b. test c ≡ b → free_before test c (suc n) ≡ min (suc n) (d - c)) [
@@ -63,14 +63,14 @@ free_before-first test (suc n) c d le below taken = elim (test c) as (λ b. test
       omega arith
 ] refl
 
--- where none of them passes
+-- the count if no cell passes
 pub free_before-none : (test : ℕ → Bool) (n c : ℕ) → ((k : ℕ) → c ≤ k → k < c + n → test k ≡ false) → free_before test c n ≡ n
 free_before-none test zero c none = free_before-zero test c
 free_before-none test (suc n) c none =
     let rest : free_before test (c + 1) n ≡ n = free_before-none test n (c + 1) (λ k le lt. none k (omega arith) (omega arith)) in
     free_before-free test c n (none c (omega arith) (omega arith)) ∙ (omega arith)
 
--- the first that passes one of two tests
+-- the first cell that passes one of two tests
 pub free_before-or : (f g : ℕ → Bool) (n c : ℕ) → free_before (λ k. f k || g k) c n ≡ min (free_before f c n) (free_before g c n)
 free_before-or f g zero c =
     let both = free_before-zero (λ k. f k || g k) c in let one = free_before-zero f c in let other = free_before-zero g c in omega arith

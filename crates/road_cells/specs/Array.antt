@@ -10,11 +10,11 @@ pub record Vehicle : Type 0 where
   pub speed : ℕ
 
 -- A road: for each cell from 0 on nothing or the vehicle there. Places past the end of the list are empty, and the list
--- ends in a vehicle, so each road is written in one way only.
+-- ends in a vehicle, so each road has only one form.
 abbrev pub Array : Type 0
 Array = List (Option Vehicle)
 
--- what stands at a cell
+-- the vehicle at a cell, if there is one
 abbrev pub vehicle_at : Array → ℕ → Option Vehicle
 vehicle_at a c = standing (slice_get a c)
   where
@@ -22,7 +22,7 @@ vehicle_at a c = standing (slice_get a c)
     standing None = None
     standing (Some place) = place
 
--- the array with one more place in front; an empty place in front of no vehicle is left out
+-- the array with one more place in front; an empty place in front of no vehicle is dropped
 abbrev pub with_first_place : Option Vehicle → Array → Array
 with_first_place None [] = []
 with_first_place None (y ∷ ys) = None ∷ y ∷ ys
@@ -33,6 +33,6 @@ abbrev pub array_of_places : List (Option Vehicle) → Array
 array_of_places [] = []
 array_of_places (x ∷ xs) = with_first_place x (array_of_places xs)
 
--- the array that has at each cell below n what the function gives, and nothing from n on
+-- the array with the values of a function at each cell below n, and nothing from n on
 abbrev pub array : ℕ → (ℕ → Option Vehicle) → Array
 array n f = array_of_places (map f (range_with_len 0 n))

@@ -6,11 +6,11 @@ use Rattle.std.specs.declared.option.Option.TheVariants.{None, Some}
 use Rattle.road_cells.specs.Array.{Array, Vehicle, array}
 use Rattle.road_cells.specs.declared.car.Car.{Car}
 
--- a car is a vehicle at a cell
+-- the vehicle of a car, without its cell
 abbrev pub vehicle_of : Car → Vehicle
 vehicle_of car = record { number = car.number; speed = car.speed }
 
--- the car that a vehicle at cell c is
+-- the car of a vehicle at cell c
 abbrev pub car_of : ℕ → Vehicle → Car
 car_of c v = record { number = v.number; cell = c; speed = v.speed }
 
@@ -24,15 +24,15 @@ cars_from k (Some v ∷ places) = car_of k v ∷ cars_from (k + 1) places
 abbrev pub cars_of : Array → List Car
 cars_of a = cars_from 0 a
 
--- the cell of the k-th car, counted from 0; of no car it is 0
+-- the cell of the k-th car, counted from 0, or 0 if there is no such car
 abbrev pub cell_at : List Car → ℕ → ℕ
 cell_at cars k = (slice_index_or cars k (car_of 0 (record { number = 0; speed = 0 }))).cell
 
--- how many cars stand before a cell
+-- the number of cars before a cell
 abbrev pub cars_before : ℕ → List Car → ℕ
 cars_before c cars = count_by (λ car. nat_lt car.cell c) cars
 
--- the cells of cars strictly rise, from k on
+-- the cells of cars strictly rise, and begin at k or later
 abbrev pub AreRisingFrom : ℕ → List Car → Type 0
 AreRisingFrom k [] = Unit {0}
 AreRisingFrom k (car ∷ cars) = (k ≤ car.cell) × AreRisingFrom (car.cell + 1) cars
@@ -41,12 +41,12 @@ AreRisingFrom k (car ∷ cars) = (k ≤ car.cell) × AreRisingFrom (car.cell + 1
 abbrev pub AreRising : List Car → Type 0
 AreRising cars = AreRisingFrom 0 cars
 
--- which of the cars stands at a cell
+-- the vehicle of the car at a cell, if there is one
 abbrev pub vehicle_among : ℕ → List Car → Option Vehicle
 vehicle_among c [] = None
 vehicle_among c (car ∷ cars) = if nat_eq car.cell c then Some (vehicle_of car) else vehicle_among c cars
 
--- one above the greatest cell of a car
+-- the greatest cell of a car plus one
 abbrev pub end_of : List Car → ℕ
 end_of [] = 0
 end_of (car ∷ cars) = max (car.cell + 1) (end_of cars)

@@ -1,14 +1,14 @@
-//! Cars, and how fast they are at most.
+//! Cars, and their greatest speed.
 
-/// The greatest speed of a car, in cells per step. No car looks further ahead than it could drive at this speed.
+/// The greatest speed of a car, in cells per step. No car looks further ahead than it can drive at this speed.
 pub const GREATEST_SPEED: u8 = 9;
 
 /// A car on the road.
 #[derive(Clone, Copy, Debug, PartialEq, Eq)]
 pub struct Car {
-    /// Its number, its own for good.
+    /// The car's number. It never changes, and no other car has it.
     pub number: u64,
-    /// The cell where it stands, counted from 0 at the road's beginning.
+    /// The cell where the car stands, counted from 0 at the start of the road.
     pub cell: u32,
     /// Its speed, in cells per step.
     pub speed: u8,

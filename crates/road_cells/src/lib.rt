@@ -1,13 +1,13 @@
-//! The road as an array of cells, each empty or taken by one car, kept as its cars in rising cells.
+//! The road as an array of cells, each empty or occupied by one car, stored as its cars in rising cells.
 //!
-//! Contracts see a [`Road`] as its array alone. A road here has no end: cells past the last car are empty and free.
+//! Contracts see a [`Road`] only as its array. A road here has no end: cells past the last car are empty and free.
 //!
 //! ```
 //! let mut cars = Vec::new(alloc);
 //! cars.push(Car { number: 0, cell: 3, speed: 2 })?;
 //! cars.push(Car { number: 16, cell: 7, speed: 0 })?;
 //! let road = Road::of(cars);
-//! // Three free cells in front of the first car; two where cell 6 is blocked.
+//! // Three free cells in front of the first car, or two if cell 6 is blocked.
 //! let gap = road.gap(0, &[]);
 //! let shorter = road.gap(0, &[6]);
 //! // The car at cell 7, and none at cell 8.

@@ -15,8 +15,8 @@ use crate::car::{Car, GREATEST_SPEED};
 use std::alloc::Global;
 use std::marker::Model;
 
-/// A road: an array of cells, each empty or taken by a car. It keeps its cars in strictly rising cells, and contracts
-/// see the array.
+/// A road: an array of cells, each empty or occupied by a car. It stores its cars in strictly rising cells, and
+/// contracts see the array.
 #[derive(Drop)]
 pub struct Road {
     cars: Vec<Car>,
@@ -34,7 +34,7 @@ impl Model for Road {
 }
 
 impl Road {
-    /// Makes the empty road. It takes no memory.
+    /// Make the empty road. It takes no memory.
     pub fn empty(alloc: Global) -> Self
         ensures { result ≡ [] }
     {
@@ -43,7 +43,7 @@ impl Road {
         }
     }
 
-    /// Makes the road of these cars, whose cells have to rise strictly. It keeps the list and takes no memory.
+    /// Make the road of these cars, whose cells must rise strictly. It keeps the list and takes no memory.
     pub fn of(cars: Vec<Car>) -> Self
         requires { AreRising cars.items }
         ensures road { result ≡ array_of cars.items }
@@ -52,7 +52,7 @@ impl Road {
         Road { cars }
     }
 
-    /// Takes the cars out, in strictly rising cells, as the list that the road kept. It takes no memory.
+    /// Return the cars in strictly rising cells, as the list that the road stored. It takes no memory.
     pub fn into_cars(self) -> Vec<Car>
         ensures all { result.items ≡ cars_of self }
         ensures rise { AreRising result.items }
@@ -62,7 +62,7 @@ impl Road {
         cars
     }
 
-    /// Returns the cars in strictly rising cells. A car's index here is its place.
+    /// Return the cars in strictly rising cells. A car's index here is its place.
     pub fn cars(&self) -> &[Car]
         ensures all { result.now ≡ cars_of self.now }
         ensures rise { AreRising result.now }
@@ -71,7 +71,7 @@ impl Road {
         self.cars.as_slice()
     }
 
-    /// Finds the car at a cell by a binary search; none where the cell is empty or past the last car.
+    /// Find the car at a cell by a binary search. There is none if the cell is empty or past the last car.
     pub fn car_at(&self, cell: u32) -> Option<Car>
         ensures { result ≡ option_map (car_of cell) (vehicle_at self.now cell) }
     {
@@ -81,14 +81,15 @@ impl Road {
         }
     }
 
-    /// Counts the cars before a cell, by a binary search: this is the place of the first one that is not.
+    /// Count the cars before a cell, by a binary search. The count is the place of the first car at the cell or past
+    /// it.
     pub fn cars_before(&self, cell: u32) -> usize
         ensures { result ≡ cars_before cell (cars_of self.now) }
     {
         self.cars.partition_point(|car| car.cell < cell)
     }
 
-    /// Returns the cars at the cells from `from` on and before `to`, where `from` is at most `to`. They are found by
+    /// Return the cars at the cells from `from` on and before `to`. `from` must be at most `to`. The cars are found by
     /// two binary searches.
     pub fn between(&self, from: u32, to: u32) -> &[Car]
         requires { from ≤ to }
@@ -99,12 +100,12 @@ impl Road {
         &self.cars()[first..end]
     }
 
-    /// Counts the free cells in front of a car, up to the next car or blocked cell, at most `GREATEST_SPEED` (the
-    /// `j - 1` of Nagel and Schreckenberg, J. Phys. I France 2 (1992) 2221, with blocked cells beside it).
+    /// Count the free cells in front of a car, up to the next car or blocked cell, at most `GREATEST_SPEED`.
+    /// Nagel and Schreckenberg call this `j - 1` (J. Phys. I France 2 (1992) 2221); here blocked cells count too.
     ///
-    /// `place` is the car's place in [`Road::cars`], and `blocks` are the blocked cells, rising. A block behind the
-    /// car or under it does not count. The road has no end here: all cells past the last car that are not blocked are
-    /// free. Only the next car and the next block are looked at, the block found by a binary search.
+    /// `place` is the car's place in [`Road::cars`], and `blocks` are the blocked cells, rising. A block behind the car
+    /// or under it does not count. The road has no end here: all cells past the last car that are not blocked are free.
+    /// Only the next car and the next block matter. The block is found by a binary search.
     pub fn gap(&self, place: usize, blocks: &[u32]) -> u8
         requires car { place < length (cars_of self.now) }
         requires rising { IsNonDecreasing blocks.now }
@@ -114,9 +115,9 @@ impl Road {
         self.gap_to(place, blocks, reached_blocks(blocks, cell))
     }
 
-    /// Counts the free cells in front of a car, as [`Road::gap`], where the first `reached` of the blocked cells are not
-    /// in front of it, and all others are ([`crate::reached_blocks_below`]): for callers that go over the cars in
-    /// falling cells. Nothing is searched. It takes no memory.
+    /// Count the free cells in front of a car, as [`Road::gap`] does, given that the first `reached` blocked cells are
+    /// not in front of the car and all others are ([`crate::reached_blocks_below`]). It is for callers that visit the
+    /// cars in falling cells. Nothing is searched, and it takes no memory.
     pub fn gap_to(&self, place: usize, blocks: &[u32], reached: usize) -> u8
         requires car { place < length (cars_of self.now) }
         requires rising { IsNonDecreasing blocks.now }
@@ -129,11 +130,11 @@ impl Road {
         to_car.min(to_block)
     }
 
-    /// Copies the road, in one allocation, or in none where no car is on it.
+    /// Copy the road, in one allocation, or in none if the road has no car.
     ///
     /// # Errors
     ///
-    /// `OutOfMemory` where that allocation failed.
+    /// `OutOfMemory` if that allocation failed.
     pub fn copied(&self) -> Result<Road, OutOfMemory>
         ensures { IfOk result (λ road. road ≡ self.now) }
     {
@@ -143,7 +144,7 @@ impl Road {
     }
 }
 
-// Counts the free cells in front of a car, as far as the next car.
+// Count the free cells in front of a car, up to the next car.
 fn free_to_car(cars: &[Car], place: usize) -> u8
     requires car { place < length cars.now }
     requires rising { AreRising cars.now }
@@ -156,7 +157,7 @@ fn free_to_car(cars: &[Car], place: usize) -> u8
     }
 }
 
-// Counts the free cells in front of a cell, as far as the next blocked cell.
+// Count the free cells in front of a cell, up to the next blocked cell.
 fn free_to_block(cell: u32, blocks: &[u32], reached: usize) -> u8
     requires rising { IsNonDecreasing blocks.now }
     requires parted { ArePartedAt blocks.now cell reached }
@@ -168,7 +169,7 @@ fn free_to_block(cell: u32, blocks: &[u32], reached: usize) -> u8
     }
 }
 
-// Counts the cells between two cells, at most `GREATEST_SPEED`.
+// Count the cells between two cells, at most `GREATEST_SPEED`.
 fn free_between(cell: u32, next: u32) -> u8
     requires { cell < next }
     ensures { result ≡ min GREATEST_SPEED (next - (cell + 1)) }

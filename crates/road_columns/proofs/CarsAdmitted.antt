@@ -1,4 +1,4 @@
--- The turn of an inlet: a car is put into the columns, or all stays.
+-- The turn of an inlet: a car is inserted into the columns, or nothing changes.
 use Rattle.std.specs.Prelude.{◌≡◌, ◌≢◌, ℕ, ◌+◌, ◌-◌, ◌*◌, ◌/◌, ◌<◌, ◌≤◌, ◌&&◌, true, false, List, [], length, slice_index}
 use Rattle.std.specs.List.{slice_index_or}
 use Rattle.std.proofs.Common.{sym, ap, ◌∙◌, arith, inl, inr, subst}
@@ -14,7 +14,7 @@ use Rattle.road_columns.specs.Private.Drawn.{drawn_word}
 use Rattle.road_columns.specs.Private.Entered.{number_with}
 use Rattle.road_columns.specs.Private.EnteredList.{high16_in}
 use Rattle.road_columns.specs.Private.Entering.{ArePlacesFrom, IsPutIn}
-use Rattle.road_columns.specs.Private.Interval.{AreEntered, KeepsRest, entered_of_words}
+use Rattle.road_columns.specs.Private.Interval.{AreEntered, KeepsCar, KeepsRest, entered_of_words}
 use Rattle.road_columns.specs.Private.Lanes.{index_of}
 use Rattle.road_columns.specs.Private.LooseWords.{AreFalling, HaveLooseWords}
 use Rattle.road_columns.specs.Private.Running.{AreReady}
@@ -29,7 +29,7 @@ use Rattle.road_columns.proofs.FirstEntries.{inlet_cell, inlet_closed}
 use Rattle.road_columns.proofs.InletTurns.{enters_here, taken_here}
 
 module _ (g : Layout) (first k i : ℕ) (cars : CarColumns) (words : IntervalWords) (are : AreReady g first k i cars words) (early : k < 64) (below : i < length g.plan.now.inlets) where
-  -- there is room for one car more
+  -- there is room for one more car
   pub room_for_one : cars.tail + 1 < length cars.cells.items
   room_for_one =
       let room = are.room in omega arith
@@ -50,7 +50,7 @@ module _ (g : Layout) (first k i : ℕ) (cars : CarColumns) (words : IntervalWor
   pub inlet_word : (t : ℕ) → first + k ≡ t → (batch : List ℕ) (index : ℕ) → batch ≡ slice_index_or words.inlets.items i [] → index ≡ index_of k
       → slice_index batch index ≡ word g.plan.now.words (inlet_stream i) t / 65536
   inlet_word t now batch index read at =
-      let many = are.standing.even.inlets_each in
+      let many = are.standing.inlets_each in
       (λ j. slice_index (read j) (at j)) ∙ are.words_are.inlet_words i k (omega arith) early ∙ ap (λ u. word g.plan.now.words (inlet_stream i) u / 65536) now
 
   module _ (t lo hi : ℕ) (a : Array) (on : AreAllOn (with_first_entries lo hi i g.plan.now g.settings.now t a) cars) where
@@ -65,7 +65,7 @@ module _ (g : Layout) (first k i : ℕ) (cars : CarColumns) (words : IntervalWor
         taken_here g.plan.now g.settings.now t lo hi i a cars.cells.items cars.speeds.items cars.numbers.items g.sites.now cars.places.items cars.head cars.tail are.layout.within below
         (inlets_first g.plan.now g.regions.now g.sites.now are.layout.sites_are) are.standing.cars_are.low are.standing.cars_are.order are.standing.places_are on (omega arith) taken
 
-  -- a car is put in
+  -- a car is inserted
   module _ (cars' : CarColumns) (number : ℕ) (free : slice_index cars.cells.items (slice_index cars.places.items i - 1) ≢ slice_index g.sites.now i)
       (put : PutsCar g.sites.now cars cars' (slice_index cars.places.items i) (slice_index g.sites.now i) number) where
     cars_put_in : AreCarsInColumn g.plan.now cars'.head cars'.tail cars'.cells.items
@@ -115,13 +115,16 @@ module _ (g : Layout) (first k i : ℕ) (cars : CarColumns) (words : IntervalWor
         cars'.cells.items cars'.speeds.items cars'.numbers.items number free admits put.cells put.speeds put.numbers named)
 
     -- with its words
-    module _ (words' : IntervalWords) (width : ℕ) (wide : width ≡ length cars.cells.items + 8) (rest : KeepsRest words words') (one : words'.entered ≤ words.entered + 1) (entered : AreEntered words' (cars.tail + 1))
+    module _ (words' : IntervalWords) (width : ℕ) (wide : width ≡ length cars.cells.items + 8) (keeps : KeepsCar words words' cars.tail)
         (kept : words.worded ≡ true → cars.head ≤ slice_index cars.places.items i → AreFalling cars.cells.items cars.head cars.tail
         → IsPutIn cars.cells.items cars'.cells.items (slice_index cars.places.items i) cars.tail (slice_index g.sites.now i) 0
         → ((q : ℕ) → cars.head ≤ q → q < slice_index cars.places.items i → slice_index g.sites.now i < slice_index cars.cells.items q)
         → ((q : ℕ) → slice_index cars.places.items i ≤ q → q < cars.tail → slice_index cars.cells.items q < slice_index g.sites.now i)
         → HaveLooseWords g.plan.now.words first width k words.rows.items (entered_of_words words) cars.head cars.tail cars.cells.items (slice_index cars.numbers.items)
         → HaveLooseWords g.plan.now.words first width k words'.rows.items (entered_of_words words') cars.head (cars.tail + 1) cars'.cells.items (number_with (slice_index cars.places.items i) number (slice_index cars.numbers.items))) where
+      rest : KeepsRest words words'
+      rest = keeps.rest
+
       of_cars : words.worded ≡ true → HaveLooseWords g.plan.now.words first (length cars'.cells.items + 8) k words'.rows.items (entered_of_words words') cars'.head cars'.tail cars'.cells.items (slice_index cars'.numbers.items)
       of_cars is =
           let c = are.standing.cars_are in
@@ -130,7 +133,7 @@ module _ (g : Layout) (first k i : ℕ) (cars : CarColumns) (words : IntervalWor
           transport (λ j. HaveLooseWords g.plan.now.words first ((wide ∙ ap (λ n. n + 8) (sym put.cells_each)) j) k words'.rows.items (entered_of_words words') (sym put.head j) (sym put.tail j) cars'.cells.items (slice_index cars'.numbers.items))
           (loose_numbers g.plan.now.words first width k words'.rows.items (entered_of_words words') cars.head (cars.tail + 1) cars'.cells.items
           (number_with (slice_index cars.places.items i) number (slice_index cars.numbers.items)) (slice_index cars'.numbers.items)
-          (λ q less. numbers_put cars.numbers.items cars'.numbers.items (slice_index cars.places.items i) cars.tail number q put.numbers place_to less) entered.in_order
+          (λ q less. numbers_put cars.numbers.items cars'.numbers.items (slice_index cars.places.items i) cars.tail number q put.numbers place_to less) keeps.entered.in_order
           (kept is place_from c.falling put.cells
           (all_past cars.cells.items cars.head cars.tail (slice_index cars.places.items i) (slice_index g.sites.now i) c.falling c.order place_from at free)
           (all_before cars.cells.items cars.head cars.tail (slice_index cars.places.items i) (slice_index g.sites.now i) c.falling c.order place_from at free)
@@ -138,33 +141,26 @@ module _ (g : Layout) (first k i : ℕ) (cars : CarColumns) (words : IntervalWor
 
       pub put_ready : AreReady g first k (i + 1) cars' words'
       put_ready =
-          let even = are.standing.even in
-          let short = are.standing.even.short in
+          let short = cars.short in
           let room = are.room in
           let beside = are.room_beside in
           let size = put.cells_each in
-          let size_beside = rest.beside_each in
+          let size_beside = keeps.rest.beside_each in
+          let one = keeps.bound in
           let tail = put.tail in
           let head = put.head in
-          let from = are.standing.from in
+          let from = cars.from in
           record {
             layout = are.layout;
             standing = record {
               source_is = λ stream place. ap (λ source. drawn_word source stream place) rest.source ∙ are.standing.source_is stream place;
-              even = record {
-                short = omega arith;
-                speeds_each = put.speeds_each ∙ even.speeds_each ∙ sym put.cells_each;
-                numbers_each = put.numbers_each ∙ even.numbers_each ∙ sym put.cells_each;
-                batches_each = rest.batches_each ∙ even.batches_each ∙ sym rest.beside_each;
-                inlets_each = ap length rest.inlets ∙ even.inlets_each;
-              };
-              from = omega arith;
+              inlets_each = ap length rest.inlets ∙ are.standing.inlets_each;
               cars_are = cars_put_in;
               places_are = places_put_in;
             };
             words_are = record {
               rows_each = rest.rows_each ∙ are.words_are.rows_each ∙ ap (λ n. 64 * (n + 8)) (sym put.cells_each);
-              entered = subst (AreEntered words') (sym put.tail) entered;
+              entered = subst (AreEntered words') (sym put.tail) keeps.entered;
               of_cars = λ is. of_cars (sym rest.worded ∙ is);
               inlet_words = λ j r inside soon. ap (λ xs. high16_in xs j r) rest.inlets ∙ are.words_are.inlet_words j r (subst (λ xs. j < length xs) rest.inlets inside) soon;
             };

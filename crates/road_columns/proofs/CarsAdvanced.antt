@@ -1,5 +1,5 @@
 -- A step of the cars in columns, once they have entered.
-use Rattle.std.specs.Prelude.{◌≡◌, ℕ, ◌⊎◌, ◌+◌, ◌-◌, ◌*◌, ◌/◌, ◌%◌, ◌<◌, ◌≤◌, false, List, length, slice_index, slice_range}
+use Rattle.std.specs.Prelude.{◌≡◌, ℕ, ◌+◌, ◌-◌, ◌*◌, ◌/◌, ◌%◌, ◌<◌, ◌≤◌, false, List, length, slice_index, slice_range}
 use Rattle.std.proofs.Common.{sym, ap, ◌∙◌, arith, inr, subst}
 use Rattle.std.proofs.Math.Path.{transport}
 use Rattle.std.specs.List.{slice_index_or}
@@ -17,15 +17,16 @@ use Rattle.road_columns.specs.Private.Interval.{AreEntered, entered_of_words}
 use Rattle.road_columns.specs.Private.Lanes.{index_of}
 use Rattle.road_columns.specs.Private.LooseWords.{HaveLooseWords}
 use Rattle.road_columns.specs.Private.Motion.{chance_at}
-use Rattle.road_columns.specs.Private.Pieces.{IsHigh16At}
-use Rattle.road_columns.specs.Private.Regions.{IsOfRegion, region_at, wish_at}
+use Rattle.road_columns.specs.Private.Pieces.{IsHigh16At, MovesCars}
+use Rattle.road_columns.specs.Private.Regions.{AreEndsOf, IsOfRegion, region_at, wish_at}
 use Rattle.road_columns.specs.Private.Running.{AreReady}
 use Rattle.road_columns.specs.Private.Sites.{IsOfSteps, passes_of, unpacked}
-use Rattle.road_columns.specs.Private.Step.{AreCarsInColumn}
+use Rattle.road_columns.specs.Private.Step.{AreCarsInColumn, LetsLeave}
 use Rattle.road_columns.specs.declared.cars.CarColumns.{CarColumns}
 use Rattle.road_columns.specs.declared.interval.IntervalWords.{IntervalWords}
 use Rattle.road_columns.specs.declared.layout.Layout.{Layout}
 use Rattle.road_columns.specs.declared.regions.Region.{Region}
+use Rattle.road_columns.proofs.ColumnPlaces.{range_long}
 use Rattle.road_columns.proofs.CarsStepped.{cars_stepped, places_stepped, road_stepped, words_stepped}
 use Rattle.road_columns.proofs.CountsStepped.{count_is, count_more}
 use Rattle.road_columns.proofs.MovedCars.{apart, block_ahead, slow_enough, speed_is}
@@ -33,12 +34,9 @@ use Rattle.road_columns.proofs.RegionPlaces.{end_in, ends_fall, in_region, last_
 use Rattle.road_columns.proofs.StepSites.{detector_each, detector_from, detector_to, ends_each, ends_from, rises_from, sites_before_exit}
 use Rattle.road_columns.proofs.StretchColumns.{one_leaves}
 
--- what advance_regions does
+-- what `advance_regions` does
 pub record AreAdvanced (regions : List Region) (ends row : List ℕ) (index n : ℕ) (beside : List ℕ) (batches : List (List ℕ)) (head tail : ℕ) (cells speeds cells' speeds' : List ℕ) : Type 0 where
-  pub cells_each : length cells' ≡ length cells
-  pub speeds_each : length speeds' ≡ length speeds
-  pub others : (q : ℕ) → (q < head) ⊎ (tail ≤ q) → slice_index cells' q ≡ slice_index cells q
-  pub moved : (q : ℕ) → head ≤ q → q < tail → slice_index cells' q ≡ slice_index cells q + slice_index speeds' q
+  pub all : MovesCars head tail cells speeds cells' speeds'
   pub by_regions : (r q : ℕ) → IsOfRegion (length regions) ends r q → head ≤ q → (word : ℕ)
       → (0 < wish_at (region_at regions r).chances.limit (region_at regions r).block cells speeds q → IsHigh16At row index n beside batches q (word / 65536))
       → slice_index speeds' q ≡ slowed_speed (wish_at (region_at regions r).chances.limit (region_at regions r).block cells speeds q)
@@ -69,6 +67,13 @@ module _ (g : Layout) (first k n : ℕ) (cars : CarColumns) (words : IntervalWor
 
     pub end_falls : (r : ℕ) → r + 1 < length g.regions.now → slice_index (ends_of g cars start) (r + 1) ≤ slice_index (ends_of g cars start) r
     end_falls = ends_fall g.regions.now (ends_of g cars start) cars.head cars.tail cars.cells.items are.standing.cars_are.order end_from end_each are.layout.regions_are.rising
+
+    pub ends_are : AreEndsOf (length g.regions.now) cars.head cars.tail (ends_of g cars start)
+    ends_are =
+        let kept = are.standing.places_are.as_many in
+        let sites = are.layout.sites_are.as_many in
+        let many = range_long cars.places.items start (length g.sites.now) (omega arith) in
+        record { as_many = omega arith; last = end_last; from_on = end_from; fall = end_falls }
 
     pub blocks_ahead : (r q : ℕ) → IsOfRegion (length g.regions.now) (ends_of g cars start) r q → cars.head ≤ q → slice_index cars.cells.items q < (region_at g.regions.now r).block
     blocks_ahead r q is low =
@@ -108,29 +113,16 @@ module _ (g : Layout) (t n : ℕ) (cars cars' : CarColumns) (words : IntervalWor
         tail = tail;
         numbers = numbers;
         places = places;
-        cells_each = done.cells_each;
-        speeds_each = done.speeds_each;
-        moved = done.moved;
-        others = done.others;
+        cells_each = done.all.cells_each;
+        moved = done.all.moved;
+        others = done.all.other_cells;
         apart = apart p s t g.regions.now cars.cells.items cars.speeds.items cars'.speeds.items cars'.cells.items cars.numbers.items cars.head cars.tail (length cars.cells.items + 8) words.rows.items words.entered words.beside.items words.batches.items
-            (ends_of g cars start) are.layout.fits few_cells rising are.layout.regions_are c wide few are.words_are.entered.rising words.worded are.words_are.of_cars are.free from each done.by_regions done.moved;
+            (ends_of g cars start) are.layout.fits few_cells rising are.layout.regions_are c wide few are.words_are.entered.rising words.worded are.words_are.of_cars are.free from each done.by_regions done.all.moved;
         slow = slow_enough p s t g.regions.now cars.cells.items cars.speeds.items cars'.speeds.items cars'.cells.items cars.numbers.items cars.head cars.tail (length cars.cells.items + 8) words.rows.items words.entered words.beside.items words.batches.items
-            (ends_of g cars start) are.layout.fits few_cells rising are.layout.regions_are c wide few are.words_are.entered.rising words.worded are.words_are.of_cars are.free from each done.by_regions done.moved;
+            (ends_of g cars start) are.layout.fits few_cells rising are.layout.regions_are c wide few are.words_are.entered.rising words.worded are.words_are.of_cars are.free from each done.by_regions done.all.moved;
         speed_is = speed_is p s t g.regions.now cars.cells.items cars.speeds.items cars'.speeds.items cars'.cells.items cars.numbers.items cars.head cars.tail (length cars.cells.items + 8) words.rows.items words.entered words.beside.items words.batches.items
-            (ends_of g cars start) are.layout.fits few_cells rising are.layout.regions_are c wide few are.words_are.entered.rising words.worded are.words_are.of_cars are.free from each done.by_regions done.moved;
+            (ends_of g cars start) are.layout.fits few_cells rising are.layout.regions_are c wide few are.words_are.entered.rising words.worded are.words_are.of_cars are.free from each done.by_regions done.all.moved;
       }
-
--- the first car may leave
-pub record LetsLeave (exit : ℕ) (cells cells' : List ℕ) (head result tail : ℕ) : Type 0 where
-  pub from : head ≤ result
-  pub to : result ≤ head + 1
-  pub order : result ≤ tail
-  pub long : length cells' ≡ length cells
-  pub kept : (i : ℕ) → i < head → slice_index cells' i ≡ slice_index cells i
-  pub rest : (i : ℕ) → result ≤ i → slice_index cells' i ≡ slice_index cells i
-  pub front : result ≡ head + 1 → slice_index cells' (result - 1) ≡ 65535
-  pub left : (i : ℕ) → head ≤ i → i < result → exit ≤ slice_index cells i
-  pub stay : (i : ℕ) → result ≤ i → i < tail → slice_index cells i < exit
 
 -- columns before the motion, after it, and once the first has left and the places have moved on
 module _ (g : Layout) (t : ℕ) (cars moved cars' : CarColumns) (words : IntervalWords) (are : AreReady g (64 * (t / 64)) (t % 64) (length g.plan.now.inlets) cars words)
@@ -155,27 +147,19 @@ module _ (g : Layout) (t : ℕ) (cars moved cars' : CarColumns) (words : Interva
     left_ready =
         let p = g.plan.now in
         let c = are.standing.cars_are in
-        let even = are.standing.even in
-        let few_places = are.standing.even.short in
+        let few_places = cars.short in
         let inside = are.standing.cars_are.inside in
         let few_cells = short g (64 * (t / 64)) (t % 64) (length g.plan.now.inlets) cars words are in
         let long : length cars'.cells.items ≡ length cars.cells.items = left.long ∙ moves.cells_each in
         let early : t % 64 < 64 = omega arith in
         let end = tail_is in
-        let from = are.standing.from in
+        let from = cars.from in
         let gone = left.from in
         record {
           layout = are.layout;
           standing = record {
             source_is = are.standing.source_is;
-            even = record {
-              short = omega arith;
-              speeds_each = ap length speeds ∙ moves.speeds_each ∙ even.speeds_each ∙ sym long;
-              numbers_each = ap length (numbers ∙ moves.numbers) ∙ even.numbers_each ∙ sym long;
-              batches_each = even.batches_each;
-              inlets_each = even.inlets_each;
-            };
-            from = omega arith;
+            inlets_each = are.standing.inlets_each;
             cars_are = subst (λ x. AreCarsInColumn p cars'.head x cars'.cells.items) (sym tail_is)
                 (cars_stepped p cars.cells.items moved.speeds.items moved.cells.items cars'.cells.items cars.head cars'.head cars.tail few_cells c moves.cells_each long left.from left.to left.order
                 moves.moved moves.apart moves.others left.kept left.rest left.front left.left left.stay);

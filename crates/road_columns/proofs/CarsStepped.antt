@@ -1,4 +1,4 @@
--- The columns once a step's cars have moved, and the first has left where it came to the exit.
+-- The columns once a step's cars have moved, and the first has left if it reached the exit.
 use Rattle.std.specs.Prelude.{◌≡◌, ℕ, ◌+◌, ◌-◌, ◌<◌, ◌≤◌, ◌⊎◌, List, length, slice_index, slice_range}
 use Rattle.std.proofs.Common.{sym, ap, ◌∙◌, arith, refl, inl, inr, subst}
 use Rattle.std.proofs.lemmas.Bool.{cases_lt}

@@ -43,7 +43,7 @@ pub columns_of_held : (cells speeds numbers : List ℕ) (head tail : ℕ) → ta
 columns_of_held cells speeds numbers head tail within falling =
     ranges_of_cars (road_in cells speeds numbers head tail) cells speeds numbers head tail within (cars_of_held cells speeds numbers head tail falling)
 
--- a road of which these are the columns is the one that they hold, where it is made as roads are
+-- a road that has these columns is the one that they hold, if it is made as roads are
 pub held_is : (n : ℕ) (f : ℕ → Option Vehicle) (cells speeds numbers : List ℕ) (head tail : ℕ) → tail ≤ length cells → AreFalling cells head tail
     → AreColumnsOf (array n f) (slice_range cells head tail) (slice_range speeds head tail) (slice_range numbers head tail)
     → road_in cells speeds numbers head tail ≡ array n f
@@ -82,7 +82,7 @@ module _ (cells speeds numbers : List ℕ) (head tail : ℕ) (falling : AreFalli
       each k (omega arith) ∙ sym (car_held (from_place cells head) (from_place speeds head) (from_place numbers head) (tail - head) k (omega arith)))))
       ∙ is
 
--- cars that are put into columns, the last one first
+-- cars that are written into columns, the last one first
 module _ (cars : List Car) (cells speeds numbers : List ℕ) (head tail : ℕ) (rise : AreRising cars) (many : tail ≡ head + length cars) (within : tail ≤ length cells)
     (cell_is : (i : ℕ) → i < length cars → slice_index cells (head + i) ≡ cell_at cars (mirrored (length cars) i))
     (speed_is : (i : ℕ) → i < length cars → slice_index speeds (head + i) ≡ (nth_car cars (mirrored (length cars) i)).speed)
@@ -128,7 +128,7 @@ module _ (cars : List Car) (cells speeds numbers : List ℕ) (head tail : ℕ) (
         let less : cell_at cars (mirrored (length cars) (i - head)) < exit_start p = before (mirrored (length cars) (i - head)) (car_of 0 (record { number = 0; speed = 0 })) (omega arith) in omega arith;
   }
 
--- one car more is taken out
+-- one more car is taken out
 pub held_more : (cell speed number : ℕ → ℕ) (n m : ℕ) (done : List Car) (car : Car) → n ≡ suc m
     → record { number = number m; cell = cell m; speed = speed m } ≡ car
     → (done ++ car ∷ []) ++ cars_held cell speed number m ≡ done ++ cars_held cell speed number n

@@ -1,4 +1,4 @@
--- Each car has some number in the row or beside it, be it that of its word or not.
+-- Each car has some number in the row or beside it, whether or not it is that of its word.
 use Rattle.std.specs.Prelude.{◌≡◌, ℕ, zero, suc, ◌-◌, ◌<◌, ◌≤◌, ◌⊎◌, List, [], slice_index}
 use Rattle.std.proofs.Common.{ap, subst, arith, inl, inr}
 use Rattle.std.proofs.lemmas.Bool.{cases_lt}

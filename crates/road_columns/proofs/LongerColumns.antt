@@ -69,21 +69,12 @@ running_longer p sites t lo hi cars cars' words words' counts made are =
     let st = are.standing in
     let longer = made.longer in
     let inside : cars.tail ≤ length cars.cells.items = let within = are.standing.cars_are.inside in omega arith in
-    let from = are.standing.from in
-    let head = made.longer.head in
     record {
       up_to = are.up_to;
       on_road = are.on_road;
       standing = record {
         source_is = λ stream place. ap (λ source. drawn_word source stream place) made.source ∙ st.source_is stream place;
-        even = record {
-          short = made.short;
-          speeds_each = longer.speeds_each;
-          numbers_each = longer.numbers_each;
-          batches_each = made.batches_each;
-          inlets_each = ap length made.inlets ∙ st.even.inlets_each;
-        };
-        from = omega arith;
+        inlets_each = ap length made.inlets ∙ st.inlets_each;
         cars_are = cars_longer cars cars' longer p st.cars_are;
         places_are = places_longer cars cars' longer inside sites st.places_are;
       };

@@ -1,4 +1,4 @@
--- The cars of all regions move by the speeds of the definition, and none comes to the car in front of it.
+-- The cars of all regions move by the speeds of the definition, and none reaches the car in front of it.
 use Rattle.std.specs.Prelude.{◌≡◌, ℕ, ◌⊎◌, ◌+◌, ◌-◌, ◌*◌, ◌/◌, ◌%◌, ◌<◌, ◌≤◌, Bool, true, false, List, length, min, nat_eq, slice_index, slice_range, if◌then◌else◌}
 use Rattle.std.proofs.Common.{ap, ◌∙◌, arith, inl, inr, refl, subst, sym}
 use Rattle.std.proofs.lemmas.Bool.{cases_lt}
@@ -77,7 +77,7 @@ module _ (p : Plan) (s : Settings) (t : ℕ) (regions : List Region) (cells old 
       (high16_at p.words (64 * (t / 64)) width (t % 64) rows n beside batches head tail cells old (slice_index numbers) q (region_at regions r).chances.limit (region_at regions r).block
       (omega arith) cars.falling low high wide few (have is) moves)
 
-  -- a chance of 0 never comes about
+  -- an event of chance 0 never happens
   never : (chance : ℕ) → chance ≡ 0 → (u w wish : ℕ) → slowed_speed wish (comes_about u chance) ≡ slowed_speed wish (comes_about w chance)
   never chance none u w wish = let a : comes_about u chance ≡ false = none_comes u chance none in let b : comes_about w chance ≡ false = none_comes w chance none in
       ap (slowed_speed wish) (a ∙ sym b)
@@ -141,7 +141,7 @@ module _ (p : Plan) (s : Settings) (t : ℕ) (regions : List Region) (cells old 
           → (now < next) × (v ≤ GREATEST_SPEED)
       bounds v slowed wish cell next block now is slow free most fall ahead move = ((omega arith), omega arith)
 
-  -- no car comes to the one in front of it
+  -- no car reaches the one in front of it
   pub apart : (q : ℕ) → head ≤ q → q + 1 < tail → slice_index new (q + 1) < slice_index cells q
   apart q low high =
       let back : (q + 1) - 1 ≡ q = omega arith in

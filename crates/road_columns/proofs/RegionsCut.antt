@@ -1,25 +1,13 @@
 -- Regions, one after another, from the first cell on.
-use Rattle.std.specs.Prelude.{◌≡◌, ℕ, zero, suc, ◌+◌, ◌<◌, ◌≤◌, List, [], ◌∷◌, ◌++◌, length, slice_index}
+use Rattle.std.specs.Prelude.{◌≡◌, ℕ, zero, suc, ◌+◌, ◌<◌, ◌≤◌, List, [], ◌∷◌, ◌++◌, length}
 use Rattle.std.proofs.Common.{sym, ap, ◌∙◌, arith, refl, inl, inr, subst}
 use Rattle.std.proofs.lemmas.Bool.{cases_lt, cases_eq}
 use Rattle.std.specs.List.{slice_index_or}
-use Rattle.road_plan.specs.Plan.{Plan, exit_start, zone_of}
+use Rattle.road_plan.specs.Plan.{Plan, exit_start}
 use Rattle.road_plan.specs.Settings.{Settings}
-use Rattle.road_cells.specs.Gap.{ArePartedAt}
-use Rattle.road_cells.specs.declared.car.TheConstants.{GREATEST_SPEED}
-use Rattle.road_columns.specs.Private.Regions.{AreOfZone, IsRegionOf, region_at}
+use Rattle.road_columns.specs.Private.Regions.{IsRegionOf, IsRegionTo, region_at}
 use Rattle.road_columns.specs.Private.Step.{AreRegionsOf}
 use Rattle.road_columns.specs.declared.regions.Region.{Region}
-
--- a region whose cells end before `end`
-pub record IsRegionTo (p : Plan) (s : Settings) (region : Region) (end : ℕ) : Type 0 where
-  pub reached : ℕ
-  pub some : region.first < end
-  pub limit_allowed : region.chances.limit ≤ GREATEST_SPEED
-  pub alike : (c : ℕ) → region.first ≤ c → c < end → c < exit_start p → AreOfZone s.limits s.starts s.chances (zone_of p c) region.chances.limit region.chances.standing region.chances.moving
-  pub parted : (c : ℕ) → region.first ≤ c → c < end → ArePartedAt s.blocks c reached
-  pub block_is : reached < length s.blocks → region.block ≡ slice_index s.blocks reached
-  pub none_is : length s.blocks ≤ reached → region.block ≡ 65535
 
 -- regions side by side from the first cell to before `end`
 pub record AreRegionsUpTo (p : Plan) (s : Settings) (regions : List Region) (end : ℕ) : Type 0 where

@@ -20,7 +20,7 @@ use Rattle.road_ends.specs.Speed.{chance_at, speed, nth_car}
 use Rattle.road_ends.proofs.PassOverCars.{read_speed}
 use Rattle.road_columns.specs.Private.Regions.{AreOfZone}
 
--- of n cells this is the k-th, or a cell past all roads where there is none
+-- of n cells this is the k-th, or a cell past all roads if there is none
 pub record IsNthOrNowhere (n k kth c : ℕ) : Type 0 where
   pub here : k < n → c ≡ kth
   pub none : n ≤ k → c ≡ 4294967295

@@ -93,7 +93,7 @@ digits lo hi a stand j d below =
     stand.slow (cell_at (cars_of a) j) (vehicle_of (slice_index_or (cars_of a) j d))
     (sym (among_cars a (cell_at (cars_of a) j)) ∙ vehicle_among-at 0 (cars_of a) j d (rise-cars_from 0 a) below)
 
--- what holds of all cars holds of the one at a cell
+-- what holds for all cars holds of the one at a cell
 among_all : (P : Car → Type 0) (cars : List Car) → All P cars → (c : ℕ) (v : Vehicle) → vehicle_among c cars ≡ Some v → P (car_of c v)
 among_all P [] all c v is = absurd (none-some v is)
 among_all P (car ∷ cars) all c v is = elim (cases_eq car.cell c) as (λ _. P (car_of c v)) [

@@ -27,7 +27,7 @@ plus_together x y z =
     let speeds : x.speeds + (y.speeds + z.speeds) ≡ (x.speeds + y.speeds) + z.speeds = omega arith in
     (λ i. record { cars = cars i; speeds = speeds i })
 
--- one step more, of these counts
+-- one more step, of these counts
 pub totals_more : (passes passes' : List ℕ) (totals : List Totals) (more : ℕ → Totals) → length passes ≡ length totals
     → ((d : ℕ) → d < length passes → unpacked (slice_index passes' d) ≡ plus (unpacked (slice_index passes d)) (more d))
     → totals_in passes' totals ≡ map (λ d. plus (slice_index_or (totals_in passes totals) d no_totals) (more d)) (range_with_len 0 (length (totals_in passes totals)))
@@ -39,7 +39,7 @@ totals_more passes passes' totals more many counted =
     ∙ ap (λ x. plus x (more d)) (sym (total_at passes totals d (omega arith))))
     ∙ ap (λ n. map (λ d. plus (slice_index_or (totals_in passes totals) d no_totals) (more d)) (range_with_len 0 n)) (sym (totals_long passes totals))
 
--- counts begin anew
+-- counts start at zero
 module _ (n t : ℕ) (passes : List ℕ) (totals : List Totals) (each : length passes ≡ n) (totals_each : length totals ≡ n)
     (empty : (d : ℕ) → d < n → slice_index passes d ≡ 0) (none : (d : ℕ) → d < n → slice_index_or totals d no_totals ≡ no_totals) where
   pub counts_cleared : AreCounts n t passes totals

@@ -1,4 +1,4 @@
--- What columns, rows and kept places keep from step to step: only calls over such slices name it.
+-- What columns, rows and kept places keep from step to step. Only contracts of private functions name it.
 pub mod Cars
 pub mod CarsAt
 pub mod Counts

@@ -12,8 +12,8 @@ use Rattle.road_ends.specs.EntriesBetween.{input_between}
 use Rattle.road_detector.specs.Passes.{no_totals, passes_at, plus}
 use Rattle.road_detector.specs.declared.counts.Totals.{Totals}
 
--- a run under way: of a plan, under settings, before a step, on the cells from lo to before hi; the road before that
--- step, and what each detector has counted since its count began
+-- a run under way: a plan, settings, the number of the next step, the cells from lo to before hi, the road before that
+-- step, and the counts of the detectors since they began
 pub record UnderWay : Type 0 where
   pub plan : Plan
   pub settings : Settings
@@ -23,8 +23,8 @@ pub record UnderWay : Type 0 where
   pub road : Array
   pub totals : List Totals
 
--- a car that a run can have: it stands on the cells from lo to before hi, before the one where the exit begins, and is
--- not too fast, and its number is short
+-- a car that a run can hold: it stands on the cells from lo to before hi and before the exit, is not too fast, and has
+-- a short number
 pub record CanRun (lo hi exit : ℕ) (car : Car) : Type 0 where
   pub from : lo ≤ car.cell
   pub to : car.cell < hi
@@ -32,27 +32,27 @@ pub record CanRun (lo hi exit : ℕ) (car : Car) : Type 0 where
   pub slow_enough : car.speed ≤ GREATEST_SPEED
   pub short_number : car.number < 2 ^ 32
 
--- a run can go on from a road on these cells: it can have each of its cars
+-- a run can start from a road on these cells: it can hold every car of the road
 abbrev pub IsRunnable : ℕ → ℕ → Plan → Array → Type 0
 IsRunnable lo hi p a = All (CanRun lo hi (exit_start p)) (cars_of a)
 
--- a run stands before a step on its plan's whole road, which is this one
+-- a run is on the whole road of its plan, before this step, with this road
 pub record IsAt (t : ℕ) (a : Array) (run : UnderWay) : Type 0 where
   pub step : run.step ≡ t
   pub lo : run.lo ≡ 0
   pub hi : run.hi ≡ run.plan.cells
   pub road : run.road ≡ a
 
--- the input of a run's next step: the road with the cars that enter on its cells, of what stands on these cells alone
+-- the input of the next step of a run: its road with the cars that enter on its cells
 abbrev pub next_input : UnderWay → StepInput
 next_input run = input_between run.lo run.hi run.plan run.settings run.step run.road
 
--- what a detector has counted after the next step
+-- the totals of a detector after the next step
 abbrev pub total_after : UnderWay → ℕ → Totals
 total_after run d =
     plus (slice_index_or run.totals d no_totals) (passes_at (next_input run) (input_speeds (next_input run)) d)
 
--- a run after its next step: no car drives farther in it than 9 cells past the run's cells, so they end 9 cells later
+-- a run after its next step: its cells end 9 cells later, since no car drives farther in a step
 abbrev pub stepped : UnderWay → UnderWay
 stepped run = record {
   plan = run.plan;
@@ -64,11 +64,11 @@ stepped run = record {
   totals = map (total_after run) (range_with_len 0 (length run.totals));
 }
 
--- nothing is counted by any detector of a plan
+-- the totals of the detectors of a plan that have counted nothing
 abbrev pub nothing_counted : Plan → List Totals
 nothing_counted p = map (λ d. no_totals) (range_with_len 0 (length p.detectors))
 
--- a run of a plan that begins at a step on a road, on the cells from lo to before hi
+-- a run of a plan that starts at a step from a road, on the cells from lo to before hi
 abbrev pub begun_on : Plan → Settings → ℕ → ℕ → ℕ → Array → UnderWay
 begun_on p s t lo hi a = record {
   plan = p;
@@ -80,6 +80,6 @@ begun_on p s t lo hi a = record {
   totals = nothing_counted p;
 }
 
--- one that begins on its whole road, which is empty
+-- a run that starts on the whole road, which is empty
 abbrev pub begun : Plan → Settings → UnderWay
 begun p s = begun_on p s 0 0 p.cells []

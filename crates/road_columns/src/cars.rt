@@ -1,16 +1,24 @@
 //! The cars of a road in columns.
 
-ghost use Rattle.std.specs.Prelude.{◌≡◌, ◌<◌, ◌≤◌, ◌+◌, ◌-◌, ◌^◌, ℕ, length, slice_index, IfOk, OnOk};
-ghost use Rattle.std.specs.List.{slice_index_or};
-ghost use Rattle.road_columns.specs.Private.Cars.{AreLonger, PutsCar};
-ghost use Rattle.road_columns.specs.Private.Entering.{IsPutIn, place_beside, place_on};
+ghost use Rattle.std.specs.Prelude.{◌≡◌, ◌↔◌, ◌<◌, ◌≤◌, ◌+◌, ◌-◌, ◌^◌, ℕ, length, slice_index, IfOk, IsTrue, OnOk};
+ghost use Rattle.std.specs.List.{All, slice_index_or};
+ghost use Rattle.road_plan.specs.Plan.{Plan, exit_start};
+ghost use Rattle.road_cells.specs.Cars.{AreRising, array_of};
+ghost use Rattle.road_columns.specs.Private.CarsAt.{IsPlaceAt, from_place};
+ghost use Rattle.road_columns.specs.Private.Entering.{ArePlacesFrom, IsPutIn, place_beside, place_on};
+ghost use Rattle.road_columns.specs.Private.LooseWords.{AreFalling};
+ghost use Rattle.road_columns.specs.Private.Step.{AreCarsInColumn, LetsLeave};
 
 use crate::cutting::NOWHERE;
+use crate::finding::cars_past;
+use crate::holding::{is_held, road_held};
+use crate::shifting::FIRST;
+use road_cells::{Car, Road};
 use road_ends::OutOfMemory;
 use std::alloc::Global;
 
-/// The cars of a road in columns, the one at the far end first: at the places from `head` to before `tail`. In front of
-/// them is a cell that nobody reaches, and behind them the cell 0.
+/// The cars of a road in columns, with the car at the far end first. They stand at the places from `head` to before
+/// `tail`. The cell in front of them is past every road, and the cell behind them is 0.
 #[derive(Drop)]
 pub struct CarColumns {
     pub cells: Vec<u16>,
@@ -18,53 +26,137 @@ pub struct CarColumns {
     pub numbers: Vec<u32>,
     pub head: usize,
     pub tail: usize,
-    /// For each site the place of the first car before it.
+    /// The place of the first car before each site.
     pub places: Vec<u32>,
+    ghost short: { length cells.items < 65520 },
+    ghost speeds_each: { length speeds.items ≡ length cells.items },
+    ghost numbers_each: { length numbers.items ≡ length cells.items },
+    ghost from: { 8 ≤ head },
+    ghost order: { head ≤ tail },
+    ghost inside: { tail < length cells.items },
 }
 
 impl CarColumns {
-    /// Returns how many words a row has: one for each place, and eight more, so that eight columns are written at once.
+    ghost use Rattle.road_columns.specs.Private.Cars.{AreLonger, HoldsCars, PutsCar, road_of};
+
+    /// Return the length of a row in words: one word a place, and eight more, since eight columns are written at once.
     #[inline(always)]
     pub fn width(&self) -> usize
-        requires { length self.now.cells.items < 2 ^ 32 }
         ensures { result ≡ length self.now.cells.items + 8 }
     {
         self.cells.len() + 8
     }
 
-    /// Makes the columns at least so long, with the cars at their places.
+    /// Lengthen the columns to at least `long` places. The cars keep theirs.
     ///
     /// # Errors
     ///
-    /// `OutOfMemory` where an allocation failed; then nothing has changed.
+    /// `OutOfMemory` if an allocation fails. Nothing changes then.
     pub fn lengthen(&mut self, alloc: Global, long: usize) -> Result<(), OutOfMemory>
-        requires few { long < 2 ^ 62 }
-        requires speeds { length self.old.speeds.items ≡ length self.old.cells.items }
-        requires numbers { length self.old.numbers.items ≡ length self.old.cells.items }
+        requires { long ≤ 65000 }
         ensures longer { AreLonger self.old self.new }
         ensures long { OnOk result (long ≤ length self.new.cells.items) }
-        ensures short { length self.old.cells.items < 65520 → long ≤ 65000 → length self.new.cells.items < 65520 }
     {
         if long <= self.cells.len() {
             return Ok(());
         }
         let long = in_odd_lines(long);
-        let cells = lengthened(alloc, &self.cells, long, 0)?;
-        let speeds = lengthened(alloc, &self.speeds, long, 0)?;
-        let numbers = lengthened(alloc, &self.numbers, long, 0)?;
+        let cells = copy_longer(alloc, &self.cells, long, 0)?;
+        let speeds = copy_longer(alloc, &self.speeds, long, 0)?;
+        let numbers = copy_longer(alloc, &self.numbers, long, 0)?;
         self.cells = cells;
         self.speeds = speeds;
         self.numbers = numbers;
         Ok(())
     }
 
-    /// Puts a car that stands at a cell into the columns, at a place.
+    /// Write cars into the columns, the last one first, from [`FIRST`] on.
+    #[inline(never)]
+    pub fn hold(&mut self, cars: &[Car])
+        requires rise { AreRising cars.now }
+        requires cells { All (λ car. car.cell < 65525) cars.now }
+        requires numbers { All (λ car. car.number < 2 ^ 32) cars.now }
+        requires room { FIRST + length cars.now < length self.old.cells.items }
+        ensures holds { HoldsCars cars.now self.old self.new }
+        ensures cars { (p : Plan) → p.cells ≤ 65525 → All (λ car. car.cell < exit_start p) cars.now
+            → AreCarsInColumn p self.new.head self.new.tail self.new.cells.items }
+        ensures road { road_of self.new ≡ array_of cars.now }
+    {
+        for place in 0..cars.len() {
+            let car = cars[cars.len() - 1 - place];
+            self.cells[FIRST + place] = car.cell as u16;
+            self.speeds[FIRST + place] = car.speed;
+            self.numbers[FIRST + place] = car.number as u32;
+        }
+        let end = FIRST + cars.len();
+        self.cells[FIRST - 1] = NOWHERE;
+        self.cells[end] = 0;
+        self.head = FIRST;
+        self.tail = end;
+    }
+
+    /// Return the road of the cars.
+    ///
+    /// # Errors
+    ///
+    /// `OutOfMemory` if its only allocation fails.
+    pub fn road(&self, alloc: Global) -> Result<Road, OutOfMemory>
+        requires falling { AreFalling self.now.cells.items self.now.head self.now.tail }
+        ensures { IfOk result (λ road. road ≡ road_of self.now) }
+    {
+        road_held(
+            alloc,
+            &self.cells,
+            &self.speeds,
+            &self.numbers,
+            self.head,
+            self.tail,
+        )
+    }
+
+    /// Return whether these are exactly the cars of a road. It takes no memory.
+    pub fn are_of(&self, road: &Road) -> bool
+        requires falling { AreFalling self.now.cells.items self.now.head self.now.tail }
+        ensures { IsTrue result ↔ (road_of self.now ≡ road.now) }
+    {
+        is_held(
+            road,
+            &self.cells,
+            &self.speeds,
+            &self.numbers,
+            self.head,
+            self.tail,
+        )
+    }
+
+    /// Find the place of the first car before each site.
+    #[inline(never)]
+    pub fn find_places(&self, sites: &[u16], places: &mut [u32])
+        requires falling { AreFalling self.now.cells.items self.now.head self.now.tail }
+        requires places { length places.old ≡ length sites.now }
+        ensures long { length places.new ≡ length places.old }
+        ensures places { ArePlacesFrom self.now.cells.items self.now.head self.now.tail sites.now places.new }
+    {
+        for site in 0..sites.len() {
+            places[site] = self.place_before(sites[site]) as u32;
+        }
+    }
+
+    // Return the place of the first car before a site.
+    fn place_before(&self, site: u16) -> usize
+        requires falling { AreFalling self.now.cells.items self.now.head self.now.tail }
+        ensures from { self.now.head ≤ result }
+        ensures place { IsPlaceAt (self.now.tail - self.now.head) (from_place self.now.cells.items self.now.head) site
+            (result - self.now.head) }
+    {
+        self.head + cars_past(&self.cells[self.head..self.tail], site)
+    }
+
+    /// Insert a car with speed 0 at a place of the columns. The car stands at `cell`.
     #[inline(always)]
     pub fn put(&mut self, place: usize, cell: u16, number: u32, sites: &[u16])
         requires order { place ≤ self.old.tail }
         requires room { self.old.tail + 1 < length self.old.cells.items }
-        requires speeds { length self.old.speeds.items ≡ length self.old.cells.items }
-        requires numbers { length self.old.numbers.items ≡ length self.old.cells.items }
         requires places { length self.old.places.items ≡ length sites.now }
         requires few { (d : ℕ) → d < length sites.now → slice_index self.old.places.items d + 1 < 2 ^ 32 }
         ensures { PutsCar sites.now self.old self.new place cell number }
@@ -78,8 +170,8 @@ impl CarColumns {
     }
 }
 
-// Returns the least length from this one on by which a row of words ([`CarColumns::width`]) takes an odd number of lines
-// of 64 bytes: words are turned into such rows fastest.
+// Return the least length, `long` or more, for which a row of words ([`CarColumns::width`]) takes an odd number of
+// lines of 64 bytes: batches are written into such rows fastest.
 fn in_odd_lines(long: usize) -> usize
     requires { long < 2 ^ 62 }
     ensures enough { long ≤ result }
@@ -88,8 +180,8 @@ fn in_odd_lines(long: usize) -> usize
     long + (88 - long % 64) % 64
 }
 
-// Copies a column into a longer one, with a value behind.
-fn lengthened<T: Copy>(
+// Copy a column into one of `long` places. The new places hold `value`.
+fn copy_longer<T: Copy>(
     alloc: Global,
     column: &[T],
     long: usize,
@@ -120,7 +212,7 @@ pub fn insert<T: Copy>(column: &mut Vec<T>, place: usize, tail: usize, value: T)
     column[place] = value;
 }
 
-// Moves the kept places of sites on, where a car enters at a cell.
+// Update the kept places of sites after a car has entered at a cell.
 #[inline(always)]
 fn move_places(sites: &[u16], places: &mut [u32], cell: u16)
     requires places { length places.old ≡ length sites.now }
@@ -134,7 +226,7 @@ fn move_places(sites: &[u16], places: &mut [u32], cell: u16)
     }
 }
 
-/// Moves the kept places of sites on after the motion: at most one car passes a site in a step.
+/// Update the kept places of sites after the motion. At most one car passes a site in a step.
 #[inline(always)]
 pub fn move_on(cells: &[u16], sites: &[u16], places: &mut [u32])
     requires few { length cells.now < 2 ^ 32 }
@@ -151,21 +243,13 @@ pub fn move_on(cells: &[u16], sites: &[u16], places: &mut [u32])
     }
 }
 
-/// Lets the first car leave where it has come to the exit. Returns the new head.
+/// Remove the first car if it has reached the exit, and return the new head.
 #[inline(always)]
 pub fn leave(cells: &mut [u16], head: usize, tail: usize, exit_start: u32) -> usize
     requires order { head ≤ tail }
     requires inside { tail < length cells.old }
     requires one { (i : ℕ) → head + 1 ≤ i → i < tail → slice_index cells.old i < exit_start }
-    ensures from { head ≤ result }
-    ensures to { result ≤ head + 1 }
-    ensures order { result ≤ tail }
-    ensures long { length cells.new ≡ length cells.old }
-    ensures kept { (i : ℕ) → i < head → slice_index cells.new i ≡ slice_index cells.old i }
-    ensures rest { (i : ℕ) → result ≤ i → slice_index cells.new i ≡ slice_index cells.old i }
-    ensures front { result ≡ head + 1 → slice_index cells.new (result - 1) ≡ 65535 }
-    ensures left { (i : ℕ) → head ≤ i → i < result → exit_start ≤ slice_index cells.old i }
-    ensures stay { (i : ℕ) → result ≤ i → i < tail → slice_index cells.old i < exit_start }
+    ensures { LetsLeave exit_start cells.old cells.new head result tail }
 {
     if head < tail && u32::from(cells[head]) >= exit_start {
         cells[head] = NOWHERE;

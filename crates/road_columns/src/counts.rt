@@ -14,18 +14,18 @@ use std::alloc::Global;
 /// What each detector has counted.
 #[derive(Drop)]
 pub struct Counts {
-    /// In the interval, a car as 65,536 and its speed,
+    /// The counts of the current interval: 65,536 a car, plus its speed.
     pub passes: Vec<u32>,
-    /// and before it.
+    /// The totals of the intervals before it.
     pub totals: Vec<Totals>,
 }
 
 impl Counts {
-    /// Makes counts of so many detectors, which have counted nothing.
+    /// Make counts for this many detectors, which have counted nothing yet.
     ///
     /// # Errors
     ///
-    /// `OutOfMemory` where an allocation failed.
+    /// `OutOfMemory` if an allocation fails.
     pub fn of(alloc: Global, detectors: usize) -> Result<Counts, OutOfMemory>
         ensures passes_each { IfOk result (λ counts. length counts.passes.items ≡ detectors) }
         ensures totals_each { IfOk result (λ counts. length counts.totals.items ≡ detectors) }
@@ -38,8 +38,7 @@ impl Counts {
         Ok(Counts { passes, totals })
     }
 
-    /// Ends a step: the last one of an interval adds what the detectors have counted in it. Answers whether the interval
-    /// goes on.
+    /// End a step. The last step of an interval adds its counts to the totals. Return whether the interval goes on.
     pub fn end_step(&mut self, step: u32) -> bool
         requires step { step < 2 ^ 27 }
         requires as_many { length self.old.totals.items ≡ length self.old.passes.items }
@@ -55,30 +54,15 @@ impl Counts {
             ≡ totals_in self.old.passes.items self.old.totals.items }
         ensures goes_on { IsTrue result → step % 64 < 63 }
     {
-        end_step_of(step, &mut self.passes, &mut self.totals)
+        if step as usize % INTERVAL == INTERVAL - 1 {
+            add_counts(&mut self.passes, &mut self.totals);
+            return false;
+        }
+        true
     }
 }
 
-fn end_step_of(step: u32, passes: &mut [u32], totals: &mut [Totals]) -> bool
-    requires step { step < 2 ^ 27 }
-    requires as_many { length totals.old ≡ length passes.old }
-    requires counted { (d : ℕ) → d < length passes.old → IsOfSteps (step % 64 + 1) (slice_index passes.old d) }
-    requires cars { (d : ℕ) → d < length passes.old
-        → (slice_index_or totals.old d no_totals).cars ≤ 64 * (step / 64) }
-    requires speeds { (d : ℕ) → d < length passes.old
-        → (slice_index_or totals.old d no_totals).speeds ≤ 576 * (step / 64) }
-    ensures counts { AreCounts (length passes.old) (step + 1) passes.new totals.new }
-    ensures totals { totals_in passes.new totals.new ≡ totals_in passes.old totals.old }
-    ensures goes_on { IsTrue result → step % 64 < 63 }
-{
-    if step as usize % INTERVAL == INTERVAL - 1 {
-        add_counts(passes, totals);
-        return false;
-    }
-    true
-}
-
-// Adds what each detector has counted to its totals, and begins the counts anew.
+// Add the count of each detector to its totals, and set the count to zero.
 #[inline(never)]
 fn add_counts(passes: &mut [u32], totals: &mut [Totals])
     requires as_many { length totals.old ≡ length passes.old }
@@ -98,11 +82,11 @@ fn add_counts(passes: &mut [u32], totals: &mut [Totals])
     }
 }
 
-/// Lists what all detectors have counted: their totals, each with its count in the interval.
+/// Return the totals of all detectors, with the counts of the current interval.
 ///
 /// # Errors
 ///
-/// `OutOfMemory` where an allocation failed.
+/// `OutOfMemory` if an allocation fails.
 pub(crate) fn totals_now(
     alloc: Global,
     passes: &[u32],
@@ -122,7 +106,7 @@ pub(crate) fn totals_now(
     Ok(all)
 }
 
-// Returns what a detector has counted.
+// Return the totals of a detector, with its count in the current interval.
 fn total_now(passes: &[u32], totals: &[Totals], detector: usize) -> Totals
     requires there { detector < length totals.now }
     requires as_many { length totals.now ≡ length passes.now }
@@ -135,7 +119,7 @@ fn total_now(passes: &[u32], totals: &[Totals], detector: usize) -> Totals
     totals[detector].plus(totals_of(passes[detector]))
 }
 
-/// Begins all counts anew.
+/// Set all counts and totals to zero.
 pub(crate) fn clear_counts(passes: &mut [u32], totals: &mut [Totals])
     requires as_many { length totals.old ≡ length passes.old }
     ensures passes_each { length passes.new ≡ length passes.old }
@@ -149,7 +133,7 @@ pub(crate) fn clear_counts(passes: &mut [u32], totals: &mut [Totals])
     }
 }
 
-// Returns the totals that a count stands for.
+// Unpack the count of an interval into totals.
 fn totals_of(count: u32) -> Totals
     ensures { result ≡ unpacked count }
 {

@@ -1,11 +1,11 @@
-//! The regions of a road under its settings.
+//! Regions: a road under its settings, cut where the rules change.
 
 ghost use Rattle.std.specs.Prelude.{◌≡◌, ◌<◌, ◌≤◌, ◌+◌, ◌-◌, ◌*◌, ◌/◌, ℕ, length, slice_index, IfOk};
 ghost use Rattle.road_plan.specs.Plan.{exit_start, zone_of};
 ghost use Rattle.road_plan.specs.Settings.{Fits};
 ghost use Rattle.road_cells.specs.Gap.{ArePartedAt};
 ghost use Rattle.road_cells.specs.declared.car.TheConstants.{GREATEST_SPEED};
-ghost use Rattle.road_columns.specs.Private.Regions.{AreOfZone};
+ghost use Rattle.road_columns.specs.Private.Regions.{AreOfZone, IsRegionTo};
 ghost use Rattle.road_columns.specs.Private.Step.{AreRegionsOf};
 
 use crate::motion::Chances;
@@ -15,15 +15,15 @@ use road_ends::OutOfMemory;
 use road_plan::{Plan, Settings};
 use std::alloc::Global;
 
-/// A cell past all roads.
+/// A cell past every road.
 pub(crate) const NOWHERE: u16 = u16::MAX;
 
-/// Cuts a road up to its exit into regions: one begins at each cell from which on the speed limit, a slowing chance or
-/// the next blocked cell is another. The settings must fit the plan.
+/// Cut a road, up to its exit, into regions. A region begins at each cell where the speed limit, a slowing chance or
+/// the next blocked cell changes. The settings must fit the plan.
 ///
 /// # Errors
 ///
-/// `OutOfMemory` where an allocation failed.
+/// `OutOfMemory` if an allocation fails.
 pub fn regions_of(
     alloc: Global,
     plan: &Plan,
@@ -43,28 +43,19 @@ pub fn regions_of(
     Ok(regions)
 }
 
-// A region, the cell behind its last one, and how many blocked cells are not in front of it.
+// A region, and the cell behind its last cell.
 #[derive(Clone, Copy)]
 struct Cut {
     region: Region,
     end: u32,
-    reached: usize,
 }
 
-// Makes the region that begins at a cell.
+// Return the region that begins at a cell.
 fn cut_at(plan: &Plan, settings: &Settings, first: u32) -> Cut
     requires fits { Fits plan.now settings.now }
     requires on_road { first < exit_start plan.now }
     ensures first { result.region.first ≡ first }
-    ensures some { first < result.end }
-    ensures limit { result.region.chances.limit ≤ GREATEST_SPEED }
-    ensures alike { (c : ℕ) → first ≤ c → c < result.end → c < exit_start plan.now
-        → AreOfZone settings.now.limits settings.now.starts settings.now.chances (zone_of plan.now c)
-        result.region.chances.limit result.region.chances.standing result.region.chances.moving }
-    ensures parted { (c : ℕ) → first ≤ c → c < result.end → ArePartedAt settings.now.blocks c result.reached }
-    ensures block { result.reached < length settings.now.blocks → result.region.block
-        ≡ slice_index settings.now.blocks result.reached }
-    ensures none { length settings.now.blocks ≤ result.reached → result.region.block ≡ 65535 }
+    ensures region { IsRegionTo plan.now settings.now result.region result.end }
 {
     let width = plan.width();
     let limits = settings.limits();
@@ -86,11 +77,10 @@ fn cut_at(plan: &Plan, settings: &Settings, first: u32) -> Cut
             block: next as u16,
         },
         end: end.min(next),
-        reached,
     }
 }
 
-// Returns a blocked cell, or a cell past all roads where there is none.
+// Return a blocked cell by its index, or a cell past every road if there is none.
 fn next_block(blocks: &[u32], reached: usize) -> u32
     ensures some { reached < length blocks.now → result ≡ slice_index blocks.now reached }
     ensures none { length blocks.now ≤ reached → result ≡ 65535 }
@@ -101,7 +91,7 @@ fn next_block(blocks: &[u32], reached: usize) -> u32
     }
 }
 
-// Finds the cell behind the zones from one on that are alike, of so many cells each.
+// Return the cell behind the zones, `zone` and the next ones, that have equal limits and chances.
 fn alike_end(limits: &[u32], starts: &[u32], chances: &[u32], width: u32, zone: usize) -> u32
     requires zone { zone < length limits.now }
     requires starts { length starts.now ≡ length limits.now }

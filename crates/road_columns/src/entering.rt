@@ -1,4 +1,4 @@
-//! The cars of a step enter the road in columns.
+//! Entries: cars enter the road in columns.
 
 ghost use Rattle.std.specs.Prelude.{◌≡◌, ◌<◌, ◌≤◌, ◌+◌, ◌*◌, ◌/◌, ◌%◌, ◌^◌, ◌⊎◌, ◌&&◌, ℕ, None, length, slice_index};
 ghost use Rattle.std.specs.List.{slice_index_or};
@@ -21,8 +21,8 @@ use road_ends::Stretch;
 use road_plan::limits::{CERTAIN, MOST_INLETS};
 use road_plan::{Plan, Settings};
 
-/// Lets the cars of a step enter on the cells of a stretch, one inlet after another, and keeps the words of each at the
-/// steps that are left of the interval.
+/// Let cars enter at the inlets of a stretch, one inlet after another, and keep the words of each car for the rest of
+/// the interval.
 #[inline(never)]
 pub fn enter(
     layout: &Layout,
@@ -44,7 +44,7 @@ pub fn enter(
     }
 }
 
-// Lets the car of an inlet enter in its turn, where one comes and its cell is free.
+// Let a car enter at an inlet if one comes and the cell of the inlet is free.
 #[inline(always)]
 fn admit(
     layout: &Layout,
@@ -78,7 +78,7 @@ fn admit(
     cars.put(place, cell, number, layout.sites);
 }
 
-// Answers whether an inlet lets a car in, by the upper 16 bits of its word, and its cell is one of the stretch.
+// Return whether an inlet of the stretch lets a car in, by the upper 16 bits of its word.
 #[inline(always)]
 fn lets_in(plan: &Plan, settings: &Settings, inlet: usize, high16: u16, stretch: Stretch) -> bool
     requires inlet { inlet < length plan.now.inlets }
@@ -98,7 +98,7 @@ fn lets_in(plan: &Plan, settings: &Settings, inlet: usize, high16: u16, stretch:
     comes(high16, settings.inflows()[inlet])
 }
 
-// Answers whether a chance comes about by the upper 16 bits of a word.
+// Return whether an event of this chance happens, by the upper 16 bits of a word.
 #[inline(always)]
 fn comes(high16: u16, chance: u32) -> bool
     ensures { (word : ℕ) → word < 2 ^ 32 → (0 < chance → chance < 65536 → high16 ≡ word / 65536)

@@ -1,4 +1,4 @@
-//! The sites of a road, and their places in columns, found by search.
+//! Sites of a road, and a binary search for their places in columns.
 
 ghost use Rattle.std.specs.Prelude.{◌≡◌, ◌<◌, ◌≤◌, ◌+◌, ◌-◌, ℕ, length, slice_index, IfOk};
 ghost use Rattle.std.specs.List.{slice_index_or};
@@ -13,11 +13,12 @@ use road_ends::OutOfMemory;
 use road_plan::Plan;
 use std::alloc::Global;
 
-/// Lists the sites of a road: the cells of the inlets, those of the detectors, and the first ones of the regions.
+/// Return the sites of a road: the cells of the inlets, then those of the detectors, then the first cells of the
+/// regions.
 ///
 /// # Errors
 ///
-/// `OutOfMemory` where an allocation failed.
+/// `OutOfMemory` if an allocation fails.
 pub fn sites_of(alloc: Global, plan: &Plan, regions: &[Region]) -> Result<Vec<u16>, OutOfMemory>
     ensures { IfOk result (λ sites. AreSitesOf plan.now regions.now sites.items) }
 {
@@ -75,24 +76,8 @@ fn write_firsts(regions: &[Region], from: usize, sites: &mut [u16])
     }
 }
 
-/// Finds for each site the place of the first car before it, among those at the places from `head` to before `tail`.
-#[inline(never)]
-pub fn find_places(cells: &[u16], head: usize, tail: usize, sites: &[u16], places: &mut [u32])
-    requires order { head ≤ tail }
-    requires inside { tail ≤ length cells.now }
-    requires short { length cells.now < 65536 }
-    requires falling { AreFalling cells.now head tail }
-    requires places { length places.old ≡ length sites.now }
-    ensures long { length places.new ≡ length places.old }
-    ensures places { ArePlacesFrom cells.now head tail sites.now places.new }
-{
-    for site in 0..sites.len() {
-        places[site] = (head + cars_past(&cells[head..tail], sites[site])) as u32;
-    }
-}
-
-// Counts the cars on a cell or past it, of those at these cells, the one at the far end first.
-fn cars_past(cells: &[u16], site: u16) -> usize
+/// Return how many of these cars stand at a cell or past it. The cells fall.
+pub fn cars_past(cells: &[u16], site: u16) -> usize
     requires { (k : ℕ) → k + 1 < length cells.now → slice_index cells.now (k + 1) < slice_index cells.now k }
     ensures { IsPlaceAt (length cells.now) (slice_index cells.now) site result }
 {

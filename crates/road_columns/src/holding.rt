@@ -1,23 +1,18 @@
-//! A road's cars, put into columns and taken out of them.
+//! Copies between a road and its columns.
 
 ghost use Rattle.std.specs.Prelude.{◌≡◌, ◌↔◌, ◌<◌, ◌≤◌, ◌+◌, ◌-◌, ◌^◌, ℕ, length, slice_index, slice_range, IfOk, IsTrue};
 ghost use Rattle.std.specs.List.{All};
-ghost use Rattle.road_plan.specs.Plan.{Plan, exit_start};
-ghost use Rattle.road_cells.specs.Cars.{AreRising, array_of};
 ghost use Rattle.road_columns.specs.Columns.{AreColumnsOf};
 ghost use Rattle.road_columns.specs.UnderWay.{CanRun};
 ghost use Rattle.road_columns.specs.Private.Held.{road_in};
 ghost use Rattle.road_columns.specs.Private.LooseWords.{AreFalling};
-ghost use Rattle.road_columns.specs.Private.Step.{AreCarsInColumn};
 
-use crate::cutting::NOWHERE;
-use crate::shifting::FIRST;
 use road_cells::{Car, GREATEST_SPEED, Road};
 use road_ends::{OutOfMemory, Stretch};
 use std::alloc::Global;
 
-/// Answers whether columns can hold these cars for a stretch: each stands on its cells and before the exit, is no faster
-/// than 9 cells per step, and has a number below 2^32.
+/// Return whether columns can hold these cars for a stretch: each car stands on its cells and before the exit, has a
+/// speed of at most 9 cells per step, and a number below 2^32.
 pub fn can_hold(cars: &[Car], stretch: Stretch, exit_start: u32) -> bool
     ensures { IsTrue result ↔ All (CanRun stretch.first stretch.end exit_start) cars.now }
 {
@@ -34,40 +29,11 @@ fn can_run(car: &Car, stretch: Stretch, exit_start: u32) -> bool
         && car.number < 1 << 32
 }
 
-/// Puts cars into columns, the last one first, from [`FIRST`] on. Returns the place behind them.
-#[inline(never)]
-pub fn hold(cars: &[Car], cells: &mut [u16], speeds: &mut [u8], numbers: &mut [u32]) -> usize
-    requires rise { AreRising cars.now }
-    requires cells { All (λ car. car.cell < 65525) cars.now }
-    requires numbers { All (λ car. car.number < 2 ^ 32) cars.now }
-    requires room { FIRST + length cars.now < length cells.old }
-    requires speeds { length speeds.old ≡ length cells.old }
-    requires numbers_each { length numbers.old ≡ length cells.old }
-    ensures tail { result ≡ FIRST + length cars.now }
-    ensures cells_each { length cells.new ≡ length cells.old }
-    ensures speeds_each { length speeds.new ≡ length speeds.old }
-    ensures numbers_each { length numbers.new ≡ length numbers.old }
-    ensures cars { (p : Plan) → p.cells ≤ 65525 → All (λ car. car.cell < exit_start p) cars.now
-        → AreCarsInColumn p FIRST result cells.new }
-    ensures road { road_in cells.new speeds.new numbers.new FIRST result ≡ array_of cars.now }
-{
-    for place in 0..cars.len() {
-        let car = cars[cars.len() - 1 - place];
-        cells[FIRST + place] = car.cell as u16;
-        speeds[FIRST + place] = car.speed;
-        numbers[FIRST + place] = car.number as u32;
-    }
-    let end = FIRST + cars.len();
-    cells[FIRST - 1] = NOWHERE;
-    cells[end] = 0;
-    end
-}
-
-/// Makes the road of the cars at the places from `head` to before `tail`.
+/// Return the road of the cars at the places from `head` to before `tail`.
 ///
 /// # Errors
 ///
-/// `OutOfMemory` where its one allocation failed.
+/// `OutOfMemory` if its only allocation fails.
 #[inline(never)]
 pub fn road_held(
     alloc: Global,
@@ -97,7 +63,7 @@ pub fn road_held(
     Ok(Road::of(cars))
 }
 
-/// Answers whether the places from `head` to before `tail` hold the cars of a road. It takes no memory.
+/// Return whether the places from `head` to before `tail` hold exactly the cars of a road. It takes no memory.
 #[inline(never)]
 pub fn is_held(
     road: &Road,

@@ -1,4 +1,4 @@
-//! The words of the inlets.
+//! Words of the inlets.
 
 ghost use Rattle.std.specs.Prelude.{◌≡◌, ◌<◌, ◌≤◌, ◌+◌, ◌*◌, ◌/◌, ◌^◌, ℕ, length, slice_index};
 ghost use Rattle.road_plan.specs.declared.limits.TheConstants.{MOST_INLETS};
@@ -8,10 +8,10 @@ ghost use Rattle.road_columns.specs.Private.EnteredList.{high16_in};
 
 use crate::words::{Batch, Source};
 
-// The stream of the first inlet's words; that of the next follows.
+// The stream of the first inlet. The next inlets have the next streams.
 const FIRST_INLET_STREAM: u64 = 1 << 63;
 
-/// Draws the words of the inlets in an interval.
+/// Draw the words of the inlets for an interval.
 #[inline(never)]
 pub fn draw_inlets(source: Source, interval: u32, batches: &mut [Batch])
     requires interval { interval < 2 ^ 26 }

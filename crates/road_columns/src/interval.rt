@@ -1,4 +1,4 @@
-//! The words of an interval: the 64 steps from a multiple of 64 on.
+//! Words of an interval: 64 steps, the first one a multiple of 64.
 
 ghost use Rattle.std.specs.Prelude.{◌≡◌, ◌<◌, ◌≤◌, ◌+◌, ◌*◌, ◌/◌, ◌%◌, ◌^◌, ℕ, List, length, slice_index, IsTrue, OnOk};
 ghost use Rattle.road_plan.specs.declared.parts.WordKind.{WordKind};
@@ -6,7 +6,6 @@ ghost use Rattle.road_words.specs.Words.{word};
 ghost use Rattle.road_columns.specs.Private.Drawn.{drawn_word};
 ghost use Rattle.road_columns.specs.Private.Entered.{number_with};
 ghost use Rattle.road_columns.specs.Private.Entering.{IsPutIn};
-ghost use Rattle.road_columns.specs.Private.Interval.{AreEntered, KeepsRest, entered_of_words};
 ghost use Rattle.road_columns.specs.Private.Lanes.{place_of};
 ghost use Rattle.road_columns.specs.Private.LooseWords.{AreFalling, HaveLooseWords};
 
@@ -17,28 +16,31 @@ use crate::words::{Batch, INTERVAL, Source};
 use road_ends::OutOfMemory;
 use std::alloc::Global;
 
-/// The words of an interval. A car has its words in a column of the rows, or beside them where it has entered between
-/// others in the interval, so that no row is moved.
+/// The words of an interval. A car that has entered between others in the interval has its words beside the rows, so
+/// that no row is moved. Every other car has its words in a column of the rows.
 #[derive(Drop)]
 pub struct IntervalWords {
     pub source: Source,
-    /// Whether the words of the next step's interval are drawn: those of the inlets,
+    /// Whether the words of the inlets are drawn for the interval of the next step.
     pub drawn: bool,
-    /// and those of the cars, which are needed only where cars are slowed.
+    /// Whether the words of the cars are drawn too. They are needed only if cars are slowed.
     pub worded: bool,
-    /// A row for each step of the interval.
+    /// One row for each step of the interval.
     pub rows: Vec<u16>,
-    /// How many cars have entered between others,
+    /// The number of cars that have entered between others.
     pub entered: usize,
-    /// their places in the columns, which rise,
+    /// The places of these cars in the columns, in rising order.
     pub beside: Vec<u32>,
-    /// and their words.
+    /// The words of these cars.
     pub batches: Vec<Batch>,
     pub inlets: Vec<Batch>,
+    ghost batches_each: { length batches.items ≡ length beside.items },
 }
 
 impl IntervalWords {
-    /// Answers whether the words are drawn that a step needs, where cars are slowed or not.
+    ghost use Rattle.road_columns.specs.Private.Interval.{CanKeep, KeepsCar, MakesRows, entered_of_words};
+
+    /// Return whether the words that a step needs are drawn. `slowing` says whether cars are slowed.
     pub fn are_drawn(&self, slowing: bool) -> bool
         ensures drawn { IsTrue result → IsTrue self.now.drawn }
         ensures worded { IsTrue result → IsTrue slowing → IsTrue self.now.worded }
@@ -46,11 +48,11 @@ impl IntervalWords {
         self.drawn && (self.worded || !slowing)
     }
 
-    /// Makes rows of `width` words, and room for so many cars beside them. What words were there is lost.
+    /// Make rows of `width` words, and room for the words of `beside` cars. The old words are lost.
     ///
     /// # Errors
     ///
-    /// `OutOfMemory` where an allocation failed; then nothing has changed.
+    /// `OutOfMemory` if an allocation fails. Nothing changes then.
     pub fn make_rows(
         &mut self,
         alloc: Global,
@@ -59,11 +61,7 @@ impl IntervalWords {
     ) -> Result<(), OutOfMemory>
         requires width { width < 65536 }
         requires beside { beside < 65536 }
-        requires batches { length self.old.batches.items ≡ length self.old.beside.items }
-        ensures source { self.new.source ≡ self.old.source }
-        ensures drawn { self.new.drawn ≡ self.old.drawn }
-        ensures inlets { self.new.inlets.items ≡ self.old.inlets.items }
-        ensures batches { length self.new.batches.items ≡ length self.new.beside.items }
+        ensures makes { MakesRows self.old self.new }
         ensures rows { OnOk result (length self.new.rows.items ≡ 64 * width) }
         ensures beside { OnOk result (beside ≤ length self.new.beside.items) }
     {
@@ -79,21 +77,13 @@ impl IntervalWords {
         Ok(())
     }
 
-    /// Draws and keeps the words of a car that enters at a step, at a place of columns that end before `tail`, where
-    /// those of the cars are drawn. A row is `width` words long.
+    /// Draw and keep the words of a car that enters at a step and a place, if cars have words in this interval. The
+    /// columns end before `tail`, and a row has `width` words.
     #[inline(always)]
     pub fn keep(&mut self, number: u32, step: u32, place: usize, tail: usize, width: usize)
         requires step { step < 2 ^ 27 }
-        requires rows { length self.old.rows.items ≡ 64 * width }
-        requires width { width < 65536 }
-        requires order { place ≤ tail }
-        requires tail { tail < width }
-        requires room { self.old.entered < length self.old.beside.items }
-        requires batches { length self.old.batches.items ≡ length self.old.beside.items }
-        requires entered { AreEntered self.old tail }
-        ensures rest { KeepsRest self.old self.new }
-        ensures bound { self.new.entered ≤ self.old.entered + 1 }
-        ensures entered { AreEntered self.new (tail + 1) }
+        requires can { CanKeep self.old place tail width }
+        ensures keeps { KeepsCar self.old self.new tail }
         ensures words { IsTrue self.old.worded → (kind : WordKind)
             → ((stream place : ℕ) → drawn_word self.old.source stream place ≡ word kind stream place)
             → (head : ℕ) → (cells cells' : List ℕ) → (numbers : ℕ → ℕ) → (c : ℕ)
@@ -112,21 +102,13 @@ impl IntervalWords {
         self.keep_batch(&words, (step % 64) as usize, place, tail, width);
     }
 
-    // Keeps a car's words from a step of the interval on: behind all in the next column of the rows, between others
-    // beside the rows.
+    // Keep the words of a car from a step of the interval on: in the next column of the rows if the car is behind all
+    // others, and beside the rows if it is between others.
     #[inline(never)]
     fn keep_batch(&mut self, words: &Batch, step: usize, place: usize, tail: usize, width: usize)
         requires step { step < 64 }
-        requires rows { length self.old.rows.items ≡ 64 * width }
-        requires width { width < 65536 }
-        requires order { place ≤ tail }
-        requires tail { tail < width }
-        requires room { self.old.entered < length self.old.beside.items }
-        requires batches { length self.old.batches.items ≡ length self.old.beside.items }
-        requires entered { AreEntered self.old tail }
-        ensures rest { KeepsRest self.old self.new }
-        ensures bound { self.new.entered ≤ self.old.entered + 1 }
-        ensures entered { AreEntered self.new (tail + 1) }
+        requires can { CanKeep self.old place tail width }
+        ensures keeps { KeepsCar self.old self.new tail }
         ensures words { (kind : WordKind) → (first head : ℕ) → (cells cells' : List ℕ) → (number : ℕ → ℕ)
             → (new c : ℕ)
             → head ≤ place → AreFalling cells head tail → IsPutIn cells cells' place tail c 0

@@ -1,4 +1,5 @@
-//! A road as its steps see it: regions of cells that are alike, and sites, the cells that count.
+//! Layout of a road: regions, in which the rules are the same for all cells, and sites, at which something is counted
+//! or kept.
 
 ghost use Rattle.std.specs.Prelude.{◌≡◌, IfOk, IsFalse};
 ghost use Rattle.road_plan.specs.Settings.{Fits};
@@ -12,19 +13,19 @@ use road_ends::OutOfMemory;
 use road_plan::{Plan, Settings};
 use std::alloc::Global;
 
-/// A road under its settings: what its steps read and never change.
+/// A road under its settings: what steps read and never change.
 #[derive(Clone, Copy)]
 pub struct Layout<'a> {
     pub plan: &'a Plan,
     pub settings: &'a Settings,
     pub regions: &'a [Region],
-    /// Whether cars are slowed in any region.
+    /// Whether cars are slowed in some region.
     pub slowing: bool,
     /// The sites: the cells of the inlets, those of the detectors, and the first ones of the regions.
     pub sites: &'a [u16],
 }
 
-/// What a run keeps for its settings, made once for them.
+/// The part of a layout that a run computes once for its settings.
 #[derive(Drop)]
 pub struct Kept {
     pub regions: Vec<Region>,
@@ -33,11 +34,11 @@ pub struct Kept {
 }
 
 impl Kept {
-    /// Makes the regions and the sites of a road under its settings.
+    /// Compute the regions and the sites of a road under its settings.
     ///
     /// # Errors
     ///
-    /// `OutOfMemory` where an allocation failed.
+    /// `OutOfMemory` if an allocation fails.
     pub fn of(alloc: Global, plan: &Plan, settings: &Settings) -> Result<Kept, OutOfMemory>
         requires fits { Fits plan.now settings.now }
         ensures regions { IfOk result (λ kept. AreRegionsOf plan.now settings.now kept.regions.items) }

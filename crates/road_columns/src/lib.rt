@@ -1,14 +1,11 @@
-//! Runs under way: a road that is stepped again and again, whose callers see it as an array.
+//! Runs under way: a road that is simulated step by step. Callers see it as an array.
 //!
-//! Within, its cars stand in columns: one for the cells, one for the speeds, one for the numbers, the car at the far end
-//! first. Their random words for the 64 steps of an interval stand in rows, one for each step, so that a step is a few
-//! passes over contiguous memory.
+//! Inside, the cars stand in columns: one column for the cells, one for the speeds, one for the numbers, with the car
+//! at the far end first. The random words for the 64 steps of an interval stand in rows, one row a step, so a step is a
+//! few passes over contiguous memory.
 //!
 //! ```
-//! // A hundred steps of a plan by its own settings, from the empty road, and the row of text after them.
-//! let settings = Arc::new(alloc, Settings::of_plan(alloc, &plan)?)?;
-//! let mut run = UnderWay::new(alloc, plan, settings)?;
-//! for _ in 0..100 {
+//! // Simulates a hundred steps of a plan from the empty road, and prints the road as a row of text.
 //!     run.step(alloc, 100)?;
 //! }
 //! println!(rt; "{}", run.row(alloc)?)?;
@@ -35,6 +32,7 @@ mod row_text;
 mod shifting;
 mod starting;
 mod step;
+mod step_words;
 mod turning;
 mod under_way;
 mod words;

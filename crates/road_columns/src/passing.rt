@@ -1,12 +1,12 @@
-//! The cars that pass sites in a step are counted.
+//! Counts of the cars that pass sites in a step.
 
 ghost use Rattle.std.specs.Prelude.{◌≡◌, ◌<◌, ◌≤◌, ◌+◌, ◌-◌, ◌^◌, ◌*◌, ℕ, length, slice_index, false};
 ghost use Rattle.std.specs.List.{slice_index_or};
 ghost use Rattle.road_columns.specs.Private.Sites.{counted, passes_of};
 
-/// Counts the cars that have passed sites in a step, by the places of the first cars before them: at most one car
-/// passes a site in a step. A car is counted as 65,536, and its speed in cells per step is added; nothing where a site
-/// is not watched.
+/// Count the cars that have passed sites in a step, by the places of the first cars before the sites: at most one car
+/// passes a site in a step. Add 65,536 and the speed of the car, in cells per step, at each watched site that a car has
+/// passed.
 #[inline(always)]
 pub fn count(
     cells: &[u16],
@@ -32,12 +32,12 @@ pub fn count(
     for site in 0..sites.len() {
         let place = places[site] as usize;
         let hit = cells[place] >= sites[site];
-        passes[site] += added(hit, watched[site], speeds[place]);
+        passes[site] += count_of(hit, watched[site], speeds[place]);
     }
 }
 
 #[inline(always)]
-fn added(hit: bool, watched: bool, speed: u8) -> u32
+fn count_of(hit: bool, watched: bool, speed: u8) -> u32
     ensures value { result ≡ counted hit watched speed }
     ensures bound { result ≤ 65791 }
 {

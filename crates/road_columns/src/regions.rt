@@ -1,37 +1,38 @@
-//! The motion of the cars in all regions of the road.
+//! Motion of the cars in all regions of the road.
 
-ghost use Rattle.std.specs.Prelude.{◌≡◌, ◌<◌, ◌≤◌, ◌+◌, ◌-◌, ◌/◌, ◌⊎◌, ℕ, length, min, slice_index, IsFalse};
+ghost use Rattle.std.specs.Prelude.{◌≡◌, ◌<◌, ◌≤◌, ◌+◌, ◌-◌, ◌/◌, ℕ, length, min, slice_index, IsFalse};
 ghost use Rattle.road_cells.specs.declared.car.TheConstants.{GREATEST_SPEED};
 ghost use Rattle.road_rules.specs.Speeds.{comes_about, slowed_speed};
 ghost use Rattle.road_columns.specs.Private.EnteredList.{ArePlacesRising};
 ghost use Rattle.road_columns.specs.Private.LooseWords.{AreFalling};
 ghost use Rattle.road_columns.specs.Private.Motion.{chance_at};
-ghost use Rattle.road_columns.specs.Private.Pieces.{IsHigh16At};
-ghost use Rattle.road_columns.specs.Private.Regions.{AreFree, IsOfRegion, region_at, wish_at};
+ghost use Rattle.road_columns.specs.Private.Pieces.{BeginsAt, HaveWords, IsHigh16At, MovesCars};
+ghost use Rattle.road_columns.specs.Private.Regions.{AreEndsOf, AreFree, IsOfRegion, region_at, wish_at};
 
 use crate::motion::Chances;
-use crate::pieces::{Piece, StepWords, advance_between};
+use crate::pieces::advance_between;
+use crate::step_words::{Piece, StepWords};
 
-/// Cells side by side that are alike for the cars on them, from the first one up to the next region.
+/// Cells side by side at which the rules are the same for a car, from the first cell up to the next region.
 #[derive(Clone, Copy)]
 pub struct Region {
     /// The first cell.
     pub first: u16,
     /// The speed limit and the slowing chances of its cells.
     pub chances: Chances,
-    /// The first blocked cell in front of its cells, or a cell past all roads.
+    /// The first blocked cell in front of these cells, or a cell past every road.
     pub block: u16,
 }
 
-/// Answers whether cars are slowed in any of these regions.
+/// Return whether cars are slowed in some of these regions.
 pub fn are_slowing(regions: &[Region]) -> bool
     ensures { IsFalse result → AreFree regions.now }
 {
     regions.iter().any(|region| region.chances.standing > 0 || region.chances.moving > 0)
 }
 
-/// Moves the cars of a piece, region by region from the near end on. `ends` has for each region the place of the first
-/// car before it. The cell at the place before the piece is one that nobody reaches.
+/// Move the cars of a piece, region by region from the near end on. `ends` holds the place of the first car before each
+/// region. The cell at the place before the piece is one that no car reaches.
 #[inline(never)]
 pub fn advance_regions(
     cells: &mut [u16],
@@ -42,34 +43,17 @@ pub fn advance_regions(
     ends: &[u32],
 )
     requires limits { (r : ℕ) → r < length regions.now → (region_at regions.now r).chances.limit ≤ GREATEST_SPEED }
-    requires index { words.now.index < 64 }
     requires low { 0 < piece.from }
-    requires order { piece.from ≤ piece.to }
     requires within { piece.to ≤ length cells.old }
     requires speeds { length speeds.old ≡ length cells.old }
-    requires row { piece.to ≤ length words.now.row.now }
-    requires beside { piece.last ≤ length words.now.beside.now }
-    requires batches { length words.now.batches.now ≡ length words.now.beside.now }
-    requires rising { ArePlacesRising piece.last words.now.beside.now }
-    requires high { (i : ℕ) → i < piece.last → slice_index words.now.beside.now i < piece.to }
-    requires places { (i : ℕ) → i < piece.last → i ≤ slice_index words.now.beside.now i }
+    requires words { HaveWords words.now piece }
     requires falling { AreFalling cells.old piece.from piece.to }
     requires front { piece.from < piece.to → slice_index cells.old piece.from < slice_index cells.old (piece.from - 1) }
-    requires ends { length ends.now ≡ length regions.now }
     requires some { 0 < length regions.now }
-    requires last_end { slice_index ends.now 0 ≡ piece.to }
-    requires ends_from { (r : ℕ) → r < length regions.now → piece.from ≤ slice_index ends.now r }
-    requires ends_fall { (r : ℕ) → r + 1 < length regions.now → slice_index ends.now (r + 1) ≤ slice_index ends.now r }
+    requires ends { AreEndsOf (length regions.now) piece.from piece.to ends.now }
     requires blocks { (r q : ℕ) → IsOfRegion (length regions.now) ends.now r q → piece.from ≤ q
         → slice_index cells.old q < (region_at regions.now r).block }
-    ensures as_many_cells { length cells.new ≡ length cells.old }
-    ensures as_many_speeds { length speeds.new ≡ length speeds.old }
-    ensures other_cells { (q : ℕ) → (q < piece.from) ⊎ (piece.to ≤ q)
-        → slice_index cells.new q ≡ slice_index cells.old q }
-    ensures other_speeds { (q : ℕ) → (q < piece.from) ⊎ (piece.to ≤ q)
-        → slice_index speeds.new q ≡ slice_index speeds.old q }
-    ensures cells { (q : ℕ) → piece.from ≤ q → q < piece.to → slice_index cells.new q
-        ≡ slice_index cells.old q + slice_index speeds.new q }
+    ensures moves { MovesCars piece.from piece.to cells.old speeds.old cells.new speeds.new }
     ensures speeds { (r q : ℕ) → IsOfRegion (length regions.now) ends.now r q → piece.from ≤ q → (word : ℕ) →
         let region = region_at regions.now r in
         let wish = wish_at region.chances.limit region.block cells.old speeds.old q in
@@ -105,31 +89,15 @@ fn advance_region(
     region: Region,
 )
     requires limit { region.chances.limit ≤ GREATEST_SPEED }
-    requires index { words.now.index < 64 }
     requires low { 0 < piece.from }
-    requires order { piece.from ≤ piece.to }
     requires within { piece.to ≤ length cells.old }
     requires speeds { length speeds.old ≡ length cells.old }
-    requires row { piece.to ≤ length words.now.row.now }
-    requires cars { piece.first ≤ piece.last }
-    requires beside { piece.last ≤ length words.now.beside.now }
-    requires batches { length words.now.batches.now ≡ length words.now.beside.now }
-    requires rising { ArePlacesRising piece.last words.now.beside.now }
-    requires before { (i : ℕ) → i < piece.first → slice_index words.now.beside.now i < piece.from }
-    requires after { (i : ℕ) → piece.first ≤ i → i < piece.last → piece.from ≤ slice_index words.now.beside.now i }
-    requires high { (i : ℕ) → i < piece.last → slice_index words.now.beside.now i < piece.to }
-    requires places { (i : ℕ) → i < piece.last → i ≤ slice_index words.now.beside.now i }
+    requires words { HaveWords words.now piece }
+    requires begins { BeginsAt words.now.beside.now piece }
     requires falling { (q : ℕ) → piece.from ≤ q → q < piece.to
         → slice_index cells.old q < slice_index cells.old (q - 1) }
     requires block { (q : ℕ) → piece.from ≤ q → q < piece.to → slice_index cells.old q < region.block }
-    ensures as_many_cells { length cells.new ≡ length cells.old }
-    ensures as_many_speeds { length speeds.new ≡ length speeds.old }
-    ensures other_cells { (q : ℕ) → (q < piece.from) ⊎ (piece.to ≤ q)
-        → slice_index cells.new q ≡ slice_index cells.old q }
-    ensures other_speeds { (q : ℕ) → (q < piece.from) ⊎ (piece.to ≤ q)
-        → slice_index speeds.new q ≡ slice_index speeds.old q }
-    ensures cells { (q : ℕ) → piece.from ≤ q → q < piece.to → slice_index cells.new q
-        ≡ slice_index cells.old q + slice_index speeds.new q }
+    ensures moves { MovesCars piece.from piece.to cells.old speeds.old cells.new speeds.new }
     ensures speeds { (q : ℕ) → piece.from ≤ q → q < piece.to → (word : ℕ) →
         let wish = wish_at region.chances.limit region.block cells.old speeds.old q in
         (0 < wish → IsHigh16At words.now.row.now words.now.index piece.last words.now.beside.now
@@ -144,7 +112,8 @@ fn advance_region(
     advance_between(cells, speeds, words, piece, region.chances, front);
 }
 
-// Finds the place of the first car of a region: that behind the last car of the next one, of the last region `head`.
+// Return the place of the first car of a region: the place behind the last car of the next region, or `head` in the
+// last region.
 #[inline(always)]
 fn region_from(ends: &[u32], region: usize, head: usize) -> usize
     requires region { region < length ends.now }
@@ -162,7 +131,7 @@ fn region_from(ends: &[u32], region: usize, head: usize) -> usize
     }
 }
 
-// Finds how many of the first `last` places are before a place.
+// Return how many of the first `last` places are before a place.
 #[inline(always)]
 fn first_from(places: &[u32], last: usize, place: usize) -> usize
     requires within { last ≤ length places.now }

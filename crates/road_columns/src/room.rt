@@ -1,4 +1,4 @@
-//! Memory for the cars that enter, and for the words of all.
+//! Memory for the cars that enter, and for the words of all cars.
 
 ghost use Rattle.std.specs.Prelude.{◌≡◌, ◌<◌, ◌≤◌, ◌-◌, ℕ, length, IsTrue, OnOk};
 ghost use Rattle.road_columns.specs.Private.Interval.{HaveRoom, MakesRoom};
@@ -10,13 +10,13 @@ use crate::words::INTERVAL;
 use road_ends::OutOfMemory;
 use std::alloc::Global;
 
-/// Makes memory for the cars that enter in the next step at so many inlets, where it is lacking: where words are to be
-/// drawn, for those of as many steps as its caller goes on, up to an interval's. A run that goes on past what it has
-/// memory for takes that of a whole interval.
+/// Make room for the cars that may enter at the inlets in the next step, if room is missing. If the words of an
+/// interval are still to be drawn, make room for the cars of `ahead` steps, up to those of an interval. A run that has
+/// used up its room within an interval gets room for a whole interval.
 ///
 /// # Errors
 ///
-/// `OutOfMemory` where an allocation failed.
+/// `OutOfMemory` if an allocation fails.
 pub fn make_room(
     alloc: Global,
     inlets: usize,
@@ -25,14 +25,7 @@ pub fn make_room(
     words: &mut IntervalWords,
 ) -> Result<(), OutOfMemory>
     requires inlets { inlets ≤ 16 }
-    requires from { FIRST ≤ cars.old.head }
-    requires order { cars.old.head ≤ cars.old.tail }
-    requires inside { cars.old.tail < length cars.old.cells.items }
     requires few { cars.old.tail - cars.old.head ≤ 8192 }
-    requires short { length cars.old.cells.items < 65520 }
-    requires speeds { length cars.old.speeds.items ≡ length cars.old.cells.items }
-    requires numbers { length cars.old.numbers.items ≡ length cars.old.cells.items }
-    requires batches { length words.old.batches.items ≡ length words.old.beside.items }
     ensures makes { MakesRoom cars.old cars.new words.old words.new }
     ensures room { OnOk result (HaveRoom inlets cars.new words.new) }
 {
@@ -48,7 +41,7 @@ pub fn make_room(
     Ok(())
 }
 
-// Returns how many cars may enter at so many inlets in so many steps, up to an interval's.
+// Return how many cars may enter at this many inlets in `steps` steps, at most in those of an interval.
 fn entries_in(inlets: usize, steps: u32) -> usize
     requires { inlets ≤ 16 }
     ensures some { inlets ≤ result }
@@ -57,12 +50,8 @@ fn entries_in(inlets: usize, steps: u32) -> usize
     inlets * (steps as usize).min(INTERVAL).max(1)
 }
 
-// Answers whether there is memory for so many cars that enter.
+// Return whether there is room for this many cars to enter.
 fn has_room(entries: usize, cars: &CarColumns, words: &IntervalWords) -> bool
-    requires from { FIRST ≤ cars.now.head }
-    requires order { cars.now.head ≤ cars.now.tail }
-    requires inside { cars.now.tail < length cars.now.cells.items }
-    requires short { length cars.now.cells.items < 65520 }
     requires entries { entries ≤ 1024 }
     ensures { IsTrue result → (n : ℕ) → n ≤ entries → HaveRoom n cars.now words.now }
 {

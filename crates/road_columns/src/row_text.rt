@@ -1,4 +1,4 @@
-//! The cars in columns as a row of text.
+//! Rows of text from the cars in columns.
 
 ghost use Rattle.std.specs.Prelude.{◌≡◌, ◌≢◌, ◌<◌, ◌≤◌, ◌+◌, ℕ, length, slice_index, if◌then◌else◌, IfOk};
 ghost use Rattle.std.specs.String.{string_bytes};
@@ -17,12 +17,12 @@ use road_ends::{BLOCKED, EMPTY, OutOfMemory, STANDING};
 use road_plan::Plan;
 use std::alloc::Global;
 
-/// Draws the cars on a plan's road as a row of text, one letter for each cell: a car's speed as a digit, else `#` where
-/// the cell is blocked, else `.`.
+/// Return the road as a row of text, one character a cell: the speed of a car as a digit, else `#` if the cell is
+/// blocked, else `.`.
 ///
 /// # Errors
 ///
-/// `OutOfMemory` where its one allocation failed.
+/// `OutOfMemory` if its only allocation fails.
 pub fn text_of(
     alloc: Global,
     plan: &Plan,
@@ -58,7 +58,7 @@ fn with_blocks(mut row: Vec<u8>, blocks: &[u32]) -> Vec<u8>
     row
 }
 
-// Marks cars at falling cells, each by the digit of its speed.
+// Mark each car by the digit of its speed.
 fn mark_cars(cells: &[u16], speeds: &[u8], row: &mut [u8])
     requires speeds { length speeds.now ≡ length cells.now }
     requires falling { AreFalling cells.now 0 (length cells.now) }

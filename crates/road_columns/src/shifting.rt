@@ -1,34 +1,24 @@
-//! Columns moved back to their first places, once in an interval: cars leave them at the one end and enter at the other.
+//! Moves columns back to their first places once in an interval: cars leave at one end and enter at the other.
 
 ghost use Rattle.std.specs.Prelude.{◌≡◌, ◌<◌, ◌≤◌, ◌+◌, ◌-◌, ◌^◌, ℕ, List, length, slice_index};
 ghost use Rattle.std.specs.List.{slice_index_or};
 ghost use Rattle.road_plan.specs.Plan.{Plan};
 ghost use Rattle.road_cells.specs.Array.{Array};
-ghost use Rattle.road_columns.specs.Private.Cars.{AreCarsOf};
+ghost use Rattle.road_columns.specs.Private.Cars.{AreCarsOf, ShiftsBack};
 ghost use Rattle.road_columns.specs.Private.Entering.{ArePlacesFrom};
 ghost use Rattle.road_columns.specs.Private.Step.{AreCarsInColumn};
 
 use crate::cars::CarColumns;
 use crate::cutting::NOWHERE;
 
-/// The place of the car at the far end, at an interval's start.
+/// The place of the car at the far end at the start of an interval.
 pub const FIRST: usize = 8;
 
-/// Moves the cars back to the places from [`FIRST`] on, with the kept places of sites.
+/// Move the cars, and the kept places of sites, back to the places from [`FIRST`] on.
 #[inline(never)]
 pub fn shift_back(cars: &mut CarColumns)
-    requires from { FIRST ≤ cars.old.head }
-    requires order { cars.old.head ≤ cars.old.tail }
-    requires inside { cars.old.tail < length cars.old.cells.items }
-    requires short { length cars.old.cells.items < 65536 }
-    requires speeds { length cars.old.speeds.items ≡ length cars.old.cells.items }
-    requires numbers { length cars.old.numbers.items ≡ length cars.old.cells.items }
     requires places { (d : ℕ) → d < length cars.old.places.items → cars.old.head ≤ slice_index cars.old.places.items d }
-    ensures head { cars.new.head ≡ FIRST }
-    ensures tail { cars.new.tail ≡ FIRST + (cars.old.tail - cars.old.head) }
-    ensures cells_each { length cars.new.cells.items ≡ length cars.old.cells.items }
-    ensures speeds_each { length cars.new.speeds.items ≡ length cars.old.speeds.items }
-    ensures numbers_each { length cars.new.numbers.items ≡ length cars.old.numbers.items }
+    ensures shifts { ShiftsBack cars.old cars.new }
     ensures cars { (p : Plan) → p.cells ≤ 65525
         → AreCarsInColumn p cars.old.head cars.old.tail cars.old.cells.items
         → AreCarsInColumn p cars.new.head cars.new.tail cars.new.cells.items }
@@ -48,7 +38,7 @@ pub fn shift_back(cars: &mut CarColumns)
     cars.tail = end;
 }
 
-// Moves what stands at the places from `head` to before `tail` to those from the first on.
+// Move the values at the places from `head` to before `tail` to the places from [`FIRST`] on.
 #[inline(always)]
 fn move_back<T: Copy>(column: &mut Vec<T>, head: usize, tail: usize)
     requires from { FIRST ≤ head }

@@ -1,4 +1,4 @@
-//! An interval's start.
+//! Start of an interval.
 
 ghost use Rattle.std.specs.Prelude.{◌≡◌, ◌<◌, ◌≤◌, ◌+◌, ◌*◌, ◌/◌, ◌%◌, ◌^◌, ℕ, [], length, slice_index, IsTrue};
 ghost use Rattle.road_plan.specs.declared.parts.WordKind.{WordKind};
@@ -18,8 +18,8 @@ use crate::layout::Layout;
 use crate::shifting::shift_back;
 use crate::words::Source;
 
-/// Makes ready for a step: draws the words of its interval, where they are not there, for the inlets and, where cars
-/// are slowed, for all cars, which are moved back to the first places.
+/// Prepare a step: draws the words of its interval if they are missing, for the inlets and, if cars are slowed, for all
+/// cars. The cars are moved back to the first places first.
 pub fn make_ready(layout: &Layout, step: u32, cars: &mut CarColumns, words: &mut IntervalWords)
     requires step { step < 2 ^ 27 }
     requires layout { IsLayout layout.now }
@@ -46,14 +46,11 @@ pub fn make_ready(layout: &Layout, step: u32, cars: &mut CarColumns, words: &mut
     words.worded = layout.slowing;
 }
 
-// Draws the words of all cars in an interval, where `slowing`: from any step of it on they are all that the cars need.
+// Draw the words of all cars for an interval if cars are slowed. Any step of the interval may be the first one that
+// uses them.
 #[inline(always)]
 fn draw_where(slowing: bool, source: Source, interval: u32, cars: &CarColumns, rows: &mut Vec<u16>)
     requires interval { interval < 2 ^ 26 }
-    requires order { cars.now.head ≤ cars.now.tail }
-    requires inside { cars.now.tail ≤ length cars.now.cells.items }
-    requires short { length cars.now.cells.items < 65520 }
-    requires numbers { length cars.now.numbers.items ≡ length cars.now.cells.items }
     requires falling { AreFalling cars.now.cells.items cars.now.head cars.now.tail }
     requires rows { length rows.old.items ≡ 64 * (length cars.now.cells.items + 8) }
     ensures long { length rows.new.items ≡ length rows.old.items }

@@ -20,13 +20,13 @@ use crate::entering::enter;
 use crate::interval::IntervalWords;
 use crate::layout::Layout;
 use crate::passing::count;
-use crate::pieces::{Piece, StepWords};
 use crate::regions::advance_regions;
 use crate::starting::make_ready;
+use crate::step_words::{Piece, StepWords};
 use crate::words::index_at;
 use road_ends::Stretch;
 
-/// Makes one step of a run on the cells of a stretch: cars enter, move and are counted, and one may leave. It takes no
+/// Make one step of a run on the cells of a stretch: cars enter, move and are counted, and one may leave. It takes no
 /// memory.
 pub(crate) fn run_step(
     layout: &Layout,
@@ -58,8 +58,7 @@ pub(crate) fn run_step(
     words.drawn = counts.end_step(step);
 }
 
-// Moves the cars of a step, which have entered, counts those that pass detectors, and lets the one leave that comes to
-// the exit.
+// Move the cars of a step after the entries, count those that pass detectors, and remove the one that reaches the exit.
 #[inline(always)]
 fn move_cars(
     layout: &Layout,

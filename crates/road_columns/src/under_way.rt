@@ -1,4 +1,4 @@
-//! A run under way, whose road stands in columns.
+//! A run under way.
 
 ghost use Rattle.std.specs.Prelude.{◌≡◌, ◌↔◌, ◌<◌, ◌≤◌, ◌+◌, ◌*◌, ◌^◌, ℕ, length, false};
 ghost use Rattle.std.specs.Prelude.{IfOk, IfSome, IsSome, OnOk, OnErr, IsFalse, IsTrue};
@@ -20,8 +20,7 @@ ghost use Rattle.road_columns.specs.UnderWay.{CanRun, IsAt, IsRunnable, begun, b
 
 use crate::cars::CarColumns;
 use crate::counts::{Counts, clear_counts, totals_now};
-use crate::finding::find_places;
-use crate::holding::{can_hold, hold, is_held, road_held};
+use crate::holding::can_hold;
 use crate::interval::IntervalWords;
 use crate::layout::{Kept, Layout};
 use crate::room::make_room;
@@ -38,7 +37,7 @@ use std::alloc::Global;
 use std::marker::Model;
 use std::sync::Arc;
 
-/// A run under way: its road before a step, and what the detectors have counted.
+/// A run under way: a road before a step, and the counts of the detectors.
 #[derive(Drop)]
 pub struct UnderWay {
     plan: Arc<Plan>,
@@ -63,8 +62,8 @@ impl Model for UnderWay {
     ghost invariant = { IsRunning };
 }
 
-/// Answers whether runs can go on from a road on the cells of a stretch: [`UnderWay::take_up`] says from which. It takes
-/// no memory.
+/// Return whether a run can start from a road on the cells of a stretch: [`UnderWay::take_up`] says when. It takes no
+/// memory.
 pub fn is_runnable(plan: &Plan, stretch: Stretch, road: &Road) -> bool
     ensures { IsTrue result ↔ IsRunnable stretch.first stretch.end plan.now road.now }
 {
@@ -72,11 +71,11 @@ pub fn is_runnable(plan: &Plan, stretch: Stretch, road: &Road) -> bool
 }
 
 impl UnderWay {
-    /// Begins a run of a plan at step 0, on its whole road, which is empty. The settings must fit the plan.
+    /// Start a run of a plan at step 0 on its whole road, which is empty. The settings must fit the plan.
     ///
     /// # Errors
     ///
-    /// `OutOfMemory` where an allocation failed.
+    /// `OutOfMemory` if an allocation fails.
     pub fn new(
         alloc: Global,
         plan: Arc<Plan>,
@@ -90,12 +89,12 @@ impl UnderWay {
         UnderWay::of_cars(alloc, plan, settings, 0, Stretch { first: 0, end }, &nobody)
     }
 
-    /// Begins a run of a plan on a road, at a step, on the cells of a stretch, as [`UnderWay::take_up`] goes on from it:
-    /// `None` where that would answer `false`. The settings must fit the plan.
+    /// Start a run of a plan from a road, at a step, on the cells of a stretch. Return `None` if [`UnderWay::take_up`]
+    /// would return `false`. The settings must fit the plan.
     ///
     /// # Errors
     ///
-    /// `OutOfMemory` where an allocation failed.
+    /// `OutOfMemory` if an allocation fails.
     pub fn begin_on(
         alloc: Global,
         plan: Arc<Plan>,
@@ -119,7 +118,7 @@ impl UnderWay {
         Ok(Some(run))
     }
 
-    // Begins a run of a plan with these cars, which it can have.
+    // Start a run of a plan with these cars.
     fn of_cars(
         alloc: Global,
         plan: Arc<Plan>,
@@ -152,13 +151,13 @@ impl UnderWay {
         })
     }
 
-    /// Goes on from another road instead, at a step, on the cells of a stretch, under these settings: nothing is counted
-    /// then. Answers `false`, and changes nothing, where a car of the road stands elsewhere or in the exit, is faster
-    /// than 9 cells per step, or has a number of more than 32 bits. The settings must fit the plan.
+    /// Restart the run from another road, at a step, on the cells of a stretch, under these settings, with all counts
+    /// at zero. Return `false` and change nothing if a car of the road stands outside the stretch or in the exit, is
+    /// faster than 9 cells per step, or has a number of more than 32 bits. The settings must fit the plan.
     ///
     /// # Errors
     ///
-    /// `OutOfMemory` where an allocation failed; then nothing has changed.
+    /// `OutOfMemory` if an allocation fails. Nothing changes then.
     pub fn take_up(
         &mut self,
         alloc: Global,
@@ -186,17 +185,10 @@ impl UnderWay {
         let many = road.cars().len();
         self.words.drawn = false;
         self.cars.lengthen(alloc, FIRST + 1 + many)?;
-        let tail = hold(
-            road.cars(),
-            &mut self.cars.cells,
-            &mut self.cars.speeds,
-            &mut self.cars.numbers,
-        );
-        find_places(&self.cars.cells, FIRST, tail, &kept.sites, &mut places);
-        clear_counts(&mut self.counts.passes, &mut self.counts.totals);
-        self.cars.head = FIRST;
-        self.cars.tail = tail;
+        self.cars.hold(road.cars());
+        self.cars.find_places(&kept.sites, &mut places);
         self.cars.places = places;
+        clear_counts(&mut self.counts.passes, &mut self.counts.totals);
         self.step = step;
         self.stretch = stretch;
         self.settings = settings;
@@ -204,11 +196,11 @@ impl UnderWay {
         Ok(true)
     }
 
-    /// Takes other settings for the steps from the next one on. No word is drawn. They must fit the plan.
+    /// Change the settings from the next step on. No word is drawn. The settings must fit the plan.
     ///
     /// # Errors
     ///
-    /// `OutOfMemory` where an allocation failed; then nothing has changed.
+    /// `OutOfMemory` if an allocation fails. Nothing changes then.
     pub fn change(&mut self, alloc: Global, later: Arc<Settings>) -> Result<(), OutOfMemory>
         requires fits { Fits self.old.plan (arc_value later) }
         ensures changed { OnOk result (self.new ≡ record self.old { settings = arc_value later }) }
@@ -216,25 +208,21 @@ impl UnderWay {
     {
         let kept = Kept::of(alloc, &self.plan, &later)?;
         let mut places = vec![in alloc; 0u32; kept.sites.len()]?;
-        find_places(
-            &self.cars.cells,
-            self.cars.head,
-            self.cars.tail,
-            &kept.sites,
-            &mut places,
-        );
+        self.cars.find_places(&kept.sites, &mut places);
         self.settings = later;
         self.kept = kept;
         self.cars.places = places;
         Ok(())
     }
 
-    /// Makes one step: entries, motion, counting, exit. It takes memory for the cars that may enter where it is lacking:
-    /// for those of `ahead` steps, where its caller makes so many from here on.
+    /// Make one step: entries, motion, counting, exit. `ahead` is how many steps the caller will make from here on,
+    /// this one included: room for the cars that may enter in them is made at once.
     ///
     /// # Errors
     ///
-    /// `OutOfMemory` where an allocation failed; then nothing has changed.
+    /// `OutOfMemory` if an allocation fails, and for no other reason. Nothing changes then, so the step can be made
+    /// again later. A step takes memory only if there is no room for the cars that may enter: in `ahead` steps (64 at
+    /// most) where the words of an interval are drawn, else in this step.
     pub fn step(&mut self, alloc: Global, ahead: u32) -> Result<(), OutOfMemory>
         requires { self.old.step < GREATEST_HORIZON }
         ensures stepped { OnOk result (self.new ≡ stepped self.old) }
@@ -262,29 +250,22 @@ impl UnderWay {
         Ok(())
     }
 
-    /// Returns the road before the next step.
+    /// Return the road before the next step.
     ///
     /// # Errors
     ///
-    /// `OutOfMemory` where its one allocation failed.
+    /// `OutOfMemory` if its only allocation fails.
     pub fn road(&self, alloc: Global) -> Result<Road, OutOfMemory>
         ensures { IfOk result (λ road. road ≡ self.now.road) }
     {
-        road_held(
-            alloc,
-            &self.cars.cells,
-            &self.cars.speeds,
-            &self.cars.numbers,
-            self.cars.head,
-            self.cars.tail,
-        )
+        self.cars.road(alloc)
     }
 
-    /// Returns the road before the next step as a row of text, with the blocked cells of its settings.
+    /// Return the road before the next step as a row of text, with the blocked cells of its settings.
     ///
     /// # Errors
     ///
-    /// `OutOfMemory` where its one allocation failed.
+    /// `OutOfMemory` if its only allocation fails.
     pub fn row(&self, alloc: Global) -> Result<String, OutOfMemory>
         ensures { IfOk result (λ text. string_bytes text
             ≡ row_of self.now.plan.cells self.now.settings.blocks self.now.road) }
@@ -292,56 +273,50 @@ impl UnderWay {
         text_of(alloc, &self.plan, self.settings.blocks(), &self.cars)
     }
 
-    /// Lists what each detector has counted.
+    /// Return the totals of each detector since its counts began.
     ///
     /// # Errors
     ///
-    /// `OutOfMemory` where its one allocation failed.
+    /// `OutOfMemory` if its only allocation fails.
     pub fn totals(&self, alloc: Global) -> Result<Vec<Totals>, OutOfMemory>
         ensures { IfOk result (λ totals. totals.items ≡ self.now.totals) }
     {
         totals_now(alloc, &self.counts.passes, &self.counts.totals)
     }
 
-    /// Begins all counts anew.
+    /// Set all counts to zero.
     pub fn restart_counts(&mut self)
         ensures { self.new ≡ record self.old { totals = nothing_counted self.old.plan } }
     {
         clear_counts(&mut self.counts.passes, &mut self.counts.totals);
     }
 
-    /// Answers whether it is a run of this plan. It takes no memory.
+    /// Return whether it is a run of this plan. It takes no memory.
     pub fn is_of(&self, plan: &Plan) -> bool
         ensures { IsTrue result ↔ (self.now.plan ≡ plan.now) }
     {
         is_same_plan(&self.plan, plan)
     }
 
-    /// Answers whether it stands before a step on its plan's whole road, which is this one. It takes no memory.
+    /// Return whether the run is on the whole road of its plan, before this step, with exactly this road. It takes no
+    /// memory.
     pub fn is_at(&self, step: u32, road: &Road) -> bool
         ensures { IsTrue result ↔ IsAt step road.now self.now }
     {
         self.step == step
             && self.stretch.first == 0
             && self.stretch.end == self.plan.length()
-            && is_held(
-                road,
-                &self.cars.cells,
-                &self.cars.speeds,
-                &self.cars.numbers,
-                self.cars.head,
-                self.cars.tail,
-            )
+            && self.cars.are_of(road)
     }
 
-    /// Answers whether its next step is under these settings. It takes no memory.
+    /// Return whether its next step is under these settings. It takes no memory.
     pub fn is_under(&self, settings: &Settings) -> bool
         ensures { IsTrue result ↔ (self.now.settings ≡ settings.now) }
     {
         are_same_settings(&self.settings, settings)
     }
 
-    /// Returns the step that is made next.
+    /// Return the number of the next step.
     pub fn next_step(&self) -> u32
         ensures { result ≡ self.now.step }
     {
@@ -350,7 +325,7 @@ impl UnderWay {
     }
 }
 
-// Makes columns that these cars fill.
+// Make columns that hold these cars, with no room for more.
 fn columns_for(
     alloc: Global,
     plan: &Plan,
@@ -360,10 +335,6 @@ fn columns_for(
     requires rise { AreRising cars.now }
     requires before_exit { All (λ car. car.cell < exit_start plan.now) cars.now }
     requires short_numbers { All (λ car. car.number < 2 ^ 32) cars.now }
-    ensures short { IfOk result (λ columns. length columns.cells.items < 65520) }
-    ensures speeds { IfOk result (λ columns. length columns.speeds.items ≡ length columns.cells.items) }
-    ensures numbers { IfOk result (λ columns. length columns.numbers.items ≡ length columns.cells.items) }
-    ensures head { IfOk result (λ columns. columns.head ≡ FIRST) }
     ensures cars { IfOk result (λ columns. AreCarsInColumn plan.now columns.head columns.tail columns.cells.items) }
     ensures places { IfOk result (λ columns. ArePlacesFrom columns.cells.items columns.head columns.tail sites.now
         columns.places.items) }
@@ -371,28 +342,29 @@ fn columns_for(
 {
     prove!(plan.length() <= GREATEST_LENGTH);
     let long = FIRST + 1 + cars.len();
-    let mut cells = vec![in alloc; 0u16; long]?;
-    let mut speeds = vec![in alloc; 0u8; long]?;
-    let mut numbers = vec![in alloc; 0u32; long]?;
+    let cells = vec![in alloc; 0u16; long]?;
+    let speeds = vec![in alloc; 0u8; long]?;
+    let numbers = vec![in alloc; 0u32; long]?;
     let mut places = vec![in alloc; 0u32; sites.len()]?;
-    let tail = hold(cars, &mut cells, &mut speeds, &mut numbers);
-    find_places(&cells, FIRST, tail, sites, &mut places);
-    Ok(CarColumns {
+    let mut columns = CarColumns {
         cells,
         speeds,
         numbers,
         head: FIRST,
-        tail,
-        places,
-    })
+        tail: FIRST,
+        places: Vec::new(alloc),
+    };
+    columns.hold(cars);
+    columns.find_places(sites, &mut places);
+    columns.places = places;
+    Ok(columns)
 }
 
-// Makes the words of a plan's intervals, which are not drawn: there is no room for those of any car.
+// Make the words of an interval. No word is drawn yet, and there is no room for the words of any car.
 fn words_for(alloc: Global, plan: &Plan) -> Result<IntervalWords, OutOfMemory>
     ensures source { IfOk result (λ words. (stream place : ℕ) → drawn_word words.source stream place
         ≡ word plan.now.words stream place) }
     ensures drawn { IfOk result (λ words. words.drawn ≡ false) }
-    ensures batches { IfOk result (λ words. length words.batches.items ≡ length words.beside.items) }
     ensures inlets { IfOk result (λ words. length words.inlets.items ≡ length plan.now.inlets) }
 {
     let inlets = vec![in alloc; [0u16; INTERVAL]; plan.inlets().len()]?;

@@ -1,5 +1,5 @@
--- Lemmas of a laboratory: its winners suffice, its plan stays, caches hold, its names have numbers, its outcomes are
--- its world's, and each cause against a crowd has an answer.
+-- Lemmas of a laboratory: its winners suffice, its plan stays, caches stay valid, its names have numbers, its outcomes
+-- are its world's, and each cause against a crowd has an answer.
 pub mod WinnersSuffice
 pub mod PlanStays
 pub mod CrowdRefusals

@@ -1,4 +1,4 @@
--- What the outcomes of commands are, by what the world does.
+-- The outcomes of commands, by the effects in the world.
 use Rattle.std.proofs.Common.{◌≡◌, ◌⊎◌, ◌<◌, ℕ, length, false, Option, Some, None, refl, ap, sym, subst, ◌∙◌, inl, inr}
 use Rattle.std.specs.Prelude.{IfErr, Result}
 use Rattle.std.specs.declared.result.Result.TheVariants.{Ok, Err}
@@ -50,7 +50,7 @@ unnamed (events.Beyond r m) fault is = ap world_refusal is
 unnamed (events.Take r m) fault is = unnamed_want fault is
 unnamed (events.Advance r to) fault is = unnamed_want fault is
 
--- an event that makes no message is replied to by no number of one
+-- an event that makes no message has no message's number as its reply
 pub change_named : (w : World) (e : Event) → makes_message e ≡ false → names_message (reply_to_event w e) ≡ false
 change_named w (events.Edit r o step n) h = refl
 change_named w (events.Withdraw r o step) h = refl
@@ -66,19 +66,19 @@ named : (e : Event) (cause : Option WorldFault) (fault : WorldFault) (refusal : 
 named e (Some cause) fault refusal is said = ap world_refusal (sym is) ∙ said
 named e None fault refusal is said = let unsaid = unnamed e fault is in cc
 
--- a refusal that is told is that of the named cause at the replica
+-- a refusal that is answered is that of the named cause at the replica
 told_refusal : (lab : Laboratory) (e : Event) (fault : WorldFault) (refusal : Refusal) → replica_number e < length lab.world.replicas → IsRefusal e (fault_of_event lab.world e) fault
     → world_refusal fault ≡ Some refusal → option_and_then world_refusal (fault_at_replica lab.world e) ≡ Some refusal
 told_refusal lab e fault refusal below is said =
     let here = subst (λ (cause : Option WorldFault). IsRefusal e cause fault) (fault_there lab.world e below) is in
     named e (fault_at_replica lab.world e) fault refusal here said
 
--- what is told is a refusal
+-- the answer is a refusal
 told_is : (refusal : Option Refusal) (answer : declared.Answer) → IsTold refusal (Ok answer) → (r : Refusal) × ((refusal ≡ Some r) × (answer_view answer ≡ Refused r))
 told_is None answer is = cc
 told_is (Some r) answer is = (r, (refl, sym (same_some (Refused r) (answer_view answer) is)))
 
--- a refusal that is told counts no crew
+-- a refusal that is answered counts no crew
 named_gone : (fault : WorldFault) (r : Refusal) (n : ℕ) → world_refusal fault ≡ Some r → gone_after_answer (Err fault) n ≡ n
 named_gone world_faults.NoReplica r n said = refl
 named_gone world_faults.NoMessage r n said = refl
@@ -100,7 +100,7 @@ gone_told : (lost : CrewFault) (n : ℕ) → gone_after_answer (Err (world_fault
 gone_told crew_faults.WorkersGone n = refl
 gone_told crew_faults.OutOfMemory n = refl
 
--- What the world refuses is answered by its refusal, or not at all, where the outcome is the refusal of a named cause
+-- What the world refuses is answered by its refusal, or not at all, if the outcome is the refusal of a named cause
 module _ (lab : Laboratory) (e : Event) (fault : WorldFault) (new : Laboratory) (count later : ℕ) (below : replica_number e < length lab.world.replicas) (is : IsRefusal e (fault_of_event lab.world e) fault)
     (same : new ≡ lab) (won : laboratory_of_winners lab ≡ lab) (gone : later ≡ gone_after_answer (Err fault) count) where
   of_refusal : (o : Outcome) (told : Result declared.Answer CrewFault) → IsTold (world_refusal fault) told → IfErr told (λ lost. fault ≡ world_faults.Replica (growth_fault lost))
@@ -121,7 +121,7 @@ module _ (lab : Laboratory) (e : Event) (fault : WorldFault) (new : Laboratory) 
     gone = gone ∙ ap (λ (f : WorldFault). gone_after_answer (Err f) count) is_lost ∙ gone_told lost count;
   }
 
-  -- an event that the world refuses is answered so
+  -- an event that the world refuses is answered with that refusal
   pub refused_change : (answer : Answer) (told : Result declared.Answer CrewFault) → IsTold (world_refusal fault) told → IfErr told (λ lost. fault ≡ world_faults.Replica (growth_fault lost))
       → IsOutcome (change_outcome lab e answer) told lab new count later
   refused_change answer told is_told lost = of_refusal (change_outcome lab e answer) told is_told lost (λ r cause. rw cause refl)

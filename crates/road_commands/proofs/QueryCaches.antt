@@ -1,4 +1,4 @@
--- The caches of a laboratory's queries, and what an event makes of them.
+-- The caches of a laboratory's queries, and the effect of an event on them.
 use Rattle.std.proofs.Common.{◌≡◌, ◌≢◌, ◌<◌, ◌≤◌, ℕ, zero, suc, List, [], ◌∷◌, length, Some, true, refl, ap, sym, subst, ◌∙◌, arith}
 use Rattle.std.specs.Prelude.{slice_set}
 use Rattle.std.specs.List.{All, slice_get, slice_index_or}
@@ -24,9 +24,9 @@ use Rattle.road_commands.specs.Private.Caching.{IsCached}
 use Rattle.road_commands.specs.Laboratory.{Laboratory}
 use Rattle.road_commands.specs.Private.Changes.{keeps_edits}
 
--- ---- lists of which one element is set
+-- ---- lists with one element set
 
--- what holds of the element set and of each other one, each at its place, holds of all
+-- a fact about the element set and each other one, each at its place, is a fact about all
 set_each : {A : Type 0} (P : ℕ → A → Type 0) (xs : List A) (r : ℕ) (new : A) → P r new → ((q : ℕ) (x : A) → q ≢ r → slice_get xs q ≡ Some x → P q x)
     → (q : ℕ) (x : A) → slice_get (slice_set xs r new) q ≡ Some x → P q x
 set_each P [] r new here others q x is = cc
@@ -36,7 +36,7 @@ set_each P (y ∷ ys) (suc r) new here others zero x is = others zero x (λ e. c
 set_each P (y ∷ ys) (suc r) new here others (suc q) x is =
     set_each (λ n z. P (suc n) z) ys r new here (λ n z other at. others (suc n) z (λ e. other (cc)) at) q x is
 
--- what holds of all elements holds of the one at a place
+-- a fact about all elements is a fact about the one at a place
 all_at : {A : Type 0} (P : A → Type 0) (xs : List A) (q : ℕ) (x : A) → All P xs → slice_get xs q ≡ Some x → P x
 all_at P [] q x all is = cc
 all_at P (y ∷ ys) zero x all is = let same : y ≡ x = cc in subst P same (All-head P y ys all)
@@ -44,7 +44,7 @@ all_at P (y ∷ ys) (suc q) x all is = all_at P ys q x (All-tail P y ys all) is
 
 -- ---- the edits of replicas after an event
 
--- a replica whose edits stay is set: the edits of all replicas stay
+-- if a replica is set to one with the same edits, the edits of all replicas stay
 set_horizon : (xs : List WorldReplica) (r q : ℕ) (x : WorldReplica) → x.edits ≡ (slice_index_or xs r opening_replica).edits
     → (slice_index_or (slice_set xs r x) q opening_replica).edits ≡ (slice_index_or xs q opening_replica).edits
 set_horizon [] r q x e = refl
@@ -57,7 +57,7 @@ set_horizon (y ∷ ys) (suc r) (suc q) x e = set_horizon ys r q x e
 abbrev SameEdits : World → World → ℕ → Type 0
 SameEdits v w q = (replica_at v q).edits ≡ (replica_at w q).edits
 
--- those of all stay where the event keeps edits
+-- the edits of all replicas stay if the event keeps edits
 edits_kept : (e : Event) (w : World) (q : ℕ) → keeps_edits e ≡ true → SameEdits (world_after_event e w) w q
 edits_kept (Edit r o step n) w q h = cc
 edits_kept (Withdraw r o step) w q h = cc
@@ -82,7 +82,7 @@ others_kept (Beyond r m) w q other = refl
 others_kept (Take r m) w q other = other_set w r q _ other
 others_kept (Advance r to) w q other = other_set w r q _ other
 
--- edits that stay do so as far as winners go, where all edits have won
+-- edits that stay also stay as winners, if all edits are winners
 won_edits : (v w : World) (q : ℕ) → world_of_winners w ≡ w → SameEdits v w q → SameEdits (world_of_winners v) w q
 won_edits v w q won same =
     ap (λ (x : WorldReplica). x.edits) (replica-of_winners v q) ∙ ap winners same
@@ -90,7 +90,7 @@ won_edits v w q won same =
 
 -- ---- one cache
 
--- of the run of one plan and edits, it is so of the run of the same
+-- a cache of the run of one plan and edits is a cache of the run of the same
 same_run : (v w : World) (q : ℕ) (kept : QueryCache) → v.plan ≡ w.plan → SameEdits v w q → IsCacheOf (sheet_at w q) kept → IsCacheOf (sheet_at v q) kept
 same_run v w q kept plan same is = cache_runs.same_run (sheet_at w q) (sheet_at v q) kept (sym plan) (sym same) is
 
@@ -122,7 +122,7 @@ cached_on names w v runs e kept is keeps =
     } in
     subst (λ (u : World). IsCached names u runs) (sym is) after
 
--- after any event, where the cache of its replica becomes one of every run of the plan
+-- after any event, if the cache of its replica becomes one that suits every run of the plan
 pub cached_but_one : (names : List (List ℕ)) (w v : World) (runs : List QueryCache) (e : Event) (r : ℕ) (old new : QueryCache) → IsCached names w runs → v ≡ world_of_winners (world_after_event e w) → r ≡ replica_number e
     → r < length runs → old ≡ slice_index_or runs r old → ((before after : Sheet) → before.plan ≡ after.plan → IsCacheOf before old → IsCacheOf after new) → IsCached names v (slice_set runs r new)
 cached_but_one names w v runs e r old new kept is here below was restarts =
@@ -138,7 +138,7 @@ cached_but_one names w v runs e r old new kept is here below was restarts =
     } in
     subst (λ (x : World). IsCached names x (slice_set runs r new)) (sym is) after
 
--- after a query, of which the cache is another one of the run
+-- after a query, whose cache is another one of the run
 pub cached_shown : (names : List (List ℕ)) (w : World) (runs : List QueryCache) (r : ℕ) (new : QueryCache) (sheet : Sheet) → IsCached names w runs → sheet ≡ sheet_at w r → IsCacheOf sheet new → IsCached names w (slice_set runs r new)
 cached_shown names w runs r new sheet kept same is = record {
   few = kept.few;
@@ -161,14 +161,14 @@ cached_opening names plan w runs count is named each few opening =
     } in
     subst (λ (u : World). IsCached names u runs) (sym is) first
 
--- ---- what the laboratory's view says
+-- ---- the laboratory's view
 
--- a laboratory by its parts
+-- a laboratory, given its parts
 abbrev pub laboratory_with : List (List ℕ) → List (List ℕ) → World → Laboratory
 laboratory_with names messages w = record { replica_names = names; message_names = messages; world = w }
 
 module _ (names messages : List (List ℕ)) (w : World) (runs : List QueryCache) (lab : Laboratory) (view_is : laboratory_with names messages w ≡ lab) (kept : IsCached names w runs) where
-  -- a number below how many names there are is that of a cache
+  -- a number below the number of names is that of a cache
   pub run_below : (r : ℕ) → r < length lab.replica_names → r < length runs
   run_below r below =
       let same : length names ≡ length lab.replica_names = ap (λ (l : Laboratory). length l.replica_names) view_is in omega (arith, same, kept.each, below)

@@ -1,5 +1,5 @@
--- The winners suffice: the laboratory of which each replica and each message has the winners alone answers every command
--- as the laboratory does, and after it it is again the laboratory's, as far as winners go.
+-- The winners suffice: the laboratory whose replicas and messages have only the winners answers every command as the
+-- laboratory does. Afterwards it is again the laboratory of winners.
 use Rattle.std.proofs.Common.{◌≡◌, ℕ, List, ◌∷◌, [], ◌++◌, length, map, Option, Some, None, refl, ap, ◌∙◌}
 use Rattle.std.specs.Prelude.{suc, ◌-◌}
 use Rattle.std.specs.List.{range_with_len, slice_get}
@@ -33,7 +33,7 @@ use Rattle.road_format.specs.declared.refusal.Refusal.{Refusal}
 use Rattle.road_format.specs.declared.refusal.Refusal.TheVariants as refusals
 use Rattle.road_commands.specs.Laboratory.{Laboratory, Outcome, answer_to, cars_answer, cars_of_state, cells_answer, change_outcome, count_answer, crowd_of, crowd_outcome, diagram_answer, edits_held, import_outcome, laboratory_after, laboratory_of_winners, name_refusal, number_of, outcome, outcome_at, outcome_by_name, replica_name, scenario_answer, totals_answer, message_outcome, query_outcome, query_answer, outcome_unless, outcome_by_number, world_refusal}
 
--- ---- outcomes, as far as winners go
+-- ---- outcomes, as far as winners are concerned
 
 -- the same answer, and the laboratory of winners after it
 abbrev pub outcome_of_winners : Outcome → Outcome
@@ -43,15 +43,15 @@ outcome_of_winners o = record { answer = o.answer; after = laboratory_of_winners
 abbrev Alike : Outcome → Outcome → Type 0
 Alike o p = outcome_of_winners o ≡ outcome_of_winners p
 
--- a laboratory by its parts
+-- a laboratory, given its parts
 abbrev laboratory_with : List (List ℕ) → List (List ℕ) → World → Laboratory
 laboratory_with names messages w = record { replica_names = names; message_names = messages; world = w }
 
--- an outcome by its
+-- an outcome, given its parts
 abbrev outcome_with : Answer → List (List ℕ) → List (List ℕ) → World → Outcome
 outcome_with answer names messages w = record { answer = answer; after = laboratory_with names messages w }
 
--- outcomes are alike that have the same answer, the same names, and worlds of the same winners
+-- outcomes are alike if they have the same answer, the same names, and worlds of the same winners
 alike : (a b : Answer) (names messages : List (List ℕ)) (v w : World) → a ≡ b → world_of_winners v ≡ world_of_winners w → Alike (outcome_with a names messages v) (outcome_with b names messages w)
 alike a b names messages v w e f =
     ap (λ (x : Answer). outcome_with x names messages (world_of_winners v)) e
@@ -66,7 +66,7 @@ unless_alike : (lab : Laboratory) (r : Option Refusal) (o p : Outcome) → Alike
 unless_alike lab (Some refusal) o p e = shown_alike lab (replies.Refused refusal) (replies.Refused refusal) refl
 unless_alike lab None o p e = e
 
--- or under two refusals that are one
+-- or under two refusals that are equal
 under_alike : (lab : Laboratory) (r s : Option Refusal) (o p : Outcome) → r ≡ s → Alike o p → Alike (outcome_unless (laboratory_of_winners lab) r o) (outcome_unless lab s p)
 under_alike lab r s o p e f =
     ap (λ (q : Option Refusal). outcome_of_winners (outcome_unless (laboratory_of_winners lab) q o)) e ∙ unless_alike lab s o p f
@@ -79,7 +79,7 @@ with_alike lab refusal (Some n) f g e = e n
 
 -- ---- changes
 
--- an event, where its answers are the same
+-- an event, if its answers are the same
 changed_alike : (lab : Laboratory) (e : Event) (a b : Answer) → a ≡ b → Alike (change_outcome (laboratory_of_winners lab) e a) (change_outcome lab e b)
 changed_alike lab e a b same =
     under_alike lab _ _ _ _ (ap (option_and_then world_refusal) (fault_at-of_winners e lab.world))
@@ -91,7 +91,7 @@ sent_alike lab e name a b same =
     under_alike lab _ _ _ _ (ap (λ (f : Option WorldFault). option_or (option_and_then world_refusal f) (name_refusal lab name)) (fault_at-of_winners e lab.world))
     (alike a b lab.replica_names (lab.message_names ++ name ∷ []) _ _ same (event-of_winners e lab.world))
 
--- what a change is answered, by the world's reply
+-- the answer to a change, from the world's reply
 abbrev reply_answer : Reply → Answer
 reply_answer (world_replies.Stamped stamp) = replies.Stamped stamp
 reply_answer (world_replies.Touched step) = replies.Touched step
@@ -113,7 +113,7 @@ imported_alike lab r es =
 
 -- ---- queries
 
--- a sheet of the winners alone
+-- a sheet of the winners only
 abbrev sheet_of_winners : Sheet → Sheet
 sheet_of_winners s = record s { edits = winners s.edits }
 
@@ -146,18 +146,18 @@ diagram_alike s from to =
 scenario_alike : (s : Sheet) → scenario_answer (sheet_of_winners s) ≡ scenario_answer s
 scenario_alike s = ap (λ (es : Edits). replies.Edits (items es)) (winners_again s.edits)
 
--- what is read of a replica's sheet, where the winners suffice for it
+-- a function of a replica's sheet, if the winners suffice for it
 read_alike : (lab : Laboratory) (r : ℕ) (read : Sheet → Answer) → ((s : Sheet) → read (sheet_of_winners s) ≡ read s)
     → Alike (query_outcome (laboratory_of_winners lab) (read (sheet_at (laboratory_of_winners lab).world r))) (query_outcome lab (read (sheet_at lab.world r)))
 read_alike lab r read same = shown_alike lab _ _ (ap read (sheet_is lab.world r) ∙ same (sheet_at lab.world r))
 
 -- ---- crowds
 
--- a crowd depends on the plan alone
+-- a crowd depends only on the plan
 crowd_alike : (lab : Laboratory) (shares : List (List edit.Edit)) (to : ℕ) → Alike (crowd_outcome (laboratory_of_winners lab) shares to) (crowd_outcome lab shares to)
 crowd_alike lab shares to = shown_alike lab _ _ refl
 
--- where there is one, and else what comes of the command otherwise
+-- the crowd if there is one, and else the outcome of another command
 by_crowd_alike : (lab : Laboratory) (crowd : Option (List (List edit.Edit) × ℕ)) (o p : Outcome) → Alike o p
     → Alike (option_map_or (λ c. crowd_outcome (laboratory_of_winners lab) c.0 c.1) crowd o) (option_map_or (λ c. crowd_outcome lab c.0 c.1) crowd p)
 by_crowd_alike lab None o p e = e
@@ -191,7 +191,7 @@ outcome_at_alike lab r (commands.Diagram at from to) = read_alike lab r (λ s. d
 outcome_at_alike lab r (commands.Scenario at) = read_alike lab r scenario_answer scenario_alike
 outcome_at_alike lab r (commands.Crowd shares to) = crowd_alike lab shares to
 
--- a command whose replica is asked for first
+-- a command whose replica is looked up first
 by_name_alike : (lab : Laboratory) (command : Command) → Alike (outcome_by_name (laboratory_of_winners lab) command) (outcome_by_name lab command)
 by_name_alike lab command =
     with_alike lab refusals.NoReplica (option_and_then (number_of lab.replica_names) (replica_name command)) _ _ (λ r. outcome_at_alike lab r command)
@@ -204,6 +204,6 @@ winners_suffice lab command = by_crowd_alike lab (crowd_of command) _ _ (by_name
 pub answer-of_winners : (lab : Laboratory) (command : Command) → answer_to (laboratory_of_winners lab) command ≡ answer_to lab command
 answer-of_winners lab command = ap (λ (o : Outcome). o.answer) (winners_suffice lab command)
 
--- and the laboratory after it the whole one's, as far as winners go
+-- and the laboratory after it is that of the whole one, as far as winners are concerned
 pub after-of_winners : (lab : Laboratory) (command : Command) → laboratory_of_winners (laboratory_after (laboratory_of_winners lab) command) ≡ laboratory_of_winners (laboratory_after lab command)
 after-of_winners lab command = ap (λ (o : Outcome). o.after) (winners_suffice lab command)

@@ -1,4 +1,4 @@
--- A laboratory: a world whose replicas and messages have names, and what it answers to commands.
+-- A laboratory: a world whose replicas and messages have names, and its answers to commands.
 use Rattle.std.specs.Prelude.{ℕ, max, List, [], ◌∷◌, ◌++◌, length, map, is_some, is_none, if◌then◌else◌, Result}
 use Rattle.std.specs.Prelude.{Bool, true, false}
 use Rattle.std.specs.List.{position, slice_get}
@@ -60,11 +60,11 @@ opening_laboratory line = record {
   world = opening_world line.plan (length line.names);
 }
 
--- the laboratory of which each replica holds, and each message carries, the winners alone
+-- the laboratory whose replicas and messages hold only the winners
 abbrev pub laboratory_of_winners : Laboratory → Laboratory
 laboratory_of_winners lab = record lab { world = world_of_winners lab.world }
 
--- what a command comes to: its answer, and the laboratory after it
+-- the outcome of a command: its answer, and the laboratory after it
 pub record Outcome : Type 0 where
   pub answer : Answer
   pub after : Laboratory
@@ -75,12 +75,12 @@ pub record Outcome : Type 0 where
 abbrev pub refusal_outcome : Laboratory → Refusal → Outcome
 refusal_outcome lab refusal = record { answer = Refused refusal; after = lab }
 
--- refused where there is a refusal, and else what is given
+-- the refusal if there is one, and else the given outcome
 abbrev pub outcome_unless : Laboratory → Option Refusal → Outcome → Outcome
 outcome_unless lab (Some refusal) outcome = refusal_outcome lab refusal
 outcome_unless lab None outcome = outcome
 
--- how a replica's refusal is answered; want of workers or of memory is none
+-- the answer to a replica's refusal; lost workers and out of memory have none
 abbrev pub replica_refusal : ReplicaFault → Option Refusal
 replica_refusal replica_faults.NoObject = Some refusals.NoObject
 replica_refusal replica_faults.Step = Some refusals.Step
@@ -95,7 +95,7 @@ replica_refusal replica_faults.NotSimulated = Some refusals.NotSimulated
 replica_refusal replica_faults.WorkersGone = None
 replica_refusal replica_faults.OutOfMemory = None
 
--- how a world's refusal is answered
+-- the answer to a world's refusal
 abbrev pub world_refusal : WorldFault → Option Refusal
 world_refusal world_faults.NoReplica = Some refusals.NoReplica
 world_refusal world_faults.NoMessage = Some refusals.NoMessage
@@ -103,11 +103,11 @@ world_refusal (world_faults.Replica fault) = replica_refusal fault
 
 -- ---- names
 
--- the number of the thing of a name: its place in the list
+-- the number of the thing with a name: the name's place in the list
 abbrev pub number_of : List (List ℕ) → List ℕ → Option ℕ
 number_of names name = position (bytes_eq name) names
 
--- what comes of a number, where there is one, and else the refusal
+-- the outcome for a number, if there is one, and else the refusal
 abbrev pub outcome_by_number : Laboratory → Refusal → Option ℕ → (ℕ → Outcome) → Outcome
 outcome_by_number lab refusal None next = refusal_outcome lab refusal
 outcome_by_number lab refusal (Some number) next = next number
@@ -118,7 +118,7 @@ name_refusal lab name = if is_some (number_of lab.message_names name) then Some 
 
 -- ---- changes
 
--- the edits that replica r holds, as far as they win
+-- the edits that replica r holds, as far as they are winners
 abbrev pub edits_held : World → ℕ → Edits
 edits_held w r = winners (replica_at w r).edits
 
@@ -146,12 +146,12 @@ message_outcome lab event name answer =
 abbrev pub stamp_answer : World → ℕ → Object → ℕ → Value → Answer
 stamp_answer w r object step value = Stamped (local_edit r (replica_at w r).edits object step value).stamp
 
--- the first step that edits touch where they reach replica r
+-- the first step that edits touch when they reach replica r
 abbrev pub touched_answer : World → ℕ → Edits → Answer
 touched_answer w r edits = Touched (first_touched_step (replica_at w r).edits (union (replica_at w r).edits edits))
 
--- Edits reach replica r from outside, unless it refuses them. It is what the event `Import` comes to; that event owns a
--- list of the program, which a definition does not make, so none stands here.
+-- Edits reach replica r from outside, unless it refuses them. It is the outcome of the event `Import`. That event owns
+-- a list of the program, which a definition cannot make, so the event is not named here.
 abbrev pub import_outcome : Laboratory → ℕ → List edit.Edit → Outcome
 import_outcome lab r edits =
     outcome_unless lab (option_and_then replica_refusal (import_fault lab.world.plan edits)) (record {
@@ -159,16 +159,16 @@ import_outcome lab r edits =
       after = record lab { world = world_with_edits r (from_list edits) lab.world };
     })
 
--- replica r sends all that it holds; the answer is how many edits that are
+-- replica r sends all edits that it holds; the answer is their number
 abbrev pub send_outcome : Laboratory → ℕ → List ℕ → Outcome
 send_outcome lab r name = message_outcome lab (events.Send r) name (Sent name (length (items (edits_held lab.world r))))
 
--- replica r sends the heads of all that it holds
+-- replica r sends the heads of all edits that it holds
 abbrev pub heads_outcome : Laboratory → ℕ → List ℕ → Outcome
 heads_outcome lab r name =
     message_outcome lab (events.Heads r) name (replies.Heads name (heads (edits_held lab.world r)))
 
--- replica r sends what it holds beyond the heads of a message
+-- replica r sends the edits that it holds beyond the heads of a message
 abbrev pub beyond_outcome : Laboratory → ℕ → List ℕ → List ℕ → Outcome
 beyond_outcome lab r asked name =
     outcome_by_number lab refusals.NoMessage (number_of lab.message_names asked) (λ message.
@@ -184,12 +184,12 @@ take_outcome lab r name =
 
 -- ---- queries: they change nothing
 
--- refused where there is a refusal, and else the answer
+-- the refusal if there is one, and else the answer
 abbrev pub answer_unless : Option Refusal → Answer → Answer
 answer_unless (Some refusal) answer = Refused refusal
 answer_unless None answer = answer
 
--- refused where there is a cause, and else the answer
+-- the refusal if there is a cause, and else the answer
 abbrev pub query_answer : Option ReplicaFault → Answer → Answer
 query_answer fault answer = answer_unless (option_and_then replica_refusal fault) answer
 
@@ -209,12 +209,12 @@ cars_answer sheet step = query_answer (state_fault sheet step) (replies.Cars (ca
 abbrev pub totals_answer : Totals → Answer
 totals_answer totals = Counted totals.cars totals.speeds
 
--- what a detector counts in the steps from one up to another
+-- the counts of a detector in the steps from `from` to before `to`
 abbrev pub count_answer : Sheet → ℕ → ℕ → ℕ → Answer
 count_answer sheet detector from to =
     query_answer (totals_fault sheet detector from to) (totals_answer (total_of sheet detector from to))
 
--- the rows of the steps from one to another, both of them
+-- the rows of the steps from `from` to `to`, both included
 abbrev pub diagram_answer : Sheet → ℕ → ℕ → Answer
 diagram_answer sheet from to = query_answer (rows_fault sheet from to) (replies.Rows (rows_of sheet from to))
 
@@ -226,18 +226,18 @@ scenario_answer sheet = replies.Edits (items (winners sheet.edits))
 abbrev pub query_outcome : Laboratory → Answer → Outcome
 query_outcome lab answer = record { answer = answer; after = lab }
 
--- ---- crowds: they are asked of no replica, and change nothing
+-- ---- crowds: they use no replica, and change nothing
 
--- Why a crowd is refused: as a replica would refuse the first faulty edit, in the order of the shares, else the step.
+-- Why a crowd is refused: a replica would refuse its first faulty edit, in the order of the shares, or else its step.
 abbrev pub crowd_refusal : Plan → List (List edit.Edit) → ℕ → Option Refusal
 crowd_refusal plan shares to = option_and_then replica_refusal (shares_fault plan shares to)
 
--- what the sessions of a crowd leave: the winners of all edits, how many writes they make, and the row of the step
+-- the result of a crowd: the winners of all edits, the number of its writes, and the row of the step
 abbrev pub crowd_answer : Plan → List (List edit.Edit) → ℕ → Answer
 crowd_answer plan shares to =
     replies.Crowd (items (crowd_winners shares)) (crowd_writes shares) (row_at plan (crowd_winners shares) to)
 
--- what a crowd comes to
+-- the outcome of a crowd
 abbrev pub crowd_outcome : Laboratory → List (List edit.Edit) → ℕ → Outcome
 crowd_outcome lab shares to =
     query_outcome lab
@@ -262,7 +262,7 @@ replica_name (commands.Diagram at from to) = Some at
 replica_name (commands.Scenario at) = Some at
 replica_name (commands.Crowd shares to) = None
 
--- what a command to replica r comes to
+-- the outcome of a command to replica r
 abbrev pub outcome_at : Laboratory → ℕ → Command → Outcome
 outcome_at lab r (commands.Edit at object step number) =
     change_outcome lab (events.Edit r object step number) (stamp_answer lab.world r object step (Put number))
@@ -283,7 +283,7 @@ outcome_at lab r (commands.Diagram at from to) = query_outcome lab (diagram_answ
 outcome_at lab r (commands.Scenario at) = query_outcome lab (scenario_answer (sheet_at lab.world r))
 outcome_at lab r (commands.Crowd shares to) = crowd_outcome lab shares to
 
--- what a command comes to where its replica is asked for first
+-- the outcome of a command if its replica is looked up first
 abbrev pub outcome_by_name : Laboratory → Command → Outcome
 outcome_by_name lab command =
     outcome_by_number lab refusals.NoReplica
@@ -295,12 +295,12 @@ abbrev pub crowd_of : Command → Option (List (List edit.Edit) × ℕ)
 crowd_of (commands.Crowd shares to) = Some (shares, to)
 crowd_of command = None
 
--- what a command comes to: a crowd asks for no replica; of every other command the replica is asked for first
+-- the outcome of a command: a crowd needs no replica; for every other command the replica is looked up first
 abbrev pub outcome : Laboratory → Command → Outcome
 outcome lab command =
     option_map_or (λ crowd. crowd_outcome lab crowd.0 crowd.1) (crowd_of command) (outcome_by_name lab command)
 
--- what a command is answered
+-- the answer to a command
 abbrev pub answer_to : Laboratory → Command → Answer
 answer_to lab command = (outcome lab command).answer
 
@@ -308,12 +308,12 @@ answer_to lab command = (outcome lab command).answer
 abbrev pub laboratory_after : Laboratory → Command → Laboratory
 laboratory_after lab command = (outcome lab command).after
 
--- whether a command is a crowd that nothing refuses, so that sessions on threads of their own are asked
+-- whether a command is a crowd that nothing refuses, so that sessions run on their own threads
 abbrev pub is_gathered : Plan → Command → Bool
 is_gathered plan command =
     option_map_or (λ crowd. is_none (crowd_refusal plan crowd.0 crowd.1)) (crowd_of command) false
 
--- how often a crew has answered `WorkersGone`, after an answer to a command; sessions that are asked ask no crew
+-- how often a crew has returned `WorkersGone`, after an answer to a command; a crowd that is gathered uses no crew
 abbrev pub gone_after_command : {A : Type 0} → Result A CrewFault → Bool → ℕ → ℕ
 gone_after_command (Ok answer) gathered n = n
 gone_after_command (Err crew_faults.OutOfMemory) gathered n = n

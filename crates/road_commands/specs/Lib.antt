@@ -1,3 +1,3 @@
--- What a laboratory answers, and what its own calls alone see.
+-- The answers of a laboratory, and definitions for its own calls.
 pub mod Laboratory
 pub mod Private

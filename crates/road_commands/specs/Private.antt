@@ -1,5 +1,5 @@
--- What is kept beside a laboratory, and queries, events and outcomes as the code's calls see them, of which no public
--- contract speaks.
+-- The caches of a laboratory, and queries, events and outcomes as the code's calls see them. No public contract names
+-- them.
 pub mod Caching
 pub mod Queries
 pub mod Changes

@@ -30,7 +30,7 @@ use crate::crowds::crowd_refusal;
 use crate::names::Names;
 use crate::queries::{Query, ask_sheet};
 use crate::translation::{
-    answer_of, answer_of_message, keeps_edits, name_of, told, told_by_replica,
+    answer_of, answer_of_fault, answer_of_message, answer_of_replica_fault, keeps_edits, name_of,
 };
 use road_ends::Meter;
 use road_format::{Answer, Command, PlanLine, Refusal};
@@ -45,7 +45,7 @@ use std::hash::BuildHasher;
 use std::marker::Model;
 use std::sync::Arc;
 
-/// Names the replicas and the messages of a world, and caches the queries of each replica.
+/// The names of the replicas and the messages of a world, their world, and a cache of each replica's queries.
 #[derive(Drop)]
 pub struct Laboratory<S: BuildHasher> {
     replicas: Names<S>,
@@ -75,12 +75,12 @@ impl<S: BuildHasher> Model for Laboratory<S> {
 }
 
 impl<S: BuildHasher + Copy> Laboratory<S> {
-    /// Opens the laboratory of a plan line, before any command. No step is simulated. The line has at most 64 names, all
-    /// different, as every line that `read_plan` accepts.
+    /// Open the laboratory of a plan line, before any command. No step is simulated. The line must have at most 64
+    /// names, all different, as every line that `read_plan` accepts.
     ///
     /// # Errors
     ///
-    /// `OutOfMemory` where an allocation failed.
+    /// `OutOfMemory` if an allocation failed.
     pub fn open(alloc: Global, line: PlanLine, hasher: S) -> Result<Laboratory<S>, OutOfMemory>
         requires few { length line.names.items ≤ MOST_REPLICAS }
         requires apart { IsDistinct bytes_eq (texts line.names.items) }
@@ -93,21 +93,21 @@ impl<S: BuildHasher + Copy> Laboratory<S> {
         let world = World::open(alloc, plan, count as u32)?;
         Ok(Laboratory {
             replicas,
-            messages: Names::none(alloc, hasher),
+            messages: Names::empty(alloc, hasher),
             world,
             caches,
             meter: Meter::new(),
         })
     }
 
-    /// Answers a command. A write computes anew, by the crew that it is given, every simulated step that it touches before
-    /// it answers. A crowd, which has 1 to 8 shares of at most 1,000,000 writes, is gathered by `crowds` where nothing
-    /// refuses it. A refused command changes nothing, and a crowd neither.
+    /// Answer a command. Before a write returns, it recomputes every simulated step that it touches, with the crew that
+    /// it is given. A crowd must have 1 to 8 shares of at most 1,000,000 writes. It is passed to `crowds` if nothing
+    /// refuses it. A refused command changes nothing, and neither does a crowd.
     ///
     /// # Errors
     ///
-    /// `WorkersGone` where the crew answers so, or, at a crowd that nothing refuses, `crowds` does; `OutOfMemory` where an
-    /// allocation failed, or `crowds` says so. The laboratory is then as it was before.
+    /// `WorkersGone` if the crew returned it, or if `crowds` did for a crowd that nothing refuses. `OutOfMemory` if an
+    /// allocation failed, or `crowds` returned it. The laboratory is then unchanged.
     pub fn answer<C: Crew, K: Crowds>(
         &mut self,
         alloc: Global,
@@ -126,7 +126,7 @@ impl<S: BuildHasher + Copy> Laboratory<S> {
         self.answer_by_name(alloc, command, crew, crowds)
     }
 
-    // Answers a crowd.
+    // Answer a crowd.
     fn gather<K: Crowds>(
         &self,
         alloc: Global,
@@ -159,7 +159,7 @@ impl<S: BuildHasher + Copy> Laboratory<S> {
         })
     }
 
-    // Answers a command: its replica is asked for first. A crowd writes to a replica of its own.
+    // Answer a command, after looking up its replica. A crowd names no replica and has its own.
     fn answer_by_name<C: Crew, K: Crowds>(
         &mut self,
         alloc: Global,
@@ -181,7 +181,7 @@ impl<S: BuildHasher + Copy> Laboratory<S> {
         self.answer_at(alloc, at, command, crew, crowds)
     }
 
-    // Returns the number of a replica's name.
+    // Return the number of a replica's name.
     fn replica_of(&self, name: &str) -> Option<u32>
         ensures number { result ≡ number_of self.now.replica_names name.now }
         ensures within { IfSome result (λ at. at < length self.now.replica_names) }
@@ -191,7 +191,7 @@ impl<S: BuildHasher + Copy> Laboratory<S> {
         Some(number as u32)
     }
 
-    // Answers a command to a replica. Which one that is does not matter to a crowd.
+    // Answer a command to a replica. For a crowd it does not matter which replica it is.
     fn answer_at<C: Crew, K: Crowds>(
         &mut self,
         alloc: Global,
@@ -245,7 +245,7 @@ impl<S: BuildHasher + Copy> Laboratory<S> {
         }
     }
 
-    // Asks a replica's sheet. No crew is needed.
+    // Query a replica's sheet. No crew is needed.
     fn ask(&mut self, alloc: Global, at: u32, query: Query) -> Result<Answer, CrewFault>
         requires { at < length self.old.replica_names }
         ensures { (gone : ℕ) → IsOutcome
@@ -258,13 +258,13 @@ impl<S: BuildHasher + Copy> Laboratory<S> {
         let cache = &mut self.caches[at as usize];
         match ask_sheet(alloc, replica.sheet(), cache, query) {
             Ok(answer) => Ok(answer),
-            Err(fault) => told_by_replica(fault),
+            Err(fault) => answer_of_replica_fault(fault),
         }
     }
 
     // ---- changes
 
-    // Applies an event that makes no message.
+    // Apply an event that makes no message.
     fn change<C: Crew>(
         &mut self,
         alloc: Global,
@@ -278,11 +278,11 @@ impl<S: BuildHasher + Copy> Laboratory<S> {
     {
         match self.apply(alloc, event, crew) {
             Ok(reply) => Ok(answer_of(reply)),
-            Err(fault) => told(fault),
+            Err(fault) => answer_of_fault(fault),
         }
     }
 
-    // Returns the number of a message's name.
+    // Return the number of a message's name.
     fn message_of(&self, name: &str) -> Option<u64>
         ensures number { result ≡ number_of self.now.message_names name.now }
         ensures winners { laboratory_of_winners self.now ≡ self.now }
@@ -291,7 +291,7 @@ impl<S: BuildHasher + Copy> Laboratory<S> {
         Some(number as u64)
     }
 
-    // Has a replica take a message.
+    // Let a replica take a message.
     fn take<C: Crew>(
         &mut self,
         alloc: Global,
@@ -311,7 +311,7 @@ impl<S: BuildHasher + Copy> Laboratory<S> {
 
     // ---- messages
 
-    // Makes a message of what a replica holds beyond the heads of another.
+    // Make a message of the edits that a replica holds beyond the heads of another message.
     fn beyond(
         &mut self,
         alloc: Global,
@@ -329,7 +329,7 @@ impl<S: BuildHasher + Copy> Laboratory<S> {
         }
     }
 
-    // Makes a message of a replica, and names it.
+    // Make a message of a replica, and name it.
     fn make(
         &mut self,
         alloc: Global,
@@ -342,9 +342,9 @@ impl<S: BuildHasher + Copy> Laboratory<S> {
             (made_answer self.old.world (sending_event at sending) (string_bytes name)))
             result self.old self.new gone gone }
     {
-        let message = match self.made(alloc, at, sending) {
+        let message = match self.make_message(alloc, at, sending) {
             Ok(message) => message,
-            Err(fault) => return told(fault),
+            Err(fault) => return answer_of_fault(fault),
         };
         if self.message_of(&name).is_some() {
             return Ok(Answer::Refused(Refusal::NameTaken));
@@ -354,8 +354,8 @@ impl<S: BuildHasher + Copy> Laboratory<S> {
         Ok(answer)
     }
 
-    // Makes a message of a replica that is there.
-    fn made(&self, alloc: Global, at: u32, sending: Sending) -> Result<Message, WorldFault>
+    // Make a message of an existing replica.
+    fn make_message(&self, alloc: Global, at: u32, sending: Sending) -> Result<Message, WorldFault>
         requires there { at < length self.now.replica_names }
         ensures made { IsMade self.now.world (sending_event at sending) result }
         ensures fits { IfOk result (λ message. FitsSomePlan (carried_edits (Some message))) }
@@ -366,7 +366,7 @@ impl<S: BuildHasher + Copy> Laboratory<S> {
         self.world.message_by(alloc, at, sending)
     }
 
-    // Applies an event whose message is made already, and names that message. No message may have the name.
+    // Apply an event whose message is already made, and name that message. No message may have the name yet.
     fn post(&mut self, event: &Event, message: Message, name: String) -> Result<(), OutOfMemory>
         requires accepted { fault_of_event self.old.world event.now ≡ None }
         requires made { message_of_event self.old.world event.now ≡ Some message }
@@ -382,13 +382,13 @@ impl<S: BuildHasher + Copy> Laboratory<S> {
         match self.world.post(event, message) {
             Ok(_) => Ok(()),
             Err(fault) => {
-                self.messages.cut(count);
+                self.messages.truncate(count);
                 Err(fault)
             }
         }
     }
 
-    // Applies an event to the world. Where it may change its replica's edits, the cache of that one begins anew.
+    // Apply an event to the world. If it may change its replica's edits, the replica gets a new cache.
     fn apply<C: Crew>(
         &mut self,
         alloc: Global,
@@ -412,7 +412,7 @@ impl<S: BuildHasher + Copy> Laboratory<S> {
     }
 }
 
-// Makes the caches of replicas before any command.
+// Make the caches of replicas before any command.
 fn opening_caches(alloc: Global, count: usize) -> Result<Vec<QueryCache>, OutOfMemory>
     ensures each { IfOk result (λ caches. length caches.items ≡ count) }
     ensures cached { IfOk result (λ caches. (sheet : Sheet) → All (IsCacheOf sheet) caches.items) }

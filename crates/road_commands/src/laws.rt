@@ -1,11 +1,12 @@
-//! What holds of all laboratories and commands, on a function that does nothing.
+//! A law of all laboratories and commands, as the contract of a function that does nothing.
 
 ghost use Rattle.std.specs.Prelude.{◌≡◌};
 ghost use Rattle.road_format.specs.CommandGrammar.{Command};
 ghost use Rattle.road_commands.specs.Laboratory.{Laboratory, answer_to, laboratory_after, laboratory_of_winners};
 
-/// The winners suffice: the laboratory whose replicas hold, and whose messages carry, the winners alone answers every
-/// command as the laboratory of all edits does, and is then the same as far as edits win.
+/// Show that the winners suffice. The laboratory whose replicas and messages hold only the winners answers every
+/// command as the laboratory of all edits does. Afterwards both are again the same, as far as winning edits are
+/// concerned.
 pub fn winners_suffice()
     ensures answer { (laboratory : Laboratory) (command : Command) →
         answer_to (laboratory_of_winners laboratory) command ≡ answer_to laboratory command }

@@ -1,8 +1,8 @@
-//! Laboratories: worlds whose replicas and messages have names, and which answer commands.
+//! Laboratories: worlds whose replicas and messages have names, and that answer commands.
 //!
 //! ```
-//! // The laboratory of a plan line. A command is read, answered by a crew, or by sessions on threads where it is a crowd,
-//! // and its reply written.
+//! // The laboratory of a plan line. A command is read, answered by a crew (or by sessions on threads if it is a
+//! // crowd), and its reply is written.
 //! let mut laboratory = Laboratory::open(alloc, read_plan(alloc, first_line)?, RandomState::new(&rt)?)?;
 //! let (mut crew, crowds) = (Alone, OnThreads::new(&rt));
 //! for line in lines {

@@ -13,8 +13,9 @@ use std::alloc::Global;
 use std::hash::BuildHasher;
 use std::marker::Model;
 
-/// Names, no two alike, numbered from 0 in their order. Contracts see the list of their texts. Each stands once, and is
-/// found by its hash, which an `S` makes: where its keys are random, nobody can craft names that share one.
+/// Different names, numbered from 0 in their order. Contracts see the list of their texts. Each is stored once, and
+/// found by its hash, which an `S` makes. If the keys of the hashes are random, nobody can craft names with equal
+/// hashes.
 #[derive(Drop)]
 pub struct Names<S: BuildHasher> {
     numbered: IndexSet<String, S>,
@@ -30,8 +31,8 @@ impl<S: BuildHasher> Model for Names<S> {
 }
 
 impl<S: BuildHasher + Drop> Names<S> {
-    /// Returns no names, whose hashes this will make. It takes no memory.
-    pub fn none(alloc: Global, hasher: S) -> Names<S>
+    /// Make the empty list of names, whose hashes this hasher will make. It takes no memory.
+    pub fn empty(alloc: Global, hasher: S) -> Names<S>
         ensures { result ≡ [] }
     {
         Names {
@@ -39,30 +40,30 @@ impl<S: BuildHasher + Drop> Names<S> {
         }
     }
 
-    /// Numbers these names, no two of which are alike.
+    /// Number these names. They must all be different.
     ///
     /// # Errors
     ///
-    /// `OutOfMemory` where an allocation failed.
+    /// `OutOfMemory` if an allocation failed.
     pub fn of(alloc: Global, names: Vec<String>, hasher: S) -> Result<Names<S>, OutOfMemory>
         requires { IsDistinct bytes_eq (texts names.items) }
         ensures { IfOk result (λ made. made ≡ texts names.items) }
     {
-        let mut numbered = Names::none(alloc, hasher);
+        let mut numbered = Names::empty(alloc, hasher);
         for name in names {
             numbered.add(name)?;
         }
         Ok(numbered)
     }
 
-    /// Returns how many names there are.
+    /// Return the number of names.
     pub fn len(&self) -> usize
         ensures { result ≡ length self.now }
     {
         self.numbered.len()
     }
 
-    /// Returns the number of a name.
+    /// Return the number of a name.
     pub fn number_of(&self, name: &str) -> Option<usize>
         ensures number { result ≡ number_of self.now name.now }
         ensures within { IfSome result (λ number. number < length self.now) }
@@ -70,11 +71,11 @@ impl<S: BuildHasher + Drop> Names<S> {
         self.numbered.get_index_of(name)
     }
 
-    /// Adds a name, the last. It must be new.
+    /// Add a name at the end. It must be new.
     ///
     /// # Errors
     ///
-    /// `OutOfMemory` where an allocation failed.
+    /// `OutOfMemory` if an allocation failed.
     pub fn add(&mut self, name: String) -> Result<(), OutOfMemory>
         requires { number_of self.old (string_bytes name) ≡ None }
         ensures after { OnOk result (self.new ≡ self.old ++ string_bytes name ∷ []) }
@@ -84,8 +85,8 @@ impl<S: BuildHasher + Drop> Names<S> {
         Ok(())
     }
 
-    /// Takes the last name away: only the first names stay.
-    pub fn cut(&mut self, count: usize)
+    /// Remove the last names, and keep the first `count`.
+    pub fn truncate(&mut self, count: usize)
         requires { length self.old ≡ count + 1 }
         ensures { self.new ≡ take count self.old }
     {

@@ -1,4 +1,4 @@
-//! Queries, and what a replica's sheet answers.
+//! Queries, and the answers of a replica's sheet.
 
 ghost use Rattle.std.specs.Prelude.{◌≡◌, IfErr, IfOk, None};
 ghost use Rattle.road_sheet.specs.QueryCaches.{IsCacheOf};
@@ -11,22 +11,22 @@ use road_replica::ReplicaFault;
 use road_sheet::{QueryCache, Sheet};
 use std::alloc::Global;
 
-/// What a replica is asked. It depends on the replica's sheet alone.
+/// A query of a replica. The answer depends only on the replica's sheet.
 #[derive(Clone, Copy)]
 pub enum Query {
     /// The row of a step.
     Cells { step: u32 },
     /// The cars of a step.
     Cars { step: u32 },
-    /// What a detector counts in the steps from one up to another.
+    /// The counts of a detector in the steps from `from` to before `to`.
     Count { detector: u32, from: u32, to: u32 },
-    /// The rows of the steps from one to another.
+    /// The rows of the steps from `from` to `to`, both included.
     Diagram { from: u32, to: u32 },
-    /// The edits held.
+    /// The edits that the replica holds.
     Scenario,
 }
 
-// Asks a replica's sheet by its cache.
+// Query a replica's sheet through its cache.
 pub(crate) fn ask_sheet(
     alloc: Global,
     sheet: &Sheet,

@@ -1,4 +1,4 @@
-//! Translates the world's replies and faults to the program's, and commands to the replica that they name.
+//! Translation of the world's replies and faults to the program's, and of commands to the replica that they name.
 
 ghost use Rattle.std.specs.Prelude.{◌≡◌, IfErr, IfOk, Some, false, string_bytes};
 ghost use Rattle.std.specs.Result.{result_ok};
@@ -18,7 +18,7 @@ use road_workers::CrewFault;
 use road_world::{Event, Message, WorldFault};
 use std::alloc::Global;
 
-// Returns the name of a command's replica. A crowd names none.
+// Return the name of a command's replica. A crowd names none.
 pub(crate) fn name_of(command: &Command) -> Option<&str>
     ensures { option_map (λ name. name.now) result ≡ laboratory.replica_name (command_view command.now) }
 {
@@ -40,7 +40,7 @@ pub(crate) fn name_of(command: &Command) -> Option<&str>
     }
 }
 
-// Returns whether an event leaves the edits of its replica as they were.
+// Return whether an event leaves the edits of its replica unchanged.
 pub(crate) fn keeps_edits(event: &Event) -> bool
     ensures { result ≡ changes.keeps_edits event.now }
 {
@@ -56,7 +56,7 @@ pub(crate) fn keeps_edits(event: &Event) -> bool
     }
 }
 
-// Translates the world's reply to a change that makes no message.
+// Translate the world's reply to a change that makes no message.
 pub(crate) fn answer_of(reply: Reply) -> Answer
     requires { changes.names_message reply ≡ false }
     ensures { answer_view result ≡ changes.reply_answer reply }
@@ -69,20 +69,20 @@ pub(crate) fn answer_of(reply: Reply) -> Answer
     }
 }
 
-// Tells a refusal of the world: its answer, or the fault for which there is none.
-pub(crate) fn told(fault: WorldFault) -> Result<Answer, CrewFault>
+// Translate a refusal of the world to its answer, or to the fault if it has no answer.
+pub(crate) fn answer_of_fault(fault: WorldFault) -> Result<Answer, CrewFault>
     ensures told { changes.IsTold (laboratory.world_refusal fault) result }
     ensures lost { IfErr result (λ lost. fault ≡ world_faults.Replica (growth_fault lost)) }
 {
     match fault {
         WorldFault::NoReplica => Ok(Answer::Refused(Refusal::NoReplica)),
         WorldFault::NoMessage => Ok(Answer::Refused(Refusal::NoMessage)),
-        WorldFault::Replica(fault) => told_by_replica(fault),
+        WorldFault::Replica(fault) => answer_of_replica_fault(fault),
     }
 }
 
-// Tells a refusal of a replica.
-pub(crate) fn told_by_replica(fault: ReplicaFault) -> Result<Answer, CrewFault>
+// Translate a refusal of a replica to its answer, or to the fault if it has no answer.
+pub(crate) fn answer_of_replica_fault(fault: ReplicaFault) -> Result<Answer, CrewFault>
     ensures told { changes.IsTold (laboratory.replica_refusal fault) result }
     ensures lost { IfErr result (λ lost. fault ≡ growth_fault lost) }
 {
@@ -92,7 +92,7 @@ pub(crate) fn told_by_replica(fault: ReplicaFault) -> Result<Answer, CrewFault>
     }
 }
 
-// Translates a refusal of a replica. What a crew lost, and out of memory, are no answer.
+// Translate a refusal of a replica. A lost worker and out of memory have no answer.
 pub(crate) fn replica_refusal(fault: ReplicaFault) -> Result<Refusal, CrewFault>
     ensures refusal { result_ok result ≡ laboratory.replica_refusal fault }
     ensures lost { IfErr result (λ lost. fault ≡ growth_fault lost) }
@@ -113,7 +113,7 @@ pub(crate) fn replica_refusal(fault: ReplicaFault) -> Result<Refusal, CrewFault>
     }
 }
 
-// Tells what a message carries, which bears this name.
+// Make the answer for a message of this name, from what the message carries.
 pub(crate) fn answer_of_message(
     alloc: Global,
     message: &Message,

@@ -24,7 +24,7 @@ use std::marker::Brand;
 use std::sync::{Arc, Wait};
 use std::thread::Threads;
 
-/// Opens a store of replica 0 with a session for each share of edits, and lets each session work on a thread of its own:
+/// Open a store of replica 0 with a session for each share of edits, and let each session work on a thread of its own:
 /// it arrives at the gate under its number, takes its edits one after another, each as a scenario of one edit, and then
 /// advances to the step. Once all threads have ended the store is closed. What is left is the same in whatever order the
 /// writes came: the winners of all edits, as many writes as there are edits and shares, and the row of the step.
@@ -34,7 +34,7 @@ use std::thread::Threads;
 ///
 /// # Errors
 ///
-/// `WorkersGone` where a thread could not be started, else `OutOfMemory` where an allocation failed or the store gave a
+/// `WorkersGone` if a thread could not be started, else `OutOfMemory` if an allocation failed or the store gave a
 /// session no reader. All threads have ended then.
 pub fn crowd<W: Threads + Wait, G: Gate + Sync>(
     rt: &W,
@@ -63,7 +63,7 @@ pub fn crowd<W: Threads + Wait, G: Gate + Sync>(
     left::<Brand, _, W, G>(rt, prepared, plan, shares, &task)
 }
 
-// Returns what is left of a store that was just prepared, once its sessions have worked.
+// Return what is left of a store that was just prepared, once its sessions have worked.
 fn left<J: Naming + Send + Sync, R: Wait + Drop + Send, W: Threads + Wait, G: Gate + Sync>(
     rt: &W,
     prepared: Prepared<R>,
@@ -80,6 +80,7 @@ fn left<J: Naming + Send + Sync, R: Wait + Drop + Send, W: Threads + Wait, G: Ga
     requires room { crowd_writes (shares_of shares.now) ≤ prepared.limit }
     requires some { 0 < length shares.now }
     requires within { crowd_writes (shares_of shares.now) ≤ MOST_CROWD_WRITES }
+    requires accepted { shares_fault (arc_value plan.now) (shares_of shares.now) task.now.to ≡ None }
     ensures edits { IfOk result (λ crowd. crowd.edits.items ≡ items (crowd_winners (shares_of shares.now))) }
     ensures journal { IfOk result (λ crowd. crowd.journal ≡ crowd_writes (shares_of shares.now)) }
     ensures row { IfOk result (λ crowd. string_bytes crowd.row
@@ -94,7 +95,7 @@ fn left<J: Naming + Send + Sync, R: Wait + Drop + Send, W: Threads + Wait, G: Ga
     }
 }
 
-// Returns what a closed store shows at its horizon.
+// Return what a closed store shows at its horizon.
 fn shown(alloc: Global, closed: &Closed, to: u32) -> Result<Crowd, CrewFault>
     requires simulated { (arc_value closed.now.sheet).horizon ≡ to }
     requires few { length closed.now.journal.items ≤ MOST_CROWD_WRITES }

@@ -16,7 +16,7 @@ pub struct OnThreads<R> {
 }
 
 impl<R: Threads + Wait> OnThreads<R> {
-    /// Gathers them by the threads of this runtime.
+    /// Gather them by the threads of this runtime.
     pub fn new(rt: R) -> OnThreads<R> {
         OnThreads { rt }
     }

@@ -10,7 +10,7 @@ pub(crate) struct Permit<W> {
 }
 
 impl<W: Wait> Permit<W> {
-    // Takes that of this runtime.
+    // Take that of this runtime.
     pub(crate) fn of(rt: &W) -> Permit<W> {
         Permit {
             of: Snapshot::of(rt),

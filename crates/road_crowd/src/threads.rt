@@ -3,10 +3,11 @@
 ghost use Rattle.std.specs.Prelude.{◌≡◌, [], IfOk, IfSome, length, map};
 ghost use Rattle.road_replica.specs.Crowds.{shares_of};
 ghost use Rattle.road_sessions.specs.Sessions.{AreNewSessions};
-ghost use Rattle.road_crowd.specs.Private.Works.{share_entries, work_of, works_from};
+ghost use Rattle.road_crowd.specs.Private.Works.{AreAccepted, IsAccepted, share_entries, work_of, works_from};
 
 use crate::permit::Permit;
 use crate::work::work;
+use crossbeam_utils::sync::WaitGroup;
 use road_plan::OutOfMemory;
 use road_scenario::Edit;
 use road_sessions::{Naming, Session, Shared};
@@ -20,7 +21,7 @@ use std::thread::{Promise, PromisedHandle, Scope, Threads};
 // What a thread gives back: its session, once that has made all its writes.
 type Worked<J> = Result<Session<J>, OutOfMemory>;
 
-// What is promised of a thread: where it finds memory, its session has this number and wrote the edits of this share,
+// What is promised of a thread: if it finds memory, its session has this number and wrote the edits of this share,
 // one after another, and then an advance to this step.
 #[derive(Drop)]
 struct WritesShare {
@@ -34,7 +35,7 @@ impl<J: Naming> Promise<Worked<J>> for WritesShare {
         ≡ (promise.number, share_entries promise.number promise.share.value.items promise.to)) };
 }
 
-// What each session of a crowd has to do beside its share: it arrives at the gate first, and at last advances to the
+// What each session of a crowd has to do beside its share: it arrives at the gate first, and at last it advances to the
 // step.
 #[derive(Drop)]
 pub(crate) struct Task<'g, G> {
@@ -46,25 +47,29 @@ pub(crate) struct Task<'g, G> {
 // A session's thread.
 type Worker<J> = PromisedHandle<Worked<J>, WritesShare>;
 
-// Does what a thread has to: its session arrives at the gate, and then makes its writes.
+// Do the work of a thread: its session arrives at the gate, and then makes its writes. The session is in the group
+// `taking` until it has taken its edits, or has failed to.
 fn worked<J: Naming, R: Wait + Drop, W: Wait, G: Gate>(
     rt: &W,
     shared: &Shared<J, R>,
     session: Session<J>,
     share: &[Edit],
     task: &Task<'_, G>,
+    taking: WaitGroup,
 ) -> Worked<J>
-    requires { session.view.own ≡ [] }
+    requires new { session.view.own ≡ [] }
+    requires accepted { IsAccepted J.replica.sheet.plan task.now.to share.now }
     ensures { IfOk result
         (λ after. work_of after ≡ (session.number, share_entries session.number share.now task.now.to)) }
 {
     let mut session = session;
     task.gate.arrive(session.number());
-    work(rt, task.alloc, shared, &mut session, share, task.to)?;
+    work(rt, task.alloc, shared, &mut session, share, task.to, taking)?;
     Ok(session)
 }
 
-// Starts the thread of a session. There is none where it cannot be started.
+// Start the thread of a session. Return none if it cannot be started: then the session has left the group `taking`, so
+// no other thread waits for it.
 fn start<
     's,
     J: Naming + Send + Sync + 's,
@@ -79,8 +84,10 @@ fn start<
     session: Session<J>,
     share: &'s Vec<Edit>,
     task: &'s Task<'s, G>,
+    taking: WaitGroup,
 ) -> Option<Worker<J>>
-    requires { session.view.own ≡ [] }
+    requires new { session.view.own ≡ [] }
+    requires accepted { IsAccepted J.replica.sheet.plan task.now.to share.now.items }
     ensures number { IfSome result (λ worker. worker.promise.number ≡ session.number) }
     ensures share { IfSome result (λ worker. worker.promise.share.value.items ≡ share.now.items) }
     ensures to { IfSome result (λ worker. worker.promise.to ≡ task.now.to) }
@@ -93,16 +100,17 @@ fn start<
     let started = scope.spawn_with(
         promise,
         move || -> Worked<J>
-            requires { session.view.own ≡ [] }
+            requires { (session.view.own ≡ []) × IsAccepted J.replica.sheet.plan task.now.to share.now.items }
             ensures { IfOk result (λ after. work_of after
                 ≡ (session.number, share_entries session.number share.entry.now.items task.entry.now.to)) }
-        { worked(&permit, shared, session, share.as_slice(), task) },
+        { worked(&permit, shared, session, share.as_slice(), task, taking) },
     );
     started.ok()
 }
 
-// Lets the sessions work, one for each share, each on a thread of its own. The last session's thread is started first
-// and joined last, so all run before one is joined, and the sessions come back in their order.
+// Let the sessions work, one for each share, each on a thread of its own. The last session's thread is started first
+// and joined last, so all run before one is joined, and the sessions come back in their order. The caller's handle of the
+// group `taking` is dropped once the last thread has started or one cannot be: until then no session advances.
 fn all_worked<
     's,
     J: Naming + Send + Sync + 's,
@@ -117,9 +125,11 @@ fn all_worked<
     mut sessions: Vec<Session<J>>,
     shares: &'s [Vec<Edit>],
     task: &'s Task<'s, G>,
+    taking: WaitGroup,
 ) -> Result<Vec<Session<J>>, CrewFault>
     requires new { AreNewSessions 0 sessions.items }
     requires one_each { length sessions.items ≡ length shares.now }
+    requires accepted { AreAccepted J.replica.sheet.plan task.now.to (shares_of shares.now) }
     ensures { IfOk result (λ after. map work_of after.items ≡ works_from 0 (shares_of shares.now) task.now.to) }
 {
     let Some((share, others)) = shares.split_last() else {
@@ -129,10 +139,11 @@ fn all_worked<
         unreachable!()
     };
     let permit = Permit::of(rt);
-    let Some(worker) = start(scope, permit, shared, session, share, task) else {
+    let its_taking = taking.clone()?;
+    let Some(worker) = start(scope, permit, shared, session, share, task, its_taking) else {
         return Err(CrewFault::WorkersGone);
     };
-    let mut after = all_worked(scope, rt, shared, sessions, others, task)?;
+    let mut after = all_worked(scope, rt, shared, sessions, others, task, taking)?;
     let last = worker.join(rt)?;
     let Ok(()) = after.push(last) else {
         return Err(CrewFault::OutOfMemory);
@@ -140,7 +151,7 @@ fn all_worked<
     Ok(after)
 }
 
-// Lets the sessions of a store that was just opened work, one for each share, each on a thread of its own. Where one
+// Let the sessions of a store that was just opened work, one for each share, each on a thread of its own. If one
 // thread cannot be started, or finds no memory, all others have ended before the answer.
 pub(crate) fn in_threads<
     J: Naming + Send + Sync,
@@ -156,15 +167,20 @@ pub(crate) fn in_threads<
 ) -> Result<Vec<Session<J>>, CrewFault>
     requires new { AreNewSessions 0 sessions.items }
     requires one_each { length sessions.items ≡ length shares.now }
+    requires accepted { AreAccepted J.replica.sheet.plan task.now.to (shares_of shares.now) }
     ensures { IfOk result (λ after. map work_of after.items ≡ works_from 0 (shares_of shares.now) task.now.to) }
 {
     thread::scope(
         thread::scope_env(),
         rt,
         |scope| -> Result<Vec<Session<J>>, CrewFault>
-            requires { AreNewSessions 0 sessions.items × (length sessions.items ≡ length shares.now) }
+            requires { AreNewSessions 0 sessions.items × (length sessions.items ≡ length shares.now)
+                × AreAccepted J.replica.sheet.plan task.now.to (shares_of shares.now) }
             ensures { IfOk result (λ after. map work_of after.items
                 ≡ works_from 0 (shares_of shares.entry.now) task.entry.now.to) }
-        { all_worked(scope, rt, shared, sessions, shares, task) },
+        {
+            let taking = WaitGroup::new(task.alloc)?;
+            all_worked(scope, rt, shared, sessions, shares, task, taking)
+        },
     )
 }

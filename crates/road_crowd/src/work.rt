@@ -1,13 +1,15 @@
 //! What one session of a crowd writes.
 
-ghost use Rattle.std.specs.Prelude.{◌≡◌, ◌++◌, ◌∷◌, [], IfOk, OnOk};
+ghost use Rattle.std.specs.Prelude.{◌≡◌, ◌++◌, ◌∷◌, [], IfOk, None, OnOk};
+ghost use Rattle.road_replica.specs.Refusals.{advance_fault, imported_edit_fault};
 ghost use Rattle.road_replica.specs.Replicas.{single_edit};
 ghost use Rattle.road_sessions.specs.Journals.{entry};
 ghost use Rattle.road_sessions.specs.Merges.{entries_written};
 ghost use Rattle.road_sessions.specs.declared.entry.SheetCommand.TheVariants.{Advance, Take};
-ghost use Rattle.road_crowd.specs.Private.Works.{share_entries};
+ghost use Rattle.road_crowd.specs.Private.Works.{IsAccepted, share_entries};
 
 use crate::faults::write_fault;
+use crossbeam_utils::sync::WaitGroup;
 use road_ends::Meter;
 use road_plan::OutOfMemory;
 use road_scenario::{Edit, Scenario};
@@ -16,8 +18,9 @@ use road_workers::Alone;
 use std::alloc::Global;
 use std::sync::Wait;
 
-// Does the work of a session that has written nothing: it takes the edits of its share one after another, each as a
-// scenario of one edit, and then simulates up to the step.
+// Do the work of a session that has written nothing. It takes the edits of its share one after another, each as a
+// scenario of one edit, and waits until all other sessions have taken theirs. Then it simulates up to the step. Without
+// the wait, each edit that is taken after the first advance would simulate the road once more.
 pub(crate) fn work<J: Naming, R: Wait + Drop, W: Wait>(
     rt: &W,
     alloc: Global,
@@ -25,8 +28,10 @@ pub(crate) fn work<J: Naming, R: Wait + Drop, W: Wait>(
     session: &mut Session<J>,
     share: &[Edit],
     to: u32,
+    taking: WaitGroup,
 ) -> Result<(), OutOfMemory>
-    requires { session.old.view.own ≡ [] }
+    requires new { session.old.view.own ≡ [] }
+    requires accepted { IsAccepted J.replica.sheet.plan to share.now }
     ensures number { OnOk result (session.new.number ≡ session.old.number) }
     ensures written { OnOk result (entries_written session.new
         ≡ share_entries session.old.number share.now to) }
@@ -35,10 +40,11 @@ pub(crate) fn work<J: Naming, R: Wait + Drop, W: Wait>(
     for edit in share {
         take(rt, alloc, shared, session, edit, &mut meter)?;
     }
+    taking.wait(rt);
     advance(rt, shared, session, to, &mut meter)
 }
 
-// Takes one edit.
+// Take one edit.
 fn take<J: Naming, R: Wait + Drop, W: Wait>(
     rt: &W,
     alloc: Global,
@@ -47,6 +53,7 @@ fn take<J: Naming, R: Wait + Drop, W: Wait>(
     edit: &Edit,
     meter: &mut Meter,
 ) -> Result<(), OutOfMemory>
+    requires { imported_edit_fault J.replica.sheet.plan edit.now ≡ None }
     ensures number { OnOk result (session.new.number ≡ session.old.number) }
     ensures written { OnOk result (entries_written session.new
         ≡ entries_written session.old ++ entry session.old.number (Take (single_edit edit.now)) ∷ []) }
@@ -58,14 +65,14 @@ fn take<J: Naming, R: Wait + Drop, W: Wait>(
     }
 }
 
-// Makes the scenario of one edit.
+// Make the scenario of one edit.
 fn single(alloc: Global, edit: &Edit) -> Result<Scenario, OutOfMemory>
     ensures { IfOk result (λ scenario. scenario ≡ single_edit edit.now) }
 {
     Ok(Scenario::empty(alloc).with_edit(edit)?)
 }
 
-// Simulates up to a step.
+// Simulate up to a step.
 fn advance<J: Naming, R: Wait + Drop, W: Wait>(
     rt: &W,
     shared: &Shared<J, R>,
@@ -73,6 +80,7 @@ fn advance<J: Naming, R: Wait + Drop, W: Wait>(
     to: u32,
     meter: &mut Meter,
 ) -> Result<(), OutOfMemory>
+    requires { advance_fault to ≡ None }
     ensures number { OnOk result (session.new.number ≡ session.old.number) }
     ensures written { OnOk result (entries_written session.new
         ≡ entries_written session.old ++ entry session.old.number (Advance to) ∷ []) }

@@ -1,4 +1,4 @@
--- What a delta leaves out, and what is joined where it is sent.
+-- What a delta leaves out, and the result of joining it.
 use Rattle.std.specs.Prelude.{◌≡◌, ◌||◌, ◌&&◌, not, Bool, true, false, List, [], ◌∷◌, map, refl}
 use Rattle.std.specs.List.{list_any, filter}
 use Rattle.std.specs.declared.cmp.Ordering.{Ordering}
@@ -30,7 +30,7 @@ any-heads : (p : Head → Bool) (es : List Edit) → list_any p (map head_of es)
 any-heads p [] = refl
 any-heads p (e ∷ es) = ap (λ b. p (head_of e) || b) (any-heads p es)
 
--- what is left out of a delta is behind
+-- an edit that a delta leaves out is behind
 pub left_out : (s : Edits) (e : Edit) → is_beyond (heads s) e ≡ false → IsBehind s e
 left_out s e out =
     let two = or_parts (not (list_any (is_head_at e) (heads s))) (list_any (is_head_reached e) (heads s)) out in
@@ -59,13 +59,13 @@ behind_exceeded s e b =
     let rank = less_first (number_pair_cmp (stamp_key e.stamp) (stamp_key b.newer.stamp)) (nat_cmp (value_key e.value) (value_key b.newer.value)) b.smaller_stamp in
     and_from (is_eq (number_triple_cmp (edit_place e) (edit_place b.newer))) _ b.same_place rank
 
--- joining what is beyond the heads of a set to it joins all
+-- joining the edits beyond the heads of a set to it joins all
 pub join-beyond : (s t : Edits) → join s (beyond t (heads s)) ≡ join s t
 join-beyond s t = winners_laws.without s t (is_beyond (heads s)) (λ e inside out.
     let b = left_out s e out in
     any_by edit_total edit_exact (is_exceeded_by e) (items s) b.newer (sym (contains-items s b.newer) ∙ b.held) (behind_exceeded s e b))
 
--- an edit is in a delta where it is in the set and beyond the heads
+-- an edit is in a delta if it is in the set and beyond the heads
 pub contains-beyond : (t : Edits) (hs : List Head) (e : Edit) → contains (beyond t hs) e ≡ (contains t e && is_beyond hs e)
 contains-beyond t hs e = contains-retain t (is_beyond hs) e (λ x same. ap (is_beyond hs) (sym (edit_exact e x same)))
 
@@ -73,7 +73,7 @@ contains-beyond t hs e = contains-retain t (is_beyond hs) e (λ x same. ap (is_b
 pub from_set : (t : Edits) (hs : List Head) (e : Edit) → contains (beyond t hs) e ≡ true → contains t e ≡ true
 from_set t hs e i = (and_parts (contains t e) (is_beyond hs e) (sym (contains-beyond t hs e) ∙ i)).0
 
--- a delta of winners holds winners
+-- a delta of winners holds only winners
 pub winners-beyond : (t : Edits) (hs : List Head) → winners t ≡ t → winners (beyond t hs) ≡ beyond t hs
 winners-beyond t hs won = same_elements edit_total edit_exact _ _
     (λ e top. ((winners_laws.members (beyond t hs) e).0 top).inside)
@@ -81,7 +81,7 @@ winners-beyond t hs won = same_elements edit_total edit_exact _ _
     let top : IsTop is_exceeded_by t e = (winners_laws.members t e).0 (ap (λ (s : Edits). contains s e) won ∙ from_set t hs e inside) in
     (winners_laws.members (beyond t hs) e).1 (record { inside = inside; none = λ f i. top.none f (from_set t hs f i) }))
 
--- what is beyond heads of a list is the delta of its set
+-- the edits of a list that are beyond heads are the delta of its set
 pub from_list-beyond : (es : List Edit) (hs : List Head) → from_list (filter (is_beyond hs) es) ≡ beyond (from_list es) hs
 from_list-beyond es hs = same_set edit_total edit_exact _ _ (λ e.
     contains-from_list edit_total (filter (is_beyond hs) es) e ∙ any-filter (is_beyond hs) es e
@@ -97,6 +97,6 @@ beyond-own s = same_elements edit_total edit_exact _ s (from_set s (heads s)) (�
     own_head : (e : Edit) → is_head_reached e (head_of e) ≡ true
     own_head e = and_from _ _ (ap is_eq (tied_itself number_triple_total (edit_place e))) (not_from_false _ (ap is_lt (tied_itself number_pair_total (stamp_key e.stamp))))
 
--- a delta fits a plan where its set does
+-- a delta fits a plan if its set does
 pub in_range-beyond : (p : Plan) (t : Edits) (hs : List Head) → AreInRange p t → AreInRange p (beyond t hs)
 in_range-beyond p t hs fits e inside = fits e (from_set t hs e inside)

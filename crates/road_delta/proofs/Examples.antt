@@ -1,4 +1,4 @@
--- Worked examples, as equations that the check computes.
+-- Worked examples, as equations that the checker computes.
 use Rattle.std.specs.Prelude.{◌≡◌, ℕ, true, false, List, [], ◌∷◌, map, refl}
 use Rattle.std.proofs.Common.{sym, ap}
 use Rattle.lattice_core.specs.Sets.{from_list}
@@ -12,7 +12,7 @@ use Rattle.road_delta.specs.declared.heads.Head.{Head}
 use Rattle.road_delta.specs.Deltas.{head_of, heads, is_beyond, beyond}
 use Rattle.road_delta.proofs.DeltaEdits.{from_list-beyond, beyond-own}
 
--- a number put to an object from a step on, with a stamp's count and number
+-- a number set for an object from a step on, with a stamp's count and number
 abbrev put : Object → ℕ → ℕ → ℕ → ℕ → Edit
 put o step count number value = record { object = o; step = step; stamp = record { count = count; number = number }; value = Put value }
 
@@ -20,11 +20,11 @@ put o step count number value = record { object = o; step = step; stamp = record
 abbrev head : Object → ℕ → ℕ → ℕ → Head
 head o step count number = record { object = o; step = step; stamp = record { count = count; number = number } }
 
--- A put the limit of zone 0 at step 3 and at step 5, and blocked cell 8 from step 4 on
+-- A set the limit of zone 0 at step 3 and at step 5, and blocked cell 8 from step 4 on
 abbrev held_by_a : List Edit
 held_by_a = put (Limit 0) 3 1 0 1 ∷ put (Limit 0) 5 3 0 0 ∷ put (Block 8) 4 2 0 1 ∷ []
 
--- B took the first of A's limits and the block, and then put a limit of its own at step 3
+-- B took the first of A's limits and the block, and then set a limit of its own at step 3
 abbrev held_by_b : List Edit
 held_by_b = put (Limit 0) 3 3 1 0 ∷ put (Block 8) 4 2 0 1 ∷ []
 
@@ -34,11 +34,11 @@ heads_of_b = head (Limit 0) 3 3 1 ∷ head (Block 8) 4 2 0 ∷ []
 b_tells : heads (from_list held_by_b) ≡ heads_of_b
 b_tells = ap (map head_of) (items-from_list edit_total held_by_b tt)
 
--- A's limit at step 3 has a smaller stamp than B's and stays; the block has an equal one and is sent
+-- A's limit at step 3 has a smaller stamp than B's and is not sent; the block has an equal stamp and is sent
 a_sends : beyond (from_list held_by_a) heads_of_b ≡ from_list (put (Limit 0) 5 3 0 0 ∷ put (Block 8) 4 2 0 1 ∷ [])
 a_sends = sym (from_list-beyond held_by_a heads_of_b)
 
--- beyond the heads of nothing, and beyond one's own, is all
+-- beyond no heads, and beyond its own heads, is everything
 all_is_new : beyond (from_list held_by_a) [] ≡ from_list held_by_a
 all_is_new = sym (from_list-beyond held_by_a [])
 

@@ -1,4 +1,4 @@
--- What a binary search among rising heads tells of an edit.
+-- The result of a binary search among rising heads for an edit.
 use Rattle.std.specs.Prelude.{◌≡◌, ℕ, ◌<◌, ◌≤◌, ◌||◌, not, true, false, List, length, refl}
 use Rattle.std.specs.List.{list_any, slice_index_or}
 use Rattle.std.specs.List.Sorted.{IsNonDecreasingBy, IsPartitionPoint}
@@ -27,7 +27,7 @@ use Rattle.road_delta.proofs.RisingHeads.{head_cmp, rising-at}
 turned : (p q : Place) (r : Ordering) → number_triple_cmp p q ≡ r → number_triple_cmp q p ≡ ordering_reverse r
 turned p q r e = number_triple_total.antisymm q p ∙ ap ordering_reverse e
 
--- a later place is not earlier beside a third
+-- a later place does not compare as earlier with a third place
 further : (p q at : Place) → number_triple_cmp p q ≡ Less → ordering_index (number_triple_cmp p at) ≤ ordering_index (number_triple_cmp q at)
 further p q at before = elim (number_triple_cmp p at) as (λ r. number_triple_cmp p at ≡ r → ordering_index r ≤ ordering_index (number_triple_cmp q at)) [
   | Less ↦ λ e. omega arith
@@ -37,7 +37,7 @@ further p q at before = elim (number_triple_cmp p at) as (λ r. number_triple_cm
 
 -- ---- the search
 
--- what the search compares: the object and the step of a head with those of an edit
+-- the comparison of the search: the object and the step of a head with those of an edit
 abbrev pub beside : Edit → Head → Ordering
 beside e h = ordering_then (object_cmp h.object e.object) (nat_cmp h.step e.step)
 
@@ -63,7 +63,7 @@ module _ (hs : List Head) (e : Edit) where
       | inr ge ↦ let same : i ≡ j = omega arith in omega (arith, ap (λ k. ordering_index (beside e (slice_index_or hs k d))) same)
     ]
 
-    -- where none was found the edit is beyond
+    -- if no head was found, the edit is beyond
     pub absent : (gap : ℕ) → IsPartitionPoint (λ h. beside e h ≡ Less) (λ h. beside e h ≡ Greater) hs gap → is_beyond hs e ≡ true
     absent gap point = or_left _ _ (not_from_false _ (list_any_none (is_head_at e) hs (λ k d inside. elim (cases_lt k gap) as (λ _. is_head_at e (slice_index_or hs k d) ≡ false) [
       | inl before ↦ no_head (slice_index_or hs k d) Less (point.0 k d (omega arith) before) refl
@@ -86,7 +86,7 @@ module _ (hs : List Head) (e : Edit) where
         place : edit_place e ≡ head_place (slice_index_or hs k d)
         place = sym (number_triple_exact (head_place (slice_index_or hs k d)) (edit_place e) (sym (by_place (slice_index_or hs k d)) ∙ equal))
 
-    -- where one was found its stamp decides
+    -- if a head was found, its stamp decides
     pub found : (k : ℕ) (d : Head) → k < length hs → ((x : Head) → beside e (slice_index_or hs k x) ≡ Equal) → is_beyond hs e ≡ not (is_stamp_above e (slice_index_or hs k d))
     found k d at equal =
         let h = slice_index_or hs k d in
@@ -108,7 +108,7 @@ not_less Less = refl
 not_less Equal = refl
 not_less Greater = refl
 
--- the derived test of stamps, as the opposite of the other one's being greater
+-- the derived test of stamps, as the opposite of the other stamp being greater
 pub not_above : (s t : Stamp) → partial_le derived_stamp.ghosts.partial_cmp s t ≡ not (is_lt (number_pair_cmp (stamp_key t) (stamp_key s)))
 not_above s t =
     ap (is_some_and is_le) (Some-then (nat_cmp s.count t.count) (nat_cmp s.number t.number))

@@ -1,4 +1,4 @@
--- Deltas: what a replica tells of its edits, and what another then sends it.
+-- Deltas: what a replica reports of its edits, and what another then sends to it.
 use Rattle.std.specs.Prelude.{◌≡◌, not, ◌||◌, ◌&&◌, Bool, true, T, List, map}
 use Rattle.std.specs.List.{list_any}
 use Rattle.std.specs.Ordering.{is_eq, is_lt}
@@ -20,7 +20,7 @@ heads edits = map head_of (items edits)
 abbrev pub head_place : Head → Place
 head_place h = object_place h.object h.step
 
--- heads rise strictly by object and step, so each object and step has one at most
+-- heads rise strictly by object and step: each object and step has at most one
 abbrev pub AreRisingHeads : List Head → Type 0
 AreRisingHeads hs = T (is_rising (λ g h. number_triple_cmp (head_place g) (head_place h)) hs)
 
@@ -32,7 +32,8 @@ is_head_at e h = is_eq (number_triple_cmp (edit_place e) (head_place h))
 abbrev pub is_stamp_above : Edit → Head → Bool
 is_stamp_above e h = is_lt (number_pair_cmp (stamp_key e.stamp) (stamp_key h.stamp))
 
--- whether an edit is beyond heads: none is of its object and step, or one is whose stamp is not greater than the edit's
+-- whether an edit is beyond heads: no head is of its object and step, or the head there has a stamp that is not greater
+-- than the edit's
 abbrev pub is_beyond : List Head → Edit → Bool
 is_beyond hs e = not (list_any (is_head_at e) hs) || list_any (λ h. is_head_at e h && not (is_stamp_above e h)) hs
 

@@ -1,2 +1,2 @@
--- What heads and deltas are.
+-- Heads and deltas.
 pub mod Deltas

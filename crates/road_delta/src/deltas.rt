@@ -1,4 +1,4 @@
-//! The edits of a scenario that are beyond heads, so new to whoever sent these.
+//! The edits of a scenario that are beyond heads, and so may be new to the sender of the heads.
 
 ghost use Rattle.std.specs.Prelude.{◌≡◌, IfOk, IsOk};
 ghost use Rattle.lattice_core.specs.Sets.{empty};
@@ -11,13 +11,13 @@ use road_plan::OutOfMemory;
 use road_scenario::{Edit, Scenario};
 use std::alloc::Global;
 
-/// Returns the edits of a scenario that are beyond heads: those whose object and step has no head, or one whose stamp
-/// is smaller or equal. Joined to the scenario of those heads they make what the whole scenario would
-/// (`laws::deltas_suffice`). They fit a plan where the scenario does. Each edit takes one binary search.
+/// Return the edits of a scenario that are beyond heads: their object and step has no head, or a head with a smaller or
+/// equal stamp. Joining them to the scenario of those heads gives the same as joining the whole scenario
+/// (`laws::deltas_suffice`). They fit a plan if the scenario does. Each edit takes one binary search.
 ///
 /// # Errors
 ///
-/// `OutOfMemory` where an allocation failed; of a scenario without edits nothing grows.
+/// `OutOfMemory` if an allocation failed. For a scenario without edits nothing is allocated.
 pub fn beyond(alloc: Global, scenario: &Scenario, heads: &Heads) -> Result<Scenario, OutOfMemory>
     ensures delta { IfOk result (λ delta. delta ≡ beyond scenario.now heads.now) }
     ensures fits { (plan : Plan) → AreInRange plan scenario.now → IfOk result (λ delta. AreInRange plan delta) }

@@ -1,4 +1,4 @@
-//! The heads of a scenario: of each edit that it holds the object, the step and the stamp.
+//! The heads of a scenario: the object, the step and the stamp of each edit that it holds.
 
 ghost use Rattle.std.specs.Prelude.{◌≡◌, [], map, IfOk, IsOk};
 ghost use Rattle.lattice_core.specs.Sets.{empty};
@@ -9,18 +9,18 @@ use road_scenario::{Edit, Scenario, Stamp};
 use std::alloc::Global;
 use std::marker::Model;
 
-/// Tells an object and a step, and the stamp of the edit held there.
+/// An object and a step, and the stamp of the edit held there.
 #[derive(Clone, Copy, Debug, PartialEq, Eq)]
 pub struct Head {
     /// The edit's object.
     pub object: Object,
-    /// The first step at which it acts.
+    /// The first step at which it takes effect.
     pub step: u32,
     /// When and by whom it was made.
     pub stamp: Stamp,
 }
 
-/// Holds the heads of a scenario, in the order of its edits: they rise by object and step. Contracts see the list.
+/// The heads of a scenario, in the order of its edits: they rise by object and step. Contracts see the list.
 #[derive(Drop)]
 pub struct Heads {
     list: Vec<Head>,
@@ -39,7 +39,7 @@ impl Model for Heads {
 }
 
 impl Heads {
-    /// Returns the heads, rising by object and step. It takes no memory.
+    /// Return the heads, rising by object and step. It takes no memory.
     pub fn list(&self) -> &[Head]
         ensures all { result.now ≡ self.now }
         ensures rise { AreRisingHeads result.now }
@@ -48,11 +48,11 @@ impl Heads {
     }
 }
 
-/// Lists the heads of a scenario: of each edit that won its object, step and stamp.
+/// List the heads of a scenario: the object, step and stamp of each winner.
 ///
 /// # Errors
 ///
-/// `OutOfMemory` where an allocation failed; without edits nothing grows.
+/// `OutOfMemory` if an allocation failed. Without edits nothing is allocated.
 pub fn heads_of(alloc: Global, scenario: &Scenario) -> Result<Heads, OutOfMemory>
     ensures heads { IfOk result (λ made. made ≡ heads scenario.now) }
     ensures grows_nothing { scenario.now ≡ empty → IsOk result }
@@ -62,7 +62,7 @@ pub fn heads_of(alloc: Global, scenario: &Scenario) -> Result<Heads, OutOfMemory
     Ok(Heads { list })
 }
 
-// Lists the heads of edits, in their order.
+// List the heads of edits, in their order.
 fn heads_in(alloc: Global, edits: &[Edit]) -> Result<Vec<Head>, OutOfMemory>
     ensures heads { IfOk result (λ list. list.items ≡ map head_of edits.now) }
     ensures grows_nothing { edits.now ≡ [] → IsOk result }

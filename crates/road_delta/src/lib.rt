@@ -1,7 +1,8 @@
-//! Deltas: a replica tells what it holds by heads, and another sends it the edits beyond them, not all that it has.
+//! Deltas: a replica sends the heads of its edits, and another replies with the edits beyond them, instead of all its
+//! edits.
 //!
-//! A caller with two scenarios; the second holds one more edit. The first tells its heads, the second sends what is
-//! beyond them, and the first then holds what it would with all of the second's:
+//! A caller with two scenarios, where the second holds one more edit. The first sends its heads, and the second sends
+//! the edits beyond them. The first then holds what it would hold with all edits of the second:
 //!
 //! ```
 //! let stamp = Stamp { count: 1, number: 0 };

@@ -33,7 +33,7 @@ module _ (site : ℕ) (f : Car → ℕ) (most : (car : Car) → f car ≤ GREATE
   step true x xs is = ap (λ b. map (λ (x : Drive). x.speed) (cond b (x ∷ filter (is_passing site) xs) (filter (is_passing site) xs))) is
   step false x xs is = ap (λ b. map (λ (x : Drive). x.speed) (cond b (x ∷ filter (is_passing site) xs) (filter (is_passing site) xs))) is
 
-  -- no car in front of the site passes it
+  -- no car past the site passes it
   none_passes : (cars : List Car) → ((k : ℕ) → k < length cars → site ≤ cell_at cars k) → passing_speeds site (drives_of cars) ≡ []
   none_passes [] ahead = refl
   none_passes (car ∷ cars) ahead =
@@ -48,7 +48,7 @@ module _ (site : ℕ) (f : Car → ℕ) (most : (car : Car) → f car ≤ GREATE
     one : length (passing_speeds site (drives_of cars)) ≤ 1
     slow : sum (passing_speeds site (drives_of cars)) ≤ GREATEST_SPEED
 
-  -- where each car stops behind the cells of those in front of it, one passes at most
+  -- if each car stops before the cells of those in front of it, at most one passes
   alone : (cars : List Car) → ((d : Car) (i j : ℕ) → i < j → j < length cars → cell_at cars i + f (slice_index_or cars i d) < cell_at cars j) → IsAlone cars
   alone [] apart = record { one = omega arith; slow = omega arith }
   alone (car ∷ cars) apart = elim (is_passing site (record { cell = car.cell; speed = f car })) as (λ b. is_passing site (record { cell = car.cell; speed = f car }) ≡ b → IsAlone (car ∷ cars)) [
@@ -73,7 +73,7 @@ module _ (site : ℕ) (f : Car → ℕ) (most : (car : Car) → f car ≤ GREATE
       past : (c v : ℕ) → (nat_lt c site && nat_le site (c + v)) ≡ true → site ≤ c + v
       past c v is = grind (arith, nat_tests)
 
--- the k-th car stands at its cell
+-- the k-th car is at its cell
 stands : (a : Array) (k : ℕ) (d : Car) → k < length (cars_of a) → vehicle_at a (cell_at (cars_of a) k) ≡ Some (vehicle_of (slice_index_or (cars_of a) k d))
 stands a k d below =
     let zero_on : 0 + cell_at (cars_of a) k ≡ cell_at (cars_of a) k = omega arith in
@@ -82,7 +82,7 @@ stands a k d below =
 abbrev PassesCount : Totals → Type 0
 PassesCount counts = (counts.cars ≤ 1) × (counts.speeds ≤ GREATEST_SPEED)
 
--- one step from an array of at most so many cells as the road has
+-- one step from an array of at most as many cells as the road has
 module _ (p : Plan) (s : Settings) (t : ℕ) (a : Array) (behind : NeverCollide p s t a) (slow : KeepBelowGreatestSpeed p s t a) where
   abbrev new_speed : Car → ℕ
   new_speed car = speed p s t a car.cell (vehicle_of car)
@@ -97,7 +97,7 @@ module _ (p : Plan) (s : Settings) (t : ℕ) (a : Array) (behind : NeverCollide 
       let speed = ap new_speed same in
       omega arith
 
-  -- what a detector that is on or off counts
+  -- the counts of a detector, on or off
   counts_one : (b : Bool) (site : ℕ) → PassesCount (cond b (totals_of site (drives (cars_of a) (map new_speed (cars_of a)))) no_totals)
   counts_one true site = let is = alone site new_speed (λ car. slow car.cell (vehicle_of car)) (cars_of a) apart in (is.one, is.slow)
   counts_one false site = ((omega arith), (omega arith))

@@ -32,7 +32,7 @@ module _ (site : ℕ) (cars : List Car) (speeds : List ℕ) (one : length speeds
       let each = length-drives cars speeds one in
       drop_more (drives cars speeds) k nowhere (omega arith) ∙ ap (λ x. x ∷ drop (k + 1) (drives cars speeds)) (drive_at cars speeds k one below)
 
-  -- who does not pass does not count
+  -- a car that does not pass is not counted
   pub one_stays : (k : ℕ) → k < length cars → is_passing site (record { cell = cell_at cars k; speed = slice_index speeds k }) ≡ false
       → passing_speeds site (drop k (drives cars speeds)) ≡ passing_speeds site (drop (k + 1) (drives cars speeds))
   one_stays k below out = ap (passing_speeds site) (next_drive k below)
@@ -43,7 +43,7 @@ module _ (site : ℕ) (cars : List Car) (speeds : List ℕ) (one : length speeds
   one_passes k below in_ = ap (passing_speeds site) (next_drive k below)
       ∙ ap (λ b. map (λ (x : Drive). x.speed) (cond b (record { cell = cell_at cars k; speed = slice_index speeds k } ∷ filter (is_passing site) (drop (k + 1) (drives cars speeds))) (filter (is_passing site) (drop (k + 1) (drives cars speeds))))) in_
 
-  -- so both counts grow by it
+  -- a car that passes increases both counts
   pub counts_one : (k : ℕ) → k < length cars → is_passing site (record { cell = cell_at cars k; speed = slice_index speeds k }) ≡ true
       → (length (passing_speeds site (drop k (drives cars speeds))) ≡ length (passing_speeds site (drop (k + 1) (drives cars speeds))) + 1)
       × (sum (passing_speeds site (drop k (drives cars speeds))) ≡ slice_index speeds k + sum (passing_speeds site (drop (k + 1) (drives cars speeds))))
@@ -53,6 +53,6 @@ module _ (site : ℕ) (cars : List Car) (speeds : List ℕ) (one : length speeds
       let more = ap sum (one_passes k below in_) ∙ sum_by-cons (λ x. x) (slice_index speeds k) rest in
       ((omega arith), (omega arith))
 
-  -- in the end nobody is left
+  -- in the end no car is left
   pub nobody_left : (k : ℕ) → length cars ≤ k → passing_speeds site (drop k (drives cars speeds)) ≡ []
   nobody_left k past = ap (passing_speeds site) (drop_all k (drives cars speeds) (let each = length-drives cars speeds one in omega arith))

@@ -1,4 +1,4 @@
--- What a detector counts depends on the cells near its site alone.
+-- The counts of a detector depend only on the cells near its site.
 use Rattle.std.specs.Prelude.{◌≡◌, ℕ, suc, ◌+◌, ◌-◌, ◌<◌, ◌≤◌, ◌&&◌, ◌++◌, Bool, true, false, cond, List, [], ◌∷◌, length, map, sum, nat_lt, nat_le, slice_index, refl}
 use Rattle.std.specs.List.{filter, slice_index_or}
 use Rattle.std.specs.declared.option.Option.{Option}
@@ -20,12 +20,12 @@ use Rattle.road_ends.proofs.CellsNearby.{entries-nearby, speed-ahead}
 use Rattle.road_detector.specs.Laws.{CountCellsNearby}
 use Rattle.road_detector.specs.Passes.{Drive, drives, is_passing, passing_speeds, no_totals, passes_at}
 
--- what the cells of an array give, one behind the other
+-- the values for the cells of an array, one after the other
 abbrev walk : (ℕ → Option Vehicle → List ℕ) → Array → List ℕ
 walk f [] = []
 walk f (o ∷ places) = f 0 o ++ walk (λ c. f (suc c)) places
 
--- arrays whose cells give the same give the same in all, where an empty cell gives nothing
+-- if the cells of two arrays have the same values, and empty cells have none, all values are the same
 same_walk : (f g : ℕ → Option Vehicle → List ℕ) → ((c : ℕ) → f c None ≡ []) → ((c : ℕ) → g c None ≡ []) → (x y : Array)
     → ((c : ℕ) → f c (vehicle_at x c) ≡ g c (vehicle_at y c)) → walk f x ≡ walk g y
 same_walk f g nothing_f nothing_g [] [] same = refl
@@ -36,7 +36,7 @@ same_walk f g nothing_f nothing_g (o ∷ x) [] same =
 same_walk f g nothing_f nothing_g (o ∷ x) (u ∷ y) same =
     (λ i. same 0 i ++ same_walk (λ c. f (suc c)) (λ c. g (suc c)) (λ c. nothing_f (suc c)) (λ c. nothing_g (suc c)) x y (λ c. same (suc c)) i)
 
--- the speed that a car at a cell has, where it passes the site by it
+-- the speed of a car at a cell, if the car passes the site at it
 abbrev passing : ℕ → ℕ → (Vehicle → ℕ) → Option Vehicle → List ℕ
 passing site c drive None = []
 passing site c drive (Some v) = cond (is_passing site (record { cell = c; speed = drive v })) (drive v ∷ []) []
@@ -64,7 +64,7 @@ passing_cars site drive k (Some v ∷ places) =
     front rest true = refl
     front rest false = refl
 
--- the input of a step whose road before the motion is this
+-- the input of a step with this road before the motion
 abbrev pub before_motion : Plan → Settings → ℕ → Array → StepInput
 before_motion p s t a = record { plan = p; settings = s; step = t; road = a }
 
@@ -86,12 +86,12 @@ module _ (p : Plan) (s : Settings) (t site : ℕ) (x y : Array) (agree : AgreeBe
       none true = refl
       none false = refl
 
-  -- a cell from which nobody passes
+  -- a cell from which no car passes
   nobody : (a : Array) (c : ℕ) (o : Option Vehicle) → ((v : ℕ) → v ≤ GREATEST_SPEED → is_passing site (record { cell = c; speed = v }) ≡ false) → passing site c (speed p s t a c) o ≡ []
   nobody a c None far = refl
   nobody a c (Some car) far = ap (λ b. cond b (speed p s t a c car ∷ []) []) (far (speed p s t a c car) (speed-most p s t a c car))
 
-  -- what passes from a cell
+  -- the speeds of cars that pass from a cell
   abbrev from : Array → ℕ → Option Vehicle → List ℕ
   from a c = passing site c (speed p s t a c)
 
@@ -126,13 +126,13 @@ module _ (p : Plan) (s : Settings) (t site : ℕ) (x y : Array) (agree : AgreeBe
   pub passed-nearby : passed x ≡ passed y
   passed-nearby = by_cells x ∙ same_walk (from x) (from y) (λ _. refl) (λ _. refl) x y same_from ∙ sym (by_cells y)
 
--- the totals are those of the speeds
+-- the totals of equal speeds are equal
 pub passes-nearby : (p : Plan) (s : Settings) (t d : ℕ) (x y : Array) → AgreeBetween (slice_index p.detectors d - GREATEST_SPEED) (slice_index p.detectors d + GREATEST_SPEED) x y
     → passes_at (before_motion p s t x) (input_speeds (before_motion p s t x)) d ≡ passes_at (before_motion p s t y) (input_speeds (before_motion p s t y)) d
 passes-nearby p s t d x y agree =
     ap (λ speeds. cond (slice_index_or s.watched d false) (record { cars = length speeds; speeds = sum speeds }) no_totals) (passed-nearby p s t (slice_index p.detectors d) x y agree)
 
--- so do those of roads before their entries
+-- the same for roads before their entries
 pub count_cells_nearby : (p : Plan) → CountCellsNearby p
 count_cells_nearby p s t d x y agree = passes-nearby p s t d (road_with_entries p s t x) (road_with_entries p s t y)
     (entries-nearby p s t (slice_index p.detectors d - GREATEST_SPEED) (slice_index p.detectors d + GREATEST_SPEED) x y agree)

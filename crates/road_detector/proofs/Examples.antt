@@ -1,4 +1,4 @@
--- Worked examples, computed from the definitions: what a detector counts on a free road and while it is off.
+-- Worked examples, computed from the definitions: the counts of a detector on a free road and while it is off.
 use Rattle.std.specs.Prelude.{◌≡◌, ◌||◌, [], ◌∷◌, nat_lt, nat_le, refl}
 use Rattle.road_plan.specs.Plan.{Plan}
 use Rattle.road_plan.specs.Settings.{defaults}
@@ -7,7 +7,7 @@ use Rattle.road_cells.specs.Gap.{free_before}
 use Rattle.road_ends.specs.Run.{Course}
 use Rattle.road_detector.specs.Passes.{total, no_totals}
 
--- a road of 12 cells with an inlet at its beginning that always lets in, limit 2, no slowing, and a detector at cell 5
+-- a road of 12 cells with an inlet at its start that always lets in, limit 2, no slowing, and a detector at cell 5
 abbrev free_road : Plan
 free_road = record {
   cells = 12;

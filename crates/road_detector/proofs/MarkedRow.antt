@@ -22,7 +22,7 @@ use Rattle.road_detector.specs.Private.MarkedRows.{blocked_letter, car_letter}
 abbrev pub HasDigits : Array → Type 0
 HasDigits a = (c : ℕ) (car : Vehicle) → vehicle_at a c ≡ Some car → car.speed ≤ GREATEST_SPEED
 
--- a car more that is drawn is one less to draw
+-- drawing one more car leaves one less to draw
 car_drawn : (row : List ℕ) (car : Car) (cars : List Car) (c : ℕ) → AreRisingFrom (car.cell + 1) cars → car.cell < length row → c < length row
     → car_letter (vehicle_among c cars) (slice_index (slice_set row car.cell (STANDING + car.speed)) c) ≡ car_letter (vehicle_among c (car ∷ cars)) (slice_index row c)
 car_drawn row car cars c rise on below = elim (cases_eq car.cell c) as (λ _. car_letter (vehicle_among c cars) (slice_index (slice_set row car.cell (STANDING + car.speed)) c) ≡ car_letter (vehicle_among c (car ∷ cars)) (slice_index row c)) [
@@ -39,7 +39,7 @@ car_drawn row car cars c rise on below = elim (cases_eq car.cell c) as (λ _. ca
 car_past : (row : List ℕ) (car : Car) (cars : List Car) (c : ℕ) → length row ≤ car.cell → c < length row → car_letter (vehicle_among c cars) (slice_index row c) ≡ car_letter (vehicle_among c (car ∷ cars)) (slice_index row c)
 car_past row car cars c past below = sym (ap (λ o. car_letter o (slice_index row c)) (vehicle_among-other car cars c (λ same. absurd (omega arith))))
 
--- the cars behind one of the list rise from it on
+-- the cars after one of the list rise from it on
 rise-behind : (k : ℕ) (cars : List Car) (i : ℕ) (car : Car) (rest : List Car) → AreRisingFrom k cars → drop i cars ≡ car ∷ rest → AreRisingFrom (car.cell + 1) rest
 rise-behind k [] zero car rest rise is = let never : [] ≡ car ∷ rest = is in cc
 rise-behind k [] (suc i) car rest rise is = let never : [] ≡ car ∷ rest = is in cc
@@ -49,7 +49,7 @@ rise-behind k (first ∷ cars) zero car rest rise is =
     subst (λ (x : Car × List Car). AreRisingFrom (x.0.cell + 1) x.1) (λ i. (head i, tail i)) rise.1
 rise-behind k (first ∷ cars) (suc i) car rest rise is = rise-behind (first.cell + 1) cars i car rest rise.1 is
 
--- a row that gives all when the cars from a place on are drawn still does after the next of them
+-- if drawing the cars from a place on completes a row, then drawing the rest after the next car completes it too
 module _ (cars : List Car) (i c letter : ℕ) (car : Car) (rise : AreRising cars) (below : i < length cars) (is : slice_index_or cars i car ≡ car) where
   split : drop i cars ≡ car ∷ drop (i + 1) cars
   split = drop_more cars i car below ∙ ap (λ x. x ∷ drop (i + 1) cars) is
@@ -92,7 +92,7 @@ row_marked blocks a row n long marked = ext_get_or 0 row (row_of n blocks a) (lo
     ∙ ap (λ k. letter (is_blocked blocks k) (vehicle_at a k)) (sym here)
     ∙ sym (at_number (λ c. letter (is_blocked blocks c) (vehicle_at a c)) n 0 c (omega arith)))
 
--- digits of an array are those of its cars
+-- the digits of an array are those of its cars
 pub have_digits : (a : Array) → HasDigits a → HaveDigits (cars_of a)
 have_digits a digits k d below =
     let zero_on : 0 + cell_at (cars_of a) k ≡ cell_at (cars_of a) k = omega arith in
@@ -114,7 +114,7 @@ row_small blocks a n digits = each n 0
     each (suc n) k zero d below = letter-small (is_blocked blocks k) (vehicle_at a k) (λ v is. digits k v is)
     each (suc n) k (suc i) d below = each n (k + 1) i d (omega arith)
 
--- the row with its blocks and cars, made from an empty one
+-- the row with its blocks and cars, made from an empty row
 pub made : (blocks : List ℕ) (a : Array) (empty blocked row : List ℕ) (cars : List Car) (n : ℕ) → cars ≡ cars_of a → empty ≡ replicate n EMPTY
     → length blocked ≡ length empty → ((c : ℕ) → c < length empty → slice_index blocked c ≡ blocked_letter (is_blocked blocks c) (slice_index empty c))
     → length row ≡ length blocked → ((c : ℕ) → c < length blocked → slice_index row c ≡ car_letter (vehicle_among c cars) (slice_index blocked c))

@@ -1,4 +1,4 @@
--- What is counted in steps from any array: bounds, one step more, and locality in space.
+-- Counts in steps from any array: bounds, one more step, and locality in space.
 use Rattle.std.specs.Prelude.{◌≡◌, ℕ, zero, suc, ◌+◌, ◌-◌, ◌*◌, ◌<◌, ◌≤◌, List, [], ◌∷◌, ◌++◌, map, slice_index, refl}
 use Rattle.std.specs.List.{range_with_len}
 use Rattle.std.proofs.Common.{sym, ap, ◌∙◌, arith}
@@ -14,7 +14,7 @@ use Rattle.road_detector.specs.declared.counts.Totals.{Totals}
 use Rattle.road_detector.proofs.CarsPassOneByOne.{one_from}
 use Rattle.road_detector.proofs.CountsNearby.{count_cells_nearby}
 
--- totals of so many steps
+-- bounds of the totals of k steps
 pub record AreBounded (k : ℕ) (totals : Totals) : Type 0 where
   pub few : totals.cars ≤ k
   pub slow : totals.speeds ≤ GREATEST_SPEED * k
@@ -27,7 +27,7 @@ add_last (y ∷ ys) x =
     let speeds : y.speeds + ((sum_of_totals ys).speeds + x.speeds) ≡ y.speeds + (sum_of_totals ys).speeds + x.speeds = omega arith in
     ap (plus y) rest ∙ (λ i. record { cars = cars i; speeds = speeds i })
 
--- totals that are at most one car for each step
+-- a sum of totals with at most one car each has at most one car for each step
 bounded_list : (f : ℕ → Totals) (n a : ℕ) → ((j : ℕ) → AreBounded 1 (f j)) → AreBounded n (sum_of_totals (map f (range_with_len a n)))
 bounded_list f zero a one = record { few = omega arith; slow = omega arith }
 bounded_list f (suc n) a one =
@@ -43,7 +43,7 @@ pub bounded_from : (p : Plan) (course : Course) (t k : ℕ) (a : Array) (d : ℕ
 bounded_from p course t k a d = bounded_list (λ j. passes_from p (course (t + j)) (t + j) (road_after_steps p course t j a) d) k 0
     (λ j. let one = one_from p (course (t + j)) (t + j) (road_after_steps p course t j a) d in record { few = one.0; slow = one.1 })
 
--- one step more
+-- one more step
 pub total_from_more : (p : Plan) (course : Course) (t k : ℕ) (a : Array) (d : ℕ)
     → plus (total_from p course t k a d) (passes_from p (course (t + k)) (t + k) (road_after_steps p course t k a) d) ≡ total_from p course t (k + 1) a d
 total_from_more p course t k a d =
@@ -56,7 +56,7 @@ same_numbers : (f g : ℕ → Totals) (n a : ℕ) → ((j : ℕ) → j < a + n �
 same_numbers f g zero a same = refl
 same_numbers f g (suc n) a same = λ i. same a (omega arith) i ∷ same_numbers f g n (a + 1) (λ j lt. same j (omega arith)) i
 
--- roads that agree round a site, for each step 9 cells farther, have the same cars passing it
+-- if roads agree around a site, on 9 cells for each step, the same cars pass it
 pub total-nearby : (p : Plan) (course : Course) (t k : ℕ) (x y : Array) (d : ℕ)
     → AgreeBetween (slice_index p.detectors d - GREATEST_SPEED * k) (slice_index p.detectors d + GREATEST_SPEED * k) x y
     → total_from p course t k x d ≡ total_from p course t k y d

@@ -12,30 +12,32 @@ use Rattle.road_detector.specs.Passes.{passes, passes_from, total, total_from}
 use Rattle.road_detector.specs.declared.counts.Totals.{Totals}
 use Rattle.road_detector.specs.Rows.{HaveDigits}
 
--- at most one car passes a site in one step, none faster than the greatest speed
+-- at most one car passes a site in one step, and it is not faster than the greatest speed
 pub record PassesOneByOne (p : Plan) (course : Course) (d t : ℕ) : Type 0 where
   pub one : (passes p course d t).cars ≤ 1
   pub slow : (passes p course d t).speeds ≤ GREATEST_SPEED
 
--- in every step of every run at most one car passes each site, none faster than the greatest speed
+-- cars pass one by one: in every step of every run at most one car passes each site, and it is not faster than the
+-- greatest speed
 abbrev pub PassOneByOne : Plan → Type 0
 PassOneByOne p = (course : Course) (d t : ℕ) → PassesOneByOne p course d t
 
--- a total over b - a steps of a run is at most one car for each step, and the greatest speed for each
+-- a total over b - a steps of a run has at most one car for each step, and for each at most the greatest speed
 pub record IsTotalBounded (p : Plan) (course : Course) (d a b : ℕ) : Type 0 where
   pub few : (total p course d a b).cars ≤ b - a
   pub slow : (total p course d a b).speeds ≤ GREATEST_SPEED * (b - a)
 
--- every total of every run is at most one car for each of its steps, and the greatest speed for each
+-- totals are bounded: every total of every run has at most one car for each of its steps, and for each at most the
+-- greatest speed
 abbrev pub BoundTotals : Plan → Type 0
 BoundTotals p = (course : Course) (d a b : ℕ) → IsTotalBounded p course d a b
 
--- up to the greatest horizon a total is at most 1,048,576 cars and a sum of speeds of 9,437,184
+-- the greatest total: up to the greatest horizon at most 1,048,576 cars, with speeds that sum to at most 9,437,184
 pub record IsTotalOfLongestRun (totals : Totals) : Type 0 where
   pub few : totals.cars ≤ 1048576
   pub slow : totals.speeds ≤ 9437184
 
--- so is every total of every run
+-- the same for every total of every run
 abbrev pub BoundTotalsOfLongestRun : Plan → Type 0
 BoundTotalsOfLongestRun p = (course : Course) (d a b : ℕ) → b ≤ GREATEST_HORIZON
     → IsTotalOfLongestRun (total p course d a b)
@@ -44,14 +46,15 @@ BoundTotalsOfLongestRun p = (course : Course) (d a b : ℕ) → b ≤ GREATEST_H
 abbrev pub HaveDigitsInRuns : Plan → Type 0
 HaveDigitsInRuns p = (course : Course) (t : ℕ) → HaveDigits (cars_of (run p course t))
 
--- locality in space: on roads that agree on the 9 cells behind a detector's site and as many from it on, it counts the
--- same in a step, by the same settings
+-- locality in space: on roads that agree on the 9 cells before a detector's site and on 9 cells from the site on, it
+-- counts the same in a step, under the same settings
 abbrev pub CountCellsNearby : Plan → Type 0
 CountCellsNearby p = (s : Settings) (t d : ℕ) (x y : Array)
     → AgreeBetween (slice_index p.detectors d - GREATEST_SPEED) (slice_index p.detectors d + GREATEST_SPEED) x y
     → passes_from p s t x d ≡ passes_from p s t y d
 
--- so do the counts of some steps: on roads that agree, for each step, 9 cells farther behind the site and from it on
+-- the same for counts of several steps: on roads that agree on 9 cells for each step before the site and from the site
+-- on
 abbrev pub CountCellsNearbyInSteps : Plan → Type 0
 CountCellsNearbyInSteps p = (course : Course) (t k d : ℕ) (x y : Array)
     → AgreeBetween (slice_index p.detectors d - GREATEST_SPEED * k) (slice_index p.detectors d + GREATEST_SPEED * k) x y

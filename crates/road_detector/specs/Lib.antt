@@ -1,4 +1,4 @@
--- What detectors count, what a row of text asks, and the laws of both, in reading order.
+-- The counts of detectors, the conditions of a row of text, and the laws of both, in reading order.
 pub mod Passes
 pub mod Rows
 pub mod Laws

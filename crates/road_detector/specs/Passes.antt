@@ -1,4 +1,4 @@
--- What the detectors count.
+-- The counts of detectors.
 use Rattle.std.specs.Prelude.{ℕ, ◌+◌, ◌-◌, ◌&&◌, Bool, false, List, [], ◌∷◌, length, map, sum, nat_lt, nat_le}
 use Rattle.std.specs.Prelude.{slice_index, if◌then◌else◌}
 use Rattle.std.specs.List.{filter, slice_index_or, range_with_len}
@@ -23,7 +23,7 @@ drives [] speeds = []
 drives (car ∷ cars) [] = []
 drives (car ∷ cars) (v ∷ speeds) = record { cell = car.cell; speed = v } ∷ drives cars speeds
 
--- whether a car passes a site: it stands before it and comes to it or past it
+-- whether a car passes a site: it is before the site, and arrives at it or past it
 abbrev pub is_passing : ℕ → Drive → Bool
 is_passing site x = nat_lt x.cell site && nat_le site (x.cell + x.speed)
 
@@ -39,39 +39,39 @@ totals_of site xs = record { cars = length (passing_speeds site xs); speeds = su
 abbrev pub no_totals : Totals
 no_totals = record { cars = 0; speeds = 0 }
 
--- what a detector counts in a step at these speeds: nothing where it is off
+-- the counts of a detector in a step at these speeds: nothing if it is off
 abbrev pub passes_at : StepInput → List ℕ → ℕ → Totals
 passes_at input speeds d =
     if slice_index_or input.settings.watched d false
     then totals_of (slice_index input.plan.detectors d) (drives (cars_of input.road) speeds) else no_totals
 
--- what a detector counts in step t from an array
+-- the counts of a detector in step t from an array
 abbrev pub passes_from : Plan → Settings → ℕ → Array → ℕ → Totals
 passes_from p s t a d = let input = input_of p s t a in passes_at input (input_speeds input) d
 
--- what a detector counts in step t of a run
+-- the counts of a detector in step t of a run
 abbrev pub passes : Plan → Course → ℕ → ℕ → Totals
 passes p course d t = passes_from p (course t) t (run p course t) d
 
--- totals, one after another
+-- the sum of two totals
 abbrev pub plus : Totals → Totals → Totals
 plus x y = record { cars = x.cars + y.cars; speeds = x.speeds + y.speeds }
 
--- the totals of a list of totals
+-- the sum of a list of totals
 abbrev pub sum_of_totals : List Totals → Totals
 sum_of_totals [] = no_totals
 sum_of_totals (x ∷ xs) = plus x (sum_of_totals xs)
 
--- what a detector counts in the steps from a to b - 1 of a run
+-- the counts of a detector in the steps from a to b - 1 of a run
 abbrev pub total : Plan → Course → ℕ → ℕ → ℕ → Totals
 total p course d a b = sum_of_totals (map (passes p course d) (range_with_len a (b - a)))
 
--- what a detector counts in k steps from an array, the first of them step t
+-- the counts of a detector in k steps from an array, the first of them step t
 abbrev pub total_from : Plan → Course → ℕ → ℕ → Array → ℕ → Totals
 total_from p course t k a d = sum_of_totals
     (map (λ j. passes_from p (course (t + j)) (t + j) (road_after_steps p course t j a) d) (range_with_len 0 k))
 
--- what each detector counts in the steps of a span, from the road before them
+-- the counts of each detector in the steps of a span, from the road before them
 abbrev pub span_totals : Span → Array → List Totals
 span_totals span a = map (total_from span.plan (λ _. span.settings) span.step span.steps a)
     (range_with_len 0 (length span.plan.detectors))

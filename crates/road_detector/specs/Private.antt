@@ -1,2 +1,2 @@
--- What the contracts of private functions say of their loops; no public contract names it.
+-- Definitions for the contracts of private functions, about their loops. No public contract names them.
 pub mod MarkedRows

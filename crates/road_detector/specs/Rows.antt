@@ -1,4 +1,4 @@
--- What a row of text asks of its cars.
+-- The conditions on the cars of a row of text.
 use Rattle.std.specs.Prelude.{◌≤◌, List}
 use Rattle.std.specs.List.{All}
 use Rattle.road_cells.specs.declared.car.Car.{Car}

@@ -1,4 +1,4 @@
-//! What detectors count in a step.
+//! The counts of detectors in a step.
 
 ghost use Rattle.std.specs.Prelude.{◌≡◌, ◌<◌, ◌≤◌, ◌+◌, ◌^◌, length};
 ghost use Rattle.road_plan.specs.declared.limits.TheConstants.{GREATEST_LENGTH};
@@ -8,7 +8,7 @@ ghost use Rattle.road_detector.specs.Passes.{totals_of, drives, is_passing, pass
 use road_cells::Road;
 use road_ends::StepInput;
 
-/// What a detector has counted.
+/// The counts of a detector.
 #[derive(Clone, Copy, Debug, PartialEq, Eq)]
 pub struct Totals {
     /// The cars that passed its site.
@@ -18,7 +18,7 @@ pub struct Totals {
 }
 
 impl Totals {
-    /// Adds the totals of further steps. Both sums must be below 2^32, as those of a run are up to the greatest horizon
+    /// Add the totals of further steps. Both sums must be below 2^32, as those of a run are up to the greatest horizon
     /// ([`crate::laws::totals_of_the_longest_run`]). It takes no memory.
     pub fn plus(self, later: Totals) -> Totals
         requires cars { self.cars + later.cars < 2 ^ 32 }
@@ -32,11 +32,11 @@ impl Totals {
     }
 }
 
-/// Counts what a detector counts in a step: the cars that stand before its site and come to it or past it, those that
-/// are then deleted too, and the sum of their new speeds. Nothing where the detector is off.
+/// Return the counts of a detector in a step: the cars before its site that arrive at it or pass it, and the sum of
+/// their new speeds. Cars that are then deleted count too. A detector that is off counts nothing.
 ///
-/// The plan must have the detector. `speeds` has one speed for each car, in the order of the cars, and may be any
-/// speeds. Each car is looked at. It takes no memory.
+/// The plan must have the detector. `speeds` has one speed for each car, in the order of the cars, and may hold any
+/// speeds. It visits every car and takes no memory.
 pub fn passes(input: &StepInput, speeds: &[u8], detector: u32) -> Totals
     requires one_each { length speeds.now ≡ length (cars_of input.now.road) }
     requires in_plan { detector < length input.now.plan.detectors }
@@ -46,11 +46,11 @@ pub fn passes(input: &StepInput, speeds: &[u8], detector: u32) -> Totals
         return Totals { cars: 0, speeds: 0 };
     }
     let site = input.plan().detectors()[detector as usize];
-    counted(input.road(), speeds, site)
+    count_passing(input.road(), speeds, site)
 }
 
-// Counts the cars that pass a site, and the sum of their new speeds.
-fn counted(road: &Road, speeds: &[u8], site: u32) -> Totals
+// Count the cars that pass a site, and the sum of their new speeds.
+fn count_passing(road: &Road, speeds: &[u8], site: u32) -> Totals
     requires one_each { length speeds.now ≡ length (cars_of road.now) }
     requires short { length road.now ≤ GREATEST_LENGTH }
     ensures { result ≡ totals_of site (drives (cars_of road.now) speeds.now) }
@@ -66,7 +66,7 @@ fn counted(road: &Road, speeds: &[u8], site: u32) -> Totals
     totals
 }
 
-// Answers whether a car passes a site: it stands before it, and comes to it or past it at its new speed.
+// Return whether a car passes a site: it is before the site, and arrives at it or past it at its new speed.
 fn is_passing(site: u32, cell: u32, speed: u8) -> bool
     ensures { result ≡ is_passing site (record { cell = cell; speed = speed }) }
 {

@@ -1,13 +1,13 @@
-//! What the steps of a span come to.
+//! The results of the steps of a span.
 
 use crate::counts::Totals;
 use road_cells::Road;
 
-/// A span that was run.
+/// The results of a span that was run.
 #[derive(Drop)]
 pub struct Ran {
-    /// The road after it.
+    /// The road after the span.
     pub road: Road,
-    /// What each detector counted in it.
+    /// The counts of each detector in the span.
     pub totals: Vec<Totals>,
 }

@@ -13,15 +13,15 @@ use road_cells::{Car, Road};
 use road_ends::{BLOCKED, EMPTY, STANDING};
 use std::alloc::Global;
 
-/// Draws the road as a row of text, with one letter for each of its `length` cells: a car's speed as a digit, else `#`
-/// where the cell is blocked, else `.`. No speed may be above 9, which would have no digit. Blocked cells and cars at
+/// Draw the road as a row of text, with one letter for each of its `length` cells: a car's speed as a digit, else `#`
+/// if the cell is blocked, else `.`. No speed may be above 9, since it would have no digit. Blocked cells and cars at
 /// or past `length` are not drawn.
 ///
-/// It goes over the blocked cells once, in whatever order they are, and over the cars once, in one allocation.
+/// It visits the blocked cells once, in whatever order they are, and the cars once. There is one allocation.
 ///
 /// # Errors
 ///
-/// `OutOfMemory` where that allocation failed.
+/// `OutOfMemory` if that allocation failed.
 pub fn row_text(
     alloc: Global,
     road: &Road,
@@ -37,7 +37,7 @@ pub fn row_text(
     Ok(String::from_utf8(row).unwrap())
 }
 
-// Marks the blocked cells.
+// Mark the blocked cells.
 fn with_blocks(mut row: Vec<u8>, blocks: &[u32]) -> Vec<u8>
     ensures same_length { length result.items ≡ length row.items }
     ensures marked { (c : ℕ) → c < length row.items
@@ -51,7 +51,7 @@ fn with_blocks(mut row: Vec<u8>, blocks: &[u32]) -> Vec<u8>
     row
 }
 
-// Marks the cars, each by the digit of its speed.
+// Mark the cars, each by the digit of its speed.
 fn with_cars(mut row: Vec<u8>, cars: &[Car]) -> Vec<u8>
     requires rise { AreRising cars.now }
     requires digits { HaveDigits cars.now }

@@ -1,4 +1,4 @@
--- Cars stay on the road, and their numbers are their own.
+-- Cars stay on the road, and no two have the same number.
 use Rattle.std.specs.Prelude.{◌≡◌, ℕ, zero, suc, ◌+◌, ◌*◌, ◌<◌, ◌≤◌, ◌⊎◌, true, nat_eq, refl}
 use Rattle.std.specs.List.{slice_index_or}
 use Rattle.std.specs.declared.option.Option.TheVariants.{None, Some}
@@ -16,7 +16,7 @@ use Rattle.road_ends.proofs.NoCollision.{within, speed-most}
 use Rattle.road_ends.proofs.WhereCarsComeFrom.{CameFrom, came_from, EnteredBy, stood_or_entered}
 
 module _ (p : Plan) (limits : IsWithinLimits p) (course : Course) where
-  -- who is on the road at the next step came from a cell
+  -- a car on the road at the next step came from a cell
   moved_from : (t j : ℕ) (car : Vehicle) → vehicle_at (run p course (suc t)) j ≡ Some car → CameFrom (speed p (course t) t (road_before_motion p course t)) (road_before_motion p course t) j car
   moved_from t j car here =
       let below = within (exit_start p) (arrival_at (speed p (course t) t (road_before_motion p course t)) (road_before_motion p course t)) j car here in
@@ -57,7 +57,7 @@ module _ (p : Plan) (limits : IsWithinLimits p) (course : Course) where
       cells : (c d m n : ℕ) → nat_eq c m ≡ true → nat_eq d n ≡ true → m ≡ n → c ≡ d
       cells c d m n here there same = grind (arith, nat_tests)
 
-  -- numbers differ after the entries where they differed before
+  -- if numbers differ before the entries, they differ after them
   apart_after_entries : (t c d : ℕ) (x y : Vehicle) → ((c d : ℕ) (x y : Vehicle) → vehicle_at (run p course t) c ≡ Some x → vehicle_at (run p course t) d ≡ Some y → x.number ≡ y.number → c ≡ d)
       → (vehicle_at (run p course t) c ≡ Some x) ⊎ EnteredBy p t c x → (vehicle_at (run p course t) d ≡ Some y) ⊎ EnteredBy p t d y → x.number ≡ y.number → c ≡ d
   apart_after_entries t c d x y before (inl here) (inl there) same = before c d x y here there same

@@ -1,4 +1,4 @@
--- Going over the cells of the road from inlet to inlet.
+-- Visiting the cells of the road from inlet to inlet.
 use Rattle.std.specs.Prelude.{◌≡◌, ◌≢◌, ℕ, zero, suc, ◌+◌, ◌-◌, ◌<◌, ◌≤◌, true, List, [], ◌∷◌, ◌++◌, length, map, nat_eq, refl}
 use Rattle.std.specs.List.{slice_index_or, position, range_with_len}
 use Rattle.std.specs.Option.{option_or}
@@ -17,7 +17,7 @@ use Rattle.road_cells.specs.declared.car.Car.{Car}
 use Rattle.road_ends.specs.Entries.{admitted_car, entry_at}
 use Rattle.road_ends.proofs.StepByCars.{cars_left}
 
--- a cell that is no inlet's
+-- a cell that is not an inlet's
 pub no_inlet : (inlets : List (ℕ × ℕ)) (c : ℕ) → ((k : ℕ) → k < length inlets → (slice_index_or inlets k (0, 0)).0 ≢ c) → position (λ inlet. nat_eq c inlet.0) inlets ≡ None
 no_inlet inlets c apart = elim (position (λ inlet. nat_eq c inlet.0) inlets) as (λ o. position (λ inlet. nat_eq c inlet.0) inlets ≡ o → o ≡ None) [
   | None ↦ λ is. refl
@@ -27,7 +27,7 @@ no_inlet inlets c apart = elim (position (λ inlet. nat_eq c inlet.0) inlets) as
       absurd (apart i at.0 (grind (arith, nat_tests)))
 ] refl
 
--- where no inlet is, nobody enters
+-- no car enters if there is no inlet
 pub nobody_enters : (p : Plan) (s : Settings) (t : ℕ) (a : Array) (c : ℕ) → position (λ inlet. nat_eq c inlet.0) p.inlets ≡ None → option_or (vehicle_at a c) (entry_at p s t c) ≡ vehicle_at a c
 nobody_enters p s t a c none = ap (option_or (vehicle_at a c)) (ap (admitted_car p s t c) none) ∙ nobody (vehicle_at a c)
   where
@@ -76,7 +76,7 @@ module _ (f g : ℕ → Option Vehicle) (n : ℕ) where
       ∙ append_assoc done (cars_from cell (map g (range_with_len cell (to - cell)))) (cars_from to (map f (range_with_len to (n - to))))
       ∙ ap (λ cars. done ++ cars) (sym split) ∙ rest
 
--- past the end nobody is left
+-- past the end no car is left
 pub nobody_past : (f : ℕ → Option Vehicle) (n cell : ℕ) (done all : List Car) → n ≤ cell → done ++ cars_left f n cell ≡ all → done ++ cars_left f n (cell + 1) ≡ all
 unfolding cars_left
 nobody_past f n cell done all past rest =

@@ -1,4 +1,4 @@
--- What happens on a stretch of road depends on the cells nearby alone: no car drives farther in a step than it looks.
+-- A stretch of road depends only on the cells nearby: no car drives farther in a step than it looks.
 use Rattle.std.specs.Prelude.{◌≡◌, ℕ, zero, suc, ◌+◌, ◌-◌, ◌<◌, ◌≤◌, ◌==◌, ◌&&◌, ◌||◌, false, cond, length, is_some, nat_lt, slice_index, refl}
 use Rattle.std.specs.List.{range_with_len}
 use Rattle.std.specs.Option.{option_or}
@@ -22,18 +22,18 @@ use Rattle.road_ends.specs.Run.{road_after_motion, road_after_step, road_after_s
 use Rattle.road_ends.specs.Laws.{AgreeBetween, DependOnCellsNearby}
 use Rattle.road_ends.proofs.NoCollision.{speed-most}
 
--- arrays that hold the same at a place by what gives their places
+-- arrays made by functions that agree at a place hold the same there
 same_place : (n : ℕ) (f g : ℕ → Option Vehicle) (c : ℕ) → f c ≡ g c → vehicle_at (array n f) c ≡ vehicle_at (array n g) c
 same_place n f g c same = elim (cases_lt c n) as (λ _. vehicle_at (array n f) c ≡ vehicle_at (array n g) c) [
   | inl below ↦ vehicle_at-array n f c below ∙ same ∙ sym (vehicle_at-array n g c below)
   | inr past ↦ past_array n f c past ∙ sym (past_array n g c past)
 ]
 
--- who enters at a cell depends on what stands there alone
+-- the car that enters at a cell depends only on the vehicle there
 pub entries-here : (p : Plan) (s : Settings) (t : ℕ) (x y : Array) (c : ℕ) → vehicle_at x c ≡ vehicle_at y c → vehicle_at (road_with_entries p s t x) c ≡ vehicle_at (road_with_entries p s t y) c
 entries-here p s t x y c same = same_place p.cells _ _ c (ap (λ o. option_or o (entry_at p s t c)) same)
 
--- a gap depends on the cells in front alone
+-- a gap depends only on the cells in front
 gap-ahead : (p : Plan) (s : Settings) (x y : Array) (c : ℕ) → ((d : ℕ) → c < d → d ≤ c + GREATEST_SPEED → vehicle_at x d ≡ vehicle_at y d) → gap p s x c ≡ gap p s y c
 gap-ahead p s x y c same = free_before-same (is_taken_on_road p s x) (is_taken_on_road p s y) GREATEST_SPEED (c + 1) (λ d from to i. nat_lt d p.cells && (is_some (same d (omega arith) (omega arith) i) || is_blocked s.blocks d))
 
@@ -41,17 +41,17 @@ gap-ahead p s x y c same = free_before-same (is_taken_on_road p s x) (is_taken_o
 pub speed-ahead : (p : Plan) (s : Settings) (t : ℕ) (x y : Array) (c : ℕ) (car : Vehicle) → ((d : ℕ) → c < d → d ≤ c + GREATEST_SPEED → vehicle_at x d ≡ vehicle_at y d) → speed p s t x c car ≡ speed p s t y c car
 speed-ahead p s t x y c car same = ap (λ free. slowed_speed (wanted_speed car.speed (slice_index s.limits (zone_of p c)) free) (is_slowed p s t (zone_of p c) car)) (gap-ahead p s x y c same)
 
--- a car does not come to a cell that lies behind it, or farther ahead than it drives
+-- a car does not come to a cell behind it, or farther ahead than it drives
 not_from : (j c : ℕ) (v : Vehicle → ℕ) (o : Option Vehicle) → ((car : Vehicle) → (c + v car == j) ≡ false) → arrival_from j c v o ≡ None
 not_from j c v None never = refl
 not_from j c v (Some car) never = ap (λ b. cond b (Some (record { number = car.number; speed = v car })) None) (never car)
 
--- nothing is found where there is nothing
+-- nothing is found if there is nothing
 first-none : (f : ℕ → Option Vehicle) (a n : ℕ) → ((c : ℕ) → a ≤ c → f c ≡ None) → first_some f (range_with_len a n) ≡ None
 first-none f a zero none = refl
 first-none f a (suc n) none = ap (λ o. option_or o (first_some f (range_with_len (a + 1) n))) (none a (omega arith)) ∙ first-none f (a + 1) n (λ c le. none c (omega arith))
 
--- nor farther on than it is there
+-- a longer search finds no more if there is nothing farther on
 first-longer : (f : ℕ → Option Vehicle) (a n more : ℕ) → ((c : ℕ) → a + n ≤ c → f c ≡ None) → first_some f (range_with_len a (n + more)) ≡ first_some f (range_with_len a n)
 first-longer f a zero more none =
     let many : 0 + more ≡ more = omega arith in
@@ -60,7 +60,7 @@ first-longer f a (suc n) more none =
     let many : suc n + more ≡ suc (n + more) = omega arith in
     ap (λ n. first_some f (range_with_len a n)) many ∙ ap (option_or (f a)) (first-longer f (a + 1) n more (λ c le. none c (omega arith)))
 
--- what comes to a cell, from whichever cell
+-- the vehicle that arrives at a cell, from any cell
 module _ (p : Plan) (s : Settings) (t : ℕ) (x y : Array) (j : ℕ) (same : (c : ℕ) → j - GREATEST_SPEED ≤ c → c ≤ j + GREATEST_SPEED → vehicle_at x c ≡ vehicle_at y c) where
   abbrev from : Array → ℕ → Option Vehicle
   from a c = arrival_from j c (speed p s t a c) (vehicle_at a c)
@@ -104,7 +104,7 @@ module _ (p : Plan) (s : Settings) (t : ℕ) (x y : Array) (j : ℕ) (same : (c 
       ∙ swapped (length x) (length y)
       ∙ sym (all_of y (length x))
 
--- roads agree after the entries where they did before
+-- roads that agree before the entries agree after them
 pub entries-nearby : (p : Plan) (s : Settings) (t lo hi : ℕ) (x y : Array) → AgreeBetween lo hi x y → AgreeBetween lo hi (road_with_entries p s t x) (road_with_entries p s t y)
 entries-nearby p s t lo hi x y agree = record { same = λ c above below. entries-here p s t x y c (agree.same c above below) }
 
@@ -118,7 +118,7 @@ motion-nearby p s t lo hi x y agree = record {
 step-nearby : (p : Plan) (s : Settings) (t lo hi : ℕ) (x y : Array) → AgreeBetween (lo - GREATEST_SPEED) (hi + GREATEST_SPEED) x y → AgreeBetween lo hi (road_after_step p s t x) (road_after_step p s t y)
 step-nearby p s t lo hi x y agree = motion-nearby p s t lo hi (road_with_entries p s t x) (road_with_entries p s t y) (entries-nearby p s t (lo - GREATEST_SPEED) (hi + GREATEST_SPEED) x y agree)
 
--- so many steps
+-- several steps
 pub depend_on_cells_nearby : (p : Plan) → DependOnCellsNearby p
 depend_on_cells_nearby p course t zero lo hi x y agree = record { same = λ c from to. agree.same c (omega arith) (omega arith) }
 depend_on_cells_nearby p course t (suc k) lo hi x y agree =

@@ -1,4 +1,4 @@
--- A chance that always comes, whatever the word.
+-- A certain chance: its event happens whatever the word.
 use Rattle.std.specs.Prelude.{◌≡◌, ℕ, ◌/◌, ◌^◌, ◌<◌, ◌≤◌, nat_le, nat_lt}
 use Rattle.std.proofs.Common.{arith}
 use Rattle.std.proofs.Math.Nat.{div-lt_iff_lt-mul}

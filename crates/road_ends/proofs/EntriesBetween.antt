@@ -1,4 +1,5 @@
--- The road with its entries between two cells: on the whole road it is all of it, and it agrees with it there.
+-- The road with its entries between two cells. Between the ends of the road it is the whole road with its entries, and
+-- between other cells it agrees with that.
 use Rattle.std.specs.Prelude.{◌≡◌, ℕ, zero, suc, ◌+◌, ◌-◌, ◌*◌, ◌<◌, ◌≤◌, List, [], ◌∷◌, length, map, min}
 use Rattle.std.specs.List.{range_with_len}
 use Rattle.std.specs.declared.option.Option.{Option}
@@ -26,13 +27,13 @@ end_of-cars_from k [] = omega arith
 end_of-cars_from k (None ∷ places) = let rest = end_of-cars_from (k + 1) places in omega arith
 end_of-cars_from k (Some v ∷ places) = let rest = end_of-cars_from (k + 1) places in omega arith
 
--- what a function gives at n numbers from a on
+-- the values of a function at n numbers from a on
 pub given_at : (f : ℕ → Option Vehicle) (n a j : ℕ) → j < n → vehicle_at (map f (range_with_len a n)) j ≡ f (a + j)
 given_at f zero a j below = absurd (omega arith)
 given_at f (suc n) a zero below = let here : a ≡ a + 0 = omega arith in ap f here
 given_at f (suc n) a (suc j) below = let next : (a + 1) + j ≡ a + suc j = omega arith in given_at f n (a + 1) j (omega arith) ∙ ap f next
 
--- the array of the cars that a function gives between two cells has there what the function gives
+-- the array of the cars that a function has between two cells has there the values of the function
 pub between-at : (f : ℕ → Option Vehicle) (lo hi c : ℕ) → lo ≤ c → c < hi → vehicle_at (array_of (cars_from lo (map f (range_with_len lo (hi - lo))))) c ≡ f c
 between-at f lo hi c above below =
     let here : c ≡ lo + (c - lo) = omega arith in
@@ -79,7 +80,7 @@ near-entries p s t a lo hi k from to begin end = record {
   ];
 }
 
--- so is what is entered near a stretch the input of a step of a span there
+-- so the road with its entries near a stretch makes the input of a step of a span there
 pub near-input : (span : Span) (p q : Plan) (s : Settings) (done t : ℕ) (a : Array) (lo hi from to : ℕ) (input : StepInput) → p ≡ span.plan → q ≡ span.plan → s ≡ span.settings → t ≡ span.step + done
     → from ≡ lo - GREATEST_SPEED * (span.steps - done) → to ≡ min (hi + GREATEST_SPEED * (span.steps - done)) q.cells → input ≡ input_between from to p s t a
     → IsInputNear lo hi span done a input

@@ -1,5 +1,5 @@
--- Worked examples, computed from the definitions: a wrong definition does not check. The words are the steady ones;
--- where each chance is 0 or certain they do not matter.
+-- Worked examples, computed from the definitions: the check fails if a definition is wrong. The words are the steady
+-- ones. They do not matter if each chance is 0 or certain.
 use Rattle.std.specs.Prelude.{◌≡◌, ℕ, if◌then◌else◌, List, [], ◌∷◌, nat_lt, codes, refl}
 use Rattle.std.specs.declared.option.Option.TheVariants.{None, Some}
 use Rattle.road_plan.specs.Plan.{Plan}
@@ -9,7 +9,7 @@ use Rattle.road_cells.specs.Gap.{free_before}
 use Rattle.road_ends.specs.Run.{Course, run}
 use Rattle.road_ends.specs.Row.{row}
 
--- a road of 12 cells with an inlet at its beginning that always lets in, limit 2, no slowing
+-- a road of 12 cells with an inlet at its start that always lets in, limit 2, no slowing
 abbrev free_road : Plan
 free_road = record {
   cells = 12;
@@ -74,7 +74,7 @@ blocked_ahead_at_6 : row free_road blocked_ahead 6 ≡ codes "0..2..10#..."
 unfolding free_before
 blocked_ahead_at_6 = refl
 
--- cell 7 is blocked from step 4 on, where a car stands: it drives off, the next one stops before it
+-- cell 7 is blocked from step 4 on, where a car stands: it drives away, and the next one stops before it
 abbrev blocked_under_car : Course
 blocked_under_car step = record (defaults free_road) { blocks = if nat_lt step 4 then [] else 7 ∷ [] }
 
@@ -98,7 +98,7 @@ blocked_inlet_at_5 : row free_road blocked_inlet 5 ≡ codes "#..........."
 unfolding free_before
 blocked_inlet_at_5 = refl
 
--- the limit falls to 1 at step 3 and to 0 at step 5: faster cars drop to it at once
+-- the limit falls to 1 at step 3 and to 0 at step 5: faster cars drop to it immediately
 abbrev lowered : Course
 lowered step = record (defaults free_road) { limits = (if nat_lt step 3 then 2 else (if nat_lt step 5 then 1 else 0)) ∷ [] }
 
@@ -182,7 +182,7 @@ late_start_at_6 : row free_road late_start 6 ≡ codes ".1...2......"
 unfolding free_before
 late_start_at_6 = refl
 
--- every moving car is slowed, and no standing one
+-- every moving car is slowed, and no standing car
 abbrev slow_drivers : Course
 slow_drivers step = record (defaults free_road) { chances = 65536 ∷ [] }
 
@@ -206,7 +206,7 @@ slow_drivers_at_5 : row free_road slow_drivers 5 ≡ codes "0.1..1......"
 unfolding free_before
 slow_drivers_at_5 = refl
 
--- the inlet's word at step 1 is 30,011: not below a chance of as much, below one more
+-- the inlet's word at step 1 is 30,011: not below a chance of 30,011, but below 30,012
 abbrev let_in_below : ℕ → Course
 let_in_below chance step = record (defaults free_road) { inflows = chance ∷ [] }
 
@@ -286,7 +286,7 @@ gains_speed_to_nine : row long_road (one_car []) 9 ≡ codes "..................
 unfolding free_before
 gains_speed_to_nine = refl
 
--- the block is behind the nine cells that a car can drive
+-- the block is just past the nine cells that a car can drive
 block_at_the_tenth_cell : row long_road (one_car (55 ∷ [])) 10 ≡ codes "......................................................9#........"
 unfolding free_before
 block_at_the_tenth_cell = refl

@@ -1,4 +1,4 @@
--- A run depends on the settings before it alone.
+-- A run depends only on the settings of earlier steps.
 use Rattle.std.specs.Prelude.{◌≡◌, ℕ, zero, suc, ◌<◌, refl}
 use Rattle.std.proofs.Common.{arith}
 use Rattle.road_plan.specs.Plan.{Plan}

@@ -58,7 +58,7 @@ taken-blocked p s a d on blocked = (λ i. lt-ltb d p.cells on i && (is_some (veh
     either true = refl
     either false = refl
 
--- what stands in an array stands below its bound
+-- a vehicle in an array is below the array's bound
 pub within : (n : ℕ) (f : ℕ → Option Vehicle) (d : ℕ) (y : Vehicle) → vehicle_at (array n f) d ≡ Some y → d < n
 within n f d y here = elim (cases_lt d n) as (λ _. d < n) [
   | inl below ↦ below
@@ -72,7 +72,7 @@ cars-apart p s t a c d x y long on there lt = before_taken p s t a c d x lt (tak
 before_motion-on_road : (p : Plan) (course : Course) (t : ℕ) → length (road_before_motion p course t) ≤ p.cells
 before_motion-on_road p course t = length-array p.cells _
 
--- what holds on arrays holds in runs
+-- a law of arrays holds in runs
 each_step : (law : StepLaw) (p : Plan) → ((s : Settings) (t : ℕ) (a : Array) → length a ≤ p.cells → law p s t a) → HoldsInEachStep law p
 each_step law p holds = record { on_arrays = holds; in_runs = λ course t. holds (course t) t (road_before_motion p course t) (before_motion-on_road p course t) }
 

@@ -1,4 +1,4 @@
--- What the pass over the cars computes.
+-- The result of the pass over the cars.
 use Rattle.std.specs.Prelude.{◌≡◌, ℕ, ◌+◌, ◌<◌, ◌≤◌, ◌-◌, List, length, slice_index, slice_range}
 use Rattle.std.proofs.Common.{sym, ap, ◌∙◌, arith}
 use Rattle.std.proofs.lemmas.List.{ext_get_or, get_or-map, length-map}
@@ -15,7 +15,7 @@ use Rattle.road_ends.specs.Speed.{chance_at, gap, speed, speeds, nth_car}
 use Rattle.road_ends.proofs.StepByCars.{gap-free_cells}
 
 module _ (p : Plan) (s : Settings) (t : ℕ) (a : Array) where
-  -- the speed by the limit, the free cells, the chance and the word that were read is that of the definition
+  -- the speed by the limit, the free cells, the chance and the word that were read is the speed of the definition
   pub read_speed : (cars : List Car) (limits starts chances : List ℕ) (k zone free wished v : ℕ) → Fits p s → length a ≤ p.cells
       → cars ≡ cars_of a → limits ≡ s.limits → starts ≡ s.starts → chances ≡ s.chances → zone ≡ zone_of p (cell_at (cars_of a) k)
       → free ≡ free_cells s.blocks a (cell_at (cars_of a) k)

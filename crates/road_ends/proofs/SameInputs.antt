@@ -1,4 +1,4 @@
--- What it says of two inputs that their parts are the same.
+-- Two inputs are the same exactly if their parts are.
 use Rattle.std.specs.Prelude.{◌≡◌, ℕ, ◌==◌, ◌&&◌}
 use Rattle.std.specs.Bool.{Decides}
 use Rattle.std.proofs.Common.{ap}

@@ -1,4 +1,4 @@
--- The step of an array is that of its cars.
+-- The step of an array is the step of its cars.
 use Rattle.std.specs.Prelude.{◌≡◌, ℕ, zero, suc, ◌+◌, ◌-◌, ◌*◌, ◌/◌, ◌<◌, ◌≤◌, ◌&&◌, ◌||◌, true, false, cond, List, [], ◌∷◌, ◌++◌, length, map, take, is_some, nat_eq, nat_lt, slice_index, refl}
 use Rattle.std.specs.List.{range_with_len}
 use Rattle.std.specs.List.Sorted.{IsStrictlyIncreasing, IsNonDecreasing, IsPartitionPoint}
@@ -45,7 +45,7 @@ not_falling xs rise i j d le below =
     let low = get_or_default xs i d 0 (omega arith) in
     let high = get_or_default xs j d 0 below in omega arith
 
--- the zone of a cell of the road is one of the plan's
+-- the zone of a cell of the road is one of the plan's zones
 pub zone_below : (cells width c : ℕ) → 0 < width → c < cells → c / width < (cells - 1) / width + 1
 zone_below cells width c wide on =
     let last : cells - 1 < ((cells - 1) / width + 1) * width = (div-lt_iff_lt-mul {k = width} {x = cells - 1} {y = (cells - 1) / width + 1} wide).0 (omega arith) in
@@ -59,7 +59,7 @@ zone_in_plan p a cars k width limits long below all wide =
     let same : cell_at cars k / width ≡ cell_at (cars_of a) k / p.width = λ i. cell_at (all i) k / wide i in
     omega arith
 
--- where cars and blocks are on the road, a cell is taken on the road exactly where it is taken
+-- if cars and blocks are on the road, a cell is taken on the road exactly if it is taken
 taken-on_road : (p : Plan) (s : Settings) (a : Array) (k : ℕ) → Fits p s → length a ≤ p.cells → cells.is_taken s.blocks a k ≡ is_taken_on_road p s a k
 taken-on_road p s a k fits long = elim (cases_lt k p.cells) as (λ _. cells.is_taken s.blocks a k ≡ is_taken_on_road p s a k) [
   | inl on ↦ ap (λ b. b && cells.is_taken s.blocks a k) (sym (lt-ltb k p.cells on))
@@ -75,7 +75,7 @@ taken-on_road p s a k fits long = elim (cases_lt k p.cells) as (λ _. cells.is_t
       | false ↦ λ free. free
     ] refl
 
--- the gap on the road is that of the cells
+-- the gap on the road is the gap of the cells
 pub gap-free_cells : (p : Plan) (s : Settings) (a : Array) (c : ℕ) → Fits p s → length a ≤ p.cells → free_cells s.blocks a c ≡ gap p s a c
 gap-free_cells p s a c fits long = free_before-same (cells.is_taken s.blocks a) (is_taken_on_road p s a) GREATEST_SPEED (c + 1) (λ k le lt. taken-on_road p s a k fits long)
 
@@ -149,7 +149,7 @@ module _ (end : ℕ) where
     | inr behind ↦ vehicle_among-past (take n cars) j (let last = ends n cars low in omega arith) ∙ sym (past_array end (vehicle_at (array_of cars)) j behind)
   ]))
 
--- going over the cells of a tabulated array, car by car
+-- visiting the cells of a tabulated array, car by car
 module _ (f : ℕ → Option Vehicle) (n : ℕ) where
   -- the cars from a cell on
   unfoldable pub cars_left : ℕ → List Car

@@ -46,7 +46,7 @@ came speed a j c car comes = elim (vehicle_at a c) as (λ o. vehicle_at a c ≡ 
       | false ↦ λ missed. let never : None ≡ Some car = sym (ap (λ b. cond b (Some (record { number = x.number; speed = speed c x })) None) missed) ∙ comes in cc
     ] refl
 
--- who arrives came from a cell
+-- a car that arrives came from a cell
 pub came_from : (speed : ℕ → Vehicle → ℕ) (a : Array) (j : ℕ) (car : Vehicle) → arrival_at speed a j ≡ Some car → CameFrom speed a j car
 came_from speed a j car arrives = let from = found (λ c. arrival_from j c (speed c) (vehicle_at a c)) (range_with_len 0 (length a)) car arrives in came speed a j from.0 car from.1
 
@@ -68,11 +68,11 @@ entered_at p s t c car (Some i) place enters = elim (is_admitting p s t c i) as 
   | false ↦ λ is. let never : None ≡ Some car = is in cc
 ] enters
 
--- who enters came by an inlet
+-- a car that enters came by an inlet
 pub entered_by : (p : Plan) (s : Settings) (t c : ℕ) (car : Vehicle) → entry_at p s t c ≡ Some car → EnteredBy p t c car
 entered_by p s t c car enters = entered_at p s t c car (position (λ inlet. nat_eq c inlet.0) p.inlets) refl enters
 
--- who stands on the road after the entries stood there before or entered
+-- a car on the road after the entries was there before or entered
 pub stood_or_entered : (p : Plan) (s : Settings) (t : ℕ) (a : Array) (c : ℕ) (car : Vehicle) → vehicle_at (road_with_entries p s t a) c ≡ Some car → (vehicle_at a c ≡ Some car) ⊎ EnteredBy p t c car
 stood_or_entered p s t a c car here =
     let below = within p.cells (λ c. option_or (vehicle_at a c) (entry_at p s t c)) c car here in

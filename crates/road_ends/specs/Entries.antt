@@ -12,7 +12,7 @@ use Rattle.road_cells.specs.Array.{Array, Vehicle, vehicle_at, array}
 use Rattle.road_cells.specs.Gap.{is_blocked}
 use Rattle.road_rules.specs.Speeds.{comes_about}
 
--- the number of the car that enters inlet i at step t: numbers are never given twice
+-- the number of the car that enters at inlet i at step t: no number is given twice
 abbrev pub car_number : ℕ → ℕ → ℕ
 car_number t i = MOST_INLETS * t + i
 
@@ -20,7 +20,8 @@ car_number t i = MOST_INLETS * t + i
 abbrev pub inlet_stream : ℕ → ℕ
 inlet_stream i = 2 ^ 63 + i
 
--- whether inlet i, at cell c, lets a car in at step t: its cell is not blocked, and its word has its event
+-- whether inlet i, at cell c, lets a car in at step t: its cell is not blocked, and the event of its inflow chance
+-- happens by its word
 abbrev pub is_admitting : Plan → Settings → ℕ → ℕ → ℕ → Bool
 is_admitting p s t c i = not (is_blocked s.blocks c)
     && comes_about (word p.words (inlet_stream i) t) (slice_index s.inflows i)
@@ -31,7 +32,7 @@ admitted_car p s t c None = None
 admitted_car p s t c (Some i) = if is_admitting p s t c i then Some (record { number = car_number t i; speed = 0 })
     else None
 
--- the car that wants to enter at cell c, where that is an inlet's
+-- the car that wants to enter at cell c, if the cell is an inlet's
 abbrev pub entry_at : Plan → Settings → ℕ → ℕ → Option Vehicle
 entry_at p s t c = admitted_car p s t c (position (λ inlet. nat_eq c inlet.0) p.inlets)
 

@@ -10,11 +10,11 @@ use Rattle.road_cells.specs.Cars.{array_of, cars_from}
 use Rattle.road_ends.specs.Entries.{entry_at}
 use Rattle.road_ends.specs.Input.{StepInput}
 
--- what stands at a cell with the cars that enter
+-- the vehicle at a cell once cars have entered
 abbrev pub with_entry : Plan → Settings → ℕ → Array → ℕ → Option Vehicle
 with_entry p s t a c = option_or (vehicle_at a c) (entry_at p s t c)
 
--- the array with the cars that enter, of the cells from lo to before hi alone
+-- the cells from lo to before hi of the array with the cars that enter
 abbrev pub entries_between : ℕ → ℕ → Plan → Settings → ℕ → Array → Array
 entries_between lo hi p s t a = array_of (cars_from lo (map (with_entry p s t a) (range_with_len lo (hi - lo))))
 

@@ -1,4 +1,4 @@
--- The input of a step: what is needed to compute it.
+-- The input of a step: all that is needed to compute it.
 use Rattle.std.specs.Prelude.{ℕ, List, slice_range}
 use Rattle.road_plan.specs.Plan.{Plan}
 use Rattle.road_plan.specs.Settings.{Settings}
@@ -22,7 +22,7 @@ input_of p s t a = record { plan = p; settings = s; step = t; road = road_with_e
 abbrev pub input_speeds : StepInput → List ℕ
 input_speeds input = speeds input.plan input.settings input.step input.road
 
--- the new speeds of a piece of the cars: of those at the places from `first` to before `end`
+-- the new speeds of a piece of the cars: those at the places from `first` to before `end`
 abbrev pub input_speeds_between : StepInput → ℕ → ℕ → List ℕ
 input_speeds_between input first end = slice_range (input_speeds input) first end
 

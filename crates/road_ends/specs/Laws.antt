@@ -10,16 +10,16 @@ use Rattle.road_cells.specs.declared.car.TheConstants.{GREATEST_SPEED}
 use Rattle.road_ends.specs.Speed.{speed}
 use Rattle.road_ends.specs.Run.{Course, run, road_after_steps, road_before_motion}
 
--- what may hold of one step: of a plan, the settings and the number of the step, and the array before the motion
+-- a law of one step: a fact about a plan, the settings and the number of the step, and the array before the motion
 abbrev pub StepLaw : Type 1
 StepLaw = Plan → Settings → ℕ → Array → Type 0
 
--- a law holds of each step from an array whose cars are on the road, and so of each step of every run
+-- a law holds in each step: from each array whose cars are on the road, and so in each step of every run
 pub record HoldsInEachStep (law : StepLaw) (p : Plan) : Type 0 where
   pub on_arrays : (s : Settings) (t : ℕ) (a : Array) → length a ≤ p.cells → law p s t a
   pub in_runs : (course : Course) (t : ℕ) → law p (course t) t (road_before_motion p course t)
 
--- where the car of cell c drives to
+-- the cell to which the car of cell c drives
 abbrev pub target : Plan → Settings → ℕ → Array → ℕ → Vehicle → ℕ
 target p s t a c car = c + speed p s t a c car
 
@@ -27,12 +27,12 @@ target p s t a c car = c + speed p s t a c car
 abbrev pub KeepBelowGreatestSpeed : StepLaw
 KeepBelowGreatestSpeed p s t a = (c : ℕ) (car : Vehicle) → speed p s t a c car ≤ GREATEST_SPEED
 
--- a car stays behind the cell of the next one: no two cars share a cell, and none passes through another
+-- a car stays behind the cell of the next one: no two cars share a cell, and no car passes through another
 abbrev pub NeverCollide : StepLaw
 NeverCollide p s t a = (c d : ℕ) (x y : Vehicle) → vehicle_at a c ≡ Some x → vehicle_at a d ≡ Some y → c < d
     → target p s t a c x < d
 
--- at most one car comes to a cell
+-- at most one car arrives at a cell
 abbrev pub ArriveAlone : StepLaw
 ArriveAlone p s t a = (c d : ℕ) (x y : Vehicle) → vehicle_at a c ≡ Some x → vehicle_at a d ≡ Some y
     → target p s t a c x ≡ target p s t a d y → c ≡ d
@@ -60,7 +60,7 @@ pub record IsOnRoad (p : Plan) (t c : ℕ) (car : Vehicle) : Type 0 where
   pub slow_enough : car.speed ≤ GREATEST_SPEED
   pub has_entered : car.number < MOST_INLETS * t
 
--- each car of a run is so on the road
+-- each car of a run is on the road in this sense
 abbrev pub StayOnRoad : Plan → Type 0
 StayOnRoad p = (course : Course) (t c : ℕ) (car : Vehicle) → vehicle_at (run p course t) c ≡ Some car
     → IsOnRoad p t c car
@@ -80,12 +80,13 @@ DependOnEarlierSettings p = (f g : Course) (s : ℕ) → ((u : ℕ) → u < s �
 pub record AgreeBetween (a b : ℕ) (x y : Array) : Type 0 where
   pub same : (c : ℕ) → a ≤ c → c < b → vehicle_at x c ≡ vehicle_at y c
 
--- roads agree near a stretch: wherever it may matter there within k steps, 9 cells farther for each behind it and ahead
+-- roads agree near a stretch: at all cells that can matter there within k steps, 9 cells farther for each step behind
+-- it and ahead of it
 abbrev pub AgreeNear : ℕ → ℕ → ℕ → Array → Array → Type 0
 AgreeNear k lo hi x y = AgreeBetween (lo - GREATEST_SPEED * k) (hi + GREATEST_SPEED * k) x y
 
 -- locality in space: roads that agree on a stretch, and for each step 9 cells farther behind it and ahead of it, agree
--- on the stretch after these steps, by the same settings
+-- on the stretch after these steps, under the same settings
 abbrev pub DependOnCellsNearby : Plan → Type 0
 DependOnCellsNearby p = (course : Course) (t k lo hi : ℕ) (x y : Array)
     → AgreeNear k lo hi x y

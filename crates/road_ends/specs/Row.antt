@@ -9,7 +9,7 @@ use Rattle.road_cells.specs.Gap.{is_blocked}
 use Rattle.road_ends.specs.Run.{Course, run}
 use Rattle.road_ends.specs.declared.letters.TheConstants.{STANDING, BLOCKED, EMPTY}
 
--- the letter of a cell: a car's speed as a digit, else the mark of a blocked cell, else that of an empty one
+-- the letter of a cell: a car's speed as a digit, else the mark of a blocked cell, else the mark of an empty cell
 abbrev pub letter : Bool → Option Vehicle → ℕ
 letter blocked (Some car) = STANDING + car.speed
 letter true None = BLOCKED

@@ -8,7 +8,7 @@ use Rattle.road_ends.specs.Input.{StepInput}
 use Rattle.road_ends.specs.Laws.{AgreeNear}
 use Rattle.road_ends.specs.Run.{road_after_steps}
 
--- steps of a plan, one after another, under the same settings: the first of them, and how many
+-- steps of a plan, one after another, under the same settings: the first step, and the number of steps
 pub record Span : Type 0 where
   pub plan : Plan
   pub settings : Settings
@@ -19,13 +19,13 @@ pub record Span : Type 0 where
 abbrev pub span_road : Span → Array → Array
 span_road span a = road_after_steps span.plan (λ _. span.settings) span.step span.steps a
 
--- an input of a span: of its plan and settings
+-- an input of a span has the plan and settings of the span
 pub record IsOfSpan (span : Span) (input : StepInput) : Type 0 where
   pub plan : input.plan ≡ span.plan
   pub settings : input.settings ≡ span.settings
 
--- an input near a stretch: that of the step after k of a span, from a road, wherever it may matter on the cells from lo
--- to before hi in the steps that are left
+-- an input near a stretch: the input of the step after k steps of a span, from a road, at all cells that can matter on
+-- the cells from lo to before hi in the steps that are left
 pub record IsInputNear (lo hi : ℕ) (span : Span) (k : ℕ) (a : Array) (input : StepInput) : Type 0 where
   pub of_span : IsOfSpan span input
   pub step : input.step ≡ span.step + k

@@ -20,12 +20,12 @@ is_taken_on_road p s a c = nat_lt c p.cells && cells.is_taken s.blocks a c
 abbrev pub gap : Plan → Settings → Array → ℕ → ℕ
 gap p s a c = free_before (is_taken_on_road p s a) (c + 1) GREATEST_SPEED
 
--- the slowing chance of a car by its speed before the acceleration: that of standing cars where it is 0, and else
--- that of moving cars (slow-to-start; Barlović, Santen, Schadschneider and Schreckenberg 1998)
+-- the slowing chance of a car by its speed before the acceleration: the chance of standing cars if that speed is 0,
+-- else that of moving cars (slow-to-start; Barlović, Santen, Schadschneider and Schreckenberg 1998)
 abbrev pub chance_at : ℕ → ℕ → ℕ → ℕ
 chance_at speed standing moving = if nat_eq speed 0 then standing else moving
 
--- whether the car is slowed by chance: its word at this step has its event under its chance in a zone
+-- whether a car is slowed: the event of its chance in a zone happens by its word at this step
 abbrev pub is_slowed : Plan → Settings → ℕ → ℕ → Vehicle → Bool
 is_slowed p s t zone car =
     comes_about (word p.words car.number t)

@@ -1,4 +1,4 @@
-//! The whole step, computed by one caller.
+//! The whole step, computed by a single caller.
 
 ghost use Rattle.std.specs.Prelude.{◌≡◌, ◌+◌, min, IfOk, OnOk, OnErr};
 ghost use Rattle.std.specs.Arc.{arc_value};
@@ -18,21 +18,21 @@ use std::sync::Arc;
 /// A computed step.
 #[derive(Drop)]
 pub struct Stepped {
-    /// Its input.
+    /// The input of the step.
     pub input: Arc<StepInput>,
-    /// The new speeds of its cars, in their order.
+    /// The new speeds of the cars, in the order of the cars.
     pub speeds: Vec<u8>,
-    /// The road after it.
+    /// The road after the step.
     pub road: Road,
 }
 
-/// Computes one step of the road by this one caller: entries, speeds, motion, deletion. The settings must fit the plan.
+/// Compute one step of the road in a single caller: entries, speeds, motion, deletion. The settings must fit the plan.
 /// The meter counts the step once it is computed.
 ///
 /// # Errors
 ///
-/// `OutOfMemory` where an allocation failed: those of [`enter`], of the speeds, of the new road. The meter is then as
-/// it was.
+/// `OutOfMemory` if an allocation failed: those of [`enter`], of the speeds, or of the new road. The meter is then
+/// unchanged.
 pub fn step_alone(
     alloc: Global,
     plan: &Arc<Plan>,

@@ -1,4 +1,4 @@
-//! The events of chances: whether a car enters, and whether one is slowed.
+//! The events of chances: whether a car enters, and whether a car is slowed.
 
 ghost use Rattle.std.specs.Prelude.{◌≡◌};
 ghost use Rattle.road_rules.specs.Speeds.{comes_about, slowed_speed};
@@ -9,15 +9,16 @@ use road_plan::Plan;
 use road_plan::limits::CERTAIN;
 use road_words::{PlanWords, Words};
 
-// Returns the slowing chance of a car by its speed before the acceleration: that of standing cars, or of moving ones.
+// Return the slowing chance of a car by its speed before the acceleration: the chance of standing cars, or of moving
+// cars.
 pub(crate) fn chance_at(speed: u8, standing: u32, moving: u32) -> u32
     ensures { result ≡ chance_at speed standing moving }
 {
     if speed == 0 { standing } else { moving }
 }
 
-// Answers whether a plan's word at a place of a stream has its event under a chance. It is drawn only where the chance
-// leaves that open.
+// Return whether the event of a chance happens by a plan's word at a place of a stream. The word is drawn only if the
+// chance leaves that open.
 pub(crate) fn has_event(plan: &Plan, stream: u64, place: u64, chance: u32) -> bool
     ensures { result ≡ comes_about (word plan.now.words stream place) chance }
 {
@@ -27,7 +28,7 @@ pub(crate) fn has_event(plan: &Plan, stream: u64, place: u64, chance: u32) -> bo
     chance >= CERTAIN || PlanWords::of(plan).word(stream, place) >> 16 < chance
 }
 
-// Applies rule 3 by a plan's word at a place of a stream. It is drawn only where it can change the speed.
+// Apply rule 3 by a plan's word at a place of a stream. The word is drawn only if it can change the speed.
 pub(crate) fn slowed_by_chance(plan: &Plan, stream: u64, place: u64, speed: u8, chance: u32) -> u8
     ensures { result ≡ slowed_speed speed (comes_about (word plan.now.words stream place) chance) }
 {

@@ -15,13 +15,17 @@ use road_cells::{Car, Road, is_blocked};
 use road_plan::limits::MOST_INLETS;
 use std::alloc::Global;
 
-// The stream of the first inlet's words; the others follow it.
+// The stream of the first inlet's words. The streams of the other inlets follow it.
 const FIRST_INLET_STREAM: u64 = 1 << 63;
 
-// Makes the road with the cars that enter at a step: at each inlet whose cell is empty and not blocked, and whose word
-// has its event under the inflow chance. None is past the road's end. The cars between two inlets are copied as they
-// are, in one allocation for all.
-pub(crate) fn entered(alloc: Global, at: StepSettings, road: &Road) -> Result<Road, OutOfMemory>
+// Make the road with the cars that enter at a step: at each inlet whose cell is empty and not blocked, if the event of
+// the inflow chance happens by its word. No car is past the road's end. The cars between two inlets are copied
+// unchanged. There is one allocation in all.
+pub(crate) fn road_with_entries(
+    alloc: Global,
+    at: StepSettings,
+    road: &Road,
+) -> Result<Road, OutOfMemory>
     ensures moving { IfOk result (λ moving.
         moving ≡ road_with_entries at.entry.plan.now at.entry.settings.now at.entry.step road.now) }
     ensures on_road { IfOk result (λ moving. length moving ≤ at.entry.plan.now.cells) }
@@ -35,7 +39,7 @@ pub(crate) fn entered(alloc: Global, at: StepSettings, road: &Road) -> Result<Ro
         let inlet = next_inlet(inlets, cell, end);
         cars.extend_from_slice(road.between(cell, inlet))?;
         if inlet < end {
-            match standing_or_entering(at, road, inlet) {
+            match car_or_entry_at(at, road, inlet) {
                 Some(car) => cars.push(car)?,
                 None => {}
             }
@@ -45,7 +49,7 @@ pub(crate) fn entered(alloc: Global, at: StepSettings, road: &Road) -> Result<Ro
     Ok(Road::of(cars))
 }
 
-// Finds the first cell of an inlet from a cell on, or `end` where none is before it.
+// Find the first inlet's cell from a cell on, or `end` if there is none before it.
 fn next_inlet(inlets: &[(u32, u32)], cell: u32, end: u32) -> u32
     requires { cell ≤ end }
     ensures from { cell ≤ result }
@@ -61,19 +65,19 @@ fn next_inlet(inlets: &[(u32, u32)], cell: u32, end: u32) -> u32
     next
 }
 
-// Finds the car that stands at a cell, or else lets one enter there.
-fn standing_or_entering(at: StepSettings, road: &Road, cell: u32) -> Option<Car>
+// Find the car at a cell, or else let a car enter there.
+fn car_or_entry_at(at: StepSettings, road: &Road, cell: u32) -> Option<Car>
     ensures { result ≡ option_map (car_of cell)
         (option_or (vehicle_at road.now cell) (entry_at at.entry.plan.now at.entry.settings.now at.entry.step cell)) }
 {
     match road.car_at(cell) {
         Some(car) => Some(car),
-        None => entering(at, cell),
+        None => entry_at(at, cell),
     }
 }
 
-// Lets a car enter at a cell, where that is an inlet's.
-fn entering(at: StepSettings, cell: u32) -> Option<Car>
+// Let a car enter at a cell, if the cell is an inlet's.
+fn entry_at(at: StepSettings, cell: u32) -> Option<Car>
     ensures { result ≡ option_map (car_of cell)
         (entry_at at.entry.plan.now at.entry.settings.now at.entry.step cell) }
 {
@@ -96,7 +100,7 @@ fn entering(at: StepSettings, cell: u32) -> Option<Car>
     })
 }
 
-// Finds the index of the inlet at a cell.
+// Find the index of the inlet at a cell.
 fn inlet_at(inlets: &[(u32, u32)], cell: u32) -> Option<usize>
     ensures { result ≡ position (λ inlet. nat_eq cell inlet.0) inlets.now }
 {

@@ -12,7 +12,7 @@ mod pieces;
 pub(crate) mod sameness;
 
 use crate::OutOfMemory;
-use crate::entries::entered;
+use crate::entries::road_with_entries;
 use crate::pass::speeds;
 use crate::step_settings::StepSettings;
 use road_cells::Road;
@@ -50,7 +50,7 @@ impl Model for StepInput {
 }
 
 impl StepInput {
-    /// Returns the number of the step.
+    /// Return the number of the step.
     pub fn step(&self) -> u32
         ensures { result ≡ self.now.step }
     {
@@ -58,7 +58,7 @@ impl StepInput {
         *step
     }
 
-    /// Returns the road with the cars that have entered in this step, before they move.
+    /// Return the road with the cars that have entered in this step, before they move.
     pub fn road(&self) -> &Road
         ensures road { result.now ≡ self.now.road }
         ensures on_road { length self.now.road ≤ self.now.plan.cells }
@@ -67,7 +67,7 @@ impl StepInput {
         &self.road
     }
 
-    /// Returns the plan.
+    /// Return the plan.
     pub fn plan(&self) -> &Plan
         ensures plan { result.now ≡ self.now.plan }
         ensures within { IsWithinLimits self.now.plan }
@@ -75,7 +75,7 @@ impl StepInput {
         &self.plan
     }
 
-    /// Returns the settings of the step.
+    /// Return the settings of the step.
     pub fn settings(&self) -> &Settings
         ensures settings { result.now ≡ self.now.settings }
         ensures fits { Fits self.now.plan self.now.settings }
@@ -83,7 +83,7 @@ impl StepInput {
         &self.settings
     }
 
-    /// Returns the random words of the plan.
+    /// Return the random words of the plan.
     pub fn words(&self) -> PlanWords
         ensures { (stream place : ℕ) →
             ⟦<PlanWords as Words>⟧.word_of result stream place ≡ word self.now.plan.words stream place }
@@ -91,18 +91,18 @@ impl StepInput {
         PlanWords::of(&self.plan)
     }
 
-    /// Computes the new speeds of all cars of the step, in their order.
+    /// Compute the new speeds of all cars of the step, in their order.
     ///
     /// # Errors
     ///
-    /// `OutOfMemory` where the allocation of their list failed.
+    /// `OutOfMemory` if the allocation of their list failed.
     pub fn speeds(&self, alloc: Global) -> Result<Vec<u8>, OutOfMemory>
         ensures { IfOk result (λ new. new.items ≡ input_speeds self.now) }
     {
         speeds(alloc, self.at(), &self.road)
     }
 
-    // Returns the plan, the settings and the number of the step.
+    // Return the plan, the settings and the number of the step.
     fn at(&self) -> StepSettings<'_>
         ensures plan { result.plan.now ≡ self.now.plan }
         ensures settings { result.settings.now ≡ self.now.settings }
@@ -116,12 +116,12 @@ impl StepInput {
     }
 }
 
-/// Makes the input of a step: the road with the cars that enter in it, beside the plan, the settings and the step. The
-/// settings must fit the plan.
+/// Make the input of a step: the road with the cars that enter in the step, with the plan, the settings and the step.
+/// The settings must fit the plan.
 ///
 /// # Errors
 ///
-/// `OutOfMemory` where an allocation failed, of the new road or of the input, or the plan can have no more owners.
+/// `OutOfMemory` if the allocation of the new road or of the input failed, or if the plan can have no more owners.
 pub fn enter(
     alloc: Global,
     plan: &Arc<Plan>,
@@ -137,7 +137,7 @@ pub fn enter(
         settings: &settings,
         step,
     };
-    let road = entered(alloc, at, road)?;
+    let road = road_with_entries(alloc, at, road)?;
     let plan = Arc::try_clone(plan)?;
     let input = StepInput {
         plan,

@@ -1,7 +1,7 @@
-//! The step and the run of the road: entries, the speeds of all cars, motion and the deletions at the exit; the laws of
-//! runs, and the letters of rows.
+//! The step and the run of the road: entries, the speeds of all cars, motion, and the deletion of cars at the exit.
+//! Also the laws of runs, and the letters of rows.
 //!
-//! A step goes from inlet to inlet and from car to car.
+//! A step visits the inlets and the cars, not every cell.
 //!
 //! ```
 //! // Ten steps of a plan by its own settings, from the empty road.

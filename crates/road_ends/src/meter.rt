@@ -4,7 +4,7 @@ ghost use Rattle.std.specs.Prelude.{◌≡◌, ◌+◌, min};
 
 use std::marker::Model;
 
-/// Counts computed steps.
+/// A counter of computed steps.
 #[derive(Debug, Drop)]
 pub struct Meter {
     ticks: u64,
@@ -19,14 +19,14 @@ impl Model for Meter {
 }
 
 impl Meter {
-    /// Makes a meter that has counted nothing.
+    /// Make a meter at 0.
     pub fn new() -> Self
         ensures { result ≡ 0 }
     {
         Meter { ticks: 0 }
     }
 
-    /// Returns the steps counted, at most 2^64 - 1.
+    /// Return the number of steps counted, at most 2^64 - 1.
     pub fn ticks(&self) -> u64
         ensures { result ≡ self.now }
     {
@@ -34,14 +34,14 @@ impl Meter {
         *ticks
     }
 
-    /// Counts a computed step. At the greatest count the meter stays.
+    /// Count a computed step. At the greatest count the meter stays unchanged.
     pub fn tick(&mut self)
         ensures { self.new ≡ min (self.old + 1) u64.MAX }
     {
         self.ticks = self.ticks.saturating_add(1);
     }
 
-    /// Counts so many computed steps. At the greatest count the meter stays.
+    /// Count `steps` computed steps. At the greatest count the meter stays unchanged.
     pub fn count(&mut self, steps: u32)
         ensures { self.new ≡ min (self.old + steps) u64.MAX }
     {

@@ -1,4 +1,4 @@
-//! One pass over the cars, from the far end of the road to its beginning.
+//! One pass over the cars, from the far end of the road to its start.
 
 ghost use Rattle.std.specs.Prelude.{◌≡◌, ◌≤◌, ◌<◌, length, slice_range, IfOk};
 ghost use Rattle.road_cells.specs.Cars.{cars_of, cell_at, vehicle_of};
@@ -12,7 +12,7 @@ use road_cells::{Road, reached_blocks_below};
 use road_rules::wanted;
 use std::alloc::Global;
 
-// Computes the new speeds of all cars, in the order of the cars, in one allocation.
+// Compute the new speeds of all cars, in the order of the cars, in one allocation.
 pub(crate) fn speeds(alloc: Global, at: StepSettings, road: &Road) -> Result<Vec<u8>, OutOfMemory>
     requires { length road.now ≤ at.plan.now.cells }
     ensures { IfOk result (λ new. new.items ≡ speeds at.entry.plan.now at.entry.settings.now at.entry.step road.now) }
@@ -20,8 +20,8 @@ pub(crate) fn speeds(alloc: Global, at: StepSettings, road: &Road) -> Result<Vec
     speeds_between(alloc, at, road, 0, road.cars().len())
 }
 
-// Computes the new speeds of the cars at the places from `first` to before `end`, in the order of the cars. It goes over
-// these cars from the far end, and so over the blocked cells once, in one allocation.
+// Compute the new speeds of the cars at the places from `first` to before `end`, in the order of the cars. It visits
+// these cars from the far end, and so passes the blocked cells once. There is one allocation.
 pub(crate) fn speeds_between(
     alloc: Global,
     at: StepSettings,
@@ -46,8 +46,8 @@ pub(crate) fn speeds_between(
     Ok(new)
 }
 
-// Computes the new speed of the car at a place, which the first `reached` of the blocked cells are not in front of: by
-// the limit and the slowing chance of the zone where it stands.
+// Compute the new speed of the car at a place, by the limit and the slowing chance of the zone where it stands. The
+// first `reached` of the blocked cells are not in front of it.
 fn new_speed(at: StepSettings, road: &Road, place: usize, reached: usize) -> u8
     requires on_road { length road.now ≤ at.plan.now.cells }
     requires car { place < length (cars_of road.now) }

@@ -41,7 +41,7 @@ impl Model for Span {
 }
 
 impl Span {
-    /// Makes a span of so many steps from one on. The settings must fit the plan, and the steps must end at 1,048,576
+    /// Make a span of `steps` steps from `step` on. The settings must fit the plan, and the steps must end at 1,048,576
     /// or before. It takes no memory.
     pub fn new(plan: Arc<Plan>, settings: Arc<Settings>, step: u32, steps: u32) -> Span
         requires fits { Fits (arc_value plan) (arc_value settings) }
@@ -58,7 +58,7 @@ impl Span {
         }
     }
 
-    /// Returns the plan.
+    /// Return the plan.
     pub fn plan(&self) -> &Arc<Plan>
         ensures plan { arc_value result.now ≡ self.now.plan }
         ensures within { IsWithinLimits self.now.plan }
@@ -66,7 +66,7 @@ impl Span {
         &self.plan
     }
 
-    /// Returns the settings.
+    /// Return the settings.
     pub fn settings(&self) -> &Arc<Settings>
         ensures settings { arc_value result.now ≡ self.now.settings }
         ensures fits { Fits self.now.plan self.now.settings }
@@ -74,7 +74,7 @@ impl Span {
         &self.settings
     }
 
-    /// Returns the number of the first step.
+    /// Return the number of the first step.
     pub fn step(&self) -> u32
         ensures { result ≡ self.now.step }
     {
@@ -82,7 +82,7 @@ impl Span {
         *step
     }
 
-    /// Returns how many steps it has: they end at 1,048,576 or before.
+    /// Return the number of steps. They end at 1,048,576 or before.
     pub fn steps(&self) -> u32
         ensures steps { result ≡ self.now.steps }
         ensures within_limit { self.now.step + self.now.steps ≤ GREATEST_HORIZON }
@@ -91,11 +91,11 @@ impl Span {
         *steps
     }
 
-    /// Makes another span of the same plan, settings and steps.
+    /// Make another span of the same plan, settings and steps.
     ///
     /// # Errors
     ///
-    /// `OutOfMemory` where the plan or the settings can have no more owners.
+    /// `OutOfMemory` if the plan or the settings can have no more owners.
     pub fn copied(&self) -> Result<Span, OutOfMemory>
         ensures { IfOk result (λ copy. copy ≡ self.now) }
     {
@@ -109,7 +109,7 @@ impl Span {
         })
     }
 
-    /// Answers whether two spans are the same: in their steps, plan and settings. It takes no memory.
+    /// Return whether two spans are the same: in their steps, plan and settings. It takes no memory.
     pub fn same(&self, other: &Span) -> bool
         ensures { IsTrue result ↔ (self.now ≡ other.now) }
     {

@@ -12,7 +12,7 @@ use road_plan::Plan;
 use road_rules::moved;
 use std::alloc::Global;
 
-/// Deletes the cars in the road's deleted zone or past it. It takes no memory.
+/// Delete the cars in the road's deleted zone or past it. It takes no memory.
 pub fn leave(plan: &Plan, road: Road) -> Road
     ensures { result ≡ road_before_exit plan.now road }
 {
@@ -23,12 +23,12 @@ pub fn leave(plan: &Plan, road: Road) -> Road
     Road::of(cars)
 }
 
-/// Makes the road after a step, from its input and the new speeds of its cars: motion, then deletion. The speeds must
-/// be those that [`StepInput::speeds`] gives.
+/// Make the road after a step, from its input and the new speeds of its cars: motion, then deletion. The speeds must be
+/// those that [`StepInput::speeds`] returns.
 ///
 /// # Errors
 ///
-/// `OutOfMemory` where the allocation of the new road failed.
+/// `OutOfMemory` if the allocation of the new road failed.
 pub fn finish(alloc: Global, input: &StepInput, speeds: &[u8]) -> Result<Road, OutOfMemory>
     requires { speeds.now ≡ input_speeds input.now }
     ensures step { IfOk result (λ later. later ≡ input_next input.now) }

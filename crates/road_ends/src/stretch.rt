@@ -5,6 +5,6 @@
 pub struct Stretch {
     /// Its first cell.
     pub first: u32,
-    /// The cell past its last one.
+    /// The cell after its last one.
     pub end: u32,
 }

@@ -1,4 +1,4 @@
--- The names of replicas, and what holds of those that pass their check.
+-- The names of replicas, and facts about those that pass their check.
 use Rattle.std.proofs.Common.{◌≡◌, ◌≤◌, ◌==◌, ◌&&◌, List, ◌∷◌, Bool, true, false, not, cond, suc, length, refl, arith, string_bytes, String, nat_lt}
 use Rattle.std.specs.declared.alloc.Global.{Global}
 use Rattle.std.specs.List.{list_any, IsDistinct}
@@ -13,13 +13,13 @@ use Rattle.road_plan.specs.declared.limits.TheConstants.{MOST_REPLICAS}
 use Rattle.road_format.specs.PlanGrammar.{are_names}
 use Rattle.road_format.specs.Views.{texts}
 
--- one more is one more different one where it is not among the others
+-- one more is one more different one if it is not among the others
 one_more : {X : Type 0} (among : Bool) (x : X) (unique others : List X) → length unique ≤ length others
     → (length (cond among unique (x ∷ unique)) == suc (length others)) ≡ (not among && (length unique == length others))
 one_more true x unique others few = grind (arith, nat_tests)
 one_more false x unique others few = grind (arith, nat_tests)
 
--- names differ where none of the others is the first one, and they differ
+-- names differ if no other name equals the first, and the others differ
 pub first_and_others : (names : List (String Global)) (first : String Global) (others : List (String Global)) → names ≡ first ∷ others
     → (distinct_count bytes_eq (texts names) == length (texts names)) ≡ (not (list_any (bytes_eq (string_bytes first)) (texts others)) && (distinct_count bytes_eq (texts others) == length (texts others)))
 first_and_others names first others is =

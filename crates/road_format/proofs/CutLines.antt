@@ -5,7 +5,7 @@ use Rattle.std.proofs.lemmas.List.Elements.{All-nil, All-cons, All-head, All-tai
 use Rattle.road_format.specs.Cut.{Pieces, newline, pieces_with_byte, pieces_of, last_line}
 use Rattle.road_format.specs.CutLaws.{LinesGoOn, lines_and_newlines, CutLosesNothing, HasNoNewline, LinesHaveNoNewline}
 
--- pieces, and then the pieces of what goes on from their last one
+-- pieces, followed by the pieces of what continues their last one
 abbrev pub joined_pieces : Pieces → Pieces → Pieces
 joined_pieces p q = (p.0 ++ q.0, q.1)
 

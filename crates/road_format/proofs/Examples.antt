@@ -121,7 +121,7 @@ no_form : command_of (codes "{\"import\":{\"at\":\"A\",\"edits\":[],\"form\":0}}
 unfolding road_format_on_literals
 no_form = refl
 
--- the second form alone has edits of kind `start`
+-- only the second form has edits of kind `start`
 a_start : command_of (codes "{\"import\":{\"at\":\"A\",\"edits\":[[\"start\",0,0,1,64,5]],\"form\":2}}")
     ≡ Ok (Import (codes "A") (record { object = Start 0; step = 0; stamp = record { count = 1; number = 64 }; value = Put 5 } ∷ []))
 unfolding road_format_on_literals
@@ -139,7 +139,7 @@ an_edit_of_a_start : command_of (codes "{\"edit\":{\"at\":\"A\",\"object\":[\"st
 unfolding road_format_on_literals
 an_edit_of_a_start = refl
 
--- the edits are asked before the form
+-- the edits are checked before the form
 no_edits_in_another_form : command_of (codes "{\"import\":{\"at\":\"A\",\"edits\":[[\"limit\",0,0,7,64]],\"form\":3}}") ≡ Err refusals.NotACommand
 unfolding road_format_on_literals
 no_edits_in_another_form = refl
@@ -206,7 +206,7 @@ nine_shares : command_of (codes "{\"crowd\":{\"form\":1,\"shares\":[[],[],[],[],
 unfolding road_format_on_literals
 nine_shares = refl
 
--- nine shares are asked before the form
+-- nine shares are refused before the form is checked
 nine_shares_in_the_third_form : command_of (codes "{\"crowd\":{\"form\":3,\"shares\":[[],[],[],[],[],[],[],[],[]],\"to\":6}}") ≡ Err refusals.NotACommand
 unfolding road_format_on_literals
 nine_shares_in_the_third_form = refl
@@ -271,7 +271,7 @@ a_plan_of_steady_words : plan_line_of (codes "{\"detectors\":[],\"exit\":1,\"inl
 unfolding road_format_on_literals
 a_plan_of_steady_words = refl
 
--- names are asked before the length of the road
+-- names are checked before the length of the road
 two_alike : plan_line_of (codes "{\"detectors\":[],\"exit\":1,\"inlets\":[[0,65536]],\"length\":7,\"replicas\":[\"A\",\"A\"],\"words\":\"steady\",\"zone\":12,\"zones\":[[2,0]]}") ≡ Err refusals.Names
 unfolding road_format_on_literals
 two_alike = refl

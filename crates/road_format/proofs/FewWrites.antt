@@ -28,14 +28,14 @@ use Rattle.road_format.specs.declared.refusal.Refusal.{Refusal}
 use Rattle.road_format.specs.declared.refusal.Refusal.TheVariants.{NotJson, NotACommand}
 use Rattle.road_format.proofs.LineSizes.{AtMost, data_items, few_items, items_within, members_within}
 
--- ---- what is read step by step
+-- ---- reading step by step
 
--- what holds of what the second step gives, where the first gives what is asked
+-- a fact about the result of the second step, from a fact about the result of the first
 then_holds : {A B : Type 0} (P : A → Type 0) (Q : B → Type 0) (o : Option A) (f : A → Option B) → IfSome o P → ((a : A) → P a → IfSome (f a) Q) → IfSome (o >>= f) Q
 then_holds P Q None f p q = tt
 then_holds P Q (Some a) f p q = q a p
 
--- what holds whatever the first step gives
+-- a fact that holds whatever the result of the first step
 anyway : {A B : Type 0} (Q : B → Type 0) (o : Option A) (f : A → Option B) → ((a : A) → IfSome (f a) Q) → IfSome (o >>= f) Q
 anyway Q None f q = tt
 anyway Q (Some a) f q = q a
@@ -97,7 +97,7 @@ some_at_most n (Some d) x = x
 
 -- ---- shares
 
--- a list has an item for each thing that is read of it
+-- a list has an item for each value that is read from it
 each_read : {A : Type 0} (read_one : Data → Option A) (ds : Items) → IfSome (values_of_items read_one ds) (λ xs. length xs ≤ items_within ds)
 each_read read_one values.no_items = omega arith
 each_read read_one (values.item d ds) =
@@ -113,7 +113,7 @@ share_items d =
     then_holds (λ ds. items_within ds ≤ data_items d) (λ (share : List Edit). length share ≤ data_items d) (as_array d) (values_of_items edit_in) (array_items d)
     (λ ds least. longer (items_within ds) (data_items d) least (values_of_items edit_in ds) (each_read edit_in ds))
 
--- one share more makes a write for each edit, and one more
+-- one more share makes a write for each edit, and one more
 one_share_more : (share : List Edit) (shares : List (List Edit)) → share_writes (share ∷ shares) ≡ suc (length share + share_writes shares)
 one_share_more share shares = let both = length-append share (flat_map (λ (s : List Edit). s) shares) in omega (arith, both)
 
@@ -141,7 +141,7 @@ items_least n (values.string s) least = tt
 items_least n (values.array ds) least = least
 items_least n (values.object ms) least = tt
 
--- that a command, where one is read, has few writes
+-- a command, if one is read, has few writes
 record Few (n : ℕ) (read : Option Command) : Type 0 where
   few : IfSome read (HasFewWrites n)
 
@@ -268,13 +268,13 @@ value_items : (line : List ℕ) → IfSome (value_of line) (λ d. data_items d �
 unfolding value_of
 value_items line = read_few line (is_utf8 line)
 
--- what is read of a line makes no more writes than the line has bytes
+-- a command read from a line makes no more writes than the line has bytes
 pub line_few : (line : List ℕ) (d : Data) (result : Result declared.Command LineFault) → value_of line ≡ Some d
     → Gives command_view line_refusal result (result_or_refusal NotACommand (command_in d) command_of_form) → IfOk result (λ command. HasFewWrites (length line) (command_view command))
 line_few line d (Err fault) is given = tt
 line_few line d (Ok command) is given = data_few (length line) (Some d) (command_view command) (subst (λ (o : Option Data). IfSome o (λ e. data_items e ≤ length line)) is (value_items line)) given
 
--- what is few enough for one bound is so for a greater one
+-- a command with few enough writes for one bound has few enough for a greater one
 pub few_within : (m n : ℕ) → m ≤ n → (c : Command) → HasFewWrites m c → HasFewWrites n c
 few_within m n less (grammar.Crowd shares to) few = (few.0, few.1, omega (arith, less, few.2))
 few_within m n less (grammar.Edit at object step number) few = tt

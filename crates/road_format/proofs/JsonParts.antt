@@ -23,7 +23,7 @@ abbrev pub with_front : {A : Type 0} → List A → Option (List A) → Option (
 with_front front None = None
 with_front front (Some xs) = Some (front ++ xs)
 
--- what is read behind what was found
+-- a value read after those found
 with_front-behind : {A : Type 0} (found : List A) (x : A) (later : Option (List A)) → with_front (found ++ x ∷ []) later ≡ with_front found (later >>= λ xs. Some (x ∷ xs))
 with_front-behind found x None = refl
 with_front-behind found x (Some xs) = ap Some (append_assoc found (x ∷ []) xs)
@@ -31,14 +31,14 @@ with_front-behind found x (Some xs) = ap Some (append_assoc found (x ∷ []) xs)
 drop_at : {A : Type 0} (xs : List A) (i : ℕ) (x : A) → i < length xs → x ≡ get_or xs i x → drop i xs ≡ x ∷ drop (i + 1) xs
 drop_at {A = A} xs i x inside is = rw add-one (drop-cons xs i x inside ∙ ap (λ (y : A). y ∷ drop (suc i) xs) (sym is))
 
--- the next item is read as the next of what is found
+-- the next item is read as the next value
 pub next_is_read : {A : Type 0} (read : Data → Option A) (vs : List Value) (i : ℕ) (found : List A) (v : Value) (x : A)
     → i < length vs → v ≡ get_or vs i v → Some x ≡ read (view v)
     → with_front (found ++ x ∷ []) (values_of_items read (items_view (drop (i + 1) vs))) ≡ with_front found (values_of_items read (items_view (drop i vs)))
 next_is_read read vs i found v x inside is reads =
     rw (drop_at vs i v inside is) (rw (sym reads) (with_front-behind found x (values_of_items read (items_view (drop (i + 1) vs)))))
 
--- the next item is written behind those before it
+-- the next item is written after those before it
 pub next_is_written : {A : Type 0} (data_of : A → Data) (xs : List A) (i : ℕ) (values : List Value) (x : A) (v : Value)
     → i < length xs → x ≡ get_or xs i x → view v ≡ data_of x
     → map view (values ++ v ∷ []) ++ map data_of (drop (i + 1) xs) ≡ map view values ++ map data_of (drop i xs)

@@ -1,4 +1,4 @@
--- Lemmas of the lines, of what is read from them and of what is written, and worked examples.
+-- Lemmas about lines, what is read from them and what is written, and worked examples.
 mod Examples
 pub mod OnLiterals
 pub mod CutLines

@@ -12,7 +12,7 @@ use Rattle.serde_json.specs.Data.{Data, Items, Members, put}
 use Rattle.serde_json.specs.Data as values
 use Rattle.serde_json.specs.Read.{number_of, of_json, of_items, of_members, max_depth, read}
 
--- ---- a text has a byte for each lexeme, and so, but for one, for each token
+-- ---- a text has a byte for each lexeme, and so one for each token except one
 
 short_byte : (m : Mode) (c : Class) (x : ℕ) (xs : List ℕ) (k : Mode → List Lexeme) → ((next : Mode) → length (k next) ≤ length xs) → length (lex_byte m c x xs k) ≤ suc (length xs)
 short_byte between quote x xs k short = omega (arith, short in_string)
@@ -75,7 +75,7 @@ short_tokens after_key (colon ∷ ls) = omega (arith, short_tokens fresh ls)
 
 -- ---- a value has a token for itself and for each item in it
 
--- how many items the lists in a value have, at every depth
+-- the number of items of the lists in a value, at every depth
 abbrev mutual
   json_items : json.Json → ℕ
   json_items json.null = 0
@@ -93,7 +93,7 @@ abbrev mutual
   fields_items json.no_members = 0
   fields_items (json.member k j ms) = json_items j + fields_items ms
 
--- what was read took so many tokens at least, beside those for its items
+-- reading took at least this number of tokens, beside those for its items
 abbrev Takes : {A : Type 0} → (A → ℕ) → ℕ → List Token → Option (A × List Token) → Type 0
 Takes f n ts None = ⊤
 Takes f n ts (Some p) = n + f p.0 + length p.1 ≤ length ts
@@ -102,7 +102,7 @@ taken_on : {A B : Type 0} (f : A → ℕ) (g : B → ℕ) (h : A → B) (n m : �
 taken_on f g h n m rs ts less None took = tt
 taken_on f g h n m rs ts less (Some p) took = omega (arith, less p.0, took)
 
--- a text that is longer has as many tokens
+-- a longer text has at least as many tokens
 fewer : {A : Type 0} (f : A → ℕ) (rs ts : List Token) → length rs ≤ length ts → (o : Option (A × List Token)) → Takes f 0 rs o → Takes f 0 ts o
 fewer f rs ts less None took = tt
 fewer f rs ts less (Some p) took = omega (arith, less, took)
@@ -162,9 +162,9 @@ unfolding value
 value_takes zero ts = one_takes (λ rs. None) (λ rs. None) (λ rs. tt) (λ rs. tt) ts
 value_takes (suc d) ts = one_takes (λ rs. items (value d) (length rs) rs) (λ rs. members (value d) (length rs) rs) (λ rs. items_take (value d) (value_takes d) (length rs) rs) (λ rs. members_take (value d) (value_takes d) (length rs) rs) ts
 
--- ---- the same of what the value says
+-- ---- the same for the content of the value
 
--- at most so many, where there is something
+-- at most this number, if there is something
 abbrev pub AtMost : {A : Type 0} → (A → ℕ) → ℕ → Option A → Type 0
 AtMost f n None = ⊤
 AtMost f n (Some a) = f a ≤ n
@@ -181,7 +181,7 @@ none_at_most : {A : Type 0} (o : Option A) → AtMost (λ _. 0) 0 o
 none_at_most None = tt
 none_at_most (Some a) = omega arith
 
--- how many items the lists in a value have, at every depth
+-- the number of items of the lists in a value, at every depth
 abbrev mutual
   pub data_items : Data → ℕ
   data_items values.null = 0
@@ -239,7 +239,7 @@ abbrev weaker : {A : Type 0} (f : A → ℕ) (m n : ℕ) → m ≤ n → (o : Op
 weaker f m n less None x = tt
 weaker f m n less (Some a) x = omega (arith, less, x)
 
--- the value that a text is has an item for each byte, at most
+-- the value of a text has at most one item for each byte
 pub few_items : (text : List ℕ) → AtMost data_items (length text) (read text)
 few_items text =
     let long : length (tokens text) ≤ suc (length text) = omega (arith, short_tokens fresh (lex between text), short_lex between text) in

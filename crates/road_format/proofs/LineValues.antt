@@ -1,4 +1,4 @@
--- What the value of a line is.
+-- The value of a line.
 use Rattle.std.proofs.Common.{◌≡◌, ℕ, List, [], ◌∷◌, ◌<◌, length, Bool, true, false, refl, ◌∙◌, arith, Some, None, if◌then◌else◌}
 use Rattle.std.specs.Str.{IsUtf8, is_utf8, chars}
 use Rattle.std.proofs.lemmas.Str.{IsUtf8-from_is_utf8, is_utf8-from_IsUtf8}
@@ -27,7 +27,7 @@ value_of-empty : value_of [] ≡ None
 unfolding serde_json_on_literals value_of is_utf8 chars
 value_of-empty = refl
 
--- a line that is a value has a byte
+-- a line that has a value has a byte
 pub length_of_value : (line : List ℕ) (d : Data) → Some d ≡ value_of line → 0 < length line
 length_of_value [] d is = let none = value_of-empty in cc
 length_of_value (x ∷ xs) d is = omega arith

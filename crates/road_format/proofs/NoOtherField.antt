@@ -18,7 +18,7 @@ use Rattle.serde_json.specs.Find.{get_member}
 use Rattle.road_format.specs.Fields.{member_count}
 use Rattle.road_format.specs.FieldsLaws.{field_names, NoOtherField}
 
--- ---- what is found at a name is a field of that name
+-- ---- a value found at a name is a field of that name
 
 or_true : (a : Bool) → (a || true) ≡ true
 or_true true = refl
@@ -39,7 +39,7 @@ length-field_names : (fields : Members) → length (field_names fields) ≡ memb
 length-field_names no_members = refl
 length-field_names (member k d fields) = ap suc (length-field_names fields)
 
--- ---- were there another, it and the names would be more than the fields
+-- ---- with another field, there would be more fields than there are
 
 or_left : (a b : Bool) → (a || b) ≡ false → a ≡ false
 or_left true b e = e

@@ -12,7 +12,7 @@ use Rattle.road_format.specs.CutLaws.{HasNoNewline}
 use Rattle.road_format.specs.Replies.{data_of, reply}
 use Rattle.road_format.specs.RepliesLaws.{RepliesAreLines}
 
--- it has no newline. It does not unfold, so that a text is read off what is claimed of it.
+-- a text contains no newline. It does not unfold, so that the text is taken from the claim about it.
 IsPlain : List ℕ → Type 0
 IsPlain text = HasNoNewline text
 
@@ -20,7 +20,7 @@ plain_cons : (x : ℕ) (xs : List ℕ) → x ≢ newline → IsPlain xs → IsPl
 unfolding IsPlain
 plain_cons x xs other plain = All-cons (λ byte. byte ≢ newline) x xs other plain
 
--- where it is told by computing that the byte is no newline
+-- a byte that computes to something else than a newline, followed by a text
 behind : (x : ℕ) (xs : List ℕ) → (x == newline) ≡ false → IsPlain xs → IsPlain (x ∷ xs)
 behind x xs other = plain_cons x xs (eqb-false x newline other)
 
@@ -32,7 +32,7 @@ plain_nil : IsPlain []
 unfolding IsPlain
 plain_nil = All-nil (λ byte. byte ≢ newline)
 
--- a newline cuts off just what stands before it
+-- a newline cuts off exactly the text before it
 pieces_with_byte-plain : (x : ℕ) (xs : List ℕ) → x ≢ newline → pieces_with_byte x (xs ∷ [], []) ≡ ((x ∷ xs) ∷ [], [])
 pieces_with_byte-plain x xs other = rw (ne_eqb x newline other) refl
 

@@ -1,4 +1,4 @@
--- The value that is written for an answer has no number with a fraction, so its text is known.
+-- The value written for an answer has no number with a fraction, so its text is known.
 use Rattle.std.proofs.Common.{◌≡◌, ℕ, List, [], ◌∷◌, ◌++◌, map, false, refl, ap, ◌∙◌, Some, None}
 use Rattle.serde_json.specs.Data.{Data, string}
 use Rattle.serde_json.specs.Written.{has_float, compact_text}

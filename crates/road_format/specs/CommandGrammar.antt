@@ -1,5 +1,5 @@
 -- Which lines are commands. A command is an object of one field, the command's name, whose value is the object of its
--- fields: those of the command and, where it is one at a replica, `at`, the replica's name.
+-- fields: those of the command and, if it is a command at a replica, `at`, the replica's name.
 use Rattle.std.specs.Prelude.{◌+◌, ◌<◌, ◌≤◌, ℕ, List, length, codes, Bool, ◌&&◌, ◌||◌, nat_lt, nat_le}
 use Rattle.std.specs.Prelude.{if◌then◌else◌}
 use Rattle.std.specs.Prelude.{Option, Some, None, option_map, Result, Ok, Err}
@@ -19,7 +19,7 @@ use Rattle.road_format.specs.declared.form.TheConstants.{LAST_FORM}
 use Rattle.road_format.specs.declared.refusal.Refusal.{Refusal}
 use Rattle.road_format.specs.declared.refusal.Refusal.TheVariants.{NotJson, NotACommand, UnknownForm}
 
--- a command, with what stands at its fields, of a name its text
+-- a command with the values of its fields; a name is given by its text
 pub data Command : Type 0 where
   -- at, object, step, value
   Edit : List ℕ → Object → ℕ → ℕ → Command
@@ -50,7 +50,7 @@ pub data Command : Type 0 where
   -- shares, to
   Crowd : List (List edit.Edit) → ℕ → Command
 
--- ---- what a replica is told and asked for itself
+-- ---- commands that change or query one replica
 
 -- the number at a field, of an object that has exactly this field and `at`
 abbrev pub only_number : List ℕ → Data → Option ℕ
@@ -103,7 +103,7 @@ scenario_in at d = do
   exact ← check (has_fields 1 d)
   Some (Scenario at)
 
--- the command of a name that tells or asks one replica, with these fields
+-- a command that changes or queries one replica, by its name and fields
 unfoldable pub replica_command_of_name : List ℕ → List ℕ → Data → Option Command
 replica_command_of_name name at d =
     if bytes_eq name (codes "edit") then edit_command_in at d
@@ -118,7 +118,7 @@ replica_command_of_name name at d =
 
 -- ---- edits from outside, and messages from replica to replica
 
--- exactly the fields `at`, `edits` and, which `form_of_name` reads, `form`; the edits are such as the form has
+-- exactly the fields `at`, `edits` and `form`, which `form_of_name` reads; the form allows the edits
 unfoldable pub import_in : ℕ → List ℕ → Data → Option Command
 import_in form at d = do
   exact ← check (has_fields 3 d)
@@ -150,23 +150,23 @@ command_at name form at d =
     else if bytes_eq name (codes "take") then option_map (Take at) (only_name (codes "message") d)
     else replica_command_of_name name at d
 
--- ---- shares of edits, each for a session of its own
+-- ---- shares of edits, each for its own session
 
--- a crowd has one share at least, and not too many
+-- a crowd has at least one share, and not too many
 abbrev pub are_few_shares : List (List edit.Edit) → Bool
 are_few_shares shares = nat_lt 0 (length shares) && nat_le (length shares) MOST_SESSIONS
 
--- how many writes shares make: one for each edit, and an advance for each share
+-- the writes of shares: one for each edit, and an advance for each share
 abbrev pub share_writes : List (List edit.Edit) → ℕ
 share_writes shares = length (flat_map (λ share. share) shares) + length shares
 
--- the shares of a crowd are neither none nor too many, and make at most so many writes; no other command has shares
+-- a crowd has at least one share and not too many, and its shares make at most n writes; no other command has shares
 abbrev pub HasFewWrites : ℕ → Command → Type 0
 HasFewWrites most (Crowd shares to) =
     (0 < length shares) × (length shares ≤ MOST_SESSIONS) × (share_writes shares ≤ most)
 HasFewWrites most command = Unit {0}
 
--- exactly the fields `shares`, `to` and, which `form_of_name` reads, `form`; the shares' edits are such as the form has
+-- exactly the fields `shares`, `to` and `form`, which `form_of_name` reads; the form allows the shares' edits
 unfoldable pub crowd_in : ℕ → Data → Option Command
 crowd_in form d = do
   exact ← check (has_fields 3 d)
@@ -182,17 +182,17 @@ crowd_in form d = do
 abbrev pub has_form : List ℕ → Bool
 has_form name = bytes_eq name (codes "import") || bytes_eq name (codes "crowd")
 
--- the form of a command of a name: what its `form` says where it has one, and else the last
+-- the form of a command of a name: its `form` if the command has this field, and else the last form
 abbrev pub form_of_name : List ℕ → Data → Option ℕ
 form_of_name name d = if has_form name then long_number_at (codes "form") d else Some LAST_FORM
 
--- the command of a name and a form, with these fields: a crowd, or what stands at a replica
+-- the command of a name and a form: a crowd, or a command at a replica
 unfoldable pub command_of_name : List ℕ → ℕ → Data → Option Command
 command_of_name name form d =
     if bytes_eq name (codes "crowd") then crowd_in form d
     else name_at (codes "at") d >>= λ at. command_at name form at d
 
--- the form and the command that a value is
+-- the form and the command of a value
 unfoldable pub command_in : Data → Option (ℕ × Command)
 command_in d = do
   field ← only_field d
@@ -204,8 +204,8 @@ command_in d = do
 abbrev pub command_of_form : ℕ × Command → Result Command Refusal
 command_of_form read = if is_known read.0 then Ok read.1 else Err UnknownForm
 
--- the command that a line is, or its refusal: first a line that is no JSON, then a value that is no command, then a
--- form that is not known
+-- the command of a line, or its refusal: first a line that is not JSON, then a value that is not a command, then an
+-- unknown form
 unfoldable pub command_of : List ℕ → Result Command Refusal
 command_of line =
     result_or_refusal NotJson (value_of line) (λ d. result_or_refusal NotACommand (command_in d) command_of_form)

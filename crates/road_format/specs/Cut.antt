@@ -5,16 +5,16 @@ use Rattle.std.specs.Prelude.{ℕ, List, [], ◌∷◌, ◌++◌, ◌==◌, Bool
 abbrev pub newline : ℕ
 newline = 10
 
--- the lines that a newline ended, without it, and the piece behind the last newline
+-- the lines that end with a newline, without it, and the piece after the last newline
 abbrev pub Pieces : Type 0
 Pieces = List (List ℕ) × List ℕ
 
--- the pieces once a byte is put in front of the first of them
+-- the pieces after a byte is put in front of the first of them
 abbrev pub pieces_with_byte_in_line : ℕ → List (List ℕ) → List ℕ → Pieces
 pieces_with_byte_in_line x [] rest = ([], x ∷ rest)
 pieces_with_byte_in_line x (line ∷ lines) rest = ((x ∷ line) ∷ lines, rest)
 
--- the pieces once a byte stands in front of them: a newline is an empty line of its own
+-- the pieces after a byte is put in front: a newline is an empty line of its own
 abbrev pub pieces_with_byte : ℕ → Pieces → Pieces
 pieces_with_byte x pieces =
     if x == newline then ([] ∷ pieces.0, pieces.1) else pieces_with_byte_in_line x pieces.0 pieces.1
@@ -24,7 +24,7 @@ abbrev pub pieces_of : List ℕ → Pieces
 pieces_of [] = ([], [])
 pieces_of (x ∷ xs) = pieces_with_byte x (pieces_of xs)
 
--- a last piece without a newline is a line where the input has ended and the piece isn't empty
+-- a last piece without a newline: it is a line if the input has ended and the piece is not empty
 abbrev pub last_line : Bool → List ℕ → List (List ℕ)
 last_line false rest = []
 last_line true [] = []

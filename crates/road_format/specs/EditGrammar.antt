@@ -1,4 +1,4 @@
--- How edits are read: lists of a kind's name, an index, a step, a count, a writer's number, and a value.
+-- How edits are read: as lists of a kind's name, an index, a step, a count, a writer's number, and a value.
 use Rattle.std.specs.Prelude.{List, if◌then◌else◌, Option, Some, option_map, is_some}
 use Rattle.serde_json.specs.Data.{Data}
 use Rattle.serde_json.specs.Find.{at, as_array, as_null}
@@ -10,7 +10,7 @@ use Rattle.road_format.specs.Fields.{◌>>=◌, check, number_in, long_number_in
 use Rattle.road_format.specs.Fields.{values_of_items}
 use Rattle.road_format.specs.ObjectGrammar.{object_in_front}
 
--- what an edit does, by its value: null for a withdrawal, else the number that it puts
+-- the effect of an edit, from its value: null for a withdrawal, else the number that it sets
 abbrev pub value_in : Data → Option Value
 value_in d = if is_some (as_null d) then Some Withdrawn else option_map Put (number_in d)
 
@@ -21,7 +21,7 @@ stamp_in d = do
   number ← at 4 d >>= short_number_in
   Some (record { count = count; number = number })
 
--- the edit that a list of just six items is
+-- the edit of a list of exactly six items
 unfoldable pub edit_in : Data → Option Edit
 edit_in d = do
   exact ← check (has_items 6 d)
@@ -31,6 +31,6 @@ edit_in d = do
   value ← at 5 d >>= value_in
   Some (record { object = object; step = step; stamp = stamp; value = value })
 
--- the edits that a list is
+-- the edits of a list
 abbrev pub edits_in : Data → Option (List Edit)
 edits_in d = as_array d >>= values_of_items edit_in

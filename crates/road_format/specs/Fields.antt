@@ -1,39 +1,39 @@
--- What stands at the fields of an object, and in lists.
+-- The values of an object's fields, and of lists.
 use Rattle.std.specs.Prelude.{ℕ, suc, List, [], ◌∷◌, ◌==◌, ◌&&◌, ◌^◌, Bool, true, false, length, nat_lt, nat_le}
 use Rattle.std.specs.Prelude.{if◌then◌else◌, Option, Some, None}
 use Rattle.serde_json.specs.Data.{Data, Items, no_items, item, Members, no_members, member}
 use Rattle.serde_json.specs.Find.{get, as_str, as_number, as_array, as_object, as_u64}
 use Rattle.road_format.specs.declared.names.TheConstants.{LONGEST_NAME}
 
--- what the second step makes of what the first gave; nothing, where one of them gives nothing
+-- two steps in turn: the result of the second for the result of the first, or nothing if one of them has none
 infixl 10 ◌>>=◌
 abbrev pub ◌>>=◌ : {A B : Type 0} → Option A → (A → Option B) → Option B
 None >>= f = None
 (Some x) >>= f = f x
 
--- a step that gives nothing where this is false
+-- a step that has a result only if this is true
 abbrev pub check : Bool → Option Bool
 check true = Some true
 check false = None
 
 -- ---- an object
 
--- how many fields these are
+-- the number of these fields
 abbrev pub member_count : Members → ℕ
 member_count no_members = 0
 member_count (member name d fields) = suc (member_count fields)
 
--- whether there are fields, and so many
+-- whether there are fields, and this number of them
 abbrev pub has_members : ℕ → Option Members → Bool
 has_members n None = false
 has_members n (Some fields) = member_count fields == n
 
--- whether this is an object of so many fields. With that many look-ups by different names it has exactly these fields
--- (`NoOtherField`).
+-- whether this is an object of this number of fields. With that many look-ups by different names it has exactly these
+-- fields (`NoOtherField`).
 abbrev pub has_fields : ℕ → Data → Bool
 has_fields n d = has_members n (as_object d)
 
--- the name and the value of the only one of these fields
+-- the name and the value of the only field among these
 abbrev pub only_member : Members → Option (List ℕ × Data)
 only_member no_members = None
 only_member (member name d no_members) = Some (name, d)
@@ -89,21 +89,21 @@ name_at field d = get field d >>= as_str >>= name_of_text
 
 -- ---- lists
 
--- how many items these are
+-- the number of these items
 abbrev pub item_count : Items → ℕ
 item_count no_items = 0
 item_count (item d ds) = suc (item_count ds)
 
--- whether there are items, and so many
+-- whether there are items, and this number of them
 abbrev pub has_count : ℕ → Option Items → Bool
 has_count n None = false
 has_count n (Some ds) = item_count ds == n
 
--- whether this is a list of so many items
+-- whether this is a list of this number of items
 abbrev pub has_items : ℕ → Data → Bool
 has_items n d = has_count n (as_array d)
 
--- what each item reads as; nothing, where one reads as nothing
+-- what each item is read as, or nothing if one cannot be read
 abbrev pub values_of_items : {A : Type 0} → (Data → Option A) → Items → Option (List A)
 values_of_items read no_items = Some []
 values_of_items read (item d ds) = read d >>= λ x. values_of_items read ds >>= λ xs. Some (x ∷ xs)
@@ -112,21 +112,21 @@ values_of_items read (item d ds) = read d >>= λ x. values_of_items read ds >>= 
 abbrev pub items_at : List ℕ → Data → Option Items
 items_at field d = get field d >>= as_array
 
--- what each item of the list at a field reads as
+-- what each item of the list at a field is read as
 abbrev pub list_at : {A : Type 0} → (Data → Option A) → List ℕ → Data → Option (List A)
 list_at read field d = items_at field d >>= values_of_items read
 
--- the two items of a list of just two
+-- the two items of a list of exactly two
 abbrev pub two_items : Items → Option (Data × Data)
 two_items no_items = None
 two_items (item a no_items) = None
 two_items (item a (item b no_items)) = Some (a, b)
 two_items (item a (item b (item c ds))) = None
 
--- both these values, where each is a number
+-- both these values, if each is a number
 abbrev pub two_numbers : Data × Data → Option (ℕ × ℕ)
 two_numbers both = number_in both.0 >>= λ a. number_in both.1 >>= λ b. Some (a, b)
 
--- a list of just two numbers
+-- a list of exactly two numbers
 abbrev pub pair_in : Data → Option (ℕ × ℕ)
 pair_in d = as_array d >>= two_items >>= two_numbers

@@ -1,4 +1,4 @@
--- What counting and finding the fields of an object says: it has exactly these.
+-- A law of the fields of an object: counting and finding them shows that it has exactly these.
 use Rattle.std.specs.Prelude.{◌≡◌, ◌≢◌, ℕ, List, [], ◌∷◌, true, length, None}
 use Rattle.std.specs.List.{IsDistinct}
 use Rattle.std.specs.Set.{is_member}
@@ -12,8 +12,8 @@ abbrev pub field_names : Members → List (List ℕ)
 field_names no_members = []
 field_names (member name d fields) = name ∷ field_names fields
 
--- an object that has so many fields as there are names, all different, and one of each name, has no field of another
--- name
+-- an object has no field of another name if it has as many fields as there are names, all names are different, and
+-- there is a field of each name
 abbrev pub NoOtherField : Type 0
 NoOtherField = (names : List (List ℕ)) (fields : Members)
     → IsDistinct bytes_eq names

@@ -1,4 +1,4 @@
--- The forms in which edits come from outside.
+-- The forms of edits from outside.
 use Rattle.std.specs.Prelude.{ℕ, List, Bool, ◌==◌, ◌&&◌, ◌||◌, not, nat_le}
 use Rattle.std.specs.List.{list_all}
 use Rattle.road_plan.specs.Objects.{is_start}
@@ -9,6 +9,6 @@ use Rattle.road_format.specs.declared.form.TheConstants.{FIRST_FORM, LAST_FORM}
 abbrev pub is_known : ℕ → Bool
 is_known form = nat_le FIRST_FORM form && nat_le form LAST_FORM
 
--- whether edits may stand in a command of a form: the first has none of kind `start`
+-- whether a form allows edits in a command: the first has none of kind `start`
 abbrev pub are_of_form : ℕ → List Edit → Bool
 are_of_form form edits = not (form == FIRST_FORM) || list_all (λ e. not (is_start e.object)) edits

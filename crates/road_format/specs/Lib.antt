@@ -1,4 +1,4 @@
--- The grammar of lines, what is written for answers, and their laws, in reading order.
+-- The grammar of lines, the lines written for answers, and their laws, in reading order.
 pub mod Cut
 pub mod Reading
 pub mod Fields

@@ -1,4 +1,4 @@
--- How objects are written: a list of a kind's name and an index.
+-- The notation of objects: a list of a kind's name and an index.
 use Rattle.std.specs.Prelude.{ℕ, List, codes, if◌then◌else◌, Option, Some, None}
 use Rattle.std.specs.Str.{bytes_eq}
 use Rattle.serde_json.specs.Data.{Data}
@@ -40,10 +40,10 @@ object_of kind index =
 abbrev pub object_from : Data × Data → Option Object
 object_from both = as_str both.0 >>= λ kind. number_in both.1 >>= λ index. object_of kind index
 
--- the object at a field: a list of just two items
+-- the object at a field: a list of exactly two items
 abbrev pub object_at : List ℕ → Data → Option Object
 object_at field d = items_at field d >>= two_items >>= object_from
 
--- the object of which a list's first two items are a kind's name and an index
+-- the object whose kind's name and index are a list's first two items
 abbrev pub object_in_front : Data → Option Object
 object_in_front d = at 0 d >>= as_str >>= λ kind. at 1 d >>= number_in >>= λ index. object_of kind index

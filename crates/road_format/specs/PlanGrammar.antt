@@ -25,21 +25,21 @@ pub record PlanLine : Type 0 where
 
 -- ---- where the words come from: a seed, or the text `steady`
 
--- steady words, for that text alone
+-- steady words, for that text only
 abbrev pub steady_words : List ℕ → Option WordKind
 steady_words text = if bytes_eq text (codes "steady") then Some Steady else None
 
--- a seed where there is a number, and else what the text says
+-- a seed if there is a number, and else what the text names
 abbrev pub words_from : Option ℕ → Option (List ℕ) → Option WordKind
 words_from (Some seed) text = Some (Seeded seed)
 words_from None None = None
 words_from None (Some text) = steady_words text
 
--- where the words come from, by a value
+-- where the words come from, given by a value
 abbrev pub words_in : Data → Option WordKind
 words_in d = words_from (long_number_in d) (as_str d)
 
--- where the words come from, by the value at a field
+-- where the words come from, given by the value at a field
 abbrev pub words_at : List ℕ → Data → Option WordKind
 words_at field d = get field d >>= words_in
 
@@ -81,7 +81,7 @@ plan_line_in d = do
 
 -- ---- the refusals, in their order
 
--- whether these are 1 to 64 names of 1 to 64 bytes, and as many different ones
+-- whether these are 1 to 64 names of 1 to 64 bytes, all different
 abbrev pub are_names : List (List ℕ) → Bool
 are_names texts =
     nat_lt 0 (length texts) && nat_le (length texts) MOST_REPLICAS
@@ -101,7 +101,7 @@ line_or_refusal line (Some refusal) = Err refusal
 abbrev pub checked_line : PlanLine → Result PlanLine Refusal
 checked_line line = line_or_refusal line (refusal_of line)
 
--- the plan line that a line is, or its refusal: first a line that is no JSON, then a value that is no plan line, then
+-- the plan line of a line, or its refusal: first a line that is not JSON, then a value that is not a plan line, then
 -- the names, then the plan
 unfoldable pub plan_line_of : List ℕ → Result PlanLine Refusal
 plan_line_of line =

@@ -1,2 +1,2 @@
--- What the contracts of private functions say of what is not checked yet; no public contract names it.
+-- Definitions for the contracts of private functions, about what is not checked yet. No public contract names them.
 pub mod UncheckedViews

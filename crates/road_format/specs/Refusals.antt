@@ -9,7 +9,7 @@ use Rattle.road_format.specs.declared.faults.LineFault.TheVariants as line_fault
 use Rattle.road_format.specs.declared.faults.PlanLineFault.{PlanLineFault}
 use Rattle.road_format.specs.declared.faults.PlanLineFault.TheVariants as plan_line_faults
 
--- what a refusal says
+-- the text of a refusal
 abbrev pub text_of : Refusal → List ℕ
 text_of refusals.NoPlan = codes "no plan"
 text_of refusals.LineTooLong = codes "line too long"
@@ -38,7 +38,7 @@ text_of refusals.NoDetector = codes "NoDetector"
 text_of refusals.Range = codes "Range"
 text_of refusals.NotSimulated = codes "NotSimulated"
 
--- the refusal of a plan; out of memory is none
+-- the refusal of a plan; out of memory is not a refusal
 abbrev pub plan_refusal : PlanFault → Option Refusal
 plan_refusal plan_faults.Length = Some refusals.Length
 plan_refusal plan_faults.Exit = Some refusals.Exit
@@ -48,7 +48,7 @@ plan_refusal plan_faults.Detectors = Some refusals.Detectors
 plan_refusal plan_faults.Default = Some refusals.Default
 plan_refusal plan_faults.OutOfMemory = None
 
--- the refusal of a plan line; out of memory is none
+-- the refusal of a plan line; out of memory is not a refusal
 abbrev pub plan_line_refusal : PlanLineFault → Option Refusal
 plan_line_refusal plan_line_faults.NotJson = Some refusals.NotJson
 plan_line_refusal plan_line_faults.NotAPlan = Some refusals.NotAPlan
@@ -56,14 +56,14 @@ plan_line_refusal plan_line_faults.Names = Some refusals.Names
 plan_line_refusal (plan_line_faults.Plan fault) = plan_refusal fault
 plan_line_refusal plan_line_faults.OutOfMemory = None
 
--- the refusal of a command line; out of memory is none
+-- the refusal of a command line; out of memory is not a refusal
 abbrev pub line_refusal : LineFault → Option Refusal
 line_refusal line_faults.NotJson = Some refusals.NotJson
 line_refusal line_faults.NotACommand = Some refusals.NotACommand
 line_refusal line_faults.UnknownForm = Some refusals.UnknownForm
 line_refusal line_faults.OutOfMemory = None
 
--- what the next step makes of a value; where there is none, this refusal
+-- the result of the next step for a value, or this refusal if there is no value
 abbrev pub result_or_refusal : {A B : Type 0} → Refusal → Option A → (A → Result B Refusal) → Result B Refusal
 result_or_refusal refusal None next = Err refusal
 result_or_refusal refusal (Some x) next = next x

@@ -1,4 +1,4 @@
--- What is written for an answer: one compact JSON object and a newline.
+-- The line written for an answer: one compact JSON object and a newline.
 use Rattle.std.specs.Prelude.{ℕ, List, [], ◌∷◌, ◌++◌, map, codes, Option, Some, None}
 use Rattle.serde_json.specs.Data.{Data, null, number, unsigned, string, array, object, no_members, member}
 use Rattle.serde_json.specs.View.{items_of}
@@ -14,9 +14,9 @@ use Rattle.road_format.specs.Refusals.{text_of}
 use Rattle.road_format.specs.declared.form.TheConstants.{LAST_FORM}
 use Rattle.road_format.specs.declared.refusal.Refusal.{Refusal}
 
--- what is answered to a line
+-- the answer to a line
 pub data Answer : Type 0 where
-  -- the plan is open, with so many replicas
+  -- the plan is open, with this number of replicas
   Open : ℕ → Answer
   Refused : Refusal → Answer
   -- the replica's horizon, in steps
@@ -25,7 +25,7 @@ pub data Answer : Type 0 where
   Cells : List ℕ → Answer
   -- each car's number, cell and speed
   Cars : List (ℕ × ℕ × ℕ) → Answer
-  -- how many cars were counted, and the sum of their speeds
+  -- the number of cars counted, and the sum of their speeds
   Counted : ℕ → ℕ → Answer
   -- the texts of rows of cells
   Rows : List (List ℕ) → Answer
@@ -33,15 +33,15 @@ pub data Answer : Type 0 where
   Stamped : Stamp → Answer
   -- the edits that a replica holds
   Edits : List Edit → Answer
-  -- the first step at which a number put for an object is another than before, if there is one
+  -- the first step at which the number set for an object has changed, if there is one
   Touched : Option ℕ → Answer
-  -- the name of a message, and how many edits it has
+  -- the name of a message, and the number of its edits
   Sent : List ℕ → ℕ → Answer
-  -- the name of a message, and the heads that it has
+  -- the name of a message, and its heads
   Heads : List ℕ → List Head → Answer
-  -- the name of a message, and the edits that it has
+  -- the name of a message, and its edits
   Delta : List ℕ → List Edit → Answer
-  -- the winners of a crowd's edits, how many writes its sessions made, and the text of its last row of cells
+  -- the winners of a crowd's edits, the number of writes of its sessions, and the text of its last row of cells
   Crowd : List Edit → ℕ → List ℕ → Answer
 
 -- a whole number
@@ -60,7 +60,7 @@ field_data name d = object (member name d no_members)
 abbrev pub car_data : ℕ × ℕ × ℕ → Data
 car_data car = list_data (number_data car.0 ∷ number_data car.1 ∷ number_data car.2 ∷ [])
 
--- the number that an edit puts, or null for a withdrawal
+-- the number that an edit sets, or null for a withdrawal
 abbrev pub value_data : Value → Data
 value_data Withdrawn = null
 value_data (Put n) = number_data n
@@ -77,12 +77,12 @@ head_data h =
     list_data (string (kind_of h.object) ∷ number_data (index_of h.object) ∷ number_data h.step
     ∷ number_data h.stamp.count ∷ number_data h.stamp.number ∷ [])
 
--- a step, or null where there is none
+-- a step, or null if there is none
 abbrev pub step_data : Option ℕ → Data
 step_data None = null
 step_data (Some step) = number_data step
 
--- the value that is written for an answer
+-- the value written for an answer
 abbrev pub data_of : Answer → Data
 data_of (Open replicas) = field_data (codes "open") (number_data replicas)
 data_of (Refused refusal) = field_data (codes "refused") (string (text_of refusal))
@@ -110,6 +110,6 @@ data_of (Crowd edits journal row) =
     object (member (codes "edits") (list_data (map edit_data edits)) (member (codes "form") (number_data LAST_FORM)
     (member (codes "journal") (number_data journal) (member (codes "row") (string row) no_members))))
 
--- the line that is written for an answer, as serde_json writes a value
+-- the line written for an answer, as serde_json writes a value
 unfoldable pub reply : Answer → List ℕ
 reply answer = compact_text (data_of answer) ++ newline ∷ []

@@ -1,4 +1,4 @@
--- What the code's values say: their texts as bytes.
+-- The content of the code's values, with their texts as bytes.
 use Rattle.std.specs.Prelude.{◌≡◌, ℕ, List, map, Option, Some, None, Result, Ok, Err, String, string_bytes, Vec}
 use Rattle.std.specs.declared.alloc.Global.{Global}
 use Rattle.road_format.specs.CommandGrammar as grammar
@@ -21,7 +21,7 @@ texts names = map string_bytes names
 abbrev pub shares_view : List (Vec Edit Global) → List (List Edit)
 shares_view shares = map (λ share. share.items) shares
 
--- what a command says
+-- the content of a command
 abbrev pub command_view : Command → grammar.Command
 command_view (commands.Edit at object step value) = grammar.Edit (string_bytes at) object step value
 command_view (commands.Withdraw at object step) = grammar.Withdraw (string_bytes at) object step
@@ -39,15 +39,15 @@ command_view (commands.Beyond at heads name) =
 command_view (commands.Take at message) = grammar.Take (string_bytes at) (string_bytes message)
 command_view (commands.Crowd shares to) = grammar.Crowd (shares_view shares.items) to
 
--- what a plan line says
+-- the content of a plan line
 abbrev pub plan_line_view : PlanLine → plan_grammar.PlanLine
 plan_line_view line = record { names = texts line.names.items; plan = line.plan }
 
--- what a car says: number, cell, speed
+-- the content of a car: number, cell, speed
 abbrev pub car_view : Car → ℕ × ℕ × ℕ
 car_view car = (car.number, car.cell, car.speed)
 
--- what an answer says
+-- the content of an answer
 abbrev pub answer_view : Answer → replies.Answer
 answer_view (answers.Open replicas) = replies.Open replicas
 answer_view (answers.Refused refusal) = replies.Refused refusal
@@ -64,14 +64,14 @@ answer_view (answers.Heads message heads) = replies.Heads (string_bytes message)
 answer_view (answers.Delta message edits) = replies.Delta (string_bytes message) edits.items
 answer_view (answers.Crowd edits journal row) = replies.Crowd edits.items journal (string_bytes row)
 
--- ---- what was returned, beside what the grammar gives
+-- ---- the returned value, compared with the grammar
 
--- refused as the grammar refuses; out of memory, which is no refusal, says nothing
+-- refused as by the grammar; out of memory, which is not a refusal, has no condition
 abbrev pub Refuses : {Y : Type 0} → Option Refusal → Result Y Refusal → Type 0
 Refuses None given = Unit {0}
 Refuses (Some refusal) given = given ≡ Err refusal
 
--- what was returned is what the grammar gives, a fault by its refusal
+-- the returned value is that of the grammar, and a fault is that of its refusal
 abbrev pub Gives : {X Y F : Type 0} → (X → Y) → (F → Option Refusal) → Result X F → Result Y Refusal → Type 0
 Gives view refusal_of (Ok x) given = given ≡ Ok (view x)
 Gives view refusal_of (Err fault) given = Refuses (refusal_of fault) given

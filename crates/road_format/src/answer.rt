@@ -1,46 +1,46 @@
-//! What is answered to a line.
+//! Answers to lines.
 
 use crate::refusal::Refusal;
 use road_cells::Car;
 use road_delta::Head;
 use road_scenario::{Edit, Stamp};
 
-/// What is answered to a line.
+/// The answer to a line.
 #[derive(Debug, Drop)]
 pub enum Answer {
     /// The plan is open.
     Open {
-        /// How many replicas it has.
+        /// The number of its replicas.
         replicas: u32,
     },
     /// The line is refused.
     Refused(Refusal),
     /// The replica's horizon, in steps.
     Horizon(u32),
-    /// One row of cells, a character for each cell.
+    /// One row of cells, with a character for each cell.
     Cells(String),
     /// The cars of a road, in rising cells.
     Cars(Vec<Car>),
-    /// What a detector counted.
+    /// The counts of a detector.
     Counted {
-        /// How many cars passed it.
+        /// The number of cars that passed it.
         cars: u32,
         /// The sum of their speeds, in cells per step.
         speeds: u32,
     },
-    /// Rows of cells, one of each step, a character for each cell.
+    /// Rows of cells, one for each step, with a character for each cell.
     Rows(Vec<String>),
     /// The stamp of an edit.
     Stamped(Stamp),
     /// The edits that a replica holds, by object and step.
     Edits(Vec<Edit>),
-    /// The first step at which a number put for an object is another than before, if there is one.
+    /// The first step at which the number set for an object has changed, if there is one.
     Touched(Option<u32>),
     /// A message of all the edits that a replica holds.
     Sent {
         /// The name of the message.
         message: String,
-        /// How many edits it has.
+        /// The number of its edits.
         size: u64,
     },
     /// A message of heads.
@@ -57,13 +57,13 @@ pub enum Answer {
         /// The edits, by object and step.
         edits: Vec<Edit>,
     },
-    /// What the sessions of a crowd left.
+    /// The result of a crowd.
     Crowd {
         /// The winners of all their edits, by object and step.
         edits: Vec<Edit>,
-        /// How many writes they made: one for each edit, and one for each session's advance.
+        /// The number of writes that the sessions made: one for each edit, and one for each session's advance.
         journal: u32,
-        /// The row of cells of the step to which they advanced, a character for each cell.
+        /// The row of cells of the step to which they advanced, with a character for each cell.
         row: String,
     },
 }

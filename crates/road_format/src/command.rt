@@ -1,53 +1,54 @@
-//! What a line after the first asks of the laboratory.
+//! Commands, which are the lines after the first.
 
 use road_plan::Object;
 use road_scenario::Edit;
 
-/// What a line after the first asks for.
+/// The command of a line after the first.
 #[derive(Debug, Drop)]
 pub enum Command {
-    /// Puts a number for an object from a step on.
+    /// Sets a number for an object from a step on.
     Edit {
         /// The name of the replica.
         at: String,
-        /// What is edited.
+        /// The object that is set.
         object: Object,
-        /// The step at which the edit acts.
+        /// The step from which the edit takes effect.
         step: u32,
         /// The number.
         value: u32,
     },
-    /// Withdraws what was put for an object at a step.
+    /// Withdraws what was set for an object at a step.
     Withdraw {
         /// The name of the replica.
         at: String,
-        /// What was edited.
+        /// The object that was set.
         object: Object,
-        /// The step at which that edit acts.
+        /// The step from which that edit takes effect.
         step: u32,
     },
-    /// Raises a replica's horizon to a step, where it is below.
+    /// Raises a replica's horizon to a step, if it is below.
     Advance {
         /// The name of the replica.
         at: String,
         /// The step.
         to: u32,
     },
-    /// Asks for the row of cells of a replica's road at a step.
+    /// Requests the row of cells of a replica's road at a step.
     Cells {
         /// The name of the replica.
         at: String,
         /// The step.
         step: u32,
     },
-    /// Asks for the cars of a replica's road at a step.
+    /// Requests the cars of a replica's road at a step.
     Cars {
         /// The name of the replica.
         at: String,
         /// The step.
         step: u32,
     },
-    /// Asks how many cars a detector of a replica's road counted between two steps, and for the sum of their speeds.
+    /// Requests the number of cars that a detector of a replica's road counted between two steps, and the sum of their
+    /// speeds.
     Count {
         /// The name of the replica.
         at: String,
@@ -58,7 +59,7 @@ pub enum Command {
         /// The step before which the count ends.
         to: u32,
     },
-    /// Asks for the rows of cells of a replica's road from a step to another, both among them.
+    /// Requests the rows of cells of a replica's road from one step to another, both included.
     Diagram {
         /// The name of the replica.
         at: String,
@@ -67,12 +68,12 @@ pub enum Command {
         /// The last step.
         to: u32,
     },
-    /// Asks for the edits that a replica holds.
+    /// Requests the edits that a replica holds.
     Scenario {
         /// The name of the replica.
         at: String,
     },
-    /// Has a replica take edits from outside.
+    /// Makes a replica take edits from outside.
     Import {
         /// The name of the replica.
         at: String,
@@ -102,14 +103,15 @@ pub enum Command {
         /// The name of the message.
         name: String,
     },
-    /// Has a replica take the edits of a message.
+    /// Makes a replica take the edits of a message.
     Take {
         /// The name of the replica.
         at: String,
         /// The name of the message.
         message: String,
     },
-    /// Has a session for each share take its edits and advance, all on one road that is no replica's.
+    /// Starts a session for each share, which takes its edits and advances. All sessions write to one road that belongs
+    /// to no replica.
     Crowd {
         /// The edits of each share, in the order of the line: 1 to 8 shares.
         shares: Vec<Vec<Edit>>,

@@ -22,28 +22,33 @@ use road_plan::OutOfMemory;
 use serde_json::Value;
 use std::alloc::Global;
 
-/// Reads the command that a line is: an object of one field, whose name is that of a variant of `Command` in small
-/// letters, and whose value is an object of exactly the variant's fields, in any order; `import` and `crowd` have the
-/// number `form` beside them, and in form 1 no edit of kind `start`. A name is a text of 1 to 64 bytes; a number is
-/// whole, of at most 32 bits, and written without point and exponent; an object is a list of its kind and its index; an
-/// edit is a list of its kind, index, step, count (of at most 64 bits), number (of at most 16) and value, where null is
-/// a withdrawal; shares are 1 to 8 lists of edits, some of them perhaps empty. Of a field that stands twice the last
-/// counts.
+/// Read the command of a line. The line is an object of one field. The field's name is a variant of `Command` in lower
+/// case, and its value an object of exactly the variant's fields, in any order. `import` and `crowd` also have the
+/// number `form`, and in form 1 they have no edit of kind `start`.
+///
+/// A name is a string of 1 to 64 bytes. A number is whole, has at most 32 bits, and is written without point and
+/// exponent. An object is a list of its kind and its index. An edit is a list of its kind, index, step, count (of at
+/// most 64 bits), number (of at most 16 bits) and value, where null is a withdrawal. Shares are 1 to 8 lists of edits,
+/// which may be empty. If a field is repeated, the last one counts.
 ///
 /// # Errors
 ///
-/// `NotJson` where the line is no JSON value, then `NotACommand` where the value is no command, then `UnknownForm`
-/// where its `form` is neither 1 nor 2. `OutOfMemory` may come in the place of any of them where the line has a byte.
-/// The length of the line is not asked here.
+/// In this order:
+///
+/// - `NotJson`: the line is not a JSON value.
+/// - `NotACommand`: the value is not a command.
+/// - `UnknownForm`: its `form` is neither 1 nor 2.
+///
+/// `OutOfMemory` may replace any of them if the line is not empty. The length of the line is not checked here.
 #[tactic(auto, using(crate::proofs::LineValues::length_of_value), unfolding(crate::specs::CommandGrammar::command_of))]
 pub fn read_command(alloc: Global, line: &[u8]) -> Result<Command, LineFault>
-    // The grammar's command, or its refusal; out of memory is none.
+    // The result is the grammar's command, or its refusal. Out of memory is not a refusal.
     ensures command { Gives command_view line_refusal result (grammar.command_of line.now) }
 
-    // A line has a byte for each write of its shares.
+    // A line has at least one byte for each write of its shares.
     ensures shares { IfOk result (λ command. grammar.HasFewWrites (length line.now) (command_view command)) }
 
-    // A line without a byte grows nothing.
+    // An empty line allocates nothing.
     ensures memory { IfErr result (λ fault. fault ≡ line_faults.OutOfMemory → 0 < length line.now) }
 {
     let Some(value) = value_in(alloc, line)? else {
@@ -52,7 +57,7 @@ pub fn read_command(alloc: Global, line: &[u8]) -> Result<Command, LineFault>
     command_of_value(alloc, &value)
 }
 
-// Reads the command that a value is, if its form is known.
+// Read the command of a value, if its form is known.
 fn command_of_value(alloc: Global, value: &Value) -> Result<Command, LineFault>
     ensures { Gives command_view line_refusal result
         (result_or_refusal NotACommand (grammar.command_in (view value.now)) grammar.command_of_form) }
@@ -64,7 +69,7 @@ fn command_of_value(alloc: Global, value: &Value) -> Result<Command, LineFault>
     }
 }
 
-// Reads the form and the command that a value is.
+// Read the form and the command of a value.
 #[tactic(auto, unfolding(crate::specs::CommandGrammar::command_in))]
 fn command_in(alloc: Global, value: &Value) -> Result<Option<(u64, Command)>, OutOfMemory>
     ensures command { IfOk result (λ read. option_map formed_view read ≡ grammar.command_in (view value.now)) }
@@ -82,7 +87,7 @@ fn command_in(alloc: Global, value: &Value) -> Result<Option<(u64, Command)>, Ou
     }
 }
 
-// Reads the form of a command of a name: what its `form` says where it has one, and else the last.
+// Read the form of a command of a name: its `form` if the command has this field, and else the last form.
 fn form_of_name(name: &str, fields: &Value) -> Option<u64>
     ensures { result ≡ grammar.form_of_name name.now (view fields.now) }
 {
@@ -92,7 +97,7 @@ fn form_of_name(name: &str, fields: &Value) -> Option<u64>
     }
 }
 
-// Reads the command of a name and a form, with these fields: a crowd, or what stands at a replica.
+// Read the command of a name and a form, with these fields: a crowd, or a command at a replica.
 #[tactic(auto, unfolding(crate::specs::CommandGrammar::command_of_name))]
 fn command_of_name(
     alloc: Global,
@@ -112,7 +117,7 @@ fn command_of_name(
     }
 }
 
-// Reads the command of a name and a form at a replica, with these fields.
+// Read the command of a name and a form at a replica, with these fields.
 #[tactic(auto, unfolding(crate::specs::CommandGrammar::command_at))]
 fn command_at(
     alloc: Global,

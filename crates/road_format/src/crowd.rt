@@ -19,7 +19,7 @@ use road_scenario::Edit;
 use serde_json::Value;
 use std::alloc::Global;
 
-// Reads the `crowd` of a form, of exactly its fields; its `form` is read beside them.
+// Read the `crowd` of a form, with exactly its fields. Its `form` is read separately.
 #[tactic(auto, unfolding(crate::specs::CommandGrammar::crowd_in))]
 pub(crate) fn crowd_in(
     alloc: Global,
@@ -44,14 +44,14 @@ pub(crate) fn crowd_in(
     }
 }
 
-// Returns whether a crowd may have so many shares.
+// Return whether a crowd may have this number of shares.
 fn are_few_shares(shares: &[Vec<Edit>]) -> bool
     ensures { result ≡ grammar.are_few_shares (shares_view shares.now) }
 {
     0 < shares.len() && shares.len() <= MOST_SESSIONS as usize
 }
 
-// Returns whether each of these shares may stand in a command of a form.
+// Return whether each of these shares may be in a command of a form.
 fn are_shares_of_form(form: u64, shares: &[Vec<Edit>]) -> bool
     ensures { result ≡ list_all (forms.are_of_form form) (shares_view shares.now) }
 {
@@ -63,7 +63,7 @@ fn are_shares_of_form(form: u64, shares: &[Vec<Edit>]) -> bool
     true
 }
 
-// Reads the shares at this field: a list of lists of edits.
+// Read the shares at this field: a list of lists of edits.
 fn shares_at(
     alloc: Global,
     field: &str,
@@ -78,7 +78,7 @@ fn shares_at(
     }
 }
 
-// Reads the shares that the items of a list are.
+// Read the shares from the items of a list.
 fn shares_in(alloc: Global, items: &[Value]) -> Result<Option<Vec<Vec<Edit>>>, OutOfMemory>
     ensures { IfOk result (λ found. option_map (λ found. shares_view found.items) found
         ≡ spec_fields.values_of_items edit_grammar.edits_in (items_view items.now)) }
@@ -93,7 +93,7 @@ fn shares_in(alloc: Global, items: &[Value]) -> Result<Option<Vec<Vec<Edit>>>, O
     Ok(Some(found))
 }
 
-// Reads the edits that a list is.
+// Read the edits from a list.
 fn edits_in(alloc: Global, value: &Value) -> Result<Option<Vec<Edit>>, OutOfMemory>
     ensures { IfOk result (λ found. option_map (λ found. found.items) found
         ≡ edit_grammar.edits_in (view value.now)) }

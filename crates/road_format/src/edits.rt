@@ -1,16 +1,16 @@
-//! Edits in a line. They are read where they stand: no value is copied.
+//! Edits in a line. They are read in place: no value is copied.
 
 ghost use Rattle.std.specs.Prelude.{◌≡◌};
 ghost use Rattle.serde_json.specs.View.{view};
 ghost use Rattle.road_format.specs.EditGrammar as grammar;
 
 use crate::fields::{has_items, long_number_in, number_in, short_number_in};
-use crate::lists::Listed;
+use crate::lists::ListItem;
 use crate::object::object_in_front;
 use road_scenario::{Edit, Stamp, Value as Put};
 use serde_json::Value;
 
-impl Listed for Edit {
+impl ListItem for Edit {
     ghost read = { grammar.edit_in };
 
     fn of_item(item: &Value) -> Option<Edit> {
@@ -18,7 +18,7 @@ impl Listed for Edit {
     }
 }
 
-// Reads the edit that a list of just six items is: kind, index, step, count, number, value.
+// Read the edit from a list of exactly six items: kind, index, step, count, number, value.
 #[tactic(auto, unfolding(crate::specs::EditGrammar::edit_in))]
 fn edit_in(value: &Value) -> Option<Edit>
     ensures { result ≡ grammar.edit_in (view value.now) }
@@ -38,7 +38,7 @@ fn edit_in(value: &Value) -> Option<Edit>
     })
 }
 
-// Reads the stamp whose count and number are the fourth and the fifth item of a list.
+// Read the stamp whose count and number are the fourth and the fifth item of a list.
 #[tactic(auto, unfolding(crate::specs::EditGrammar::stamp_in))]
 fn stamp_in(value: &Value) -> Option<Stamp>
     ensures { result ≡ grammar.stamp_in (view value.now) }
@@ -48,7 +48,7 @@ fn stamp_in(value: &Value) -> Option<Stamp>
     Some(Stamp { count, number })
 }
 
-// Reads what an edit does, by its value: null for a withdrawal, else the number that it puts.
+// Read the effect of an edit from its value: null for a withdrawal, else the number that it sets.
 fn put_in(value: &Value) -> Option<Put>
     ensures { result ≡ grammar.value_in (view value.now) }
 {

@@ -1,4 +1,4 @@
-//! Why a line is not read.
+//! Why a line cannot be read.
 
 ghost use Rattle.std.specs.Prelude.{◌≡◌};
 ghost use Rattle.road_format.specs.Refusals.{plan_refusal, plan_line_refusal, line_refusal};
@@ -9,14 +9,14 @@ use crate::refusal::Refusal;
 use road_plan::{OutOfMemory, PlanFault};
 use thiserror::Error;
 
-/// Why a line after the first is not read. The causes are asked in this order; out of memory may come in the place
-/// of any of them.
+/// Why a line after the first cannot be read. The causes are checked in this order. Out of memory may replace any of
+/// them.
 #[derive(Clone, Copy, Debug, PartialEq, Eq, Error)]
 pub enum LineFault {
-    /// The line is no JSON value.
+    /// The line is not a JSON value.
     #[error("not json")]
     NotJson,
-    /// The value is no command.
+    /// The value is not a command.
     #[error("not a command")]
     NotACommand,
     /// The command's form is not known.
@@ -27,17 +27,16 @@ pub enum LineFault {
     OutOfMemory,
 }
 
-/// Why the first line is not read. The causes are asked in this order; out of memory may come in the place of any of
-/// them.
+/// Why the first line cannot be read. The causes are checked in this order. Out of memory may replace any of them.
 #[derive(Clone, Copy, Debug, PartialEq, Eq, Error)]
 pub enum PlanLineFault {
-    /// The line is no JSON value.
+    /// The line is not a JSON value.
     #[error("not json")]
     NotJson,
-    /// The value is no plan line.
+    /// The value is not a plan line.
     #[error("not a plan")]
     NotAPlan,
-    /// The replicas are not 1 to 64, or their names not all different and of 1 to 64 bytes.
+    /// There are not 1 to 64 replicas, or their names are not all different and of 1 to 64 bytes.
     #[error("the names are not 1 to 64 different texts of 1 to 64 bytes")]
     Names,
     /// The plan is refused.
@@ -49,7 +48,7 @@ pub enum PlanLineFault {
 }
 
 impl LineFault {
-    /// Returns the refusal that the reply names; none where memory ran out.
+    /// Return the refusal that the reply names, or none if memory ran out.
     pub fn refusal(self) -> Option<Refusal>
         ensures { result ≡ line_refusal self }
     {
@@ -63,7 +62,7 @@ impl LineFault {
 }
 
 impl PlanLineFault {
-    /// Returns the refusal that the reply names; none where memory ran out.
+    /// Return the refusal that the reply names, or none if memory ran out.
     pub fn refusal(self) -> Option<Refusal>
         ensures { result ≡ plan_line_refusal self }
     {
@@ -77,7 +76,7 @@ impl PlanLineFault {
     }
 }
 
-// Returns the refusal that names this fault of a plan.
+// Return the refusal that names this fault of a plan.
 fn refusal_of_plan(fault: PlanFault) -> Option<Refusal>
     ensures { result ≡ plan_refusal fault }
 {

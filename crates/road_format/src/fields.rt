@@ -1,4 +1,4 @@
-//! What stands at the fields of an object.
+//! The values of an object's fields.
 
 ghost use Rattle.std.specs.Prelude.{◌≡◌, option_map};
 ghost use Rattle.serde_json.specs.View.{view};
@@ -7,7 +7,7 @@ ghost use Rattle.road_format.specs.Fields as fields;
 use crate::names::is_name;
 use serde_json::Value;
 
-// Returns whether this value is an object of so many fields.
+// Return whether this value is an object of `count` fields.
 pub(crate) fn has_fields(count: usize, value: &Value) -> bool
     ensures { result ≡ fields.has_fields count (view value.now) }
 {
@@ -17,7 +17,7 @@ pub(crate) fn has_fields(count: usize, value: &Value) -> bool
     }
 }
 
-// Reads the name and the value of the only field of an object.
+// Read the name and the value of the only field of an object.
 pub(crate) fn only_field(value: &Value) -> Option<(&str, &Value)>
     ensures { option_map (λ field. (field.0.now, view field.1.now)) result ≡ fields.only_field (view value.now) }
 {
@@ -29,7 +29,7 @@ pub(crate) fn only_field(value: &Value) -> Option<(&str, &Value)>
     Some((name.as_str(), value))
 }
 
-// Returns whether this value is a list of so many items.
+// Return whether this value is a list of `count` items.
 pub(crate) fn has_items(count: usize, value: &Value) -> bool
     ensures { result ≡ fields.has_items count (view value.now) }
 {
@@ -39,14 +39,14 @@ pub(crate) fn has_items(count: usize, value: &Value) -> bool
     }
 }
 
-// Reads the whole number of at most 64 bits that this value is.
+// Read this value as a whole number of at most 64 bits.
 pub(crate) fn long_number_in(value: &Value) -> Option<u64>
     ensures { result ≡ fields.long_number_in (view value.now) }
 {
     value.as_u64()
 }
 
-// Reads the whole number of at most 16 bits that this value is.
+// Read this value as a whole number of at most 16 bits.
 pub(crate) fn short_number_in(value: &Value) -> Option<u16>
     ensures { result ≡ fields.short_number_in (view value.now) }
 {
@@ -56,7 +56,7 @@ pub(crate) fn short_number_in(value: &Value) -> Option<u16>
     }
 }
 
-// Reads the whole number of at most 32 bits that this value is.
+// Read this value as a whole number of at most 32 bits.
 pub(crate) fn number_in(value: &Value) -> Option<u32>
     ensures { result ≡ fields.number_in (view value.now) }
 {
@@ -66,7 +66,7 @@ pub(crate) fn number_in(value: &Value) -> Option<u32>
     }
 }
 
-// Reads the whole number of at most 32 bits at this field.
+// Read the whole number of at most 32 bits at this field.
 pub(crate) fn number_at(field: &str, value: &Value) -> Option<u32>
     ensures { result ≡ fields.number_at field.now (view value.now) }
 {
@@ -76,7 +76,7 @@ pub(crate) fn number_at(field: &str, value: &Value) -> Option<u32>
     }
 }
 
-// Reads the whole number of at most 64 bits at this field.
+// Read the whole number of at most 64 bits at this field.
 pub(crate) fn long_number_at(field: &str, value: &Value) -> Option<u64>
     ensures { result ≡ fields.long_number_at field.now (view value.now) }
 {
@@ -86,7 +86,7 @@ pub(crate) fn long_number_at(field: &str, value: &Value) -> Option<u64>
     }
 }
 
-// Reads the name at this field: a text of 1 to 64 bytes.
+// Read the name at this field: a string of 1 to 64 bytes.
 pub(crate) fn name_at<'a>(field: &str, value: &'a Value) -> Option<&'a str>
     ensures { option_map (λ name. name.now) result ≡ fields.name_at field.now (view value.now) }
 {

@@ -1,4 +1,4 @@
-//! The forms in which edits come from outside.
+//! The forms of edits from outside.
 
 ghost use Rattle.std.specs.Prelude.{◌≡◌, not};
 ghost use Rattle.std.specs.List.{list_all};
@@ -13,21 +13,21 @@ pub const FIRST_FORM: u64 = 1;
 /// The last form, in which replies are written.
 pub const LAST_FORM: u64 = 2;
 
-// Returns whether a form is known.
+// Return whether a form is known.
 pub(crate) fn is_known(form: u64) -> bool
     ensures { result ≡ forms.is_known form }
 {
     FIRST_FORM <= form && form <= LAST_FORM
 }
 
-// Returns whether edits may stand in a command of a form.
+// Return whether edits may be in a command of a form.
 pub(crate) fn are_of_form(form: u64, edits: &[Edit]) -> bool
     ensures { result ≡ forms.are_of_form form edits.now }
 {
     form != FIRST_FORM || have_no_start(edits)
 }
 
-// Returns whether none of these edits is of kind `start`.
+// Return whether none of these edits is of kind `start`.
 fn have_no_start(edits: &[Edit]) -> bool
     ensures { result ≡ list_all (λ e. not (is_start e.object)) edits.now }
 {

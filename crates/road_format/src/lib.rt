@@ -1,8 +1,8 @@
-//! The lines of the laboratory: how an input is cut into lines, which lines are a plan line or a command, and what is
-//! written for an answer. Every line is one JSON value, and so is every reply.
+//! The lines of the laboratory: how an input is cut into lines, which lines are a plan line or a command, and the line
+//! that is written for an answer. Every line is one JSON value, and so is every reply.
 //!
 //! ```
-//! // A plan line is read, and answered: how many replicas it opens, or why it is refused.
+//! // Read a plan line, and write the answer: the number of replicas that it opens, or why it is refused.
 //! let answer = match read_plan(alloc, line) {
 //!     Ok(plan_line) => Answer::Open { replicas: plan_line.names.len() as u32 },
 //!     Err(fault) => match fault.refusal() {

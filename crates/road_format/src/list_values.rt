@@ -14,32 +14,32 @@ use road_scenario::{Edit, Value as Put};
 use serde_json::Value;
 use std::alloc::Global;
 
-// What stands in the lists of replies.
-pub(crate) trait Written {
+// An item of the lists in replies.
+pub(crate) trait ToValue {
     // The data that is written for it.
     ghost as_data: { Self → Data };
 
-    // Writes its JSON value.
-    fn written(&self, alloc: Global) -> Result<Value, OutOfMemory>
+    // Write the JSON value of the item.
+    fn to_value(&self, alloc: Global) -> Result<Value, OutOfMemory>
         ensures { IfOk result (λ value. view value ≡ as_data self.now) };
 }
 
-// Writes the JSON list of these.
-pub(crate) fn list_value<T: Written>(alloc: Global, items: &[T]) -> Result<Value, OutOfMemory>
+// Write the JSON list of these items.
+pub(crate) fn list_value<T: ToValue>(alloc: Global, items: &[T]) -> Result<Value, OutOfMemory>
     ensures { IfOk result (λ value. view value ≡ list_data (map T.as_data items.now)) }
 {
     let mut values = Vec::new(alloc);
     for item in items {
-        values.push(item.written(alloc)?)?;
+        values.push(item.to_value(alloc)?)?;
     }
     Ok(Value::Array(values))
 }
 
 // A car: number, cell, speed.
-impl Written for Car {
+impl ToValue for Car {
     ghost as_data = { λ car. car_data (car_view car) };
 
-    fn written(&self, alloc: Global) -> Result<Value, OutOfMemory> {
+    fn to_value(&self, alloc: Global) -> Result<Value, OutOfMemory> {
         let items = vec![in alloc;
             Value::from(self.number),
             Value::from(self.cell),
@@ -50,19 +50,19 @@ impl Written for Car {
 }
 
 // A row of cells: its text.
-impl Written for String {
+impl ToValue for String {
     ghost as_data = { λ row. string (string_bytes row) };
 
-    fn written(&self, alloc: Global) -> Result<Value, OutOfMemory> {
+    fn to_value(&self, alloc: Global) -> Result<Value, OutOfMemory> {
         Value::try_from_str(alloc, self.as_str())
     }
 }
 
 // An edit: kind, index, step, count, number, value.
-impl Written for Edit {
+impl ToValue for Edit {
     ghost as_data = { edit_data };
 
-    fn written(&self, alloc: Global) -> Result<Value, OutOfMemory> {
+    fn to_value(&self, alloc: Global) -> Result<Value, OutOfMemory> {
         let kind = Value::try_from_str(alloc, kind_of(self.object))?;
         let items = vec![in alloc;
             kind,
@@ -77,10 +77,10 @@ impl Written for Edit {
 }
 
 // A head: kind, index, step, count, number.
-impl Written for Head {
+impl ToValue for Head {
     ghost as_data = { head_data };
 
-    fn written(&self, alloc: Global) -> Result<Value, OutOfMemory> {
+    fn to_value(&self, alloc: Global) -> Result<Value, OutOfMemory> {
         let kind = Value::try_from_str(alloc, kind_of(self.object))?;
         let items = vec![in alloc;
             kind,
@@ -93,7 +93,7 @@ impl Written for Head {
     }
 }
 
-// Writes the number that an edit puts, or null for a withdrawal.
+// Write the number that an edit sets, or null for a withdrawal.
 fn put_value(value: Put) -> Value
     ensures { view result ≡ value_data value }
 {

@@ -1,4 +1,4 @@
-//! The lists of a line. A list that is refused, and one without items, takes no memory.
+//! The lists of a line. An empty list, and a list that is refused, take no memory.
 
 ghost use Rattle.std.specs.Prelude.{◌≡◌, ◌<◌, length, Option, IfOk, OnErr, option_map};
 ghost use Rattle.serde_json.specs.Data.{Data};
@@ -12,17 +12,17 @@ use road_plan::OutOfMemory;
 use serde_json::Value;
 use std::alloc::Global;
 
-// What the items of a list are read as.
-pub(crate) trait Listed: Drop {
-    // What a value is read as.
+// A type as which the items of a list are read.
+pub(crate) trait ListItem: Drop {
+    // The reading of a value as this type.
     ghost read: { Data → Option Self };
 
-    // Reads an item.
+    // Read an item.
     fn of_item(item: &Value) -> Option<Self>
         ensures { result ≡ read (view item.now) };
 }
 
-impl Listed for u32 {
+impl ListItem for u32 {
     ghost read = { fields.number_in };
 
     fn of_item(item: &Value) -> Option<u32> {
@@ -30,8 +30,8 @@ impl Listed for u32 {
     }
 }
 
-// The two numbers of a list of just two.
-impl Listed for (u32, u32) {
+// The two numbers of a list of exactly two.
+impl ListItem for (u32, u32) {
     ghost read = { fields.pair_in };
 
     fn of_item(item: &Value) -> Option<(u32, u32)> {
@@ -41,7 +41,7 @@ impl Listed for (u32, u32) {
     }
 }
 
-// Returns the items of the list at this field.
+// Return the items of the list at this field.
 pub(crate) fn items_at<'a>(field: &str, value: &'a Value) -> Option<&'a [Value]>
     ensures { option_map (λ items. items_view items.now) result ≡ fields.items_at field.now (view value.now) }
 {
@@ -51,7 +51,7 @@ pub(crate) fn items_at<'a>(field: &str, value: &'a Value) -> Option<&'a [Value]>
     }
 }
 
-// Reads the texts of the list of texts at this field.
+// Read the strings of the list of strings at this field.
 pub(crate) fn texts_at(
     alloc: Global,
     field: &str,
@@ -66,8 +66,8 @@ pub(crate) fn texts_at(
     }
 }
 
-// Reads each item of the list at this field.
-pub(crate) fn list_at<T: Listed>(
+// Read each item of the list at this field.
+pub(crate) fn list_at<T: ListItem>(
     alloc: Global,
     field: &str,
     value: &Value,
@@ -81,7 +81,7 @@ pub(crate) fn list_at<T: Listed>(
     }
 }
 
-// Reads the texts of a list of texts.
+// Read the strings of a list of strings.
 fn texts_in(alloc: Global, items: &[Value]) -> Result<Option<Vec<String>>, OutOfMemory>
     ensures texts { IfOk result (λ found. option_map (λ found. texts found.items) found
         ≡ fields.values_of_items as_str (items_view items.now)) }
@@ -97,8 +97,8 @@ fn texts_in(alloc: Global, items: &[Value]) -> Result<Option<Vec<String>>, OutOf
     Ok(Some(found))
 }
 
-// Reads each item of a list.
-pub(crate) fn list_in<T: Listed>(
+// Read each item of a list.
+pub(crate) fn list_in<T: ListItem>(
     alloc: Global,
     items: &[Value],
 ) -> Result<Option<Vec<T>>, OutOfMemory>
@@ -116,7 +116,7 @@ pub(crate) fn list_in<T: Listed>(
     Ok(Some(found))
 }
 
-// Returns the items of a list of just two.
+// Return the items of a list of exactly two.
 pub(crate) fn two_items(items: &[Value]) -> Option<(&Value, &Value)>
     ensures { option_map (λ both. (view both.0.now, view both.1.now)) result ≡ fields.two_items (items_view items.now) }
 {

@@ -1,4 +1,4 @@
-//! Commands that take edits from outside, and those that make messages and take them.
+//! Commands that take edits from outside, and commands that make and take messages.
 
 ghost use Rattle.std.specs.Prelude.{◌≡◌, ℕ, List, codes, IfOk, option_map, string_bytes};
 ghost use Rattle.serde_json.specs.View.{view};
@@ -14,7 +14,7 @@ use road_plan::OutOfMemory;
 use serde_json::Value;
 use std::alloc::Global;
 
-// Reads the `import` of a form at a replica, of exactly its fields; its `form` is read beside them.
+// Read the `import` of a form at a replica, with exactly its fields. Its `form` is read separately.
 #[tactic(auto, unfolding(crate::specs::CommandGrammar::import_in))]
 pub(crate) fn import_in(
     alloc: Global,
@@ -37,7 +37,7 @@ pub(crate) fn import_in(
     Ok(Some(Command::Import { at, edits }))
 }
 
-// Reads the `send` at a replica, of exactly its fields.
+// Read the `send` at a replica, with exactly its fields.
 pub(crate) fn send_in(
     alloc: Global,
     at: String,
@@ -52,7 +52,7 @@ pub(crate) fn send_in(
     }
 }
 
-// Reads the `heads` at a replica, of exactly its fields.
+// Read the `heads` at a replica, with exactly its fields.
 pub(crate) fn heads_in(
     alloc: Global,
     at: String,
@@ -67,7 +67,7 @@ pub(crate) fn heads_in(
     }
 }
 
-// Reads the `beyond` at a replica, of exactly its fields.
+// Read the `beyond` at a replica, with exactly its fields.
 pub(crate) fn beyond_in(
     alloc: Global,
     at: String,
@@ -82,7 +82,7 @@ pub(crate) fn beyond_in(
     }
 }
 
-// Reads the names at `heads` and `name`, of an object that has exactly these fields and `at`.
+// Read the names at `heads` and `name`, of an object that has exactly these fields and `at`.
 #[tactic(auto, unfolding(crate::specs::CommandGrammar::beyond_in))]
 fn heads_and_name(alloc: Global, fields: &Value) -> Result<Option<(String, String)>, OutOfMemory>
     ensures { IfOk result (λ found. (at : List ℕ)
@@ -101,7 +101,7 @@ fn heads_and_name(alloc: Global, fields: &Value) -> Result<Option<(String, Strin
     Ok(Some((heads, name)))
 }
 
-// Reads the `take` at a replica, of exactly its fields.
+// Read the `take` at a replica, with exactly its fields.
 pub(crate) fn take_in(
     alloc: Global,
     at: String,
@@ -116,7 +116,7 @@ pub(crate) fn take_in(
     }
 }
 
-// Reads the name at this field, of an object that has exactly this field and `at`.
+// Read the name at this field, of an object that has exactly this field and `at`.
 fn only_name(alloc: Global, field: &str, fields: &Value) -> Result<Option<String>, OutOfMemory>
     ensures { IfOk result (λ name. option_map string_bytes name ≡ grammar.only_name field.now (view fields.now)) }
 {
@@ -126,7 +126,7 @@ fn only_name(alloc: Global, field: &str, fields: &Value) -> Result<Option<String
     owned_name_at(alloc, field, fields)
 }
 
-// Reads the name at this field, in a text of its own.
+// Read the name at this field, as a string of its own.
 fn owned_name_at(alloc: Global, field: &str, fields: &Value) -> Result<Option<String>, OutOfMemory>
     ensures { IfOk result (λ name. option_map string_bytes name ≡ spec_fields.name_at field.now (view fields.now)) }
 {

@@ -10,17 +10,17 @@ ghost use Rattle.road_format.specs.Views.{texts};
 
 use road_plan::limits::MOST_REPLICAS;
 
-// The most bytes of a name, in UTF-8; it has one at least.
+// The most bytes of a name, in UTF-8. A name has at least one byte.
 pub(crate) const LONGEST_NAME: usize = 64;
 
-// Returns whether this is a name: a text of 1 to 64 bytes.
+// Return whether this is a name: a string of 1 to 64 bytes.
 pub(crate) fn is_name(text: &str) -> bool
     ensures { result ≡ fields.is_name text.now }
 {
     0 < text.len() && text.len() <= LONGEST_NAME
 }
 
-// Returns whether these are 1 to 64 names, no two alike.
+// Return whether these are 1 to 64 different names.
 pub(crate) fn are_names(names: &[String]) -> bool
     ensures { result ≡ grammar.are_names (texts names.now) }
 {
@@ -30,7 +30,7 @@ pub(crate) fn are_names(names: &[String]) -> bool
         && are_different(names)
 }
 
-// Returns whether each of these is a name.
+// Return whether each of these is a name.
 fn are_all_names(names: &[String]) -> bool
     ensures { result ≡ list_all fields.is_name (texts names.now) }
 {
@@ -42,7 +42,7 @@ fn are_all_names(names: &[String]) -> bool
     true
 }
 
-// Returns whether no two of these are alike.
+// Return whether no two of these are equal.
 #[tactic(auto, using(crate::proofs::AcceptedNames::first_and_others))]
 fn are_different(names: &[String]) -> bool
     ensures { result ≡ (distinct_count bytes_eq (texts names.now) == length (texts names.now)) }
@@ -53,7 +53,7 @@ fn are_different(names: &[String]) -> bool
     }
 }
 
-// Returns whether this text is one of these names.
+// Return whether this string is one of these names.
 fn is_among(text: &str, names: &[String]) -> bool
     ensures { result ≡ list_any (bytes_eq text.now) (texts names.now) }
 {

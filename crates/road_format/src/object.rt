@@ -1,4 +1,4 @@
-//! How objects are written.
+//! The notation of objects.
 
 ghost use Rattle.std.specs.Prelude.{◌≡◌};
 ghost use Rattle.serde_json.specs.View.{view};
@@ -9,7 +9,7 @@ use crate::lists::{items_at, two_items};
 use road_plan::Object;
 use serde_json::Value;
 
-// Returns the object at this field: a list of just a kind's name and an index.
+// Return the object at this field: a list of exactly a kind's name and an index.
 pub(crate) fn object_at(field: &str, value: &Value) -> Option<Object>
     ensures { result ≡ objects.object_at field.now (view value.now) }
 {
@@ -17,7 +17,7 @@ pub(crate) fn object_at(field: &str, value: &Value) -> Option<Object>
     object_of(kind.as_str()?, number_in(index)?)
 }
 
-// Returns the object of which a list's first two items are a kind's name and an index.
+// Return the object whose kind's name and index are a list's first two items.
 pub(crate) fn object_in_front(value: &Value) -> Option<Object>
     ensures { result ≡ objects.object_in_front (view value.now) }
 {
@@ -26,7 +26,7 @@ pub(crate) fn object_in_front(value: &Value) -> Option<Object>
     object_of(kind, index)
 }
 
-// Returns the name of an object's kind.
+// Return the name of an object's kind.
 pub(crate) fn kind_of(object: Object) -> &'static str
     ensures { result.now ≡ objects.kind_of object }
 {
@@ -40,7 +40,7 @@ pub(crate) fn kind_of(object: Object) -> &'static str
     }
 }
 
-// Returns the index of an object among those of its kind.
+// Return the index of an object among those of its kind.
 pub(crate) fn index_of(object: Object) -> u32
     ensures { result ≡ objects.index_of object }
 {
@@ -52,7 +52,7 @@ pub(crate) fn index_of(object: Object) -> u32
     }
 }
 
-// Returns the object of a kind and an index.
+// Return the object of a kind and an index.
 fn object_of(kind: &str, index: u32) -> Option<Object>
     ensures { result ≡ objects.object_of kind.now index }
 {

@@ -22,7 +22,7 @@ use road_plan::{OutOfMemory, Plan, PlanParts, WordKind};
 use serde_json::Value;
 use std::alloc::Global;
 
-/// A plan, and the replicas that it is for.
+/// A plan, and the replicas that use it.
 #[derive(Debug, Drop)]
 pub struct PlanLine {
     /// The names of the replicas, in the order of their numbers: 1 to 64, all different, of 1 to 64 bytes each.
@@ -31,14 +31,14 @@ pub struct PlanLine {
     pub plan: Plan,
 }
 
-// What a plan line says, before it is checked.
+// The content of a plan line, before it is checked.
 #[derive(Drop)]
 struct PlanLineParts {
     names: Vec<String>,
     parts: PlanParts,
 }
 
-/// Reads the plan line that a line is: an object of exactly eight fields, in any order.
+/// Read the plan line of a line: an object of exactly eight fields, in any order.
 ///
 /// | Field | Value |
 /// |---|---|
@@ -48,28 +48,33 @@ struct PlanLineParts {
 /// | `zones` | for each zone a list of its speed limit and its slowing chance |
 /// | `inlets` | for each inlet a list of its cell and its inflow chance |
 /// | `detectors` | the site of each detector |
-/// | `words` | the seed of the random words, or the text `steady` |
+/// `words`
+/// the seed of the random words, or the string `steady`
 /// | `replicas` | the names of the replicas |
 ///
-/// A number is whole, of at most 32 bits (a seed of at most 64), and written without point and exponent. Of a field
-/// that stands twice the last counts.
+/// A number is whole, has at most 32 bits (a seed at most 64), and is written without point and exponent. If a field is
+/// repeated, the last one counts.
 ///
 /// # Errors
 ///
-/// `NotJson` where the line is no JSON value, then `NotAPlan` where the value has another shape, then `Names` where
-/// the replicas are not 1 to 64 or their names not all different and of 1 to 64 bytes, then `Plan` with the first
-/// fault of the plan, which is never its `OutOfMemory`. `OutOfMemory` may come in the place of any of them where the
-/// line has a byte. The length of the line is not asked here.
+/// In this order:
+///
+/// - `NotJson`: the line is not a JSON value.
+/// - `NotAPlan`: the value has another shape.
+/// - `Names`: there are not 1 to 64 replicas, or their names are not all different and of 1 to 64 bytes.
+/// - `Plan`: the plan is refused, with its first fault, which is never its `OutOfMemory`.
+///
+/// `OutOfMemory` may replace any of them if the line is not empty. The length of the line is not checked here.
 #[tactic(auto, using(crate::proofs::LineValues::length_of_value), unfolding(crate::specs::PlanGrammar::plan_line_of))]
 pub fn read_plan(alloc: Global, line: &[u8]) -> Result<PlanLine, PlanLineFault>
-    // The grammar's plan line, or its refusal; out of memory is none.
+    // The result is the grammar's plan line, or its refusal. Out of memory is not a refusal.
     ensures plan_line { Gives plan_line_view plan_line_refusal result (grammar.plan_line_of line.now) }
 
-    // The names of an accepted line are few, and no two are alike.
+    // The names of an accepted line are few, and all different.
     ensures few { IfOk result (λ line. length line.names.items ≤ MOST_REPLICAS) }
     ensures apart { IfOk result (λ line. IsDistinct bytes_eq (texts line.names.items)) }
 
-    // Out of memory is said in one way, and a line without a byte grows nothing.
+    // Out of memory is reported in one way only, and an empty line allocates nothing.
     ensures memory { IfErr result (λ fault. plan_line_refusal fault ≡ None
         → (fault ≡ plan_line_faults.OutOfMemory) × (0 < length line.now)) }
 {
@@ -82,7 +87,7 @@ pub fn read_plan(alloc: Global, line: &[u8]) -> Result<PlanLine, PlanLineFault>
     }
 }
 
-// Reads the plan line of these parts. It takes no memory.
+// Make the plan line of these parts. It takes no memory.
 #[tactic(auto, using(crate::proofs::AcceptedNames::names_are_few, crate::proofs::AcceptedNames::names_are_different))]
 fn checked_line(line: PlanLineParts) -> Result<PlanLine, PlanLineFault>
     ensures plan_line { Gives plan_line_view plan_line_refusal result (grammar.checked_line (parts_view line)) }
@@ -102,7 +107,7 @@ fn checked_line(line: PlanLineParts) -> Result<PlanLine, PlanLineFault>
     }
 }
 
-// Reads the parts of a plan line that a value has.
+// Read the parts of a plan line from a value.
 #[tactic(auto, unfolding(crate::specs::PlanGrammar::plan_line_in))]
 fn parts_in(alloc: Global, value: &Value) -> Result<Option<PlanLineParts>, OutOfMemory>
     ensures parts { IfOk result (λ line. option_map parts_view line ≡ grammar.plan_line_in (view value.now)) }
@@ -120,7 +125,7 @@ fn parts_in(alloc: Global, value: &Value) -> Result<Option<PlanLineParts>, OutOf
     Ok(Some(PlanLineParts { names, parts }))
 }
 
-// Reads the parts of a plan that stand at the fields of a value.
+// Read the parts of a plan from the fields of a value.
 #[tactic(auto, unfolding(crate::specs::PlanGrammar::plan_in))]
 fn plan_in(alloc: Global, value: &Value) -> Result<Option<PlanParts>, OutOfMemory>
     ensures parts { IfOk result (λ parts. option_map plan_of parts ≡ grammar.plan_in (view value.now)) }
@@ -152,7 +157,7 @@ fn plan_in(alloc: Global, value: &Value) -> Result<Option<PlanParts>, OutOfMemor
     }))
 }
 
-// Reads the cells of a road, of its deleted zone and of a zone.
+// Read the number of cells of a road, of its deleted zone and of a zone.
 #[tactic(auto, unfolding(crate::specs::PlanGrammar::measures_in))]
 fn measures_in(value: &Value) -> Option<(u32, u32, u32)>
     ensures { result ≡ grammar.measures_in (view value.now) }
@@ -163,7 +168,7 @@ fn measures_in(value: &Value) -> Option<(u32, u32, u32)>
     Some((length, exit, width))
 }
 
-// Returns where the words come from, at this field: a seed, or the text `steady`.
+// Return where the words come from, at this field: a seed, or the string `steady`.
 fn words_at(field: &str, value: &Value) -> Option<WordKind>
     ensures { result ≡ grammar.words_at field.now (view value.now) }
 {
@@ -173,7 +178,7 @@ fn words_at(field: &str, value: &Value) -> Option<WordKind>
     }
 }
 
-// Returns where the words come from.
+// Return where the words come from.
 fn words_in(value: &Value) -> Option<WordKind>
     ensures { result ≡ grammar.words_in (view value.now) }
 {

@@ -1,4 +1,4 @@
-//! The JSON value that a line is.
+//! The JSON value of a line.
 
 ghost use Rattle.std.specs.Prelude.{◌≡◌, ◌<◌, length, IfOk, OnErr, option_map};
 ghost use Rattle.serde_json.specs.View.{view};
@@ -8,7 +8,7 @@ use road_plan::OutOfMemory;
 use serde_json::Value;
 use std::alloc::Global;
 
-// Reads the JSON value that a line is. Bytes that are no UTF-8, and a text that is no JSON, are none.
+// Read the JSON value of a line. There is none if the bytes are not UTF-8, or the text is not JSON.
 #[tactic(auto, unfolding(crate::specs::Reading::value_of))]
 pub(crate) fn value_in(alloc: Global, line: &[u8]) -> Result<Option<Value>, OutOfMemory>
     ensures value { IfOk result (λ value. option_map view value ≡ value_of line.now) }

@@ -3,24 +3,24 @@
 ghost use Rattle.std.specs.Prelude.{◌≡◌};
 ghost use Rattle.road_format.specs.Refusals.{text_of};
 
-/// Why a line is refused, as its reply says it.
+/// Why a line is refused, as its reply states it.
 #[derive(Clone, Copy, Debug, PartialEq, Eq)]
 pub enum Refusal {
     /// The input ended before its first line.
     NoPlan,
-    /// The line has more than 65,536 bytes, its newline not counted.
+    /// The line has more than 65,536 bytes, without its newline.
     LineTooLong,
-    /// The line is no JSON value.
+    /// The line is not a JSON value.
     NotJson,
-    /// The first line is a JSON value, and no plan line.
+    /// The first line is a JSON value, but not a plan line.
     NotAPlan,
-    /// The replicas are not 1 to 64, or their names not all different and of 1 to 64 bytes.
+    /// There are not 1 to 64 replicas, or their names are not all different and of 1 to 64 bytes.
     Names,
     /// The road is too short or too long.
     Length,
     /// The deleted zone is empty, too long, or no shorter than the road.
     Exit,
-    /// The zones have no width, are too many, or the list has not one entry for each.
+    /// The zones have no width, are too many, or the list does not have one entry for each zone.
     Zones,
     /// The inlets are too few or too many, or not at different cells before the deleted zone.
     Inlets,
@@ -28,19 +28,19 @@ pub enum Refusal {
     Detectors,
     /// A speed limit, a slowing chance or an inflow is too great.
     Default,
-    /// The line is a JSON value, and no command.
+    /// The line is a JSON value, but not a command.
     NotACommand,
     /// The command's form is not known.
     UnknownForm,
     /// No replica has this name.
     NoReplica,
-    /// No message has this name, or the one that has it is of another kind.
+    /// No message has this name, or the message of this name is of another kind.
     NoMessage,
-    /// A message has this name already.
+    /// Another message already has this name.
     NameTaken,
     /// The plan has no such object.
     NoObject,
-    /// The step at which an edit acts is too great.
+    /// The step from which an edit takes effect is too great.
     Step,
     /// The object does not take the value.
     ValueOutOfRange,
@@ -48,20 +48,20 @@ pub enum Refusal {
     CountsSpent,
     /// The count of an edit's stamp is 0 or too great.
     Count,
-    /// The number of an edit's stamp is one of a replica.
+    /// The number in an edit's stamp is that of a replica.
     Insider,
-    /// The horizon asked for is too great.
+    /// The requested horizon is too great.
     Horizon,
     /// The plan has no such detector.
     NoDetector,
-    /// The first step asked for is above the last, or the rows asked for are too many.
+    /// The first requested step is above the last, or too many rows are requested.
     Range,
-    /// The step asked for is above the replica's horizon.
+    /// The requested step is above the replica's horizon.
     NotSimulated,
 }
 
 impl Refusal {
-    /// Returns what the reply to a refused line says.
+    /// Return the text of the refusal in a reply.
     pub fn text(self) -> &'static str
         ensures { result.now ≡ text_of self }
     {

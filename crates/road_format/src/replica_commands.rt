@@ -1,4 +1,4 @@
-//! Commands that tell or ask one replica.
+//! Commands that change or query one replica.
 
 ghost use Rattle.std.specs.Prelude.{◌≡◌, codes, option_map, string_bytes};
 ghost use Rattle.serde_json.specs.View.{view};
@@ -10,7 +10,7 @@ use crate::fields::{has_fields, number_at};
 use crate::object::object_at;
 use serde_json::Value;
 
-// Reads the command of a name that tells or asks one replica, with these fields.
+// Read the command of a name that changes or queries one replica, with these fields.
 #[tactic(auto, unfolding(crate::specs::CommandGrammar::replica_command_of_name))]
 pub(crate) fn replica_command_of_name(name: &str, at: String, fields: &Value) -> Option<Command>
     ensures { option_map command_view result
@@ -29,7 +29,7 @@ pub(crate) fn replica_command_of_name(name: &str, at: String, fields: &Value) ->
     }
 }
 
-// Reads the number at this field, of an object that has exactly this field and `at`.
+// Read the number at this field, of an object that has exactly this field and `at`.
 fn only_number(field: &str, fields: &Value) -> Option<u32>
     ensures { result ≡ grammar.only_number field.now (view fields.now) }
 {
@@ -39,7 +39,7 @@ fn only_number(field: &str, fields: &Value) -> Option<u32>
     number_at(field, fields)
 }
 
-// Reads the `edit` at a replica, of exactly its fields.
+// Read the `edit` at a replica, with exactly its fields.
 #[tactic(auto, unfolding(crate::specs::CommandGrammar::edit_command_in))]
 fn edit_command_in(at: String, fields: &Value) -> Option<Command>
     ensures { option_map command_view result ≡ grammar.edit_command_in (string_bytes at) (view fields.now) }
@@ -58,7 +58,7 @@ fn edit_command_in(at: String, fields: &Value) -> Option<Command>
     })
 }
 
-// Reads the `withdraw` at a replica, of exactly its fields.
+// Read the `withdraw` at a replica, with exactly its fields.
 #[tactic(auto, unfolding(crate::specs::CommandGrammar::withdraw_in))]
 fn withdraw_in(at: String, fields: &Value) -> Option<Command>
     ensures { option_map command_view result ≡ grammar.withdraw_in (string_bytes at) (view fields.now) }
@@ -71,7 +71,7 @@ fn withdraw_in(at: String, fields: &Value) -> Option<Command>
     Some(Command::Withdraw { at, object, step })
 }
 
-// Reads the `advance` at a replica, of exactly its fields.
+// Read the `advance` at a replica, with exactly its fields.
 fn advance_in(at: String, fields: &Value) -> Option<Command>
     ensures { option_map command_view result
         ≡ option_map (grammar.Advance (string_bytes at)) (grammar.only_number (codes "to") (view fields.now)) }
@@ -80,7 +80,7 @@ fn advance_in(at: String, fields: &Value) -> Option<Command>
     Some(Command::Advance { at, to })
 }
 
-// Reads the `cells` at a replica, of exactly its fields.
+// Read the `cells` at a replica, with exactly its fields.
 fn cells_in(at: String, fields: &Value) -> Option<Command>
     ensures { option_map command_view result
         ≡ option_map (grammar.Cells (string_bytes at)) (grammar.only_number (codes "step") (view fields.now)) }
@@ -89,7 +89,7 @@ fn cells_in(at: String, fields: &Value) -> Option<Command>
     Some(Command::Cells { at, step })
 }
 
-// Reads the `cars` at a replica, of exactly its fields.
+// Read the `cars` at a replica, with exactly its fields.
 fn cars_in(at: String, fields: &Value) -> Option<Command>
     ensures { option_map command_view result
         ≡ option_map (grammar.Cars (string_bytes at)) (grammar.only_number (codes "step") (view fields.now)) }
@@ -98,14 +98,14 @@ fn cars_in(at: String, fields: &Value) -> Option<Command>
     Some(Command::Cars { at, step })
 }
 
-// Reads the steps at `from` and `to`.
+// Read the steps at `from` and `to`.
 fn steps_at(fields: &Value) -> Option<(u32, u32)>
     ensures { result ≡ grammar.steps_at (view fields.now) }
 {
     Some((number_at("from", fields)?, number_at("to", fields)?))
 }
 
-// Reads the `count` at a replica, of exactly its fields.
+// Read the `count` at a replica, with exactly its fields.
 #[tactic(auto, unfolding(crate::specs::CommandGrammar::count_in))]
 fn count_in(at: String, fields: &Value) -> Option<Command>
     ensures { option_map command_view result ≡ grammar.count_in (string_bytes at) (view fields.now) }
@@ -123,7 +123,7 @@ fn count_in(at: String, fields: &Value) -> Option<Command>
     })
 }
 
-// Reads the `diagram` at a replica, of exactly its fields.
+// Read the `diagram` at a replica, with exactly its fields.
 #[tactic(auto, unfolding(crate::specs::CommandGrammar::diagram_in))]
 fn diagram_in(at: String, fields: &Value) -> Option<Command>
     ensures { option_map command_view result ≡ grammar.diagram_in (string_bytes at) (view fields.now) }
@@ -135,7 +135,7 @@ fn diagram_in(at: String, fields: &Value) -> Option<Command>
     Some(Command::Diagram { at, from, to })
 }
 
-// Reads the `scenario` at a replica, of exactly its field.
+// Read the `scenario` at a replica, with exactly its field.
 fn scenario_in(at: String, fields: &Value) -> Option<Command>
     ensures { option_map command_view result ≡ grammar.scenario_in (string_bytes at) (view fields.now) }
 {

@@ -1,4 +1,4 @@
-//! What is written for an answer.
+//! The lines that are written for answers.
 
 ghost use Rattle.std.specs.Prelude.{◌≡◌, IfOk, codes, string_bytes, map};
 ghost use Rattle.serde_json.specs.Data.{string, member, no_members, put as with_member};
@@ -27,12 +27,11 @@ use road_scenario::{Edit, Stamp};
 use serde_json::{Map, Value, put};
 use std::alloc::Global;
 
-/// Writes the line of an answer, its newline too: one compact JSON object, whose fields stand in the order of their
-/// bytes.
+/// Write the line of an answer with its newline: one compact JSON object, with its fields sorted by their bytes.
 ///
 /// # Errors
 ///
-/// `OutOfMemory`, and nothing else: every answer has a line.
+/// `OutOfMemory` is the only error: every answer has a line.
 pub fn reply_line(alloc: Global, answer: &Answer) -> Result<String, OutOfMemory>
     ensures { IfOk result (λ line. string_bytes line ≡ reply (answer_view answer.now)) }
 {
@@ -41,7 +40,7 @@ pub fn reply_line(alloc: Global, answer: &Answer) -> Result<String, OutOfMemory>
     Ok(line)
 }
 
-// Writes the JSON value of an answer.
+// Write the JSON value of an answer.
 fn answer_value(alloc: Global, answer: &Answer) -> Result<Value, OutOfMemory>
     ensures { IfOk result (λ value. view value ≡ data_of (answer_view answer.now)) }
 {
@@ -67,7 +66,7 @@ fn answer_value(alloc: Global, answer: &Answer) -> Result<Value, OutOfMemory>
     }
 }
 
-// Adds a field to those of an object.
+// Add a field to those of an object.
 fn with_field(
     alloc: Global,
     mut fields: Map<String, Value>,
@@ -81,7 +80,7 @@ fn with_field(
     Ok(fields)
 }
 
-// Adds a field that is a text to those of an object.
+// Add a field with a string to those of an object.
 fn with_text(
     alloc: Global,
     fields: Map<String, Value>,
@@ -95,7 +94,7 @@ fn with_text(
     with_field(alloc, fields, name, text)
 }
 
-// Writes the object of one field.
+// Write the object of one field.
 fn field_value(alloc: Global, name: &str, value: Value) -> Result<Value, OutOfMemory>
     ensures { IfOk result (λ made. view made ≡ field_data name.now (view value)) }
 {
@@ -165,7 +164,7 @@ fn edits_value(alloc: Global, edits: &[Edit]) -> Result<Value, OutOfMemory>
     Ok(Value::Object(fields))
 }
 
-// Writes the fields of edits: the list of them, and its form.
+// Write the fields of edits: the list of them, and its form.
 fn edits_fields(alloc: Global, edits: &[Edit]) -> Result<Map<String, Value>, OutOfMemory>
     ensures { IfOk result (λ fields. members_view fields.entries
         ≡ member (codes "edits") (list_data (map edit_data edits.now))
@@ -176,14 +175,14 @@ fn edits_fields(alloc: Global, edits: &[Edit]) -> Result<Map<String, Value>, Out
     with_field(alloc, fields, "form", Value::from(LAST_FORM))
 }
 
-// Writes the first step at which a number put is another than before.
+// Write the first step at which a number set has changed.
 fn touched_value(alloc: Global, step: Option<u32>) -> Result<Value, OutOfMemory>
     ensures { IfOk result (λ value. view value ≡ data_of (replies.Touched step)) }
 {
     field_value(alloc, "touched", step_value(step))
 }
 
-// Writes a message of all the edits that a replica holds.
+// Write a message of all the edits that a replica holds.
 fn sent_value(alloc: Global, message: &str, size: u64) -> Result<Value, OutOfMemory>
     ensures { IfOk result (λ value. view value ≡ data_of (replies.Sent message.now size)) }
 {
@@ -202,7 +201,7 @@ fn heads_value(alloc: Global, message: &str, heads: &[Head]) -> Result<Value, Ou
     Ok(Value::Object(fields))
 }
 
-// Writes a message of the edits that are beyond heads.
+// Write a message of the edits that are beyond heads.
 fn delta_value(alloc: Global, message: &str, edits: &[Edit]) -> Result<Value, OutOfMemory>
     ensures { IfOk result (λ value. view value ≡ data_of (replies.Delta message.now edits.now)) }
 {
@@ -220,7 +219,7 @@ fn crowd_value(alloc: Global, edits: &[Edit], journal: u32, row: &str) -> Result
     Ok(Value::Object(fields))
 }
 
-// Writes the JSON value of a step, or null where there is none.
+// Write the JSON value of a step, or null if there is none.
 fn step_value(step: Option<u32>) -> Value
     ensures { view result ≡ step_data step }
 {

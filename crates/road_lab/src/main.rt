@@ -1,11 +1,12 @@
-//! The program `road_lab`: it reads a plan line and then commands, one JSON object a line, and writes a reply for each.
+//! The program `road_lab`: it reads a plan line and then commands, one JSON object on each line, and writes a reply for
+//! each.
 #![tactic(auto)]
 
 use road_serve::{Ended, StdSink, StdSource, run};
 use std::process::ExitCode;
 use std::{env, io};
 
-// Reads the words after the program's name.
+// Read the arguments of the program.
 fn words(rt: &HostRuntime) -> io::Result<Vec<String>> {
     let mut words = Vec::new(rt.alloc());
     for word in env::args(rt)?.skip(1) {
@@ -22,7 +23,7 @@ fn main(rt: HostRuntime) -> ExitCode {
             run(&rt, &words, &mut reader, &mut writer)
         }
         Err(fault) if fault.kind() == io::ErrorKind::OutOfMemory => Ended::no_memory(),
-        // A word that is no UTF-8 is none that the program takes.
+        // The program accepts no argument that is not UTF-8.
         Err(_) => Ended::bad_arguments(),
     };
     if let Some(line) = ended.line {

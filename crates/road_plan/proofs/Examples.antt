@@ -1,4 +1,4 @@
--- Plans worked out by hand, as equations that the check computes: both sides of each limit.
+-- Plans worked out by hand, as equations that the checker computes: both sides of each limit.
 use Rattle.std.specs.Prelude.{◌≡◌, true, false, List, ℕ, [], ◌∷◌, map, replicate, refl}
 use Rattle.std.specs.List.{range_with_len}
 use Rattle.std.specs.declared.option.Option.TheVariants.{None, Some}
@@ -148,7 +148,7 @@ inflow_above_certain = refl
 greatest_plan : fault_of_plan (record small { cells = 8192; exit = 64; width = 128; zones = replicate 64 (9, 65536) }) ≡ None
 greatest_plan = refl
 
--- of two faults the earlier one
+-- the earlier of two faults
 zones_before_detectors : fault_of_plan (record small { width = 0; detectors = 0 ∷ [] }) ≡ Some Zones
 zones_before_detectors = refl
 
@@ -193,7 +193,7 @@ numbers_of_small = (refl, refl, refl)
 states_of_small : (default small (Block 3) ≡ Some 0) × (default small (Watch 0) ≡ Some 1)
 states_of_small = (refl, refl)
 
--- ---- the limits of what stands on plans
+-- ---- the limits of all that uses plans
 
 most_replicas : limits.MOST_REPLICAS ≡ 64
 most_replicas = refl

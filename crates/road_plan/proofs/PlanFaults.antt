@@ -1,4 +1,4 @@
--- A plan has no fault exactly where it is within the limits.
+-- A plan has no fault exactly if it is within the limits.
 use Rattle.std.proofs.Common.{◌≡◌, ◌∙◌, ℕ, ◌<◌, ◌≤◌, Bool, true, false, not, List, length, map, nat_eq, nat_lt, nat_le, refl, sym}
 use Rattle.std.specs.Prelude.{◌↔◌, if◌then◌else◌, ◌==◌, ◌+◌, ◌-◌}
 use Rattle.std.specs.Bool.{Decides}
@@ -60,7 +60,7 @@ defaults_test p =
     (each _ (λ zone. (zone.0 ≤ GREATEST_LIMIT) × (zone.1 ≤ CERTAIN)) (λ zone. Decides-and _ _ (at_most zone.0 GREATEST_LIMIT) (at_most zone.1 CERTAIN)) p.zones)
     (each _ (λ inlet. inlet.1 ≤ CERTAIN) (λ inlet. at_most inlet.1 CERTAIN) p.inlets)
 
--- no fault is named exactly where the first test is passed and the others name none
+-- no fault is named exactly if the first test is passed and the others name no fault
 passed : (test : Bool) (fault : PlanFault) (others : Option PlanFault) → ((if not test then Some fault else others) ≡ None) ↔ ((test ≡ true) × (others ≡ None))
 passed true fault others = (λ h. (refl, h), λ h. h.1)
 passed false fault others = (λ h. absurd (none-some fault (sym h)), λ h. absurd (true≢false (sym h.0)))

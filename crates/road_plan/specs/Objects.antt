@@ -1,4 +1,4 @@
--- What an edit sets: its kinds, where it exists, what it takes.
+-- Objects, which edits set: their kinds, where they exist, and which values they take.
 use Rattle.std.specs.Prelude.{ℕ, Bool, true, false, length, nat_lt, nat_le}
 use Rattle.std.specs.List.{slice_index_or}
 use Rattle.std.specs.Ordering.{nat_cmp}
@@ -20,7 +20,8 @@ is_in_plan p (Inflow inlet) = nat_lt inlet (length p.inlets)
 is_in_plan p (Watch detector) = nat_lt detector (length p.detectors)
 is_in_plan p (Start zone) = nat_lt zone (length p.zones)
 
--- whether an object takes a value: speed limits and chances up to the greatest, and 0 or 1 for what is off or on
+-- whether an object takes a value: speed limits and chances up to the greatest, and 0 (off) or 1 (on) for blocks and
+-- detectors
 abbrev pub allows : Object → ℕ → Bool
 allows (Limit zone) value = nat_le value GREATEST_LIMIT
 allows (Slow zone) value = nat_le value CERTAIN
@@ -38,8 +39,8 @@ is_start (Inflow inlet) = false
 is_start (Watch detector) = false
 is_start (Start zone) = true
 
--- what an object is where nothing is put: the plan's number, no block, and a detector that is on; a plan has no slowing
--- chance of standing cars
+-- the value of an object that no edit sets: the plan's number, no block, and a detector that is on; a plan has no
+-- slowing chance of standing cars
 abbrev pub default : Plan → Object → Option ℕ
 default p (Limit zone) = Some (slice_index_or p.zones zone (0, 0)).0
 default p (Slow zone) = Some (slice_index_or p.zones zone (0, 0)).1
@@ -48,7 +49,7 @@ default p (Inflow inlet) = Some (slice_index_or p.inlets inlet (0, 0)).1
 default p (Watch detector) = Some 1
 default p (Start zone) = None
 
--- what objects are ordered by: the kind's place among the kinds, and the index
+-- the key that objects are ordered by: the kind's place among the kinds, and the index
 abbrev pub order_key : Object → ℕ × ℕ
 order_key (Limit zone) = (0, zone)
 order_key (Slow zone) = (1, zone)
@@ -57,6 +58,6 @@ order_key (Inflow inlet) = (3, inlet)
 order_key (Watch detector) = (4, detector)
 order_key (Start zone) = (5, zone)
 
--- the order of objects, by kind, then by index
+-- the order of objects by kind, then by index
 abbrev pub object_order : Object → Object → Ordering
 object_order x y = pair_cmp nat_cmp nat_cmp (order_key x) (order_key y)

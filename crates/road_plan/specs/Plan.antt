@@ -7,9 +7,9 @@ use Rattle.road_plan.specs.declared.limits.TheConstants.{LEAST_LENGTH, GREATEST_
 use Rattle.road_plan.specs.declared.limits.TheConstants.{MOST_ZONES, MOST_INLETS, MOST_DETECTORS}
 use Rattle.road_plan.specs.declared.limits.TheConstants.{GREATEST_LIMIT, CERTAIN}
 
--- a plan: a road of so many cells, the last `exit` of which are the deleted zone; zones of `width` cells, each with
--- its speed limit in cells per step and its slowing chance in 1/65,536; inlets, each with its cell and its inflow
--- chance in 1/65,536; detectors, each with its site; and where the random words come from
+-- a plan: a road of `cells` cells, the last `exit` of them the deleted zone; zones of `width` cells, each with its
+-- speed limit in cells per step and its slowing chance in 1/65,536; inlets, each with its cell and its inflow chance in
+-- 1/65,536; detectors, each with its site; and where the random words come from
 pub record Plan : Type 0 where
   pub cells : ℕ
   pub exit : ℕ
@@ -31,7 +31,7 @@ plan_of parts = record {
   words = parts.words;
 }
 
--- the first cell of the exit, from which on no car stays
+-- the first cell of the deleted zone, from which on no car stays
 abbrev pub exit_start : Plan → ℕ
 exit_start p = p.cells - p.exit
 
@@ -39,9 +39,9 @@ exit_start p = p.cells - p.exit
 abbrev pub zone_of : Plan → ℕ → ℕ
 zone_of p c = c / p.width
 
--- a plan is within the limits of the laboratory: it has a road with a deleted zone at its end, one entry for each zone
--- up to that of the last cell, inlets at different cells before the deleted zone, detectors past the first cell and
--- before the deleted zone, and allowed speed limits, slowing chances and inflows
+-- a plan is within the limits of the laboratory: it has a road with a deleted zone at its end; one entry for each zone
+-- up to that of the last cell; inlets at different cells before the deleted zone; detectors past the first cell and
+-- before the deleted zone; and allowed speed limits, slowing chances and inflows
 pub record IsWithinLimits (p : Plan) : Type 0 where
   pub long_enough : LEAST_LENGTH ≤ p.cells
   pub short_enough : p.cells ≤ GREATEST_LENGTH

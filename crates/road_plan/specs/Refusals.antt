@@ -11,7 +11,7 @@ use Rattle.road_plan.specs.declared.limits.TheConstants.{LEAST_LENGTH, GREATEST_
 use Rattle.road_plan.specs.declared.limits.TheConstants.{MOST_ZONES, MOST_INLETS, MOST_DETECTORS}
 use Rattle.road_plan.specs.declared.limits.TheConstants.{GREATEST_LIMIT, CERTAIN}
 
--- whether the road is neither too short nor too long
+-- whether the length of the road is in its range
 abbrev pub has_length : Plan → Bool
 has_length p = nat_le LEAST_LENGTH p.cells && nat_le p.cells GREATEST_LENGTH
 
@@ -19,7 +19,7 @@ has_length p = nat_le LEAST_LENGTH p.cells && nat_le p.cells GREATEST_LENGTH
 abbrev pub has_exit : Plan → Bool
 has_exit p = nat_lt 0 p.exit && nat_le p.exit GREATEST_EXIT && nat_lt p.exit p.cells
 
--- whether there is one entry for each zone of the road, the last of which may be shorter
+-- whether there is one entry for each zone of the road; the last zone may be shorter
 abbrev pub has_zones : Plan → Bool
 has_zones p = nat_lt 0 p.width && nat_le (length p.zones) MOST_ZONES && length p.zones == zone_of p (p.cells - 1) + 1
 
@@ -42,7 +42,7 @@ has_defaults p =
     list_all (λ zone. nat_le zone.0 GREATEST_LIMIT && nat_le zone.1 CERTAIN) p.zones
     && list_all (λ inlet. nat_le inlet.1 CERTAIN) p.inlets
 
--- the first fault of a plan, in the order in which they are named
+-- the first fault of a plan, in the order of the faults
 abbrev pub fault_of_plan : Plan → Option PlanFault
 fault_of_plan p =
     if not (has_length p) then Some Length

@@ -5,8 +5,8 @@ use Rattle.std.specs.List.Sorted.{IsStrictlyIncreasing}
 use Rattle.road_plan.specs.Plan.{Plan}
 use Rattle.road_plan.specs.declared.limits.TheConstants.{GREATEST_LIMIT, CERTAIN}
 
--- all settings of a road at one step: for each zone its speed limit and its slowing chance, for each inlet its inflow
--- chance, the blocked cells, for each detector whether it is on, and for each zone the slowing chance of standing cars
+-- all settings of a road at one step: for each zone its speed limit and its slowing chance; for each inlet its inflow
+-- chance; the blocked cells; for each detector whether it is on; and for each zone the slowing chance of standing cars
 pub record Settings : Type 0 where
   pub limits : List ℕ
   pub chances : List ℕ
@@ -15,7 +15,7 @@ pub record Settings : Type 0 where
   pub watched : List Bool
   pub starts : List ℕ
 
--- settings fit a plan where they have one allowed number for each of its zones, inlets and detectors, and the blocked
+-- settings fit a plan if they have one allowed number for each of its zones, inlets and detectors, and the blocked
 -- cells rise and are on its road
 pub record Fits (p : Plan) (s : Settings) : Type 0 where
   pub speed_limit_each : length s.limits ≡ length p.zones

@@ -6,7 +6,7 @@ use crate::limits::{
 };
 use thiserror::Error;
 
-/// Why a plan is refused. The causes are asked in this order, and the first that stands is named.
+/// Why a plan is refused. The causes are checked in this order, and the first one that applies is named.
 #[derive(Clone, Copy, Debug, PartialEq, Eq, Error)]
 pub enum PlanFault {
     /// The road is too short or too long.
@@ -15,10 +15,10 @@ pub enum PlanFault {
     /// The deleted zone is empty, too long, or no shorter than the road.
     #[error("the deleted zone is not 1 to {most} cells long and shorter than the road", most = GREATEST_EXIT)]
     Exit,
-    /// The zones have no width, are too many, or the list has not one entry for each.
+    /// The zones have no width, are too many, or the list does not have one entry for each zone.
     #[error("the zones are not 1 to {most} with a width and one entry for each", most = MOST_ZONES)]
     Zones,
-    /// There is no inlet, there are too many, or one is in the deleted zone or at the cell of another.
+    /// There is no inlet, there are too many, or one is in the deleted zone or at the cell of another inlet.
     #[error("the inlets are none, more than {most}, or not at different cells before the deleted zone", most = MOST_INLETS)]
     Inlets,
     /// There are too many detectors, or one is at the first cell or in the deleted zone.
@@ -27,7 +27,7 @@ pub enum PlanFault {
     /// A speed limit, a slowing chance or an inflow is too great.
     #[error("a speed limit is above {limit}, or a slowing chance or an inflow above {chance}", limit = GREATEST_LIMIT, chance = CERTAIN)]
     Default,
-    /// An allocation failed. `Plan::new` takes no memory, so it never answers this.
+    /// An allocation failed. `Plan::new` takes no memory, so it never returns this.
     #[error("no memory")]
     OutOfMemory,
 }

@@ -4,7 +4,7 @@
 pub const LEAST_LENGTH: u32 = 8;
 /// The most cells of a road.
 pub const GREATEST_LENGTH: u32 = 8_192;
-/// The most cells of the deleted zone at the end of a road; it has one at least.
+/// The most cells of the deleted zone at the end of a road. The zone has at least one cell.
 pub const GREATEST_EXIT: u32 = 64;
 /// The most zones of a road.
 pub const MOST_ZONES: usize = 64;
@@ -14,17 +14,17 @@ pub const MOST_INLETS: usize = 16;
 pub const MOST_DETECTORS: usize = 64;
 /// The greatest speed limit, in cells per step.
 pub const GREATEST_LIMIT: u32 = 9;
-/// A chance that always comes: chances are counted in 1/65,536.
+/// The chance of an event that always happens: chances are counted in 1/65,536.
 pub const CERTAIN: u32 = 65_536;
-/// The most replicas of a world; they are numbered from 0.
+/// The most replicas of a world. They are numbered from 0.
 pub const MOST_REPLICAS: u32 = 64;
 /// The greatest step of an edit.
 pub const LAST_EDIT_STEP: u32 = 1_048_575;
 /// The greatest horizon, in steps.
 pub const GREATEST_HORIZON: u32 = 1_048_576;
-/// The greatest count of a stamp; the least is 1.
+/// The greatest count of a stamp. The least is 1.
 pub const GREATEST_COUNT: u64 = 281_474_976_710_656;
-/// The least number of an imported edit's stamp: smaller ones are the replicas'.
+/// The least number in the stamp of an imported edit. Smaller numbers are those of replicas.
 pub const FIRST_IMPORT_NUMBER: u16 = 64;
 /// The most sessions of one shared replica.
 pub const MOST_SESSIONS: u32 = 8;
@@ -32,7 +32,7 @@ pub const MOST_SESSIONS: u32 = 8;
 pub const MOST_WORKERS: u32 = 16;
 /// The most rows of one space-time diagram.
 pub const MOST_ROWS: u32 = 1_024;
-/// The most bytes of a line of input, its newline not counted.
+/// The most bytes of a line of input, without its newline.
 pub const LONGEST_LINE: usize = 65_536;
 /// The most lines of input after the plan line.
 pub const MOST_LINES: u32 = 1_000_000;

@@ -1,4 +1,4 @@
-//! What edits set: where it exists, what it takes, and what it is by default.
+//! Objects, which edits set: where they exist, which values they take, and their defaults.
 
 ghost use Rattle.std.specs.Prelude.{◌≡◌, true, false};
 ghost use Rattle.std.specs.declared.option.Option.TheVariants.{Some};
@@ -7,8 +7,8 @@ ghost use Rattle.road_plan.specs.Objects as objects;
 use crate::limits::{CERTAIN, GREATEST_LIMIT};
 use crate::plan::Plan;
 
-/// What an edit sets, by the index of its zone, cell, inlet or detector, counted from 0. Objects are ordered by their
-/// kinds in the order below, then by their indexes.
+/// What an edit sets, by the index of its zone, cell, inlet or detector, counted from 0. Objects are ordered by kind,
+/// in the order below, and then by index.
 #[derive(Clone, Copy, Debug, PartialEq, Eq, PartialOrd, Ord)]
 pub enum Object {
     /// The speed limit of a zone, in cells per step.
@@ -21,13 +21,13 @@ pub enum Object {
     Inflow(u32),
     /// Whether a detector is on: 0 or 1.
     Watch(u32),
-    /// The slowing chance of a zone's standing cars, in 1/65,536 (slow-to-start). Where none is put, they are slowed by
+    /// The slowing chance of a zone's standing cars, in 1/65,536 (slow-to-start). If none is set, they are slowed by
     /// the zone's slowing chance, as moving cars are.
     Start(u32),
 }
 
 impl Object {
-    /// Answers whether the plan has the zone, cell, inlet or detector. A blocked cell may be any cell of the road.
+    /// Return whether the plan has the zone, cell, inlet or detector. A blocked cell may be any cell of the road.
     pub fn in_plan(self, plan: &Plan) -> bool
         ensures { result ≡ objects.is_in_plan plan.now self }
     {
@@ -41,8 +41,8 @@ impl Object {
         }
     }
 
-    /// Answers whether it takes the value: speed limits from 0 to 9 cells per step, chances from 0 to 65,536 in
-    /// 1/65,536, and 0 or 1 for what is off or on.
+    /// Return whether the object takes the value: speed limits from 0 to 9 cells per step, chances from 0 to 65,536 in
+    /// 1/65,536, and 0 (off) or 1 (on) for blocks and detectors.
     pub fn allows(self, value: u32) -> bool
         ensures { result ≡ objects.allows self value }
     {
@@ -53,8 +53,8 @@ impl Object {
         }
     }
 
-    /// Returns what it is where nothing is put: the plan's number, no block, and a detector that is on. The plan must
-    /// have the object, and it must not be the slowing chance of standing cars, for which a plan has no number.
+    /// Return the object's value if no edit sets it: the plan's number, no block, and a detector that is on. The plan
+    /// must have the object. It must not be the slowing chance of standing cars, for which a plan has no number.
     pub fn default(self, plan: &Plan) -> u32
         requires in_plan { objects.is_in_plan plan.now self ≡ true }
         requires own { objects.is_start self ≡ false }
@@ -70,7 +70,7 @@ impl Object {
         }
     }
 
-    /// Answers whether it is the slowing chance of a zone's standing cars.
+    /// Return whether the object is the slowing chance of a zone's standing cars.
     pub fn is_start(self) -> bool
         ensures { result ≡ objects.is_start self }
     {

@@ -1,4 +1,4 @@
-//! The order of objects tells them apart.
+//! The order of objects distinguishes them.
 
 use crate::object::Object;
 use lattice_core::exact::Exact;

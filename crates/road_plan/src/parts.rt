@@ -1,4 +1,4 @@
-//! What a plan is made of.
+//! The parts of a plan.
 
 /// Where random words come from.
 #[derive(Clone, Copy, Debug, PartialEq, Eq)]
@@ -14,7 +14,7 @@ pub enum WordKind {
 pub struct PlanParts {
     /// Cells of the road.
     pub length: u32,
-    /// Cells of the deleted zone, the last ones of the road.
+    /// Cells of the deleted zone, the last cells of the road.
     pub exit: u32,
     /// Cells of a zone; the last zone may be shorter.
     pub width: u32,
@@ -22,7 +22,7 @@ pub struct PlanParts {
     pub zones: Vec<(u32, u32)>,
     /// For each inlet its cell and its inflow chance, in 1/65,536.
     pub inlets: Vec<(u32, u32)>,
-    /// For each detector its site: it counts the cars that come from a cell before it to this cell or past it.
+    /// For each detector its site. It counts the cars that come from a cell before the site to the site or past it.
     pub detectors: Vec<u32>,
     /// Where the random words come from.
     pub words: WordKind,

@@ -26,13 +26,13 @@ impl Model for Plan {
 }
 
 impl Plan {
-    /// Makes the plan of these parts, if they are within the limits. It takes no memory: the parts become the plan.
+    /// Make the plan of these parts, if they are within the limits. It takes no memory: the parts become the plan.
     ///
     /// # Errors
     ///
     /// The first fault of the parts, in the order of `PlanFault`. It is never `OutOfMemory`.
     pub fn new(parts: PlanParts) -> Result<Plan, PlanFault>
-        // Accepted exactly where no fault is found, and then the parts are the plan.
+        // Parts are accepted exactly if no fault is found, and then they are the plan.
         ensures made { IfOk result (λ plan. plan ≡ plan_of parts) }
         ensures faultless { IfOk result (λ _. fault_of_plan (plan_of parts) ≡ None) }
 
@@ -48,7 +48,7 @@ impl Plan {
         }
     }
 
-    /// Returns the number of the road's cells.
+    /// Return the number of the road's cells.
     pub fn length(&self) -> u32
         ensures cells { result ≡ self.now.cells }
         ensures within { IsWithinLimits self.now }
@@ -56,14 +56,14 @@ impl Plan {
         self.parts.length
     }
 
-    /// Returns the number of the cells of the deleted zone, the last ones of the road.
+    /// Return the number of the cells of the deleted zone, the last ones of the road.
     pub fn exit(&self) -> u32
         ensures { result ≡ self.now.exit }
     {
         self.parts.exit
     }
 
-    /// Returns the number of a zone's cells. The last zone may be shorter.
+    /// Return the number of a zone's cells. The last zone may be shorter.
     pub fn width(&self) -> u32
         ensures width { result ≡ self.now.width }
         ensures within { IsWithinLimits self.now }
@@ -71,14 +71,14 @@ impl Plan {
         self.parts.width
     }
 
-    /// Returns for each zone its speed limit, in cells per step, and its slowing chance, in 1/65,536.
+    /// Return for each zone its speed limit, in cells per step, and its slowing chance, in 1/65,536.
     pub fn zones(&self) -> &[(u32, u32)]
         ensures { result.now ≡ self.now.zones }
     {
         &self.parts.zones
     }
 
-    /// Returns for each inlet its cell and its inflow chance, in 1/65,536.
+    /// Return for each inlet its cell and its inflow chance, in 1/65,536.
     pub fn inlets(&self) -> &[(u32, u32)]
         ensures inlets { result.now ≡ self.now.inlets }
         ensures within { IsWithinLimits self.now }
@@ -86,7 +86,7 @@ impl Plan {
         &self.parts.inlets
     }
 
-    /// Returns for each detector its site, a cell.
+    /// Return for each detector its site, a cell.
     pub fn detectors(&self) -> &[u32]
         ensures detectors { result.now ≡ self.now.detectors }
         ensures within { IsWithinLimits self.now }
@@ -94,7 +94,7 @@ impl Plan {
         &self.parts.detectors
     }
 
-    /// Returns where the random words come from.
+    /// Return where the random words come from.
     pub fn words(&self) -> WordKind
         ensures { result ≡ self.now.words }
     {

@@ -45,12 +45,12 @@ impl Model for Settings {
 }
 
 impl Settings {
-    /// Makes the plan's own settings: its speed limits, slowing chances and inflows, no blocked cell, every detector on.
+    /// Make the plan's own settings: its speed limits, slowing chances and inflows, no blocked cell, every detector on.
     /// Standing cars are slowed like moving ones.
     ///
     /// # Errors
     ///
-    /// `OutOfMemory` where an allocation failed.
+    /// `OutOfMemory` if an allocation failed.
     pub fn of_plan(alloc: Global, plan: &Plan) -> Result<Settings, OutOfMemory>
         ensures made { IfOk result (λ settings. settings ≡ defaults plan.now) }
         ensures fits { IfOk result (λ settings. Fits plan.now settings) }
@@ -66,7 +66,7 @@ impl Settings {
         })
     }
 
-    /// Answers whether they fit the plan: one allowed number for each zone, inlet and detector, and the blocked cells
+    /// Return whether they fit the plan: one allowed number for each zone, inlet and detector, and the blocked cells
     /// rise and are on the road. It takes no memory.
     pub fn fits(&self, plan: &Plan) -> bool
         ensures { IsTrue result ↔ Fits plan.now self.now }
@@ -112,42 +112,42 @@ impl Settings {
         do_rise(self.blocks.as_slice()) && are_below(self.blocks.as_slice(), plan.length())
     }
 
-    /// Returns for each zone its speed limit, in cells per step.
+    /// Return for each zone its speed limit, in cells per step.
     pub fn limits(&self) -> &[u32]
         ensures { result.now ≡ self.now.limits }
     {
         &self.limits
     }
 
-    /// Returns for each zone its slowing chance, in 1/65,536.
+    /// Return for each zone its slowing chance, in 1/65,536.
     pub fn chances(&self) -> &[u32]
         ensures { result.now ≡ self.now.chances }
     {
         &self.chances
     }
 
-    /// Returns for each inlet its inflow chance, in 1/65,536.
+    /// Return for each inlet its inflow chance, in 1/65,536.
     pub fn inflows(&self) -> &[u32]
         ensures { result.now ≡ self.now.inflows }
     {
         &self.inflows
     }
 
-    /// Returns the blocked cells, rising.
+    /// Return the blocked cells, rising.
     pub fn blocks(&self) -> &[u32]
         ensures { result.now ≡ self.now.blocks }
     {
         &self.blocks
     }
 
-    /// Returns for each detector whether it is on.
+    /// Return for each detector whether it is on.
     pub fn watched(&self) -> &[bool]
         ensures { result.now ≡ self.now.watched }
     {
         &self.watched
     }
 
-    /// Returns for each zone the slowing chance of standing cars, in 1/65,536.
+    /// Return for each zone the slowing chance of standing cars, in 1/65,536.
     pub fn starts(&self) -> &[u32]
         ensures { result.now ≡ self.now.starts }
     {

@@ -1,4 +1,4 @@
--- A stamp whose count is above all counts that are held is greater than each stamp that is held.
+-- A stamp whose count is above all held counts is greater than each held stamp.
 use Rattle.std.proofs.Common.{◌≡◌, ◌≤◌, ℕ, suc, sym, subst, arith, true}
 use Rattle.std.specs.declared.cmp.Ordering.{Ordering}
 use Rattle.std.specs.declared.cmp.Ordering.TheVariants.{Less}

@@ -1,4 +1,4 @@
--- Growing by edits alone is taking them, and growing by steps alone is advancing.
+-- Extending a sheet by edits only is taking them, and extending it by steps only is advancing.
 use Rattle.std.proofs.Common.{◌≡◌, ◌≤◌, ◌∙◌, ℕ, max, min, ap, sym, subst, arith, refl, List, [], ◌∷◌, ◌++◌, map, true, None}
 use Rattle.std.specs.Prelude.{cond, not}
 use Rattle.std.specs.Cmp.Lexicographic.{options_equiv}
@@ -29,14 +29,14 @@ max-zero n = omega arith
 no_edit : has_no_edit empty ≡ true
 no_edit = ap is_empty (items-empty edit_cmp)
 
--- what has no edit adds nothing to winners
+-- joining no edits to winners gives the same winners
 no_edit-join : (edits : Edits) → AreWinners edits → join empty edits ≡ edits
 no_edit-join edits wins = join_laws.neutral empty edits winners-empty wins no_edit
 
 join-no_edit : (edits : Edits) → AreWinners edits → join edits empty ≡ edits
 join-no_edit edits wins = join_laws.commutative edits empty wins winners-empty ∙ no_edit-join edits wins
 
--- the scenario of one edit, made of one without edits
+-- the scenario of one edit, made from one without edits
 pub scenario_of_one : (none taken : Edits) (edit made : Edit) → none ≡ empty → taken ≡ join none (from_list (edit ∷ [])) → edit ≡ made → taken ≡ single_edit made
 scenario_of_one none taken edit made is joined same =
     joined ∙ ap (λ (edits : Edits). join edits (single_edit edit)) is ∙ no_edit-join (single_edit edit) (winners-single edit) ∙ ap single_edit same
@@ -47,7 +47,7 @@ grown_by_edits s edits = ap (λ (h : ℕ). let t : Sheet = record { plan = s.pla
 pub grown_by_steps : (s : Sheet) (to : ℕ) → IsSheet s → grown_sheet s empty to ≡ sheet_after (Advance to) s
 grown_by_steps s to is = ap (λ (edits : Edits). let t : Sheet = record { plan = s.plan; edits = edits; horizon = max s.horizon to } in t) (join-no_edit s.edits is.winners)
 
--- a sheet stays one when it grows
+-- a sheet stays a sheet when it is extended
 pub grown_is_sheet : (s : Sheet) (edits : Edits) (to : ℕ) → IsSheet s → AreInRange s.plan edits → to ≤ GREATEST_HORIZON → IsSheet (grown_sheet s edits to)
 grown_is_sheet s edits to is fits within = record {
   plan_within = is.plan_within;
@@ -56,17 +56,17 @@ grown_is_sheet s edits to is fits within = record {
   within_limit = let old = is.within_limit in omega (arith, within, old);
 }
 
--- all edits of a list, joined to winners, do as their winners do
+-- joining all edits of a list to winners gives the same as joining the list's winners
 pub join-winners : (s edits : Edits) → AreWinners s → join s (winners edits) ≡ join s edits
 join-winners s edits wins = sym (winners_laws.of_union s edits ∙ ap (λ (x : Edits). join x (winners edits)) wins)
 
--- taking edits computes no more steps than growing by them
+-- taking edits computes no more steps than extending by them
 pub few_steps_taking : (s : Sheet) (taken edits : Edits) (meter later : ℕ) → taken ≡ edits → TicksAtMost (most_steps s.horizon (max s.horizon 0) (touched_step s taken)) meter later → TicksAtMost (most_steps_taking s edits) meter later
 few_steps_taking s taken edits meter later same few =
     subst (λ (x : Edits). TicksAtMost (most_steps_taking s x) meter later) same
     (subst (λ h. TicksAtMost (most_steps s.horizon h (touched_step s taken)) meter later) (max-zero s.horizon) few)
 
--- ---- no edit touches no step
+-- ---- joining no edit touches no step
 
 none_differs : (es fs : List Edit) → filter (has_other_number es es) fs ≡ []
 none_differs es [] = refl

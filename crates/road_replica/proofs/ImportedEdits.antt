@@ -12,7 +12,7 @@ use Rattle.road_replica.specs.Refusals.{arrived_edit_fault, imported_edit_fault,
 use Rattle.road_replica.specs.declared.faults.ReplicaFault.{ReplicaFault}
 use Rattle.road_replica.specs.declared.faults.ReplicaFault.TheVariants.{Insider}
 
--- no cause of two
+-- if neither of two causes applies, the first does not and the second does not
 pub none_of_both : (x y : Option ReplicaFault) → option_or x y ≡ None → (x ≡ None) × (y ≡ None)
 none_of_both None y h = (refl, h)
 none_of_both (Some f) y h = cc
@@ -31,7 +31,7 @@ no_fault_imported plan (e ∷ es) h =
 
 -- ---- no worker is lost by a named cause
 
--- after a refusal for this cause a crew has answered `WorkersGone` as often as before
+-- after a refusal for this cause a crew has returned `WorkersGone` as often as before
 abbrev LosesNone : ℕ → Option ReplicaFault → Type 0
 LosesNone n cause = IfSome cause (λ fault. n ≡ gone_after_fault fault n)
 

@@ -1,4 +1,4 @@
--- Lemmas about stamps, grown sheets, writes, imported edits and shares of edits.
+-- Lemmas about stamps, extended sheets, writes, imported edits and shares of edits.
 pub mod FreshStamps
 pub mod GrownSheets
 pub mod ImportedEdits

@@ -1,4 +1,4 @@
--- Growths of a replica's sheet as writes, and how many steps an accepted write computes.
+-- Extensions of a replica's sheet as writes, and how many steps an accepted write computes.
 use Rattle.std.proofs.Common.{◌≡◌, ◌-◌, ◌∙◌, ℕ, Option, None, ap, arith, max, refl, subst, sym}
 use Rattle.std.specs.Prelude.{IfErr, IsErrAnd, OnErr, OnOk, Result}
 use Rattle.std.specs.declared.result.Result.TheVariants.{Err, Ok}
@@ -21,18 +21,18 @@ use Rattle.road_replica.specs.declared.faults.ReplicaFault.{ReplicaFault}
 abbrev with_sheet : Replica → Sheet → Replica
 with_sheet r s = record r { sheet = s }
 
--- an accepted write ticks no more often than a refused one may
+-- an accepted write counts no more steps than a refused one may
 pub few_steps_of : (command : SheetCommand) (s : Sheet) (meter later : ℕ) → later ≡ meter_after meter (steps_of_command command s) → TicksAtMost (most_steps_of_command command s) meter later
 few_steps_of (Take edits) s meter later is = record { ticks = steps_of_command (Take edits) s; few = few_steps s.horizon s.horizon (touched_step s edits); counted = is }
 few_steps_of (Advance to) s meter later is = record { ticks = steps_of_command (Advance to) s; few = omega arith; counted = is }
 
--- a refusal that is handed on
+-- a refusal that is passed on
 pub handed_on : {A : Type 0} (command : SheetCommand) (cause : Option ReplicaFault) (result : Result A ReplicaFault) (fault : ReplicaFault) (r new : Replica) (meter later : ℕ)
     → IsErrAnd result (λ given. given ≡ fault) → IsRefused command cause fault r new meter later → IsWrite command cause result r new meter later
 handed_on command cause (Ok x) fault r new meter later same is = absurd same
 handed_on command cause (Err given) fault r new meter later same is = subst (λ f. IsRefused command cause f r new meter later) (sym same) is
 
--- a growth by edits alone is a write that takes them
+-- extending by edits only is a write that takes them
 pub joined_write : {A : Type 0} (r new : Replica) (edits : Edits) (result : Result A ReplicaFault) (meter later : ℕ)
     → OnOk result (new ≡ with_sheet r (grown_sheet r.sheet edits 0)) → IfErr result (IsWriteRefusal None) → OnErr result (new ≡ r)
     → OnOk result (later ≡ meter_after meter (max r.sheet.horizon 0 - draft_start r.sheet.horizon (kept_step r.sheet.horizon (touched_step r.sheet edits))))
@@ -50,7 +50,7 @@ joined_write r new edits (Err fault) meter later grown refused unchanged steps f
   few_steps = few_steps_taking r.sheet edits edits meter later refl few;
 }
 
--- a write that takes edits takes others too that come to the same where they are joined in: accepted
+-- a write that takes some edits also takes other edits with the same result when joined in: if accepted
 pub retaken_accepted : (r new : Replica) (taken edits : Edits) (cause : Option ReplicaFault) (meter later : ℕ)
     → join r.sheet.edits taken ≡ join r.sheet.edits edits → cause ≡ None → IsAccepted (Take taken) None r new meter later → IsAccepted (Take edits) cause r new meter later
 retaken_accepted r new taken edits cause meter later same none write = record {
@@ -59,7 +59,7 @@ retaken_accepted r new taken edits cause meter later same none write = record {
   steps = write.steps ∙ ap (λ (joined : Edits). meter_after meter (r.sheet.horizon - draft_start r.sheet.horizon (kept_step r.sheet.horizon (first_touched_step r.sheet.edits joined)))) same;
 }
 
--- or refused
+-- if refused
 pub retaken_refused : (r new : Replica) (taken edits : Edits) (cause : Option ReplicaFault) (fault : ReplicaFault) (meter later : ℕ)
     → join r.sheet.edits taken ≡ join r.sheet.edits edits → cause ≡ None → IsRefused (Take taken) None fault r new meter later → IsRefused (Take edits) cause fault r new meter later
 retaken_refused r new taken edits cause fault meter later same none write = record {
@@ -75,7 +75,7 @@ pub retaken : {A : Type 0} (r new : Replica) (taken edits : Edits) (cause : Opti
 retaken r new taken edits cause (Ok x) meter later same none write = retaken_accepted r new taken edits cause meter later same none write
 retaken r new taken edits cause (Err fault) meter later same none write = retaken_refused r new taken edits cause fault meter later same none write
 
--- a growth by steps alone is a write that advances: accepted
+-- extending by steps only is a write that advances: if accepted
 pub advanced_accepted : (r new : Replica) (edits : Edits) (to : ℕ) (cause : Option ReplicaFault) (meter later : ℕ)
     → edits ≡ empty → IsSheet r.sheet → cause ≡ None → new ≡ with_sheet r (grown_sheet r.sheet edits to)
     → later ≡ meter_after meter (max r.sheet.horizon to - draft_start r.sheet.horizon (kept_step r.sheet.horizon (touched_step r.sheet edits)))
@@ -88,7 +88,7 @@ advanced_accepted r new edits to cause meter later is sheet none grown steps =
       steps = steps ∙ ap (λ start. meter_after meter (max h to - start)) (ap (λ touched. draft_start h (kept_step h touched)) untouched ∙ start_at_horizon h h refl);
     }
 
--- or refused
+-- if refused
 pub advanced_refused : (r new : Replica) (edits : Edits) (to : ℕ) (cause : Option ReplicaFault) (fault : ReplicaFault) (meter later : ℕ)
     → edits ≡ empty → IsSheet r.sheet → cause ≡ None → IsWriteRefusal None fault → new ≡ r
     → TicksAtMost (most_steps r.sheet.horizon (max r.sheet.horizon to) (touched_step r.sheet edits)) meter later

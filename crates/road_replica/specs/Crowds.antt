@@ -1,4 +1,4 @@
--- Crowds: shares of edits, one for each session, which takes them one after another and then advances.
+-- Crowds: shares of edits, one for each session. A session takes its edits one after another and then advances.
 use Rattle.std.specs.Prelude.{ℕ, ◌+◌, List, length, map, Vec}
 use Rattle.std.specs.List.{flat_map}
 use Rattle.std.specs.Option.{option_or}
@@ -17,7 +17,7 @@ use Rattle.road_replica.specs.declared.faults.ReplicaFault.{ReplicaFault}
 abbrev pub shares_of : List (Vec Edit Global) → List (List Edit)
 shares_of vecs = map (λ v. v.items) vecs
 
--- the edits of all shares, one share behind another
+-- the edits of all shares, one share after another
 abbrev pub edits_of : List (List Edit) → List Edit
 edits_of shares = flat_map (λ share. share) shares
 
@@ -25,15 +25,15 @@ edits_of shares = flat_map (λ share. share) shares
 abbrev pub crowd_winners : List (List Edit) → Edits
 crowd_winners shares = winners (from_list (edits_of shares))
 
--- how many writes the sessions make: one for each edit, and an advance each
+-- the number of writes that the sessions make: one for each edit, and one advance for each session
 abbrev pub crowd_writes : List (List Edit) → ℕ
 crowd_writes shares = length (edits_of shares) + length shares
 
--- the sheet that a crowd leaves: the winners of all its edits, simulated up to its step
+-- the sheet that results from a crowd: the winners of all its edits, simulated up to its step
 abbrev pub crowd_sheet : Plan → List (List Edit) → ℕ → Sheet
 crowd_sheet plan shares to = record { plan = plan; edits = crowd_winners shares; horizon = to }
 
--- the first named cause for which a crowd is refused: that of the first faulty edit, in the order of the shares, else
--- that of its step
+-- the first named cause for which a crowd is refused: the fault of the first faulty edit, in the order of the shares,
+-- else that of its step
 abbrev pub shares_fault : Plan → List (List Edit) → ℕ → Option ReplicaFault
 shares_fault plan shares to = option_or (import_fault plan (edits_of shares)) (advance_fault to)

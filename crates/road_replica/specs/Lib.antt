@@ -1,4 +1,4 @@
--- What replicas are, what their calls make of them, for which causes these are refused, and what crowds come to.
+-- Replicas, the results of their calls, the causes of refusals, and the results of crowds.
 pub mod Replicas
 pub mod Refusals
 pub mod Writes

@@ -25,7 +25,7 @@ use Rattle.road_replica.specs.declared.faults.ReplicaFault.TheVariants.{NoObject
 use Rattle.road_replica.specs.declared.faults.ReplicaFault.TheVariants.{CountsSpent, Horizon, NoDetector, Range}
 use Rattle.road_replica.specs.declared.faults.ReplicaFault.TheVariants.{NotSimulated, WorkersGone, OutOfMemory}
 
--- ---- causes by other names
+-- ---- causes of lower layers
 
 -- the refusal of an edit that comes from elsewhere
 abbrev pub arrived_edit_fault : EditFault → ReplicaFault
@@ -41,35 +41,35 @@ made_edit_fault edits.Step = Step
 made_edit_fault edits.ValueOutOfRange = ValueOutOfRange
 made_edit_fault edits.Count = CountsSpent
 
--- the refusal of a query, where the sheet refuses it
+-- the refusal of a query that the sheet refuses
 abbrev pub query_fault : SheetFault → ReplicaFault
 query_fault sheet_faults.NoDetector = NoDetector
 query_fault sheet_faults.Range = Range
 query_fault sheet_faults.NotSimulated = NotSimulated
 query_fault sheet_faults.OutOfMemory = OutOfMemory
 
--- the refusal of a write, where the sheet does not grow
+-- the refusal of a write if the sheet was not extended
 abbrev pub growth_fault : CrewFault → ReplicaFault
 growth_fault growth.WorkersGone = WorkersGone
 growth_fault growth.OutOfMemory = OutOfMemory
 
 -- ---- the first named cause for which a call is refused
 
--- the first named cause for which an edit is refused that the replica would make
+-- the first named cause for which an edit that the replica would make is refused
 abbrev pub edit_fault : Replica → Object → ℕ → Value → Option ReplicaFault
 edit_fault r object step value = option_map made_edit_fault (fault_of_edit r.sheet.plan (edit_made r object step value))
 
--- the first named cause for which one imported edit is refused: it must not bear a replica's number
+-- the first named cause for which one imported edit is refused: it must not have the number of a replica
 abbrev pub imported_edit_fault : Plan → Edit → Option ReplicaFault
 imported_edit_fault plan edit = option_or (option_map arrived_edit_fault (fault_of_edit plan edit))
     (if nat_lt edit.stamp.number FIRST_IMPORT_NUMBER then Some Insider else None)
 
--- the cause for which an import is refused: that of its first faulty edit
+-- the cause for which an import is refused: the fault of its first faulty edit
 abbrev pub import_fault : Plan → List Edit → Option ReplicaFault
 import_fault plan [] = None
 import_fault plan (edit ∷ edits) = option_or (imported_edit_fault plan edit) (import_fault plan edits)
 
--- the cause for which a scenario is not taken: that of its first faulty edit, by object and step
+-- the cause for which a scenario is not taken: the fault of its first faulty edit, by object and step
 abbrev pub take_fault : Plan → Edits → Option ReplicaFault
 take_fault plan edits = option_map arrived_edit_fault (fault_in plan edits)
 
@@ -91,21 +91,21 @@ rows_fault s from to = option_map query_fault (sheets.rows_fault s from to)
 
 -- ---- refusals
 
--- a write is refused for the named cause where there is one, and else for lost workers or out of memory
+-- a write is refused for the named cause if there is one, and else for lost workers or out of memory
 abbrev pub IsWriteRefusal : Option ReplicaFault → ReplicaFault → Type 0
 IsWriteRefusal (Some cause) fault = fault ≡ cause
 IsWriteRefusal None fault = (fault ≡ WorkersGone) ⊎ (fault ≡ OutOfMemory)
 
--- any other call is refused for the named cause where there is one, and else for out of memory
+-- any other call is refused for the named cause if there is one, and else for out of memory
 abbrev pub IsRefusal : Option ReplicaFault → ReplicaFault → Type 0
 IsRefusal (Some cause) fault = fault ≡ cause
 IsRefusal None fault = fault ≡ OutOfMemory
 
--- how often a crew has answered `WorkersGone`, after such a refusal of a write
+-- how often a crew has returned `WorkersGone`, after this refusal of a write
 abbrev pub gone_after_fault : ReplicaFault → ℕ → ℕ
 gone_after_fault WorkersGone n = min (n + 1) (2 ^ 64 - 1)
 gone_after_fault fault n = n
 
--- a crew has answered `WorkersGone` once more where a write is refused so, and else as often as before
+-- `WorkersGone` is counted: a crew has returned it once more if a write is refused with it, and else as often as before
 abbrev pub CountsGone : {A : Type 0} → Result A ReplicaFault → ℕ → ℕ → Type 0
 CountsGone result gone later = MatchResult result (λ _. later ≡ gone) (λ fault. later ≡ gone_after_fault fault gone)

@@ -25,7 +25,7 @@ local_edit number edits object step value = record {
   value = value;
 }
 
--- the edit that a replica makes, by what its sheet holds
+-- the edit that a replica makes, given what its sheet holds
 abbrev pub edit_made : Replica → Object → ℕ → Value → Edit
 edit_made r object step value = local_edit r.number r.sheet.edits object step value
 
@@ -37,7 +37,7 @@ single_edit edit = from_list (edit ∷ [])
 abbrev pub replica_after : SheetCommand → Replica → Replica
 replica_after command r = record r { sheet = sheet_after command r.sheet }
 
--- the most steps that are computed where a sheet takes edits: none where no simulated step is touched, else those from
--- the touched step up to the horizon and 63 more
+-- the most steps computed when a sheet takes edits: none if no simulated step is touched, else the steps from the
+-- touched one up to the horizon and 63 more
 abbrev pub most_steps_taking : Sheet → Edits → ℕ
 most_steps_taking s edits = most_steps s.horizon s.horizon (touched_step s edits)

@@ -1,4 +1,4 @@
--- Writes to a replica: what an accepted one makes of it and how many steps it computes, and what a refused one leaves.
+-- Writes to a replica: the effect of an accepted one and the steps that it computes, and the state after a refused one.
 use Rattle.std.specs.Prelude.{◌≡◌, ◌≢◌, ◌-◌, ℕ, max, MatchResult, Result}
 use Rattle.std.specs.declared.option.Option.{Option}
 use Rattle.std.specs.declared.option.Option.TheVariants.{None}
@@ -10,25 +10,26 @@ use Rattle.road_replica.specs.Refusals.{IsWriteRefusal}
 use Rattle.road_replica.specs.Replicas.{Replica, most_steps_taking, replica_after}
 use Rattle.road_replica.specs.declared.faults.ReplicaFault.{ReplicaFault}
 
--- how many steps a command computes: where edits are taken, those from where the run resumes up to the horizon
+-- the number of steps that a command computes: if edits are taken, the steps from where the run resumes up to the
+-- horizon
 abbrev pub steps_of_command : SheetCommand → Sheet → ℕ
 steps_of_command (Take edits) s = s.horizon - draft_start s.horizon (kept_step s.horizon (touched_step s edits))
 steps_of_command (Advance to) s = max s.horizon to - s.horizon
 
--- the most steps that are computed for a command, also where it is refused
+-- the most steps computed for a command, even if it is refused
 abbrev pub most_steps_of_command : SheetCommand → Sheet → ℕ
 most_steps_of_command (Take edits) s = most_steps_taking s edits
 most_steps_of_command (Advance to) s = max s.horizon to - s.horizon
 
--- an accepted write: no named cause stands, the replica's sheet is that after the command, and the meter counts just
--- the steps that are computed
+-- an accepted write: no named cause applies, the replica's sheet is that after the command, and the meter counts
+-- exactly the steps that are computed
 pub record IsAccepted (command : SheetCommand) (cause : Option ReplicaFault) (old new : Replica)
     (meter later : ℕ) : Type 0 where
   pub accepted : cause ≡ None
   pub after : new ≡ replica_after command old
   pub steps : later ≡ meter_after meter (steps_of_command command old.sheet)
 
--- a refused write: it leaves the replica as it was, and the meter too where a named cause stands
+-- a refused write: it leaves the replica unchanged, and the meter too if a named cause applies
 pub record IsRefused (command : SheetCommand) (cause : Option ReplicaFault) (fault : ReplicaFault) (old new : Replica)
     (meter later : ℕ) : Type 0 where
   pub refused : IsWriteRefusal cause fault

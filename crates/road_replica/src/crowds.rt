@@ -1,4 +1,4 @@
-//! Crowds: edits in shares, one for each session of a replica, and what they come to.
+//! Crowds: shares of edits, one for each session of a replica, and the result of their writes.
 
 ghost use Rattle.std.specs.Prelude.{◌≡◌, ◌<◌, ◌≤◌, ◌-◌, ◌^◌, min, IfOk, None, length, string_bytes};
 ghost use Rattle.std.specs.Arc.{arc_value};
@@ -13,29 +13,29 @@ use road_workers::CrewFault;
 use std::alloc::Global;
 use std::sync::Arc;
 
-/// The most writes that the sessions of one crowd make together.
+/// The most writes that the sessions of one crowd make in total.
 pub const MOST_CROWD_WRITES: u64 = 1_000_000;
 
-/// What a crowd leaves.
+/// The result of a crowd.
 #[derive(Drop)]
 pub struct Crowd {
     /// The winners of all edits, by object and step.
     pub edits: Vec<Edit>,
-    /// How many writes stand in the journal.
+    /// The number of writes in the journal.
     pub journal: u32,
-    /// The row of the step that all advanced to.
+    /// The row of the step to which all sessions advanced.
     pub row: String,
 }
 
-/// Whoever gathers crowds. Nothing here says that a call may wait or starts threads: whoever is handed one waits only
-/// where that one does.
+/// A gatherer of crowds. This trait does not say that a call may block or starts threads. A caller that is given a
+/// gatherer blocks only if that gatherer does.
 pub trait Crowds {
-    /// Returns what is left of a replica without edits once 1 to 8 sessions have written to it, in whatever order: each
-    /// takes the edits of its share, one after another, and then advances to the step.
+    /// Return the result for a replica without edits once 1 to 8 sessions have written to it, in whatever order. Each
+    /// session takes the edits of its share, one after another, and then advances to the step.
     ///
     /// # Errors
     ///
-    /// `WorkersGone` where a session's thread could not be started, else `OutOfMemory`.
+    /// `WorkersGone` if a session's thread could not be started, else `OutOfMemory`.
     fn gathered(
         &self,
         alloc: Global,
@@ -53,8 +53,8 @@ pub trait Crowds {
             ≡ row_at (arc_value plan.now) (crowd_winners (shares_of shares.now)) to) };
 }
 
-/// Counts the writes that the sessions of these shares make: one for each edit, and an advance each. It counts to
-/// 2^64 - 1.
+/// Count the writes that the sessions of these shares make: one for each edit, and one advance for each session. It
+/// counts to at most 2^64 - 1.
 pub fn write_count(shares: &[Vec<Edit>]) -> u64
     ensures { result ≡ min (crowd_writes (shares_of shares.now)) (2 ^ 64 - 1) }
 {

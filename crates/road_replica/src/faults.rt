@@ -13,8 +13,8 @@ use road_sheet::SheetFault;
 use std::alloc::AllocError;
 use thiserror::Error;
 
-/// Why a replica refuses a call. The causes are asked in this order, and the first that stands is named; of a list of
-/// edits, that of its first faulty edit.
+/// Why a replica refuses a call. The causes are checked in this order, and the first one that applies is named. For a
+/// list of edits it is the cause of its first faulty edit.
 #[derive(Clone, Copy, Debug, PartialEq, Eq, Error)]
 pub enum ReplicaFault {
     /// The plan has no such zone, cell, inlet or detector.
@@ -23,16 +23,16 @@ pub enum ReplicaFault {
     /// An edit's step is too late.
     #[error("the step is above {last}", last = LAST_EDIT_STEP)]
     Step,
-    /// The object doesn't take the number put.
+    /// The object does not take the number.
     #[error("the number is out of the object's range")]
     ValueOutOfRange,
     /// The count of an edit from elsewhere is 0 or too great.
     #[error("the count is not 1 to {most}", most = GREATEST_COUNT)]
     Count,
-    /// An imported edit bears a replica's number.
+    /// An imported edit has the number of a replica.
     #[error("the stamp of an imported edit has a number below {least}", least = FIRST_IMPORT_NUMBER)]
     Insider,
-    /// The replica holds an edit with the greatest count, so it can make none with a greater one.
+    /// The replica holds an edit with the greatest count, so it cannot make an edit with a greater one.
     #[error("an edit with the greatest count is held")]
     CountsSpent,
     /// A horizon is too late.
@@ -47,7 +47,7 @@ pub enum ReplicaFault {
     /// A step is above the horizon.
     #[error("a step is not simulated")]
     NotSimulated,
-    /// A worker's thread could not be started, or has gone.
+    /// A worker's thread could not be started, or has ended.
     #[error("a worker could not be started or has gone")]
     WorkersGone,
     /// There was no memory.
@@ -87,7 +87,7 @@ impl From<GrownFault> for ReplicaFault {
     }
 }
 
-// Names the refusal of an edit that comes from elsewhere.
+// Name the refusal of an edit that comes from elsewhere.
 pub(crate) fn arrived_fault(fault: EditFault) -> ReplicaFault
     ensures { result ≡ refusals.arrived_edit_fault fault }
 {
@@ -99,7 +99,7 @@ pub(crate) fn arrived_fault(fault: EditFault) -> ReplicaFault
     }
 }
 
-// Names the refusal of an edit that the replica would make.
+// Name the refusal of an edit that the replica would make.
 pub(crate) fn made_fault(fault: EditFault) -> ReplicaFault
     ensures { result ≡ refusals.made_edit_fault fault }
 {

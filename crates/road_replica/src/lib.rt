@@ -1,4 +1,4 @@
-//! Replicas: each makes edits, takes those of others, and shows the run of all that it holds.
+//! Replicas: each makes edits, takes those of others, and shows the run of all edits that it holds.
 //!
 //! ```
 //! // A run to step 100; then an engineer closes the first zone from step 70 on.
@@ -6,7 +6,7 @@
 //! let mut here = Replica::open(alloc, Arc::try_clone(&plan)?, 0)?;
 //! let horizon = here.advance(alloc, 100, &mut crew, &mut meter)?;
 //! let stamp = here.edit(alloc, Object::Limit(0), 70, 0, &mut crew, &mut meter)?;
-//! // Another replica takes what the first one holds; it is touched from step 70 on.
+//! // Another replica takes all edits of the first one, which touch it from step 70 on.
 //! let mut there = Replica::open(alloc, plan, 1)?;
 //! let touched = there.take(alloc, &here.message()?, &mut crew, &mut meter)?;
 //! println!(rt; "{horizon} {} {}", stamp.count, touched == Some(70))?;

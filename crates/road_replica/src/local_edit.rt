@@ -1,15 +1,15 @@
-//! The edits that replicas make themselves.
+//! The edits that replicas make.
 
 use road_plan::Object;
 use road_scenario::Value;
 
-/// An edit that a replica is to make: what is put for an object from a step on, or that it is withdrawn there.
+/// An edit that a replica is to make: it sets a number for an object from a step on, or withdraws what is set there.
 #[derive(Clone, Copy)]
 pub struct LocalEdit {
     /// The object.
     pub object: Object,
     /// The step.
     pub step: u32,
-    /// What is put.
+    /// The number, or the withdrawal.
     pub value: Value,
 }

@@ -1,4 +1,4 @@
-//! A replica: its writes, the messages that it makes and takes, and what it shows of its run.
+//! A replica: its writes, the messages that it makes and takes, and its queries.
 
 ghost use Rattle.std.specs.Prelude.{◌≡◌, ◌<◌, ◌≤◌, ◌-◌, max, IfErr, IfNone, IfOk, IsOk};
 ghost use Rattle.std.specs.Prelude.{None, OnErr, OnOk, map, string_bytes, true};
@@ -38,8 +38,8 @@ use std::alloc::Global;
 use std::marker::Model;
 use std::sync::Arc;
 
-/// A replica: its number, and its sheet. Each write computes anew every simulated step that it touches before it
-/// answers, by the crew that it is given, and the meter counts the steps. A refused write leaves the replica as it was.
+/// A replica: its number, and its sheet. Before a write returns, it recomputes every simulated step that it touches,
+/// with the crew that it is given. The meter counts the steps. A refused write leaves the replica unchanged.
 #[derive(Drop)]
 pub struct Replica {
     number: u32,
@@ -65,22 +65,22 @@ impl Model for Replica {
 }
 
 impl Replica {
-    /// Opens a replica without edits, of which no step is simulated. Its number must be below 64.
+    /// Open a replica without edits or simulated steps. Its number must be below 64.
     ///
     /// # Errors
     ///
-    /// `OutOfMemory` where an allocation failed.
+    /// `OutOfMemory` if an allocation failed.
     pub fn open(alloc: Global, plan: Arc<Plan>, number: u32) -> Result<Replica, OutOfMemory>
         requires { number < MOST_REPLICAS }
         ensures replica { IfOk result (λ replica. replica
             ≡ record { number = number; sheet = opening_sheet (arc_value plan) }) }
         ensures within { IsWithinLimits (arc_value plan) }
     {
-        let sheet = shared(alloc, Sheet::opening(alloc, plan)?)?;
+        let sheet = share(alloc, Sheet::opening(alloc, plan)?)?;
         Ok(Replica { number, sheet })
     }
 
-    /// Returns its number, which is below 64.
+    /// Return its number, which is below 64.
     pub fn number(&self) -> u32
         ensures number { result ≡ self.now.number }
         ensures below { self.now.number < MOST_REPLICAS }
@@ -88,7 +88,7 @@ impl Replica {
         self.number
     }
 
-    /// Returns the sheet. Whoever keeps it sees the replica as it is now, whatever comes later.
+    /// Return the sheet. A caller that keeps it sees the replica as it is now, whatever is written later.
     pub fn sheet(&self) -> &Arc<Sheet>
         ensures sheet { arc_value result.now ≡ self.now.sheet }
         ensures is_sheet { IsSheet self.now.sheet }
@@ -96,25 +96,25 @@ impl Replica {
         &self.sheet
     }
 
-    /// Returns the sheet alone.
+    /// Return only the sheet.
     pub fn into_sheet(self) -> Arc<Sheet>
         ensures { arc_value result ≡ self.sheet }
     {
         self.sheet
     }
 
-    /// Returns the winners of all edits that the replica made, took and imported.
+    /// Return the winners of all edits that the replica made, took or imported.
     pub fn scenario(&self) -> &Scenario
         ensures { result.now ≡ self.now.sheet.edits }
     {
         self.sheet.scenario()
     }
 
-    /// Makes another replica with the same plan, number and sheet. What is written to one leaves the other as it is.
+    /// Make another replica with the same plan, number and sheet. A write to one leaves the other unchanged.
     ///
     /// # Errors
     ///
-    /// `OutOfMemory` where the sheet can have no owner more.
+    /// `OutOfMemory` if the sheet can have no more owners.
     pub fn copied(&self) -> Result<Replica, OutOfMemory>
         ensures { IfOk result (λ copy. copy ≡ self.now) }
     {
@@ -127,7 +127,7 @@ impl Replica {
 
     // ---- the named causes for which writes are refused
 
-    /// Returns the cause for which the replica would refuse to take a scenario; none where its edits fit the plan.
+    /// Return the cause for which the replica would refuse to take a scenario, or none if its edits fit the plan.
     pub fn take_fault(&self, scenario: &Scenario) -> Option<ReplicaFault>
         ensures fault { result ≡ refusals.take_fault self.now.sheet.plan scenario.now }
         ensures fits { IfNone result (AreInRange self.now.sheet.plan scenario.now) }
@@ -140,13 +140,13 @@ impl Replica {
 
     // ---- writes
 
-    /// Puts a number for an object from a step on, in the object's units. The stamp has the replica's number, and a
+    /// Set a number for an object from a step on, in the object's units. The stamp has the replica's number, and a
     /// count that is one more than the greatest that the replica holds.
     ///
     /// # Errors
     ///
-    /// `NoObject`, `Step`, `ValueOutOfRange`, `CountsSpent`, in this order; else `WorkersGone` where the crew answers
-    /// so, or `OutOfMemory` where an allocation failed.
+    /// `NoObject`, `Step`, `ValueOutOfRange`, `CountsSpent`, in this order; else `WorkersGone` if the crew returned it,
+    /// or `OutOfMemory` if an allocation failed.
     pub fn edit<C: Crew>(
         &mut self,
         alloc: Global,
@@ -157,7 +157,7 @@ impl Replica {
         meter: &mut Meter,
     ) -> Result<Stamp, ReplicaFault>
         ensures stamp { IfOk result (λ stamp. stamp ≡ (edit_made self.old object step (Put value)).stamp) }
-        // It is greater than each stamp that the replica held.
+        // The stamp is greater than each stamp that the replica held.
         ensures fresh { IfOk result (λ stamp. (e : edit.Edit) → contains self.old.sheet.edits e ≡ true →
             number_pair_cmp (stamp_key e.stamp) (stamp_key stamp) ≡ Less) }
         ensures write { IsWrite (Take (single_edit (edit_made self.old object step (Put value))))
@@ -172,12 +172,12 @@ impl Replica {
         self.make_edit(alloc, local, crew, meter)
     }
 
-    /// Withdraws what is put for an object at a step: from there on the latest earlier number is in force, or the
-    /// default. What was never put can be withdrawn too. The stamp is as for [`Replica::edit`].
+    /// Withdraw what is set for an object at a step: from there on the latest earlier number is in force, or the
+    /// default. An edit may also withdraw where nothing was set. The stamp is as for [`Replica::edit`].
     ///
     /// # Errors
     ///
-    /// As for [`Replica::edit`], but for `ValueOutOfRange`.
+    /// As for [`Replica::edit`], except `ValueOutOfRange`.
     pub fn withdraw<C: Crew>(
         &mut self,
         alloc: Global,
@@ -187,7 +187,7 @@ impl Replica {
         meter: &mut Meter,
     ) -> Result<Stamp, ReplicaFault>
         ensures stamp { IfOk result (λ stamp. stamp ≡ (edit_made self.old object step Withdrawn).stamp) }
-        // It is greater than each stamp that the replica held.
+        // The stamp is greater than each stamp that the replica held.
         ensures fresh { IfOk result (λ stamp. (e : edit.Edit) → contains self.old.sheet.edits e ≡ true →
             number_pair_cmp (stamp_key e.stamp) (stamp_key stamp) ≡ Less) }
         ensures write { IsWrite (Take (single_edit (edit_made self.old object step Withdrawn)))
@@ -202,8 +202,8 @@ impl Replica {
         self.make_edit(alloc, local, crew, meter)
     }
 
-    /// Makes an edit: it puts a number, as [`Replica::edit`], or withdraws what is put, as [`Replica::withdraw`], and
-    /// answers as these do.
+    /// Make an edit: set a number as [`Replica::edit`], or withdraw what is set as [`Replica::withdraw`]. It returns
+    /// what these return.
     ///
     /// # Errors
     ///
@@ -216,7 +216,7 @@ impl Replica {
         meter: &mut Meter,
     ) -> Result<Stamp, ReplicaFault>
         ensures stamp { IfOk result (λ stamp. stamp ≡ (edit_made self.old local.object local.step local.value).stamp) }
-        // It is greater than each stamp that the replica held.
+        // The stamp is greater than each stamp that the replica held.
         ensures fresh { IfOk result (λ stamp. (e : edit.Edit) → contains self.old.sheet.edits e ≡ true →
             number_pair_cmp (stamp_key e.stamp) (stamp_key stamp) ≡ Less) }
         ensures write { IsWrite (Take (single_edit (edit_made self.old local.object local.step local.value)))
@@ -229,12 +229,12 @@ impl Replica {
         Ok(stamp)
     }
 
-    /// Makes the edit that [`Replica::make_edit`] makes, as a scenario that has it alone, and its stamp. The scenario fits the
-    /// plan, and the replica does not hold it until it is joined ([`Replica::join`]).
+    /// Make the edit of [`Replica::make_edit`] as a scenario that has only this edit, and return it with its stamp. The
+    /// scenario fits the plan, and the replica does not hold it until it is joined ([`Replica::join`]).
     ///
     /// # Errors
     ///
-    /// The named causes of [`Replica::make_edit`], else `OutOfMemory` where an allocation failed.
+    /// The named causes of [`Replica::make_edit`], else `OutOfMemory` if an allocation failed.
     pub fn new_edit(
         &self,
         alloc: Global,
@@ -249,7 +249,7 @@ impl Replica {
         ensures refused { IfErr result
             (IsRefusal (refusals.edit_fault self.now local.object local.step local.value)) }
     {
-        let edit = self.edit_made(local);
+        let edit = self.stamped_edit(local);
         if let Some(fault) = edit.fault(self.sheet.plan()) {
             return Err(made_fault(fault));
         }
@@ -257,13 +257,13 @@ impl Replica {
         Ok((edit.stamp, alone))
     }
 
-    /// Imports edits from outside this world, in any order, whose stamps have numbers from 64 on. All are taken, or
-    /// none. The answer is the first step at which other numbers are put than before.
+    /// Import edits from outside this world, in any order, whose stamps have numbers from 64 on. Either all are taken,
+    /// or none. Return the first step at which the numbers set have changed.
     ///
     /// # Errors
     ///
-    /// That of the first faulty edit: `NoObject`, `Step`, `ValueOutOfRange`, `Count`, `Insider`, in this order; else
-    /// `WorkersGone` where the crew answers so, or `OutOfMemory` where an allocation failed.
+    /// The fault of the first faulty edit: `NoObject`, `Step`, `ValueOutOfRange`, `Count`, `Insider`, in this order;
+    /// else `WorkersGone` if the crew returned it, or `OutOfMemory` if an allocation failed.
     pub fn import<C: Crew>(
         &mut self,
         alloc: Global,
@@ -283,13 +283,13 @@ impl Replica {
         self.join(alloc, &scenario, crew, meter)
     }
 
-    /// Takes a scenario: what another replica holds, or a part of it. The answer is the first step at which other
-    /// numbers are put than before.
+    /// Take a scenario: the edits of another replica, or a part of them. Return the first step at which the numbers set
+    /// have changed.
     ///
     /// # Errors
     ///
-    /// That of the first faulty edit by object and step: `NoObject`, `Step`, `ValueOutOfRange`, `Count`; else
-    /// `WorkersGone` where the crew answers so, or `OutOfMemory` where an allocation failed.
+    /// The fault of the first faulty edit by object and step: `NoObject`, `Step`, `ValueOutOfRange`, `Count`; else
+    /// `WorkersGone` if the crew returned it, or `OutOfMemory` if an allocation failed.
     pub fn take<C: Crew>(
         &mut self,
         alloc: Global,
@@ -308,13 +308,13 @@ impl Replica {
         self.join(alloc, scenario, crew, meter)
     }
 
-    /// Joins a scenario, which must fit the plan (`Scenario::fits` gives none). It is the one way of all writes of edits:
-    /// [`Replica::make_edit`], [`Replica::import`] and [`Replica::take`] ask for the named causes, and then join. The answer is
-    /// the first step at which other numbers are put than before.
+    /// Join a scenario, which must fit the plan (`Scenario::fits` returns none). All writes of edits come through here:
+    /// [`Replica::make_edit`], [`Replica::import`] and [`Replica::take`] check the named causes, and then join. Return
+    /// the first step at which the numbers set have changed.
     ///
     /// # Errors
     ///
-    /// `WorkersGone` where the crew answers so, else `OutOfMemory` where an allocation failed.
+    /// `WorkersGone` if the crew returned it, else `OutOfMemory` if an allocation failed.
     pub fn join<C: Crew>(
         &mut self,
         alloc: Global,
@@ -327,14 +327,14 @@ impl Replica {
         ensures write { IsWrite (Take scenario.now) None result self.old self.new meter.old meter.new }
         ensures gone { CountsGone result (C.times_gone crew.old) (C.times_gone crew.new) }
     {
-        self.grow(alloc, scenario, 0, crew, meter)
+        self.extend(alloc, scenario, 0, crew, meter)
     }
 
-    /// Simulates up to a step, where it has not yet. The answer is its horizon: the greater of that before and `to`.
+    /// Simulate up to a step that is not simulated yet. Return the horizon: the greater of the horizon before and `to`.
     ///
     /// # Errors
     ///
-    /// `Horizon` where `to` is above 1,048,576; else `WorkersGone` where the crew answers so, or `OutOfMemory` where an
+    /// `Horizon` if `to` is above 1,048,576; else `WorkersGone` if the crew returned it, or `OutOfMemory` if an
     /// allocation failed.
     pub fn advance<C: Crew>(
         &mut self,
@@ -352,12 +352,12 @@ impl Replica {
             return Err(ReplicaFault::Horizon);
         }
         let horizon = self.sheet.horizon().max(to);
-        self.grow(alloc, &Scenario::empty(alloc), to, crew, meter)?;
+        self.extend(alloc, &Scenario::empty(alloc), to, crew, meter)?;
         Ok(horizon)
     }
 
-    // Returns the edit that the replica makes.
-    fn edit_made(&self, local: LocalEdit) -> Edit
+    // Return the edit that the replica makes.
+    fn stamped_edit(&self, local: LocalEdit) -> Edit
         ensures { result ≡ edit_made self.now local.object local.step local.value }
     {
         let count = self.sheet.scenario().greatest_count() + 1;
@@ -370,8 +370,8 @@ impl Replica {
         }
     }
 
-    // Joins a scenario that fits the plan, and simulates up to a step.
-    fn grow<C: Crew>(
+    // Join a scenario that fits the plan, and simulate up to a step.
+    fn extend<C: Crew>(
         &mut self,
         alloc: Global,
         scenario: &Scenario,
@@ -395,17 +395,17 @@ impl Replica {
         ensures gone { CountsGone result (C.times_gone crew.old) (C.times_gone crew.new) }
     {
         let Grown { sheet, touched } = grown(alloc, &self.sheet, scenario, to, crew, meter)?;
-        self.sheet = shared(alloc, sheet)?;
+        self.sheet = share(alloc, sheet)?;
         Ok(touched)
     }
 
-    // ---- what it sends
+    // ---- messages
 
-    /// Makes a message of all that the replica holds, to be sent to others.
+    /// Make a message of all edits that the replica holds, to be sent to others.
     ///
     /// # Errors
     ///
-    /// `OutOfMemory` where an allocation failed; without edits nothing grows.
+    /// `OutOfMemory` if an allocation failed. Without edits nothing is allocated.
     pub fn message(&self) -> Result<Scenario, ReplicaFault>
         ensures message { IfOk result (λ message. message ≡ self.now.sheet.edits) }
         ensures grows_nothing { self.now.sheet.edits ≡ empty → IsOk result }
@@ -414,11 +414,11 @@ impl Replica {
         Ok(self.sheet.scenario().copied()?)
     }
 
-    /// Makes the heads of all that the replica holds, by which it asks another for what it lacks.
+    /// Make the heads of all edits that the replica holds, with which it asks another replica for missing edits.
     ///
     /// # Errors
     ///
-    /// `OutOfMemory` where an allocation failed; without edits nothing grows.
+    /// `OutOfMemory` if an allocation failed. Without edits nothing is allocated.
     pub fn heads(&self, alloc: Global) -> Result<Heads, ReplicaFault>
         ensures heads { IfOk result (λ heads. heads ≡ deltas.heads self.now.sheet.edits) }
         ensures grows_nothing { self.now.sheet.edits ≡ empty → IsOk result }
@@ -427,11 +427,11 @@ impl Replica {
         Ok(heads_of(alloc, self.sheet.scenario())?)
     }
 
-    /// Makes the answer to the heads of another replica: what this one holds beyond them.
+    /// Make the reply to the heads of another replica: the edits of this one beyond them.
     ///
     /// # Errors
     ///
-    /// `OutOfMemory` where an allocation failed; without edits nothing grows.
+    /// `OutOfMemory` if an allocation failed. Without edits nothing is allocated.
     pub fn beyond(&self, alloc: Global, heads: &Heads) -> Result<Scenario, ReplicaFault>
         ensures delta { IfOk result (λ delta. delta ≡ deltas.beyond self.now.sheet.edits heads.now) }
         ensures grows_nothing { self.now.sheet.edits ≡ empty → IsOk result }
@@ -440,13 +440,13 @@ impl Replica {
         Ok(beyond(alloc, self.sheet.scenario(), heads)?)
     }
 
-    // ---- what it shows
+    // ---- queries
 
-    /// Returns the road at a step.
+    /// Return the road at a step.
     ///
     /// # Errors
     ///
-    /// `NotSimulated` where the step is above the horizon, else `OutOfMemory` where an allocation failed.
+    /// `NotSimulated` if the step is above the horizon, else `OutOfMemory` if an allocation failed.
     pub fn state(&self, alloc: Global, step: u32) -> Result<Road, ReplicaFault>
         ensures state { IfOk result (λ road. road ≡ state_of self.now.sheet step) }
         ensures accepted { IfOk result (λ _. refusals.state_fault self.now.sheet step ≡ None) }
@@ -455,12 +455,12 @@ impl Replica {
         Ok(self.sheet.state(alloc, step)?)
     }
 
-    /// Returns what a detector counts in the steps from one up to another, that one not among them.
+    /// Return the counts of a detector in the steps from `from` to before `to`.
     ///
     /// # Errors
     ///
-    /// `NoDetector` where the plan has no such detector, else `Range` where `from` is above `to`, else `NotSimulated`
-    /// where `to` is above the horizon, else `OutOfMemory` where an allocation failed.
+    /// `NoDetector` if the plan has no such detector, `Range` if `from` is above `to`, `NotSimulated` if `to` is above
+    /// the horizon, in this order; else `OutOfMemory` if an allocation failed.
     pub fn totals(
         &self,
         alloc: Global,
@@ -471,20 +471,20 @@ impl Replica {
         ensures totals { IfOk result (λ totals. totals ≡ total_of self.now.sheet detector from to) }
         ensures accepted { IfOk result (λ _. refusals.totals_fault self.now.sheet detector from to ≡ None) }
         ensures refused { IfErr result (IsRefusal (refusals.totals_fault self.now.sheet detector from to)) }
-        // The counts of whole intervals are kept.
+        // The counts of whole intervals are stored.
         ensures kept { refusals.totals_fault self.now.sheet detector from to ≡ None →
             AreWholeIntervals self.now.sheet from to → IsOk result }
     {
         Ok(self.sheet.totals(alloc, detector, from, to)?)
     }
 
-    /// Returns the rows of a space-time diagram: those of the steps from one to another, both of them, each with the
+    /// Return the rows of a space-time diagram: those of the steps from `from` to `to`, both included, each with the
     /// blocks of its step.
     ///
     /// # Errors
     ///
-    /// `Range` where `from` is above `to` or these are more than 1,024 rows, else `NotSimulated` where `to` is above
-    /// the horizon, else `OutOfMemory` where an allocation failed.
+    /// `Range` if `from` is above `to` or these are more than 1,024 rows, else `NotSimulated` if `to` is above the
+    /// horizon, else `OutOfMemory` if an allocation failed.
     pub fn rows(&self, alloc: Global, from: u32, to: u32) -> Result<Vec<String>, ReplicaFault>
         ensures rows { IfOk result (λ rows. map string_bytes rows.items ≡ rows_of self.now.sheet from to) }
         ensures accepted { IfOk result (λ _. refusals.rows_fault self.now.sheet from to ≡ None) }
@@ -495,14 +495,14 @@ impl Replica {
     }
 }
 
-// Moves a sheet to where it is shared.
-fn shared(alloc: Global, sheet: Sheet) -> Result<Arc<Sheet>, OutOfMemory>
+// Move a sheet into shared ownership.
+fn share(alloc: Global, sheet: Sheet) -> Result<Arc<Sheet>, OutOfMemory>
     ensures { IfOk result (λ shared. arc_value shared ≡ sheet) }
 {
     Ok(Arc::new(alloc, sheet)?)
 }
 
-// Returns the cause for which an import is refused: that of its first faulty edit.
+// Return the cause for which an import is refused: the fault of its first faulty edit.
 fn import_fault(plan: &Plan, edits: &[Edit]) -> Option<ReplicaFault>
     ensures { result ≡ refusals.import_fault plan.now edits.now }
 {
@@ -514,8 +514,8 @@ fn import_fault(plan: &Plan, edits: &[Edit]) -> Option<ReplicaFault>
     None
 }
 
-/// Returns the first named cause for which the gathering of a crowd is refused: that of its first faulty edit, in the
-/// order of the shares, else `Horizon` where the step is too late.
+/// Return the first named cause for which a crowd is refused: the fault of its first faulty edit, in the order of the
+/// shares, else `Horizon` if the step is too late.
 pub fn shares_fault(plan: &Plan, shares: &[Vec<Edit>], to: u32) -> Option<ReplicaFault>
     ensures { result ≡ crowds.shares_fault plan.now (crowds.shares_of shares.now) to }
 {
@@ -530,7 +530,7 @@ pub fn shares_fault(plan: &Plan, shares: &[Vec<Edit>], to: u32) -> Option<Replic
     None
 }
 
-// Returns the cause for which one imported edit is refused.
+// Return the cause for which one imported edit is refused.
 fn imported_fault(plan: &Plan, edit: &Edit) -> Option<ReplicaFault>
     ensures { result ≡ refusals.imported_edit_fault plan.now edit.now }
 {

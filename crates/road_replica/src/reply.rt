@@ -1,13 +1,13 @@
-//! What is answered to those who write to a replica or tell it something.
+//! Replies to writes to a replica, and to other calls of it.
 
 use road_scenario::Stamp;
 
-/// What is answered to a write, or to the making of a message.
+/// The reply to a write, or to the making of a message.
 #[derive(Clone, Copy, Debug, PartialEq, Eq)]
 pub enum Reply {
     /// The stamp of the edit that the replica made.
     Stamped(Stamp),
-    /// The first step at which the edits that came put other numbers than before; none where they put the same.
+    /// The first step at which the received edits changed the numbers set, or none if they changed none.
     Touched(Option<u32>),
     /// The number of the message that was made.
     Message(u64),

@@ -24,7 +24,7 @@ abbrev pub kept_step : ℕ → Option ℕ → ℕ
 kept_step horizon None = horizon
 kept_step horizon (Some touched) = min horizon touched
 
--- how many steps may be computed up to a step: those after the horizon where no simulated step is touched; else those
+-- how many steps may be computed up to a step: those after the horizon if no simulated step is touched; else those
 -- from the touched step on, and at most 63 before it
 abbrev pub most_steps : ℕ → ℕ → Option ℕ → ℕ
 most_steps horizon to None = to - horizon

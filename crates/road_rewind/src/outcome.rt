@@ -7,6 +7,6 @@ use road_sheet::Sheet;
 pub struct Grown {
     /// The sheet of the joined scenario.
     pub sheet: Sheet,
-    /// The first step at which its edits put other numbers than those before; none where they are the same.
+    /// The first step at which its edits put other numbers than those before; none if they are the same.
     pub touched: Option<u32>,
 }

@@ -19,18 +19,18 @@ use road_sheet::{Draft, Sheet};
 use road_workers::{Crew, KeptRun};
 use std::alloc::Global;
 
-/// Joins a scenario into a sheet and simulates at least up to the step `to`: the new sheet is that of the joined scenario,
+/// Join a scenario into a sheet and simulate at least up to the step `to`: the new sheet is that of the joined scenario,
 /// at the greater of the old horizon and `to`. The old sheet stays as it is, and the new one shares with it each whole
 /// interval that is right in both.
 ///
-/// The scenario must fit the sheet's plan, and `to` must be at most 1,048,576. The meter counts each step that is
-/// computed: exactly those after the old horizon where no step below it is touched, and else those from the checkpoint
-/// at or before the touched step, at most 63 more than from that step on.
+/// The scenario must fit the sheet's plan, and `to` must be at most 1,048,576. If it succeeds, the meter counts the steps
+/// that were computed: exactly those after the old horizon if no step below it is touched, and else those from the
+/// checkpoint at or before the touched step, at most 63 more than from that step on.
 ///
 /// # Errors
 ///
-/// `WorkersGone` where the crew answers so, else `OutOfMemory` where an allocation failed. The meter has then counted
-/// the steps of what was finished, and none of the run of several steps that was refused: no more than where it succeeds.
+/// `WorkersGone` if the crew answers so, else `OutOfMemory` if an allocation failed. The meter has then counted the steps
+/// of what was finished, and none of the run of several steps that was refused: no more than if it succeeds.
 pub fn grown<C: Crew>(
     alloc: Global,
     sheet: &Sheet,
@@ -44,15 +44,15 @@ pub fn grown<C: Crew>(
     ensures sheet { IfOk result (λ done. done.sheet ≡ grown_sheet sheet.now scenario.now to) }
     ensures above { IfOk result (λ done. IsAtMost sheet.now done.sheet) }
     ensures touched { IfOk result (λ done. done.touched ≡ touched_step sheet.now scenario.now) }
-    // Where it succeeds, each step that is computed is counted: those from where its run is taken up.
+    // If it succeeds, each step that is computed is counted: those from where its run is taken up.
     ensures steps { IfOk result (λ _. meter.new
         ≡ meter_after meter.old (max sheet.now.horizon to - draft_start sheet.now.horizon
         (kept_step sheet.now.horizon (touched_step sheet.now scenario.now)))) }
-    // Where no simulated step is touched, just the new steps are computed.
+    // If no simulated step is touched, just the new steps are computed.
     ensures new_steps { IfOk result (λ _.
         kept_step sheet.now.horizon (touched_step sheet.now scenario.now) ≡ sheet.now.horizon
         → meter.new ≡ meter_after meter.old (max sheet.now.horizon to - sheet.now.horizon)) }
-    // Else, and where it is refused, at most so many.
+    // Else, and if it is refused, at most so many.
     ensures few_steps { TicksAtMost
         (most_steps sheet.now.horizon (max sheet.now.horizon to) (touched_step sheet.now scenario.now))
         meter.old meter.new }
@@ -67,7 +67,7 @@ pub fn grown<C: Crew>(
     })
 }
 
-// Begins the draft of the joined scenario, and finds the touched step.
+// Begin the draft of the joined scenario, and find the touched step.
 fn begun(
     alloc: Global,
     sheet: &Sheet,
@@ -89,7 +89,7 @@ fn begun(
     Ok((draft, touched))
 }
 
-// Finds up to which step a run stays right.
+// Find up to which step a run stays right.
 fn kept_step(horizon: u32, touched: Option<u32>) -> u32
     ensures { result ≡ kept_step horizon touched }
 {
@@ -99,7 +99,8 @@ fn kept_step(horizon: u32, touched: Option<u32>) -> u32
     }
 }
 
-// Simulates a draft up to a step. The meter counts each step, several at once where they are one run.
+// Simulate a draft up to a step. The meter counts the steps that the draft gets, those of a run of several all at once;
+// it counts none of a run that is refused.
 fn simulate<C: Crew>(
     alloc: Global,
     draft: &mut Draft,
@@ -124,8 +125,8 @@ fn simulate<C: Crew>(
     Ok(())
 }
 
-// Simulates the next steps of a draft: by one run of the crew where it runs several steps, and else one after another.
-// The meter counts all steps of a run once the draft has them, and none where the run or its taking is refused.
+// Simulate the next steps of a draft: by one run of the crew if it runs several steps, and else one after another.
+// The meter counts all steps of a run once the draft has them, and none if the run or its taking is refused.
 fn simulate_span<C: Crew>(
     alloc: Global,
     draft: &mut Draft,
@@ -154,7 +155,7 @@ fn simulate_span<C: Crew>(
     }
 }
 
-// Simulates a draft up to a step, one step after another. The meter counts each that the draft has, also before a
+// Simulate a draft up to a step, one step after another. The meter counts each that the draft has, also before a
 // refusal.
 fn simulate_steps<C: Crew>(
     alloc: Global,
@@ -177,7 +178,7 @@ fn simulate_steps<C: Crew>(
     Ok(())
 }
 
-// Adds one more step.
+// Add one more step.
 fn one_step<C: Crew>(alloc: Global, draft: &mut Draft, crew: &mut C) -> Result<(), GrownFault>
     requires within_limit { draft.old.horizon < GREATEST_HORIZON }
     ensures grown { OnOk result (draft.new ≡ sheet_after_step draft.old) }

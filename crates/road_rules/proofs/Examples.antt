@@ -15,7 +15,7 @@ wanted_speed-faster = refl
 wanted_speed-limit : wanted_speed 5 5 9 ≡ 5
 wanted_speed-limit = refl
 
--- a car above a lowered limit drops to it at once
+-- a car above a lowered limit drops to it immediately
 wanted_speed-lowered : wanted_speed 5 2 9 ≡ 2
 wanted_speed-lowered = refl
 
@@ -26,7 +26,7 @@ wanted_speed-gap = refl
 wanted_speed-blocked : wanted_speed 5 5 0 ≡ 0
 wanted_speed-blocked = refl
 
--- at speed 2 the next car has to be more than three cells away
+-- at speed 2 the next car must be more than three cells away
 accelerated-free : speed_after_acceleration 2 5 4 ≡ 3
 accelerated-free = refl
 
@@ -48,7 +48,7 @@ braked-free = refl
 
 -- ---- rule 3
 
--- the upper 16 bits of the word have to be below the chance
+-- the upper 16 bits of the word must be below the chance
 comes_about-below : comes_about (30011 * 65536) 30012 ≡ true
 comes_about-below = refl
 
@@ -94,7 +94,7 @@ array_after_motion-road : array_after_motion (λ c v. wanted_speed v.speed 2 c) 
 unfolding entered car
 array_after_motion-road = refl
 
--- cars keep their new speeds, also where they stay or drive the greatest distance
+-- cars keep their new speeds, even if they stay or drive the greatest distance
 array_after_motion_at-far : array_after_motion_at (0 ∷ 9 ∷ []) (array_of (car 2 3 4 ∷ car 1 8 9 ∷ [])) ≡ array_of (car 2 3 0 ∷ car 1 17 9 ∷ [])
 unfolding car
 array_after_motion_at-far = refl

@@ -10,7 +10,7 @@ use Rattle.road_rules.specs.Motion.{car_after_motion, cars_after_motion}
 abbrev pub driven : List ℕ → List Car → ℕ → List Car
 driven speeds cars k = take k (cars_after_motion speeds cars) ++ drop k cars
 
--- none is lost
+-- no car is lost
 pub driven_length : (speeds : List ℕ) (cars : List Car) (k : ℕ) → length speeds ≡ length cars → length (driven speeds cars k) ≡ length cars
 driven_length speeds cars zero same = refl
 driven_length [] [] (suc k) same = refl
@@ -18,7 +18,7 @@ driven_length [] (car ∷ cars) (suc k) same = absurd (omega arith)
 driven_length (v ∷ speeds) [] (suc k) same = refl
 driven_length (v ∷ speeds) (car ∷ cars) (suc k) same = ap suc (driven_length speeds cars k (omega arith))
 
--- the k-th has not
+-- the k-th car has not driven yet
 pub driven_next : (speeds : List ℕ) (cars : List Car) (k : ℕ) (d : Car) → length speeds ≡ length cars → slice_index_or (driven speeds cars k) k d ≡ slice_index_or cars k d
 driven_next speeds cars zero d same = refl
 driven_next [] [] (suc k) d same = refl
@@ -35,7 +35,7 @@ one_drives (v ∷ speeds) [] k d same below = absurd (omega arith)
 one_drives (v ∷ speeds) (car ∷ cars) zero d same below = refl
 one_drives (v ∷ speeds) (car ∷ cars) (suc k) d same below = ap (λ xs. car_after_motion v car ∷ xs) (one_drives speeds cars k d (omega arith) (omega arith))
 
--- in the end all have
+-- in the end all have driven
 pub all_driven : (speeds : List ℕ) (cars : List Car) (k : ℕ) → length speeds ≡ length cars → length cars ≤ k → driven speeds cars k ≡ cars_after_motion speeds cars
 all_driven [] [] zero same past = refl
 all_driven [] [] (suc k) same past = refl

@@ -1,4 +1,4 @@
--- The motion of an array is that of the list of its cars.
+-- The motion of an array is the motion of the list of its cars.
 use Rattle.std.specs.Prelude.{◌≡◌, ℕ, zero, suc, ◌+◌, ◌<◌, ◌≤◌, ◌==◌, max, true, false, cond, if◌then◌else◌, List, [], ◌∷◌, map, length, slice_index, refl}
 use Rattle.std.specs.List.{range_with_len}
 use Rattle.std.specs.Option.{option_or}
@@ -16,25 +16,25 @@ use Rattle.road_cells.specs.declared.car.Car.{Car}
 use Rattle.road_cells.specs.declared.car.TheConstants.{GREATEST_SPEED}
 use Rattle.road_rules.specs.Motion.{car_after_motion, cars_after_motion, first_some, arrival_from, arrival_at, array_after_motion, speed_at, array_after_motion_at, MayMove}
 
--- each car at the speed that a function gives it
+-- each car at the speed that a function has for it
 abbrev pub cars_driven : (ℕ → Vehicle → ℕ) → List Car → List Car
 cars_driven speed [] = []
 cars_driven speed (car ∷ cars) = car_after_motion (speed car.cell (vehicle_of car)) car ∷ cars_driven speed cars
 
 -- ---- a search of the cells is a search of the cars
 
--- the first that the cars give
+-- the first value that a function has for the cars
 first_car : {X : Type 0} → (ℕ → Vehicle → Option X) → List Car → Option X
 first_car h [] = None
 first_car h (car ∷ cars) = option_or (h car.cell (vehicle_of car)) (first_car h cars)
 
--- what a vehicle gives, where there is one
+-- the value of a function for a vehicle, if there is one
 if_there : {X : Type 0} → (Vehicle → Option X) → Option Vehicle → Option X
 if_there h None = None
 if_there h (Some v) = h v
 
 module _ {X : Type 0} (h : ℕ → Vehicle → Option X) where
-  -- what the cells give from k on is what the cars give
+  -- searching the cells from k on finds the same as searching the cars
   searched : (n k : ℕ) (places : Array) (at : ℕ → Option Vehicle) → length places ≤ n → ((j : ℕ) → at (k + j) ≡ vehicle_at places j) → first_some (λ c. if_there (h c) (at c)) (range_with_len k n) ≡ first_car h (cars_from k places)
   unfolding first_car if_there
   searched zero k [] at few same = refl
@@ -53,7 +53,7 @@ module _ {X : Type 0} (h : ℕ → Vehicle → Option X) where
       split None = refl
       split (Some v) = refl
 
--- the vehicle of cell c at its speed, where it comes to j
+-- the vehicle of cell c at its speed, if it comes to j
 comes : (ℕ → Vehicle → ℕ) → ℕ → ℕ → Vehicle → Option Vehicle
 comes speed j c v = if c + speed c v == j then Some (record { number = v.number; speed = speed c v }) else None
 
@@ -66,7 +66,7 @@ first_some-same : {X : Type 0} (f g : ℕ → Option X) (cs : List ℕ) → ((c 
 first_some-same f g [] same = refl
 first_some-same f g (c ∷ cs) same = λ i. option_or (same c i) (first_some-same f g cs same i)
 
--- the first car that comes to j stands there once each has advanced
+-- the first car that comes to j is there once each car has advanced
 first_car-comes : (speed : ℕ → Vehicle → ℕ) (j : ℕ) (cars : List Car) → first_car (comes speed j) cars ≡ vehicle_among j (cars_driven speed cars)
 unfolding first_car comes
 first_car-comes speed j [] = refl
@@ -74,16 +74,16 @@ first_car-comes speed j (car ∷ cars) =
     let v = speed car.cell (vehicle_of car) in
     elim (car.cell + v == j) as (λ b. option_or (cond b (Some (record { number = car.number; speed = v })) None) (first_car (comes speed j) cars) ≡ cond b (Some (record { number = car.number; speed = v })) (vehicle_among j (cars_driven speed cars))) [ true ↦ refl | false ↦ first_car-comes speed j cars ]
 
--- who arrives at a place is who stands there once each car has advanced
+-- the vehicle that arrives at a place is the one there once each car has advanced
 pub arrival_at-vehicle_among : (speed : ℕ → Vehicle → ℕ) (a : Array) (j : ℕ) → arrival_at speed a j ≡ vehicle_among j (cars_driven speed (cars_of a))
 arrival_at-vehicle_among speed a j =
     first_some-same _ _ (range_with_len 0 (length a)) (λ c. arrival_from-comes speed j c (vehicle_at a c))
     ∙ searched (comes speed j) (length a) 0 a (vehicle_at a) (omega arith) (λ k. let here : 0 + k ≡ k = omega arith in ap (vehicle_at a) here)
     ∙ first_car-comes speed j (cars_of a)
 
--- ---- the speed of a car is that of its place in the list
+-- ---- the speed of a car is the speed at its place in the list
 
--- where a function gives each car the speed of its place
+-- if a function gives each car the speed at its place
 pub advanced-at : (cars : List Car) (speeds : List ℕ) (f : ℕ → ℕ) → length speeds ≡ length cars → ((k : ℕ) → k < length cars → f (cell_at cars k) ≡ slice_index speeds k) → cars_driven (λ c v. f c) cars ≡ cars_after_motion speeds cars
 advanced-at [] [] f long is = refl
 advanced-at [] (v ∷ speeds) f long is = refl
@@ -152,7 +152,7 @@ array_after_motion_at-array_of a speeds may = array-same (length a + GREATEST_SP
     ends : end_of (cars_after_motion speeds (cars_of a)) ≤ length a + GREATEST_SPEED
     ends = end-cars_after_motion (cars_of a) speeds (length a) (λ k below. let low = cell_at-end 0 a k below in omega arith) (λ k below. may.slow_enough k 0 below)
 
--- cars that rise, and whose first is m at least, rise from m on
+-- cars that rise, the first of them at m or later, rise from m on
 rise-further : (k m : ℕ) (cars : List Car) → AreRisingFrom k cars → (0 < length cars → m ≤ cell_at cars 0) → AreRisingFrom m cars
 rise-further k m [] rise from = tt
 rise-further k m (car ∷ cars) rise from = (from (omega arith), rise.1)
@@ -172,7 +172,7 @@ rise-advanced m (car ∷ cars) (v ∷ speeds) rise long apart = (
 pub rise-cars_after_motion : (a : Array) (speeds : List ℕ) → MayMove a speeds → AreRising (cars_after_motion speeds (cars_of a))
 rise-cars_after_motion a speeds may = rise-advanced 0 (cars_of a) speeds (rise-cars_from 0 a) may.one_each (λ k below. let next : k + 1 ≡ suc k = omega arith in let free = may.apart k (omega arith) in let same = ap (cell_at (cars_of a)) next in omega arith)
 
--- where no speed is above the greatest, each place of the array after motion holds who arrives there
+-- if no speed is above the greatest, each place of the array after motion holds the vehicle that arrives there
 pub vehicle_at-array_after_motion : (speed : ℕ → Vehicle → ℕ) (a : Array) (j : ℕ) → ((c : ℕ) (v : Vehicle) → speed c v ≤ GREATEST_SPEED) → vehicle_at (array_after_motion speed a) j ≡ arrival_at speed a j
 vehicle_at-array_after_motion speed a j slow = elim (cases_lt j (length a + GREATEST_SPEED)) as (λ _. vehicle_at (array_after_motion speed a) j ≡ arrival_at speed a j) [
   | inl below ↦ vehicle_at-array (length a + GREATEST_SPEED) (arrival_at speed a) j below

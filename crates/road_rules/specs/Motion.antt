@@ -9,7 +9,7 @@ use Rattle.road_cells.specs.Cars.{cars_of, cell_at, cars_before}
 use Rattle.road_cells.specs.declared.car.Car.{Car}
 use Rattle.road_cells.specs.declared.car.TheConstants.{GREATEST_SPEED}
 
--- what a function gives of the first number for which it gives something
+-- the value that a function has for the first number for which it has one
 abbrev pub first_some : {X : Type 0} → (ℕ → Option X) → List ℕ → Option X
 first_some f [] = None
 first_some f (c ∷ cs) = option_or (f c) (first_some f cs)
@@ -20,16 +20,17 @@ arrival_from j c speed None = None
 arrival_from j c speed (Some v) = if c + speed v == j then Some (record { number = v.number; speed = speed v })
     else None
 
--- what comes to cell j: the first vehicle whose new speed brings it there, at that speed
+-- the vehicle that arrives at cell j: the first whose new speed brings it there, at that speed
 abbrev pub arrival_at : (ℕ → Vehicle → ℕ) → Array → ℕ → Option Vehicle
 arrival_at speed a j = first_some (λ c. arrival_from j c (speed c) (vehicle_at a c)) (range_with_len 0 (length a))
 
--- motion: place j holds the vehicle that arrives there, else it is empty; at the greatest speed at most, none arrives
--- farther on
+-- motion: place j holds the vehicle that arrives there, else it is empty; at the greatest speed at most, no vehicle
+-- arrives farther on
 abbrev pub array_after_motion : (ℕ → Vehicle → ℕ) → Array → Array
 array_after_motion speed a = array (length a + GREATEST_SPEED) (arrival_at speed a)
 
--- speeds in the order of the cars: that of the vehicle at c is behind as many as there are cars before c
+-- speeds in the order of the cars: the speed of the vehicle at c has as many speeds before it as there are cars before
+-- c
 abbrev pub speed_at : Array → List ℕ → ℕ → ℕ
 speed_at a speeds c = slice_index speeds (cars_before c (cars_of a))
 
@@ -37,14 +38,15 @@ speed_at a speeds c = slice_index speeds (cars_before c (cars_of a))
 abbrev pub array_after_motion_at : List ℕ → Array → Array
 array_after_motion_at speeds a = array_after_motion (λ c v. speed_at a speeds c) a
 
--- one speed for each car, none above the greatest or so high that a car reaches the next one
+-- cars may move at these speeds: there is one for each car, none above the greatest or high enough for a car to reach
+-- the next one
 pub record MayMove (a : Array) (speeds : List ℕ) : Type 0 where
   pub one_each : length speeds ≡ length (cars_of a)
   pub slow_enough : All (λ v. v ≤ GREATEST_SPEED) speeds
   pub apart : (k : ℕ) → k + 1 < length speeds
       → cell_at (cars_of a) k + slice_index speeds k < cell_at (cars_of a) (k + 1)
 
--- a car at a new speed, that many cells further on
+-- a car at a new speed, advanced by it
 abbrev pub car_after_motion : ℕ → Car → Car
 car_after_motion speed car = record { number = car.number; cell = car.cell + speed; speed = speed }
 

@@ -8,15 +8,15 @@ use crate::OutOfMemory;
 use road_cells::{Car, Road};
 use std::alloc::Global;
 
-/// Applies rule 4 of 1992, motion: all cars advance at once, each by as many cells as its new speed.
+/// Apply rule 4 of 1992, motion: all cars advance at once, each by its new speed in cells.
 ///
-/// `speeds` has one speed for each car, in the order of [`Road::cars`], each at most 9 and at most the free cells
-/// before the next car. No cell is above 65,535. Cars past the end of a road are not taken off. It is one pass in one
-/// allocation, and in none where no car is on the road.
+/// `speeds` has one speed for each car, in the order of [`Road::cars`]. Each is at most 9 and at most the free cells
+/// before the next car. No cell is above 65,535. Cars past the end of a road are not removed. It is one pass in one
+/// allocation, or in none if the road has no car.
 ///
 /// # Errors
 ///
-/// `OutOfMemory` where that allocation failed.
+/// `OutOfMemory` if that allocation failed.
 pub fn moved(alloc: Global, road: &Road, speeds: &[u8]) -> Result<Road, OutOfMemory>
     requires low { length road.now ≤ 65536 }
     requires may { MayMove road.now speeds.now }
@@ -30,7 +30,7 @@ pub fn moved(alloc: Global, road: &Road, speeds: &[u8]) -> Result<Road, OutOfMem
     Ok(moved_in_place(road.copied()?, speeds))
 }
 
-// Applies rule 4 as [`moved`], under the same conditions, to the list of cars that the road kept. It takes no memory.
+// Apply rule 4 as [`moved`], under the same conditions, to the list of cars that the road stored. It takes no memory.
 fn moved_in_place(road: Road, speeds: &[u8]) -> Road
     requires low { length road ≤ 65536 }
     requires may { MayMove road speeds.now }

@@ -1,11 +1,11 @@
-//! Rules 1 to 3, on the speed of one car.
+//! Rules 1 to 3, for the speed of one car.
 
 ghost use Rattle.std.specs.Prelude.{◌≡◌, ◌-◌, ◌<◌, ◌≤◌};
 ghost use Rattle.road_rules.specs.Speeds.{wanted_speed, speed_after_acceleration, speed_after_braking, comes_about};
 ghost use Rattle.road_rules.specs.Speeds.{slowed_speed};
 
-/// Applies rules 1 and 2 as one: the speed grows by one, but neither above the limit nor above the free cells in front,
-/// so it is the least of `speed + 1`, `limit` and `gap`. A car above a lowered limit drops to it at once.
+/// Apply rules 1 and 2 as one: return the least of `speed + 1`, `limit` and `gap`. So the speed grows by one, but
+/// neither above the limit nor above the free cells in front. A car above a lowered limit drops to it immediately.
 ///
 /// `speed` and `limit` are in cells per step, `gap` is in cells (`road_cells::Road::gap`).
 pub fn wanted(speed: u8, limit: u32, gap: u8) -> u8
@@ -15,11 +15,12 @@ pub fn wanted(speed: u8, limit: u32, gap: u8) -> u8
     wished.min(u32::from(gap)) as u8
 }
 
-/// Applies rules 1 and 2 as in 1992: acceleration by one where the next vehicle is far enough, then slowing to one cell
-/// less than the distance where it is too near. At a speed of at most `vmax` this is [`wanted`] with the gap
-/// `distance - 1`; a speed above `vmax` does not drop to it. It shows that law: roads are stepped by [`wanted`].
+/// Apply rules 1 and 2 as in 1992. Rule 1 accelerates by one if the next vehicle is far enough away. Rule 2 slows to
+/// one cell less than the distance if it is too near. At a speed of at most `vmax` this equals [`wanted`] with the gap
+/// `distance - 1`. A speed above `vmax` does not drop to it. The function exists to show that law: steps of roads use
+/// [`wanted`].
 ///
-/// `distance`, at least 1, is that in cells to the next vehicle: one more than the free cells.
+/// `distance`, at least 1, is the distance in cells to the next vehicle: one more than the free cells.
 pub fn two_rules(speed: u8, vmax: u8, distance: u32) -> u8
     requires { 0 < distance }
     ensures rules { result ≡ speed_after_braking (speed_after_acceleration speed vmax distance) distance }
@@ -35,10 +36,10 @@ pub fn two_rules(speed: u8, vmax: u8, distance: u32) -> u8
     speed
 }
 
-/// Applies rule 3, randomization: a speed above 0 falls by one where the word has its event under the chance.
+/// Apply rule 3, randomization: a speed above 0 falls by one if the event of the chance happens.
 ///
-/// The chance is in 1/65,536. Its event comes where the upper 16 bits of the word are below it: never at 0, and always
-/// from 65,536 on. It states the rule: roads are stepped from those bits alone, without the rest of the word.
+/// The chance is in 1/65,536. Its event happens if the upper 16 bits of the word are below it: never at 0, and always
+/// from 65,536 on. The function states the rule: steps of roads use only those bits, without the rest of the word.
 pub fn slowed(speed: u8, word: u32, chance: u32) -> u8
     ensures { result ≡ slowed_speed speed (comes_about word chance) }
 {

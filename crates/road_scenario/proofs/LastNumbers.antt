@@ -1,4 +1,4 @@
--- The number in force for an object is the last one put in its steps.
+-- The number in force for an object is the last one set in its steps.
 use Rattle.std.specs.Prelude.{◌≡◌, ℕ, ◌<◌, Bool, true, false, cond, ◌&&◌, ◌||◌, T, List, [], ◌∷◌, ◌++◌, nat_le, nat_lt, is_some, refl}
 use Rattle.std.specs.declared.cmp.Ordering.{Ordering}
 use Rattle.std.specs.declared.cmp.Ordering.TheVariants.{Less, Equal, Greater}
@@ -35,7 +35,7 @@ is_one p o = is_eq (object_order p o)
 
 -- ---- the code's walk
 
--- the last number that the registers of an object put
+-- the last number that the registers of an object set
 abbrev pub last_number_of : RegistersByStep → Option ℕ
 last_number_of [] = None
 last_number_of (e ∷ es) = option_or (last_number_of es) (register_number e.1)
@@ -57,21 +57,21 @@ pub last_found : (rest left : RegistersByStep) (x : ℕ × Register) (number who
 last_found rest left x number whole n ends is some h =
     ap (λ y. option_or y (last_number_of left)) (some ∙ is) ∙ sym (last-append left x) ∙ sym (ap last_number_of ends) ∙ h
 
--- past an entry that puts none, the last number is that of what is left
+-- past an entry that sets none, the last number is that of what is left
 pub last_further : (rest left : RegistersByStep) (x : ℕ × Register) (number whole : Option ℕ) → rest ≡ left ++ x ∷ [] → number ≡ register_number x.1 → None ≡ number → last_number_of rest ≡ whole → last_number_of left ≡ whole
 last_further rest left x number whole ends is none h =
     ap (λ y. option_or y (last_number_of left)) (none ∙ is) ∙ sym (last-append left x) ∙ sym (ap last_number_of ends) ∙ h
 
 -- ---- one object
 
--- the edits of an object's steps that put it a number up to a step
+-- the edits of an object's steps that set a number for an object up to a step
 abbrev pub chosen : Object → ℕ → Object → RegistersByStep → List Edit
 chosen o step p steps = filter (is_put_up_to o step) (object_edits p steps)
 
 pub itself : (o : Object) → is_one o o ≡ true
 itself o = ap is_eq (tied_itself number_pair_total (order_key o))
 
--- the edits of another object put it nothing
+-- the edits of another object set nothing for it
 pub none_of_other : (o p : Object) (step : ℕ) (steps : RegistersByStep) → is_one p o ≡ false → chosen o step p steps ≡ []
 none_of_other o p step [] h = refl
 none_of_other o p step (s ∷ steps) h = elim s.1 as (λ w. filter (is_put_up_to o step) (edits_from_register p s.0 w (object_edits p steps)) ≡ []) [
@@ -105,7 +105,7 @@ latest-first : (e : Edit) (es : List Edit) → AllLater e.step es → latest_edi
 latest-first e [] h = refl
 latest-first e (f ∷ es) h = ap (λ b. latest_edit (cond b f e ∷ es)) (is_below e.step f.step h.0)
 
--- whether there is one
+-- whether there is an edit
 abbrev any : List Edit → Bool
 any [] = false
 any (e ∷ es) = true
@@ -152,7 +152,7 @@ or_nothing : (x : Option ℕ) → x ≡ option_or x None
 or_nothing None = refl
 or_nothing (Some n) = refl
 
--- the latest of an object's edits puts the last number of its steps
+-- the latest of an object's edits sets the last number of its steps
 pub latest_number : (o : Object) (step : ℕ) (steps : RegistersByStep) → T (is_sorted nat_cmp steps) → option_and_then (λ e. put_number e.value) (latest_edit (chosen o step o steps)) ≡ last_number step steps
 latest_number o step [] h = refl
 latest_number o step (s ∷ steps) h =
@@ -188,7 +188,7 @@ latest_number o step (s ∷ steps) h =
 
 -- ---- all objects
 
--- an object below others is none of them
+-- an object below others is not one of them
 pub other_above : (o p : Object) → object_cmp o p ≡ Less → is_one p o ≡ false
 other_above o p l = ap is_eq (number_pair_total.antisymm (order_key p) (order_key o) ∙ ap ordering_reverse (sym (ordered o p) ∙ l))
 

@@ -1,4 +1,4 @@
--- Where each object of a plan has the same setting, all settings are the same.
+-- If each object of a plan has the same setting, all settings are the same.
 use Rattle.std.specs.Prelude.{◌≡◌, ℕ, zero, suc, ◌+◌, ◌<◌, ◌==◌, Bool, true, ◌∷◌, map, length, if◌then◌else◌, refl}
 use Rattle.std.specs.List.{filter, range_with_len}
 use Rattle.std.proofs.Common.{arith, ap}
@@ -10,7 +10,7 @@ use Rattle.road_plan.specs.declared.object.Object.TheVariants.{Limit, Slow, Bloc
 use Rattle.road_scenario.specs.Edits.{Edits}
 use Rattle.road_scenario.specs.Settings.{setting, settings_of}
 
--- two functions are the same at so many numbers from this one on
+-- two functions are the same at n numbers from this one on
 abbrev AreSameFrom : {A : Type 0} → ℕ → ℕ → (ℕ → A) → (ℕ → A) → Type 0
 AreSameFrom start count f g = (k : ℕ) → k < start + count → f k ≡ g k
 

@@ -11,7 +11,7 @@ use Rattle.road_scenario.specs.Registers.{RegistersByStep}
 use Rattle.road_scenario.specs.Private.RegisterWalks.{first_step_after, last_number, register_number}
 use Rattle.road_scenario.proofs.LastNumbers.{last_number_of, or_none}
 
--- the map's tests of steps are those of numbers
+-- the map's tests of steps are the tests of numbers
 up_to-le : (at step : ℕ) → not (is_lt (nat_cmp step at)) ≡ nat_le at step
 up_to-le at step = grind (arith, nat_tests)
 

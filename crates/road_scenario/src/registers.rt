@@ -5,22 +5,22 @@ ghost use Rattle.lattice_core.specs.declared.greatest.Greatest.TheVariants.{Of};
 ghost use Rattle.road_scenario.specs.Private.RegisterWalks as walks;
 
 use crate::edit::{Edit, Stamp, Value};
-use crate::settings::number_put;
+use crate::settings::winning_number;
 use lattice_core::greatest::Greatest;
 use lattice_core::map::LatMap;
 use road_plan::{Object, OutOfMemory};
 use std::alloc::Global;
 
-/// What won at an object and step: the value put by the greatest stamp, and of equal stamps the greatest value.
+/// The winner at an object and step: the value with the greatest stamp, and of equal stamps the greatest value.
 pub type Won = Greatest<(Stamp, Value)>;
 
-// All registers, each object with its own.
+// All registers: each object with its registers by step.
 pub(crate) type RegistersByObject = LatMap<Object, RegistersByStep>;
 
-// The registers of one object, each with its step.
+// The registers of one object: each step with its register.
 pub(crate) type RegistersByStep = LatMap<u32, Won>;
 
-// Makes the one register that an edit wins where there is no other.
+// Make the single register of an edit that wins because there is no other.
 pub(crate) fn register_of(alloc: Global, edit: &Edit) -> Result<RegistersByStep, OutOfMemory>
     ensures { IfOk result (λ made. made ≡ (edit.now.step, Of (edit.now.stamp, edit.now.value)) ∷ []) }
 {
@@ -28,13 +28,13 @@ pub(crate) fn register_of(alloc: Global, edit: &Edit) -> Result<RegistersByStep,
     none.with(edit.step, &Greatest::Of((edit.stamp, edit.value)))
 }
 
-// Finds the last number put up to a step. The walk goes back from there, past withdrawals alone.
+// Find the last number set up to a step. The search walks back from there, past withdrawals only.
 pub(crate) fn last_put(registers: &RegistersByStep, step: u32) -> Option<u32>
     ensures { result ≡ walks.last_number step registers.now }
 {
     let mut earlier = registers.up_to(step);
     while let Some((_, won)) = earlier.next_back() {
-        match number_put(won) {
+        match winning_number(won) {
             Some(number) => return Some(number),
             None => {}
         }
@@ -42,7 +42,7 @@ pub(crate) fn last_put(registers: &RegistersByStep, step: u32) -> Option<u32>
     None
 }
 
-// Finds the first step after a step that has a register.
+// Find the first step after a given step that has a register.
 pub(crate) fn first_after(registers: &RegistersByStep, step: u32) -> Option<u32>
     ensures { result ≡ walks.first_step_after step registers.now }
 {

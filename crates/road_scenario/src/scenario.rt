@@ -1,4 +1,4 @@
-//! The winners of all edits that came: how they are joined, and what they put at each step.
+//! The winners of all edits received: their joins, and the settings that they give at each step.
 
 ghost use Rattle.std.specs.Prelude.{◌≡◌, ◌↔◌, ◌≤◌, ℕ, [], ◌∷◌, IfOk, IsNone, IsOk, None, T, length, true};
 ghost use Rattle.lattice_core.specs.Sets as sets;
@@ -26,11 +26,11 @@ use road_plan::{Object, OutOfMemory, Plan, Settings};
 use std::alloc::Global;
 use std::marker::Model;
 
-/// Holds the winners of the edits that came. Contracts see the set of them.
+/// The winners of the edits received. Contracts see the set of them.
 #[derive(Drop)]
 pub struct Scenario {
     registers: RegistersByObject,
-    // The greatest count of all edits, 0 where there is none.
+    // The greatest count of all edits, or 0 if there is none.
     greatest: u64,
     alloc: Global,
 }
@@ -54,7 +54,7 @@ impl Model for Scenario {
 }
 
 impl Scenario {
-    /// Makes the scenario without edits, which fits every plan. Its joins and copies take their memory from `alloc` too.
+    /// Make the scenario without edits, which fits every plan. Its joins and copies allocate from `alloc` too.
     pub fn empty(alloc: Global) -> Self
         ensures none { result ≡ sets.empty }
         ensures fits { (plan : Plan) → AreInRange plan result }
@@ -66,12 +66,12 @@ impl Scenario {
         }
     }
 
-    /// Makes the winners of a list of edits, in whatever order they stand, by joins of halves: each edit is copied about
-    /// as often as the list can be halved. It fits a plan where no edit of the list has a fault.
+    /// Make the winners of a list of edits, in whatever order they are, by joining halves: each edit is copied about as
+    /// often as the list can be halved. The scenario fits a plan if no edit of the list has a fault.
     ///
     /// # Errors
     ///
-    /// `OutOfMemory` where an allocation failed; without edits nothing grows.
+    /// `OutOfMemory` if an allocation failed. Without edits nothing is allocated.
     pub fn of_edits(alloc: Global, edits: &[Edit]) -> Result<Self, OutOfMemory>
         ensures winners { IfOk result (λ made. made ≡ winners (sets.from_list edits.now)) }
         ensures fits { (plan : Plan) → first_fault plan edits.now ≡ None → IfOk result (λ made. AreInRange plan made) }
@@ -89,11 +89,11 @@ impl Scenario {
         }
     }
 
-    /// Makes the winners of this scenario's edits and one more. It fits a plan where both do.
+    /// Make the winners of this scenario's edits and one more. The result fits a plan if both do.
     ///
     /// # Errors
     ///
-    /// `OutOfMemory` where an allocation failed; the scenario is then as before.
+    /// `OutOfMemory` if an allocation failed. The scenario is then unchanged.
     pub fn with_edit(&self, edit: &Edit) -> Result<Self, OutOfMemory>
         ensures winners { IfOk result (λ new. new ≡ join self.now (sets.from_list (edit.now ∷ []))) }
         ensures fits { (plan : Plan) → AreInRange plan self.now → fault_of_edit plan edit.now ≡ None →
@@ -107,11 +107,11 @@ impl Scenario {
         })
     }
 
-    /// Makes the winners of both scenarios' edits. It fits a plan where both do.
+    /// Make the winners of both scenarios' edits. The result fits a plan if both do.
     ///
     /// # Errors
     ///
-    /// `OutOfMemory` where an allocation failed; both are then as before.
+    /// `OutOfMemory` if an allocation failed. Both scenarios are then unchanged.
     pub fn joined(&self, other: &Self) -> Result<Self, OutOfMemory>
         ensures winners { IfOk result (λ joined. joined ≡ join self.now other.now) }
         ensures fits { (plan : Plan) → AreInRange plan self.now → AreInRange plan other.now →
@@ -124,11 +124,11 @@ impl Scenario {
         })
     }
 
-    /// Makes an equal scenario. It takes no memory: both share all registers.
+    /// Make an equal scenario. It takes no memory, since both share all registers.
     ///
     /// # Errors
     ///
-    /// `OutOfMemory` where the registers can have no more owners; without edits there are none.
+    /// `OutOfMemory` if the registers can have no more owners. Without edits there are no registers.
     pub fn copied(&self) -> Result<Self, OutOfMemory>
         ensures copy { IfOk result (λ copy. copy ≡ self.now) }
         ensures grows_nothing { self.now ≡ sets.empty → IsOk result }
@@ -140,9 +140,9 @@ impl Scenario {
         })
     }
 
-    /// Returns the number in force for an object at a step, in the object's units: the one put by the latest-dated edit
-    /// up to that step which isn't a withdrawal, the default where there is none. In place of a default, the slowing
-    /// chance of standing cars has the zone's slowing chance at that step. The plan must have the object
+    /// Return the number in force for an object at a step, in the object's units. It is the number of the latest-dated
+    /// edit up to that step that is not a withdrawal, or the default if there is none. In place of a default, the
+    /// slowing chance of standing cars has the zone's slowing chance at that step. The plan must have the object
     /// (`Object::in_plan`).
     pub fn setting(&self, plan: &Plan, object: Object, step: u32) -> u32
         requires { is_in_plan plan.now object ≡ true }
@@ -154,12 +154,12 @@ impl Scenario {
         }
     }
 
-    /// Makes all settings of the plan at a step, by one walk over the edits up to it. The scenario must fit the plan
-    /// (`fits` gives none), and so do the settings.
+    /// Make all settings of the plan at a step, by one walk over the edits up to it. The scenario must fit the plan
+    /// (`fits` returns none), and then so do the settings.
     ///
     /// # Errors
     ///
-    /// `OutOfMemory` where an allocation failed.
+    /// `OutOfMemory` if an allocation failed.
     pub fn settings_at(
         &self,
         alloc: Global,
@@ -175,8 +175,9 @@ impl Scenario {
         Ok(settings)
     }
 
-    /// Finds the first step after a step by which an edit is dated, a withdrawal too; none where there is no later one.
-    /// The settings of all steps before it are those of the step. It takes few look-ups for each object and no memory.
+    /// Find the first step after a given step at which an edit is dated, even if it is a withdrawal. There is none if
+    /// no edit is dated later. All steps before it have the settings of the given step. It takes few look-ups for each
+    /// object and no memory.
     pub fn next_date(&self, step: u32) -> Option<u32>
         ensures date { result ≡ next_date self.now step }
         ensures settings { (plan : Plan) (t : ℕ) → step ≤ t → IsBefore t result →
@@ -185,17 +186,17 @@ impl Scenario {
         first_date_after(&self.registers, step)
     }
 
-    /// Finds the least step of an object and step at which the numbers put here and in `other` differ: nothing is put
-    /// where there is no edit or a withdrawal. Settings at earlier steps are the same
-    /// (`laws::settings_stay_before_touched`). It takes no memory.
+    /// Find the least step at which the numbers set for some object here and in `other` differ. No number is set if
+    /// there is no edit or a withdrawal. Settings at earlier steps are the same (`laws::settings_stay_before_touched`).
+    /// It takes no memory.
     pub fn touched(&self, other: &Scenario) -> Option<u32>
         ensures { result ≡ first_touched_step self.now other.now }
     {
         first_change(&self.registers, &other.registers)
     }
 
-    /// Finds the step of [`Scenario::touched`] for another scenario that must be this one with what is `taken` joined
-    /// in: just the objects and steps of what is taken are looked at. It takes no memory.
+    /// Find the step of [`Scenario::touched`] for a scenario `joined`, which must be this one with `taken` joined in.
+    /// Only the objects and steps of `taken` are visited. It takes no memory.
     pub fn touched_by(&self, taken: &Scenario, joined: &Scenario) -> Option<u32>
         requires { joined.now ≡ join self.now taken.now }
         ensures { result ≡ first_touched_step self.now joined.now }
@@ -203,11 +204,11 @@ impl Scenario {
         first_change_by(&self.registers, &taken.registers, &joined.registers)
     }
 
-    /// Lists the edits by object and step, each once.
+    /// List the edits by object and step, each once.
     ///
     /// # Errors
     ///
-    /// `OutOfMemory` where an allocation failed; without edits nothing grows.
+    /// `OutOfMemory` if an allocation failed. Without edits nothing is allocated.
     pub fn edits(&self, alloc: Global) -> Result<Vec<Edit>, OutOfMemory>
         ensures all { IfOk result (λ edits. edits.items ≡ sets.items self.now) }
         ensures rising { IfOk result (λ edits. T (sets.is_rising edit_cmp edits.items)) }
@@ -217,7 +218,7 @@ impl Scenario {
         all_edits(alloc, &self.registers)
     }
 
-    /// Counts the edits. The scenario must fit a plan. It takes no memory.
+    /// Count the edits. The scenario must fit a plan. It takes no memory.
     pub fn len(&self) -> usize
         requires { FitsSomePlan self.now }
         ensures { result ≡ length (sets.items self.now) }
@@ -225,8 +226,8 @@ impl Scenario {
         count_edits(&self.registers)
     }
 
-    /// Returns the greatest count of the edits' stamps, 0 where there is none. It is the greatest count of every set of
-    /// edits whose winners these are, and at most 2^48 where the scenario fits a plan. It takes no memory.
+    /// Return the greatest count of the edits' stamps, or 0 if there is none. It is the greatest count of every set of
+    /// edits with these winners, and at most 2^48 if the scenario fits a plan. It takes no memory.
     pub fn greatest_count(&self) -> u64
         ensures here { result ≡ greatest_count self.now }
         ensures every { (edits : Edits) → winners edits ≡ self.now → result ≡ greatest_count edits }
@@ -235,8 +236,8 @@ impl Scenario {
         self.greatest
     }
 
-    /// Finds the fault of the first faulty edit, in the order of `edits`; none where all edits are in the plan and its
-    /// ranges. It takes no memory.
+    /// Find the fault of the first faulty edit, in the order of `edits`. There is none if all edits are in the plan and
+    /// its ranges. It takes no memory.
     pub fn fits(&self, plan: &Plan) -> Option<EditFault>
         ensures fault { result ≡ fault_in plan.now self.now }
         ensures none { IsNone result ↔ AreInRange plan.now self.now }
@@ -245,15 +246,16 @@ impl Scenario {
     }
 }
 
-/// A scenario holds winners alone: none of its edits exceeds another.
+/// Show that a scenario holds only winners: none of its edits exceeds another.
 pub fn scenarios_hold_winners(scenario: &Scenario)
     ensures { AreWinners scenario.now }
 {
-    // The borrow alone shows a proof what holds of a scenario's fields.
+    // A proof sees the invariant of a scenario's fields only through this borrow.
     let _ = &scenario.registers;
 }
 
-/// Scenarios under `joined`, from the one without edits up: merges agree in any order, grouping and repetition.
+/// Scenarios are a lattice by `joined`, with the scenario without edits as the bottom: merges agree in any order,
+/// grouping and repetition.
 impl Lattice for Scenario {
     ghost use Rattle.road_scenario.specs.Winners.{AreWinners, has_no_edit, join};
     ghost use Rattle.road_scenario.specs.Instances.JoinedWinners.{join_laws};

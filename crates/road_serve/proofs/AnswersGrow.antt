@@ -1,4 +1,4 @@
--- What was answered stays, as more bytes come.
+-- The answers so far stay, as more bytes come.
 use Rattle.std.proofs.Common.{◌≡◌, ◌≤◌, ◌<◌, ◌==◌, ℕ, zero, suc, List, [], ◌∷◌, ◌++◌, length, take, Bool, true, false, Some, Result, Ok, Err, refl, ap, sym, ◌∙◌, append_assoc, append-nil, length-append, arith}
 use Rattle.std.proofs.lemmas.Bool.{ltb-true, ltb-false, lt-ltb, le-ltb}
 use Rattle.std.proofs.lemmas.List.{take_all}
@@ -12,7 +12,7 @@ use Rattle.road_serve.specs.Answers.{plan_reading, command_reading, opening_answ
 use Rattle.road_serve.specs.Laws.{AnswersGoOn}
 use Rattle.road_serve.proofs.CutBytes.{IsLine, cut-more, cut-newline}
 
--- ---- the answers to a front of the bytes are a front of the answers
+-- ---- the answers to a prefix of the bytes are a prefix of the answers
 
 pub take_front : {A : Type 0} (n : ℕ) (a b : List A) → (more : List A) × (take n (a ++ b) ≡ take n a ++ more)
 take_front zero a b = ([], refl)
@@ -74,7 +74,7 @@ pub are_many : (n : ℕ) (a : List ℕ) → suc n < length (lines_of a true) →
 unfolding has_more_lines
 are_many n a many = lt-ltb (suc n) (length (lines_of a true)) many
 
--- a last piece is at most one line, and none where nothing is there
+-- a last piece is at most one line, and none if it is empty
 pub last_len : (r : List ℕ) → length (last_line true r) ≤ 1
 last_len [] = omega arith
 last_len (x ∷ r) = omega arith
@@ -87,7 +87,7 @@ some_at x (line ∷ lines, rest) false e = rw e (omega arith)
 some_line : (x : ℕ) (b : List ℕ) → 0 < length (lines_of (x ∷ b) true)
 some_line x b = some_at x (pieces_of b) (x == newline) refl
 
--- the lines of bytes and of what goes on from them
+-- the lines of bytes and of what continues them
 pub lines-append : (a b : List ℕ) (ended : Bool) → lines_of (a ++ b) ended ≡ (pieces_of a).0 ++ lines_of ((pieces_of a).1 ++ b) ended
 lines-append a b ended =
     let after : Pieces = pieces_of ((pieces_of a).1 ++ b) in
@@ -103,7 +103,7 @@ lines_rise a b =
     let all = ap (λ (ls : List (List ℕ)). length ls) (lines-append a b true) in
     omega (arith, least, all, length-append (pieces_of a).0 (last_line true (pieces_of a).1), length-append (pieces_of a).0 (lines_of ((pieces_of a).1 ++ b) true))
 
--- ---- answers to whole lines alone
+-- ---- answers to whole lines only
 
 pub answers_few : (n : ℕ) (a : List ℕ) → length (pieces_of a).0 ≤ suc n → answers n a false ≡ line_replies false (pieces_of a).0
 unfolding answers
@@ -122,11 +122,11 @@ take_more zero a b few = refl
 take_more (suc n) [] b few = absurd (omega arith)
 take_more {A = A} (suc n) (x ∷ a) b few = ap (λ (l : List A). x ∷ l) (take_more n a b (omega arith))
 
--- where all lines that may come have ended, they stay
+-- if all lines that may come have ended, they stay
 pub lines_full : (n : ℕ) (a b : List ℕ) → suc n ≤ length (pieces_of a).0 → take (suc n) (lines_of (a ++ b) false) ≡ take (suc n) (pieces_of a).0
 lines_full n a b full = ap (take (suc n)) (lines-append a b false) ∙ take_more (suc n) (pieces_of a).0 (lines_of ((pieces_of a).1 ++ b) false) full
 
--- the whole lines are those of bytes that go on
+-- the whole lines are those of an input that goes on
 pub lines_whole : (n : ℕ) (a : List ℕ) → take (suc n) (lines_of a false) ≡ take (suc n) (pieces_of a).0
 lines_whole n a = ap (take (suc n)) (append-nil (pieces_of a).0)
 
@@ -172,14 +172,14 @@ answers_refused n a b ended is =
     let q = lines_go_on a b ended in
     ap (λ (ls : List (List ℕ)). line_replies ended (take (suc n) ls)) q.1 ∙ alone_lines n (lines_of a false) q.0 ended is
 
--- by the whole lines alone
+-- by the whole lines only
 pub refused_whole : (a : List ℕ) → is_plan_refused a false ≡ is_refusal (first_reading false (pieces_of a).0)
 unfolding is_plan_refused
 refused_whole a = ap (λ (ls : List (List ℕ)). is_refusal (first_reading false ls)) (append-nil (pieces_of a).0)
 
--- ---- lines behind the whole ones
+-- ---- lines after the whole ones
 
--- more bytes are a line more at least
+-- more bytes are at least one more line
 pub some_lines : (r b : List ℕ) → 0 < length b → 0 < length (lines_of (r ++ b) true)
 some_lines [] [] some = absurd (omega arith)
 some_lines [] (x ∷ b) some = some_line x b

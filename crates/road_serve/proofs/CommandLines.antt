@@ -1,4 +1,4 @@
--- What `clap` makes of the words after the program's name, and the words of some command lines.
+-- What `clap` makes of the arguments, and the arguments of some command lines.
 use Rattle.std.proofs.Common.{◌≡◌, ◌≢◌, inl, inr, ℕ, List, length, [], ◌∷◌, Bool, true, false, ◌&&◌, Option, Some, None, is_some, codes, refl, ap, ap₂, sym, ◌∙◌}
 use Rattle.std.specs.Prelude.{option_and_then}
 use Rattle.std.specs.Option.{option_map_or}
@@ -16,7 +16,7 @@ use Rattle.road_serve.specs.Arguments.{are_accepted, are_read, command_line, wor
 
 -- ---- the program's command
 
--- no word stands for the program's own name
+-- no argument stands for the program's own name
 abbrev pub named_less : App → App
 named_less a = on_top (λ top. record top { no_binary_name = true }) a
 
@@ -28,13 +28,13 @@ pub free_line : is_simple_and_free command_line ≡ true
 unfolding clap_on_literals
 free_line = refl
 
--- ---- by what was read, and by the value of `--workers`
+-- ---- by the reading, and by the value of `--workers`
 
--- what is accepted, by whether there is no fault, and by that value
+-- whether arguments are accepted, by whether there is no fault, and by that value
 abbrev is_accepted : Bool → Option (List ℕ) → Bool
 is_accepted faultless value = faultless && option_map_or (λ text. is_some (worker_count text)) value true
 
--- what `clap` found in words that it read; the value of `--workers` among it
+-- what `clap` found in arguments that it read; the value of `--workers` is part of it
 pub record IsRead (words : List (List ℕ)) (rows : List Row) (text : Option (List ℕ)) : Type 0 where
   pub read : are_read words ≡ true
   pub found : rows ≡ words_matches words

@@ -1,4 +1,4 @@
--- Crowds among the lines: one that is held becomes one of the lines, and stays one as more bytes come.
+-- Crowds among the lines: a held one becomes one of the lines, and stays one as more bytes come.
 use Rattle.std.proofs.Common.{◌≡◌, ◌<◌, ◌≤◌, ◌+◌, ℕ, suc, List, [], ◌∷◌, ◌++◌, ◌||◌, length, take, drop, Bool, true, false, Option, Some, None, Result, Ok, Err, refl, ap, sym, ◌∙◌, append-nil}
 use Rattle.std.specs.Prelude.{MatchResult}
 use Rattle.std.specs.List.{list_any}
@@ -65,14 +65,14 @@ same_lines : (n : ℕ) (ls : List (List ℕ)) (r : List ℕ) → lines_gather tr
 same_lines n [] r = refl
 same_lines n (l ∷ ls) r = refl
 
--- a last piece is a line, as if a newline stood behind it
+-- a last piece is a line, as if a newline followed it
 crowd_ended : (n : ℕ) (a : List ℕ) → 0 < length (pieces_of a).1 → has_crowd n a true ≡ has_crowd n (a ++ newline ∷ []) false
 unfolding has_crowd
 crowd_ended n a some =
     ap (λ (ls : List (List ℕ)). lines_gather true (take (suc n) ls)) (ended_line a some) ∙ same_lines n (pieces_of a).0 (pieces_of a).1
     ∙ ap (λ (ls : List (List ℕ)). lines_gather false (take (suc n) ls)) (sym (newline_lines a))
 
--- a last line that is answered or where a call fails, at the end of the input
+-- a last line that is answered or fails, at the end of the input
 pub line_ends : (n : ℕ) (a : List ℕ) (first sink : SinkView) (d : Dialogue) (r : Result (Unit {0}) ServeFault) (gone later : ℕ) → has_more_lines n a ≡ false → 0 < length (pieces_of a).1
     → MatchResult r (λ _. HasAnswered n (a ++ newline ∷ []) first sink d) (λ fault. IsStopped n (a ++ newline ∷ []) false first sink fault gone later)
     → MatchResult r (λ _. HasFinished n a first sink d) (λ fault. IsStopped n a true first sink fault gone later)
@@ -93,7 +93,7 @@ unfolding laboratory_after_lines
 lines_keep lab [] = refl
 lines_keep lab (line ∷ ls) = lines_keep (laboratory_after_line lab (command_reading line)) ls ∙ line_keeps lab (command_reading line)
 
--- ---- what is held becomes a line
+-- ---- the held bytes become a line
 
 last_gathers : (plan : PlanLine) (later : List (List ℕ)) (l : List ℕ) → gathers plan.plan (command_reading l) ≡ true → gathers_by (Some (Ok plan)) (later ++ l ∷ []) ≡ true
 last_gathers plan later l is =

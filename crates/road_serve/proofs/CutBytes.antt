@@ -5,7 +5,7 @@ use Rattle.std.specs.List.{position, position_or_len}
 use Rattle.std.proofs.lemmas.Bool.{ltb-true, ltb-false, eqb-true}
 use Rattle.road_format.specs.Cut.{newline, Pieces, pieces_with_byte_in_line, pieces_with_byte, pieces_of}
 
--- no newline is in it
+-- a text without a newline
 abbrev pub IsLine : List ℕ → Type 0
 IsLine [] = Unit {0}
 IsLine (x ∷ xs) = ((x == newline) ≡ false) × IsLine xs
@@ -17,7 +17,7 @@ cut-line : (b : List ℕ) → IsLine b → pieces_of b ≡ ([], b)
 cut-line [] line = refl
 cut-line (x ∷ b) line = ap (pieces_with_byte x) (cut-line b line.1) ∙ cut_begun x ([], b) line.0
 
--- ---- bytes of one line, behind other bytes
+-- ---- bytes of one line, after other bytes
 
 more_at : (x : ℕ) (p : Pieces) (b : List ℕ) (t : Bool) → (x == newline) ≡ t → pieces_with_byte x (p.0, p.1 ++ b) ≡ ((pieces_with_byte x p).0, (pieces_with_byte x p).1 ++ b)
 more_at x p b true e = rw e refl
@@ -28,7 +28,7 @@ pub cut-more : (a b : List ℕ) → IsLine b → pieces_of (a ++ b) ≡ ((pieces
 cut-more [] b line = cut-line b line
 cut-more (x ∷ a) b line = ap (pieces_with_byte x) (cut-more a b line) ∙ more_at x (pieces_of a) b (x == newline) refl
 
--- a newline behind them ends the line
+-- a newline after them ends the line
 ended_at : (x : ℕ) (p : Pieces) (t : Bool) → (x == newline) ≡ t → pieces_with_byte x (p.0 ++ p.1 ∷ [], []) ≡ ((pieces_with_byte x p).0 ++ (pieces_with_byte x p).1 ∷ [], [])
 ended_at x p true e = rw e refl
 ended_at x ([], rest) false e = rw e refl
@@ -38,9 +38,9 @@ pub cut-newline : (a : List ℕ) → pieces_of (a ++ newline ∷ []) ≡ ((piece
 cut-newline [] = refl
 cut-newline (x ∷ a) = ap (pieces_with_byte x) (cut-newline a) ∙ ended_at x (pieces_of a) (x == newline) refl
 
--- ---- where the first line of bytes ends
+-- ---- the place where the first line of bytes ends
 
--- how many bytes stand before the first newline, all where there is none
+-- the number of bytes before the first newline, or of all bytes if there is none
 abbrev line_len : List ℕ → ℕ
 line_len b = position_or_len (λ x. x == newline) b
 

@@ -1,4 +1,4 @@
--- What the calls of a dialogue promise, from what their parts do.
+-- The promises of a dialogue's calls, from the effects of their parts.
 use Rattle.std.proofs.Common.{◌≡◌, ◌+◌, ℕ, suc, List, [], ◌∷◌, ◌++◌, length, take, drop, Bool, false, IsSome, Option, Some, None, Result, Ok, Err, refl, ap, sym, subst, ◌∙◌, append_assoc, append-nil, take-append-drop, arith}
 use Rattle.std.specs.Prelude.{OnOk, IfErr, MatchResult}
 use Rattle.std.proofs.lemmas.List.{take_all}
@@ -28,7 +28,7 @@ answered_same n a a' first sink d e h = let Family : List ℕ → Type 0 = λ x.
 pub stops_same : (a b : SinkView) (text text' : List ℕ) (fault : ServeFault) → text ≡ text' → Stops a b text fault → Stops a b text' fault
 stops_same a b text text' fault e s = let Family : List ℕ → Type 0 = λ x. Stops a b x fault in subst Family e s
 
--- out of memory or of workers, with nothing more written
+-- out of memory or lost workers, with nothing more written
 stopped_front : (n : ℕ) (a b : List ℕ) (ended : Bool) (first sink : SinkView) (d : Dialogue) → HasAnswered n a first sink d → TakesFront first sink (answers n (a ++ b) ended)
 stopped_front n a b ended first sink d h =
     let more = answers_more n a b ended in
@@ -62,7 +62,7 @@ abbrev pub Put : SinkView → SinkView → List ℕ → List ℕ → Result (Uni
 Put sink sink' text rest r =
     OnOk r (TakesAllBut sink sink' text rest) × OnOk r (sink'.failures ≡ sink.failures) × IfErr r (λ fault. Stops sink sink' text fault)
 
--- the dialogue after the line, d', has another text waiting than before its reply was put, d
+-- the dialogue after the line, d', has a different text waiting than before its reply was put, d
 pub answer_ends : (n : ℕ) (a b text all : List ℕ) (first sink sink' : SinkView) (d0 d d' : Dialogue) (r : Result (Unit {0}) ServeFault) (count later : ℕ) → HasAnswered n a first sink d0 → answers n (a ++ b) false ≡ answers n a false ++ text → Stands n (a ++ b) d d.over
     → all ≡ d0.waiting ++ text → Put sink sink' all d'.waiting r → d'.laboratory ≡ d.laboratory → d'.left ≡ d.left → d'.line ≡ d.line → d'.over ≡ d.over
     → IfErr r (λ fault. CountsGone fault (has_crowd n (a ++ b) false) count later) → MatchResult r (λ _. HasAnswered n (a ++ b) first sink' d') (λ fault. IsStopped n (a ++ b) false first sink' fault count later)
@@ -111,7 +111,7 @@ stops_line n a b i first sink fault ends s =
     let whole : ((a ++ take i b) ++ newline ∷ []) ++ drop (i + 1) b ≡ a ++ b = ap (λ (x : List ℕ). x ++ drop (i + 1) b) (line_taken a b i ends) ∙ both_parts a b (i + 1) in
     stops_same first sink _ _ fault (ap (λ (x : List ℕ). answers n x false) whole) (stops_sooner n ((a ++ take i b) ++ newline ∷ []) (drop (i + 1) b) false first sink fault s)
 
--- ---- what waits is flushed
+-- ---- the waiting replies are flushed
 
 pub flush_stops : (first sink sink' : SinkView) (text waiting : List ℕ) → TakesAllBut first sink text waiting → sink.failures ≡ first.failures → TakesFront sink sink' waiting → RisesByOne sink.failures sink'.failures → Stops first sink' text faults.Write
 flush_stops first sink sink' text waiting t well front rises =

@@ -1,4 +1,4 @@
--- What holds of a dialogue at the end of the input.
+-- Facts about a dialogue at the end of the input.
 use Rattle.std.proofs.Common.{◌≡◌, ◌<◌, ℕ, suc, List, [], ◌∷◌, ◌++◌, length, take, true, false, IsSome, Option, Some, None, Result, Ok, Err, refl, ap, sym, subst, ◌∙◌, append-nil, length-append, arith}
 use Rattle.std.specs.Prelude.{IfErr, MatchResult}
 use Rattle.std.specs.Io.KnownBytes.{Appends}
@@ -21,7 +21,7 @@ use Rattle.road_serve.proofs.DialogueSteps.{goes_on, after_same}
 use Rattle.road_serve.proofs.DialogueCalls.{Put, stops_same, stops_memory, flush_ends}
 use Rattle.road_serve.proofs.SinkTexts.{takes_same, takes_more, stops_after}
 
--- ---- what is left of the last line
+-- ---- the rest of the last line
 
 has_rest : (held : Option (List ℕ)) (r : List ℕ) → Holds held r → (held ≡ Some [] → ⊥) → 0 < length r
 has_rest held [] (Whole e l) some = absurd (some e)
@@ -36,7 +36,7 @@ one_last : (r : List ℕ) → 0 < length r → last_line true r ≡ r ∷ []
 one_last [] some = absurd (omega arith)
 one_last (x ∷ r) some = refl
 
--- ---- it is a line: as if a newline stood behind it
+-- ---- it is a line: as if a newline followed it
 
 pub ended_line : (a : List ℕ) → 0 < length (pieces_of a).1 → lines_of a true ≡ (pieces_of a).0 ++ (pieces_of a).1 ∷ []
 ended_line a some = ap (λ (p : List (List ℕ)). (pieces_of a).0 ++ p) (one_last (pieces_of a).1 some)
@@ -103,7 +103,7 @@ line_finished n a first sink d few some h = record {
   stands = stands_line n a d d.over few some h.stands;
 }
 
--- ---- nothing stands behind the last newline
+-- ---- nothing follows the last newline
 
 clear_lines : (a : List ℕ) → (pieces_of a).1 ≡ [] → lines_of a true ≡ (pieces_of a).0
 clear_lines a clear = ap (λ (r : List ℕ). (pieces_of a).0 ++ last_line true r) clear ∙ append-nil (pieces_of a).0
@@ -191,7 +191,7 @@ no_plan_ends n a text all first sink sink' d d' (Err fault) count later h none e
       counts = counts;
     }
 
--- ---- what waits is flushed
+-- ---- the waiting replies are flushed
 
 stands_end_same : (n : ℕ) (a : List ℕ) (d d' : Dialogue) (o : Option EarlyEnd) → d'.laboratory ≡ d.laboratory → d'.left ≡ d.left → StandsAtEnd n a d o → StandsAtEnd n a d' o
 stands_end_same n a d d' None lab left s = (s.0, s.1, after_same n _ _ d.laboratory d'.laboratory d.left d'.left refl (sym lab) (sym left) s.2)
@@ -213,7 +213,7 @@ finished_flushed n a first sink sink' d d' h all well none lab left over =
 pub memory_at_end : (n : ℕ) (a : List ℕ) (first sink : SinkView) (d : Dialogue) → HasAnswered n a first sink d → Stops first sink (answers n a true) faults.OutOfMemory
 memory_at_end n a first sink d h = stops_same first sink _ _ faults.OutOfMemory (ap (λ (x : List ℕ). answers n x true) (append-nil a)) (stops_memory n a [] true first sink d h)
 
--- ---- nobody was refused who goes on
+-- ---- a dialogue that goes on has refused no plan
 
 refused_after : (n : ℕ) (ls : List (List ℕ)) (lab : Option Laboratory) (left : ℕ) → IsAfterLines n ls lab left → is_refusal (first_reading false ls) ≡ false
 refused_after n [] lab left after = refl

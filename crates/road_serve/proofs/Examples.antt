@@ -1,5 +1,5 @@
--- Worked examples, from the bytes of an input to the bytes of its answers: a wrong definition does not check. The words
--- are the steady ones.
+-- Worked examples, from the bytes of an input to the bytes of its answers: the check fails if a definition is wrong.
+-- The words are the steady ones.
 use Rattle.std.proofs.Common.{◌≡◌, ◌≤◌, ◌<◌, ◌+◌, ◌^◌, ℕ, zero, suc, List, [], ◌∷◌, ◌++◌, take, length, true, false, codes, refl, ap, ◌∙◌, arith, length-append}
 use Rattle.std.specs.Prelude.{replicate, nat_le}
 use Rattle.std.proofs.lemmas.Bool.{lt-ltb, le-leb}
@@ -43,7 +43,7 @@ queries = codes "{\"cells\":{\"at\":\"A\",\"step\":0}}\n{\"cells\":{\"at\":\"A\"
 abbrev free_plan : Plan
 free_plan = record { cells = 12; exit = 1; width = 12; zones = (2, 0) ∷ []; inlets = (0, 65536) ∷ []; detectors = 5 ∷ []; words = Steady }
 
--- where nothing is edited a row is that of the plan's defaults
+-- if nothing is edited, a row is that of the plan's defaults
 unedited : (p : Plan) (step : ℕ) → row_at p empty step ≡ row p (settings_in p []) step
 unfolding row_at
 unedited p step = ap (λ (es : List Edit). row p (settings_in p es) step) (ap (λ (s : Edits). items s) winners-empty ∙ items-empty edit_cmp)
@@ -60,7 +60,7 @@ at_six : row free_plan (settings_in free_plan []) 6 ≡ codes "0..2...2...."
 unfolding free_before
 at_six = refl
 
--- the answers, with the rows that are asked for
+-- the answers, with the requested rows
 abbrev with_rows : List ℕ → List ℕ → List ℕ → List ℕ
 with_rows first six two =
     reply (Open 3) ++ (reply (CellsReply first) ++ (reply (Refused refusals.NotSimulated) ++ (reply (Refused refusals.NotJson) ++ (reply (Horizon 6) ++ (reply (Horizon 6)
@@ -81,7 +81,7 @@ answers_to_queries =
     ∙ ap (λ (r : List ℕ). with_rows (codes "............") r (row_at free_plan empty 2)) (unedited free_plan 6 ∙ at_six)
     ∙ ap (λ (r : List ℕ). with_rows (codes "............") (codes "0..2...2....") r) (unedited free_plan 2 ∙ at_two) ∙ as_text
 
--- while the input goes on, the piece behind the last newline is no line yet
+-- while the input goes on, the piece after the last newline is not a line yet
 a_piece_is_no_line_yet : answers_within 1000000 (2 ^ 32) (free_road ++ codes "{\"cells\":{\"at\":\"A\",\"step\":0}}") false ≡ codes "{\"open\":3}\n"
 unfolding road_format_on_literals later_replies answers answers_within free_before free_road
 a_piece_is_no_line_yet = refl
@@ -94,7 +94,7 @@ nothing_yet : answers_within 1000000 (2 ^ 32) [] false ≡ []
 unfolding answers answers_within
 nothing_yet = refl
 
--- a plan line that is refused ends all
+-- a plan line that is refused ends the run
 a_refused_plan : answers_within 1000000 (2 ^ 32) (codes "{}\n{\"advance\":{\"at\":\"A\",\"to\":6}}\n") true ≡ codes "{\"refused\":\"not a plan\"}\n"
 unfolding road_format_on_literals later_replies answers answers_within
 a_refused_plan = refl
@@ -111,7 +111,7 @@ one_line_as_text = refl
 one_line_only : answers_within 1 1000 (free_road ++ queries) true ≡ codes "{\"open\":3}\n{\"cells\":\"............\"}\n"
 one_line_only = one_line_as_row ∙ ap (λ (r : List ℕ). reply (Open 3) ++ (reply (CellsReply r) ++ [])) (unedited free_plan 0 ∙ at_zero) ∙ one_line_as_text
 
--- each refusal of a plan line ends all
+-- each refusal of a plan line ends the run
 too_short : answers_within 1000000 (2 ^ 32) (codes "{\"detectors\":[5],\"exit\":1,\"inlets\":[[0,65536]],\"length\":7,\"replicas\":[\"A\"],\"words\":7,\"zone\":12,\"zones\":[[2,0]]}") true ≡ codes "{\"refused\":\"Length\"}\n"
 unfolding road_format_on_literals later_replies answers answers_within
 too_short = refl
@@ -133,7 +133,7 @@ no_more : (lines : ℕ) → take {A = List ℕ} lines [] ≡ []
 no_more zero = refl
 no_more (suc lines) = refl
 
--- a plan line of too many spaces, with a newline behind it
+-- a plan line of too many spaces, followed by a newline
 too_many_spaces : (n lines limit : ℕ) → LONGEST_LINE < n → n + 1 ≤ limit → answers_within lines limit (replicate n 32 ++ newline ∷ []) true ≡ reply (Refused refusals.LineTooLong)
 unfolding answers answers_within reply
 too_many_spaces n lines limit long within =

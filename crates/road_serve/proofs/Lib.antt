@@ -1,5 +1,5 @@
--- Lemmas of lines and replies as bytes come, of crowds among the lines, of the ends of runs, of scripts and of the words
--- after the name, and worked examples.
+-- Lemmas about lines and replies as bytes come, crowds among the lines, the ends of runs, scripts and the arguments,
+-- and worked examples.
 pub mod Options
 pub mod ByteParts
 pub mod CutBytes

@@ -1,4 +1,4 @@
--- One whole line more: what it is answered, and what is kept after it.
+-- One more whole line: its answer, and the laboratory kept after it.
 use Rattle.std.proofs.Common.{◌≡◌, ◌≢◌, ◌≤◌, ℕ, suc, List, [], ◌∷◌, ◌++◌, ◌-◌, length, Bool, true, false, Option, Some, None, Result, Ok, Err, refl, ap, sym, ◌∙◌, append_assoc, append-nil, length-append, arith}
 use Rattle.std.specs.Prelude.{nat_lt}
 use Rattle.std.proofs.lemmas.Bool.{lt-ltb, le-ltb}
@@ -52,9 +52,9 @@ later_more : (lab : Laboratory) (ls : List (List ℕ)) (l : List ℕ)
 later_more lab ls l =
     replies-snoc lab ls l ∙ ap (λ (a : Answer). later_replies lab ls ++ reply a) (sym (answered_by_winners (laboratory_after_lines lab ls) (command_reading l)))
 
--- ---- the line that is held
+-- ---- the held line
 
--- what is read of what is held is what the line is read as
+-- the reading of the held bytes is the reading of the line
 pub held_reading : {A : Type 0} (f : List ℕ → Result A Refusal) (held : Option (List ℕ)) (line : List ℕ) → Holds held line → read_held f held ≡ reading_unless (is_long line) (f line)
 held_reading f held line (Whole e l) =
     let short : nat_lt LONGEST_LINE (length line) ≡ false = le-ltb _ _ l in
@@ -68,7 +68,7 @@ no_bytes held none = Whole none (omega arith)
 
 -- ---- it ends as a later line
 
--- what is kept after the later lines of a plan
+-- the laboratory kept after the later lines of a plan
 abbrev kept_after_lines : PlanLine → List (List ℕ) → Laboratory
 kept_after_lines plan ls = laboratory_of_winners (laboratory_after_lines (opening_laboratory plan) ls)
 

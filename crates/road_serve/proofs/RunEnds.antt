@@ -1,4 +1,4 @@
--- Each way out of a run ends it as it promises.
+-- Each way out of a run ends it as promised.
 use Rattle.std.proofs.Common.{◌≡◌, ◌≤◌, ◌<◌, ◌==◌, ◌+◌, ◌-◌, min, ℕ, zero, suc, List, [], ◌∷◌, ◌++◌, length, take, Bool, true, false, Option, Some, None, Result, Ok, Err, inl, refl, ap, sym, subst, ◌∙◌, append-nil, length-append, arith}
 use Rattle.std.specs.Prelude.{nat_lt, nat_le}
 use Rattle.std.proofs.lemmas.Bool.{le-leb, le-ltb, lt-ltb, ltb-false}
@@ -45,7 +45,7 @@ take_min (suc a) zero xs = let e : min (suc a) zero ≡ zero = omega arith in rw
 take_min (suc a) (suc b) [] = rw (suc-min a b) refl
 take_min (suc a) (suc b) (x ∷ xs) = rw (suc-min a b) (ap (λ (t : List ℕ). x ∷ t) (take_min a b xs))
 
--- of n more bytes m are within the limit
+-- m of n more bytes are within the limit
 pub record Within (limit room n m : ℕ) (h piece : List ℕ) : Type 0 where
   pub all : length h + room ≡ limit
   pub least : m ≡ min room n
@@ -406,7 +406,7 @@ first_read_failed lines limit source sink = record {
   counts = refl;
 }
 
--- a source that was not opened is as one of which the first read fails
+-- a source that was not opened is like one whose first read fails
 pub unopened : (lines limit : ℕ) (sink : SinkView) → AnswersInput (run_of lines limit (unopened_source 0) (unopened_source 1) sink sink 0 0 (Err faults.Read))
 unopened lines limit sink = first_read_failed lines limit (unopened_source 0) sink
 
@@ -419,7 +419,7 @@ not_begun lines limit source sink = record {
   counts = refl;
 }
 
--- nor were there workers to begin, which counts as having answered so
+-- nor were there workers to begin, which counts as having returned that
 pub not_manned : (lines limit : ℕ) (source : SourceView) (sink : SinkView) (failed : CrewFault) → (gone : ℕ) × AnswersInput (run_of lines limit source source sink sink 0 gone (Err (crew_fault failed)))
 not_manned lines limit source sink crew_faults.OutOfMemory = (0, not_begun lines limit source sink)
 not_manned lines limit source sink crew_faults.WorkersGone = (

@@ -1,12 +1,12 @@
--- The source that is made of a file.
+-- The source made from a file.
 use Rattle.std.proofs.Common.{◌≡◌, ◌∙◌, ℕ, List, Bool, false, Option, ap}
 use Rattle.road_serve.specs.StreamViews.{SourceView}
 
--- a source by its parts
+-- a source, given its parts
 abbrev source_with : Option (List ℕ) → Bool → ℕ → SourceView
 source_with remaining at_end failures = record { remaining = remaining; at_end = at_end; failures = failures }
 
--- a source of which nothing was read is what it has left
+-- a source of which nothing was read is its remaining bytes
 pub source_is : (source : SourceView) (remaining : Option (List ℕ)) → source.remaining ≡ remaining → source.at_end ≡ false → source.failures ≡ 0
     → source ≡ record { remaining = remaining; at_end = false; failures = 0 }
 source_is source remaining left going well =

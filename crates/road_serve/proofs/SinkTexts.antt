@@ -1,4 +1,4 @@
--- What a sink took in calls one after another.
+-- The bytes that a sink took in calls one after another.
 use Rattle.std.proofs.Common.{◌≡◌, ◌+◌, ◌-◌, ◌^◌, min, ℕ, List, [], ◌++◌, take, drop, take-append-drop, refl, ap, sym, subst, ◌∙◌, append_assoc, append-nil}
 use Rattle.std.proofs.KnownBytes.{Appends-nil, Appends-trans}
 use Rattle.std.specs.Io.KnownBytes.{Appends}
@@ -27,7 +27,7 @@ takes_same a b text text' rest rest' e f t = record { front = t.front; taken = t
 pub front_taken : (a b : SinkView) (text : List ℕ) (n : ℕ) → Appends a.contents b.contents (take n text) → TakesFront a b text
 front_taken a b text n taken = (drop n text, record { front = take n text; taken = taken; whole = take-append-drop n text })
 
--- what was left over was taken with more behind it
+-- the rest was taken with more after it
 pub takes_more : (a b c : SinkView) (text rest more rest' : List ℕ) → TakesAllBut a b text rest → TakesAllBut b c (rest ++ more) rest' → TakesAllBut a c (text ++ more) rest'
 takes_more a b c text rest more rest' t u = record {
   front = t.front ++ u.front;
@@ -35,7 +35,7 @@ takes_more a b c text rest more rest' t u = record {
   whole = append_assoc t.front u.front rest' ∙ ap (λ (s : List ℕ). t.front ++ s) u.whole ∙ sym (append_assoc t.front rest more) ∙ ap (λ (s : List ℕ). s ++ more) t.whole;
 }
 
--- a front of a text is one of a longer text
+-- a prefix of a text is one of a longer text
 pub front_longer : (a b : SinkView) (text more text' : List ℕ) → text' ≡ text ++ more → TakesFront a b text → TakesFront a b text'
 front_longer a b text more text' e f = (
   f.0 ++ more,

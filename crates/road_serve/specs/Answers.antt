@@ -1,4 +1,4 @@
--- What is answered to an input.
+-- The answers to an input.
 use Rattle.std.specs.Prelude.{ℕ, suc, List, [], ◌∷◌, ◌++◌, ◌&&◌, ◌||◌, Bool, true, false, take, length, nat_lt, nat_le}
 use Rattle.std.specs.Prelude.{Option, Some, None, Result, Ok, Err}
 use Rattle.std.specs.List.{list_any}
@@ -14,11 +14,11 @@ use Rattle.road_commands.specs.Laboratory.{Laboratory, answer_to, is_gathered, l
 
 -- ---- one line
 
--- whether a line has more bytes than the longest one may have
+-- whether a line has more bytes than the longest allowed one
 abbrev pub is_long : List ℕ → Bool
 is_long line = nat_lt LONGEST_LINE (length line)
 
--- what a line is read as: one that is too long is refused unread
+-- the reading of a line: one that is too long is refused unread
 abbrev pub reading_unless : {A : Type 0} → Bool → Result A Refusal → Result A Refusal
 reading_unless true reading = Err refusals.LineTooLong
 reading_unless false reading = reading
@@ -31,12 +31,12 @@ plan_reading line = reading_unless (is_long line) (plan_line_of line)
 abbrev pub command_reading : List ℕ → Result Command Refusal
 command_reading line = reading_unless (is_long line) (command_of line)
 
--- what the first line is answered
+-- the answer to the first line
 abbrev pub opening_answer : Result PlanLine Refusal → Answer
 opening_answer (Err refusal) = Refused refusal
 opening_answer (Ok plan) = Open (length plan.names)
 
--- what a later line is answered
+-- the answer to a later line
 abbrev pub line_answer : Laboratory → Result Command Refusal → Answer
 line_answer lab (Err refusal) = Refused refusal
 line_answer lab (Ok command) = answer_to lab command
@@ -60,13 +60,13 @@ later_replies lab (line ∷ lines) =
     reply (line_answer lab (command_reading line))
     ++ later_replies (laboratory_after_line lab (command_reading line)) lines
 
--- the reply to the plan line, and where it is accepted the replies to the lines after it
+-- the reply to the plan line, and if it is accepted the replies to the lines after it
 abbrev pub input_replies : Result PlanLine Refusal → List (List ℕ) → List ℕ
 input_replies (Err refusal) lines = reply (opening_answer (Err refusal))
 input_replies (Ok plan) lines =
     reply (opening_answer (Ok plan)) ++ later_replies (opening_laboratory plan) lines
 
--- how the plan line is read: not yet, where there is none and the input goes on
+-- the reading of the plan line: none yet, if there is no line and the input goes on
 abbrev pub first_reading : Bool → List (List ℕ) → Option (Result PlanLine Refusal)
 first_reading ended (first ∷ lines) = Some (plan_reading first)
 first_reading true [] = Some (Err refusals.NoPlan)
@@ -77,7 +77,7 @@ abbrev pub later_lines : List (List ℕ) → List (List ℕ)
 later_lines [] = []
 later_lines (first ∷ lines) = lines
 
--- the replies by how the plan line is read: none before that
+-- the replies, given the reading of the plan line: none before that
 abbrev pub replies_by : Option (Result PlanLine Refusal) → List (List ℕ) → List ℕ
 replies_by None lines = []
 replies_by (Some reading) lines = input_replies reading lines
@@ -86,7 +86,7 @@ replies_by (Some reading) lines = input_replies reading lines
 abbrev pub line_replies : Bool → List (List ℕ) → List ℕ
 line_replies ended lines = replies_by (first_reading ended lines) (later_lines lines)
 
--- whether a line after the plan line is a crowd that nothing refuses, by how the plan line is read
+-- whether a line after the plan line is a crowd that nothing refuses, given the reading of the plan line
 abbrev pub gathers_by : Option (Result PlanLine Refusal) → List (List ℕ) → Bool
 gathers_by None lines = false
 gathers_by (Some (Err refusal)) lines = false
@@ -96,9 +96,9 @@ gathers_by (Some (Ok first)) lines = list_any (λ line. gathers first.plan (comm
 abbrev pub lines_gather : Bool → List (List ℕ) → Bool
 lines_gather ended lines = gathers_by (first_reading ended lines) (later_lines lines)
 
--- ---- the answers to bytes, with at most so many lines after the plan line
+-- ---- the answers to bytes, with a limit of lines after the plan line
 
--- what is answered to these bytes, of an input that has ended or goes on
+-- the answers to these bytes, of an input that has ended or goes on
 unfoldable pub answers : ℕ → List ℕ → Bool → List ℕ
 answers lines bytes ended = line_replies ended (take (suc lines) (lines_of bytes ended))
 
@@ -116,18 +116,18 @@ is_refusal None = false
 unfoldable pub is_plan_refused : List ℕ → Bool → Bool
 is_plan_refused bytes ended = is_refusal (first_reading ended (lines_of bytes ended))
 
--- whether a byte stands past the last line that may come
+-- whether there is a byte past the last line that may come
 unfoldable pub has_more_lines : ℕ → List ℕ → Bool
 has_more_lines lines bytes = nat_lt (suc lines) (length (lines_of bytes true))
 
--- ---- and at most so many bytes in all
+-- ---- the answers with a limit of bytes, too
 
 -- whether the input has ended within the limit of bytes
 abbrev pub ends_within : ℕ → List ℕ → Bool → Bool
 ends_within limit bytes ended = ended && nat_le (length bytes) limit
 
--- what is answered to the first `limit` bytes of an input; where more came, these have not ended, so what stands behind
--- their last newline is no line
+-- the answers to the first `limit` bytes of an input; if more came, these have not ended, so the bytes after their last
+-- newline are not a line
 unfoldable pub answers_within : ℕ → ℕ → List ℕ → Bool → List ℕ
 answers_within lines limit bytes ended = answers lines (take limit bytes) (ends_within limit bytes ended)
 
@@ -139,11 +139,11 @@ has_crowd_within lines limit bytes ended = has_crowd lines (take limit bytes) (e
 unfoldable pub is_plan_refused_within : ℕ → List ℕ → Bool → Bool
 is_plan_refused_within limit bytes ended = is_plan_refused (take limit bytes) (ends_within limit bytes ended)
 
--- whether a byte stands past the most lines or the most bytes
+-- whether there is a byte past the most lines or the most bytes
 unfoldable pub has_byte_past_most : ℕ → ℕ → List ℕ → Bool
 has_byte_past_most lines limit bytes = nat_lt limit (length bytes) || has_more_lines lines bytes
 
--- how many replies there are after the plan line's, to an input that has ended and whose plan line is accepted
+-- the number of replies after the plan line's, to an input that has ended and whose plan line is accepted
 unfoldable pub reply_count : ℕ → ℕ → List ℕ → ℕ
 reply_count lines limit bytes =
     length (later_lines (take (suc lines) (lines_of (take limit bytes) (ends_within limit bytes true))))

@@ -1,4 +1,4 @@
--- What serves lines, after the bytes that came to it.
+-- A dialogue, after the bytes that came to it.
 use Rattle.std.specs.Prelude.{◌≡◌, ℕ, suc, ◌+◌, ◌<◌, ◌≤◌, List, [], ◌∷◌, Bool, true, false, length, take}
 use Rattle.std.specs.Prelude.{Option, Some, None, Ok}
 use Rattle.road_plan.specs.declared.limits.TheConstants.{LONGEST_LINE}
@@ -13,9 +13,9 @@ use Rattle.road_serve.specs.declared.faults.EarlyEnd.{EarlyEnd}
 use Rattle.road_serve.specs.declared.faults.EarlyEnd.TheVariants as ends
 use Rattle.road_serve.specs.declared.faults.ServeFault.{ServeFault}
 
--- what contracts see of a dialogue: the laboratory, once the plan line is accepted; what is held of the line that has
--- not ended, none where it is too long; how many lines may still come; the replies that wait to be written; and why no
--- further line is answered, if so
+-- a dialogue, as contracts see it: the laboratory, once the plan line is accepted; the held bytes of the line that has
+-- not ended, none if it is too long; the number of lines that may still come; the replies that wait to be written; and
+-- why no further line is answered, if that is so
 pub record Dialogue : Type 0 where
   pub laboratory : Option Laboratory
   pub line : Option (List ℕ)
@@ -32,7 +32,7 @@ laboratory_after_lines lab (line ∷ lines) =
     laboratory_after_lines (laboratory_after_line lab (command_reading line)) lines
 
 -- after these lines: nothing before the first; then its plan, and the laboratory after the later ones, as far as edits
--- win. So many more may come
+-- win. This number of lines may still come
 abbrev pub IsAfterLines : ℕ → List (List ℕ) → Option Laboratory → ℕ → Type 0
 IsAfterLines lines [] None left = left ≡ lines
 IsAfterLines lines [] (Some kept) left = ⊥
@@ -44,7 +44,7 @@ IsAfterLines lines (first ∷ later) (Some kept) left =
 
 -- ---- the line that has not ended
 
--- what is held of the line that has not ended: its bytes, or none, where it is too long
+-- the held bytes of the line that has not ended; none if it is too long
 pub data Holds (held : Option (List ℕ)) (line : List ℕ) : Type 0 where
   Whole : held ≡ Some line → length line ≤ LONGEST_LINE → Holds held line
   TooLong : held ≡ None → LONGEST_LINE < length line → Holds held line
@@ -57,8 +57,8 @@ pub record GoesOn (lines : ℕ) (bytes : List ℕ) (d : Dialogue) : Type 0 where
   pub holds : Holds d.line (pieces_of bytes).1
   pub few : has_more_lines lines bytes ≡ false
 
--- after these bytes the dialogue goes on, or why it does not: there is no plan, or it stands after the last line that
--- may come
+-- after these bytes the dialogue goes on, or the reason why it does not: there is no plan, or it is after the last line
+-- that may come
 abbrev pub Stands : ℕ → List ℕ → Dialogue → Option EarlyEnd → Type 0
 Stands lines bytes d None = GoesOn lines bytes d
 Stands lines bytes d (Some ends.BadPlan) =
@@ -67,8 +67,8 @@ Stands lines bytes d (Some ends.TooMany) =
     (is_plan_refused bytes false ≡ false) × (has_more_lines lines bytes ≡ true)
     × IsAfterLines lines (take (suc lines) (lines_of bytes false)) d.laboratory d.left
 
--- These bytes came since the sink was as it was first, and each whole line of them is answered: in the sink, or in
--- what waits to be written. No call of the sink failed.
+-- These bytes came since the sink was as at first, and each whole line of them is answered: in the sink, or in the
+-- replies that wait. No call of the sink failed.
 pub record HasAnswered (lines : ℕ) (bytes : List ℕ) (first sink : SinkView) (d : Dialogue)
     : Type 0 where
   pub answered : TakesAllBut first sink (answers lines bytes false) d.waiting
@@ -86,8 +86,8 @@ StandsAtEnd lines bytes d (Some ends.BadPlan) =
     (is_plan_refused bytes true ≡ true) × (d.laboratory ≡ None) × (d.left ≡ lines)
 StandsAtEnd lines bytes d (Some ends.TooMany) = ⊥
 
--- The input has ended with these bytes, and all its lines are answered: in the sink, or in what waits to be written.
--- No call of the sink failed.
+-- The input has ended with these bytes, and all its lines are answered: in the sink, or in the replies that wait. No
+-- call of the sink failed.
 pub record HasFinished (lines : ℕ) (bytes : List ℕ) (first sink : SinkView) (d : Dialogue)
     : Type 0 where
   pub answered : TakesAllBut first sink (answers lines bytes true) d.waiting
@@ -96,8 +96,8 @@ pub record HasFinished (lines : ℕ) (bytes : List ℕ) (first sink : SinkView) 
 
 -- ---- a call that fails
 
--- A call ended with this fault that would have answered these bytes: a front of the answers is in the sink, and the
--- crew has gone so often.
+-- A call that would have answered these bytes ended with this fault: a prefix of the answers is in the sink, and the
+-- crew has gone this number of times.
 pub record IsStopped (lines : ℕ) (bytes : List ℕ) (ended : Bool) (first sink : SinkView) (fault : ServeFault)
     (gone later : ℕ) : Type 0 where
   pub stops : Stops first sink (answers lines bytes ended) fault

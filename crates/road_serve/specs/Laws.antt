@@ -1,8 +1,8 @@
--- What holds of the answers to every input.
+-- A law of the answers to every input.
 use Rattle.std.specs.Prelude.{◌≡◌, ℕ, List, ◌++◌, Bool, false}
 use Rattle.road_serve.specs.Answers.{answers_within}
 
--- the answers to what was read begin the answers to whatever goes on from it
+-- the answers to an input read so far are a prefix of the answers to every longer input
 abbrev pub AnswersGoOn : Type 0
 AnswersGoOn =
     (lines limit : ℕ) (first more : List ℕ) (ended : Bool)

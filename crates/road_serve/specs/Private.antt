@@ -1,4 +1,4 @@
--- What contracts of private functions say of lines; no public contract names it.
+-- Definitions for the contracts of private functions, about lines. No public contract names them.
 pub mod Readings
 pub mod HeldLines
 pub mod KeptLaboratory

@@ -1,4 +1,4 @@
--- One call of `serve`, and what it promises.
+-- One call of `serve`, and what it ensures.
 use Rattle.std.specs.Prelude.{◌≡◌, ℕ, List, Bool, true, false, Result, Ok, Err}
 use Rattle.std.specs.Io.KnownBytes.{Appends, Consumes, IsAtEnd}
 use Rattle.road_plan.specs.declared.limits.TheConstants.{MOST_LINES, MOST_BYTES}
@@ -12,7 +12,7 @@ use Rattle.road_serve.specs.declared.faults.ServeFault.TheVariants as faults
 use Rattle.road_serve.specs.declared.serving.Served.{Served}
 
 -- One call of `serve` or `serve_within`, here called a run: how many lines may come after the plan line, and how many
--- bytes in all; its source and its sink before and after it; how often its crew had answered `WorkersGone` before and
+-- bytes in all; its source and its sink before and after it; how often its crew had returned `WorkersGone` before and
 -- after it; and its result.
 pub record Serving : Type 0 where
   pub most_lines : ℕ
@@ -39,7 +39,7 @@ program_serving source_before source_after sink_before sink_after gone_before go
   result = result;
 }
 
--- what is answered to this input
+-- the answers to this input
 abbrev pub run_answers : Serving → List ℕ → List ℕ
 run_answers run input = answers_within run.most_lines run.most_bytes input run.source_after.at_end
 
@@ -69,7 +69,7 @@ pub record EndsWell (run : Serving) (input : List ℕ) (served : Served) : Type 
   pub counted : served.lines ≡ reply_count run.most_lines run.most_bytes input
 
 -- A run that a failed read ends: the answers to the lines that were read whole were written. The plan line was not
--- refused so far, nor did the input go past the most lines or the most bytes: nothing is read after that.
+-- refused so far, and the input did not go past the most lines or the most bytes, because nothing is read after that.
 pub record EndsUnread (run : Serving) (input : List ℕ) : Type 0 where
   pub written : Appends run.sink_before.contents run.sink_after.contents
       (answers_within run.most_lines run.most_bytes input false)
@@ -78,13 +78,12 @@ pub record EndsUnread (run : Serving) (input : List ℕ) : Type 0 where
   pub reads_failed : RisesByOne run.source_before.failures run.source_after.failures
   pub writes_well : run.sink_after.failures ≡ run.sink_before.failures
 
--- A run that a failed write, or out of memory or of workers ends: some of the answers were written, from the first
--- on.
+-- A run that ends for a failed write, for out of memory or for lost workers: a prefix of the answers was written.
 pub record EndsUnwritten (run : Serving) (input : List ℕ) (fault : ServeFault) : Type 0 where
   pub stops : Stops run.sink_before run.sink_after (run_answers run input) fault
   pub reads_well : run.source_after.failures ≡ run.source_before.failures
 
--- how a run ends that read this input, by its result
+-- the end of a run that read this input, by its result
 abbrev pub Ends : Serving → List ℕ → Result Served ServeFault → Type 0
 Ends run input (Ok served) = EndsWell run input served
 Ends run input (Err faults.BadPlan) = WritesAll run input × RefusesPlan run input true
@@ -98,13 +97,13 @@ Ends run input (Err faults.WorkersGone) = EndsUnwritten run input faults.Workers
 abbrev pub run_crowd : Serving → List ℕ → Bool
 run_crowd run input = has_crowd_within run.most_lines run.most_bytes input run.source_after.at_end
 
--- The crew has answered `WorkersGone` as often as before the run. Where that ended the run, it did once more, or there
--- was a crowd, of which a thread could not be started.
+-- The crew has returned `WorkersGone` as often as before the run. If that ended the run, it did once more, or there was
+-- a crowd with a thread that could not be started.
 abbrev pub CountsCrew : Serving → List ℕ → Result Served ServeFault → Type 0
 CountsCrew run input (Ok served) = run.gone_after ≡ run.gone_before
 CountsCrew run input (Err fault) = CountsGone fault (run_crowd run input) run.gone_before run.gone_after
 
--- The run read some input, the front of what the source had left, and answered it.
+-- The run read some input, a prefix of what the source had left, and answered it.
 pub record AnswersInput (run : Serving) : Type 0 where
   pub input : List ℕ
   pub read : Consumes run.source_before.remaining run.source_after.remaining input

@@ -1,4 +1,4 @@
--- How the program ends: its exit status, and the line on standard error.
+-- The ends of the program: its exit status, and the line on standard error.
 use Rattle.std.specs.Prelude.{◌≡◌, ◌⊎◌, ℕ, ◌+◌, ◌-◌, ◌^◌, min, List, codes, false, Option, Some, None, Result, Ok, Err}
 use Rattle.std.specs.Option.{option_map}
 use Rattle.road_serve.specs.Serving.{Serving, AnswersInput}
@@ -31,7 +31,7 @@ abbrev pub status_of : Result Served ServeFault → ℕ
 status_of (Ok served) = 0
 status_of (Err fault) = fault_status fault
 
--- the line on standard error after a run; none where it went well
+-- the line on standard error after a run; none if it went well
 abbrev pub line_of : Result Served ServeFault → Option (List ℕ)
 line_of (Ok served) = None
 line_of (Err fault) = Some (fault_line fault)
@@ -40,7 +40,7 @@ line_of (Err fault) = Some (fault_line fault)
 abbrev pub HasStatus : Ended → ℕ → Option (List ℕ) → Type 0
 HasStatus ended status line = (ended.status ≡ status) × (option_map (λ text. text.now) ended.line ≡ line)
 
--- the program ends because its words are refused, or because there was no memory to read them
+-- the program ends because its arguments are refused, or because there was no memory to read them
 abbrev pub IsRefused : Ended → Type 0
 IsRefused ended = HasStatus ended 2 (Some (codes "bad arguments")) ⊎ HasStatus ended 3 (Some (codes "no memory"))
 
@@ -49,7 +49,7 @@ pub record EndsAfter (ended : Ended) (run : Serving) : Type 0 where
   pub status : HasStatus ended (status_of run.result) (line_of run.result)
   pub answers : AnswersInput run
 
--- the source as a read that failed leaves it
+-- the source after a failed read
 abbrev pub after_failed_read : SourceView → SourceView
 after_failed_read source = record {
   remaining = source.remaining;
@@ -57,25 +57,25 @@ after_failed_read source = record {
   failures = min (source.failures + 1) (2 ^ 64 - 1);
 }
 
--- A run for which the system had no random bytes, which counts as a failed read: the reader was not read, and nothing
--- was written.
+-- A run for which the system had no entropy, which counts as a failed read: the reader was not read, and nothing was
+-- written.
 pub record HasNoRandomBytes (before after : SourceView) (run : Serving) : Type 0 where
   pub result : run.result ≡ Err faults.Read
   pub counted : run.source_after ≡ after_failed_read before
   pub unread : after ≡ before
   pub unwritten : run.sink_after ≡ run.sink_before
 
--- The program ends after this run of a reader, which was as given before and after it.
+-- The program ends after this run of a reader, with the given states of the reader before and after it.
 pub record EndsReader (before after : SourceView) (ended : Ended) (run : Serving) : Type 0 where
   pub ends : EndsAfter ended run
   pub reads : (run.source_after ≡ after) ⊎ HasNoRandomBytes before after run
 
--- the source that is made of a file, before its first byte is read
+-- the source made from a file, before its first byte is read
 abbrev pub source_of_file : {F : Type 0} → (F → Option (List ℕ)) → F → SourceView
 source_of_file remaining file = record { remaining = remaining file; at_end = false; failures = 0 }
 
--- A run of a script read the source made of the file that was opened. Where none was, since that failed or there was no
--- memory to read the words, nothing was written.
+-- A run of a script read the source made from the file that was opened. If none was opened, because that failed or
+-- there was no memory to read the arguments, nothing was written.
 abbrev pub ReadsScript : {F : Type 0} → (F → Option (List ℕ)) → Option F → Serving → Type 0
 ReadsScript remaining (Some file) run = run.source_before ≡ source_of_file remaining file
 ReadsScript remaining None run =

@@ -7,15 +7,15 @@ use Rattle.road_serve.specs.declared.faults.ServeFault.TheVariants as faults
 use Rattle.road_serve.specs.declared.streams.Source.{Ghosts as Source}
 use Rattle.road_serve.specs.declared.streams.Sink.{Ghosts as Sink}
 
--- of a source: the bytes that are left, where that is known; whether the last read gave the end of input; how many
--- reads failed
+-- a source: the bytes that are left, if they are known; whether the last read returned the end of input; the number of
+-- reads that failed
 pub record SourceView : Type 0 where
   pub remaining : Option (List ℕ)
   pub at_end : Bool
   pub failures : ℕ
 
--- of a sink: the bytes that it holds, where that is known; whether the last call was a flush that succeeded; how many
--- calls failed
+-- a sink: the bytes that it holds, if they are known; whether the last call was a flush that succeeded; the number of
+-- calls that failed
 pub record SinkView : Type 0 where
   pub contents : Option (List ℕ)
   pub flushed : Bool
@@ -37,17 +37,17 @@ sink_view sink writer = record {
   failures = sink.failures writer;
 }
 
--- the sink took this text up to a part at its end
+-- the sink took this text except a part at its end
 pub record TakesAllBut (old new : SinkView) (text rest : List ℕ) : Type 0 where
   pub front : List ℕ
   pub taken : Appends old.contents new.contents front
   pub whole : front ++ rest ≡ text
 
--- the sink took some front of this text
+-- the sink took a prefix of this text
 abbrev pub TakesFront : SinkView → SinkView → List ℕ → Type 0
 TakesFront old new text = (rest : List ℕ) × TakesAllBut old new text rest
 
--- A call that would have taken this text ended with a fault: it found no memory, or no worker, or a call of the sink
+-- A call that would have taken this text ended with a fault: there was no memory, or no worker, or a call of the sink
 -- failed.
 abbrev pub Stops : SinkView → SinkView → List ℕ → ServeFault → Type 0
 Stops old new text faults.OutOfMemory = TakesFront old new text × (new.failures ≡ old.failures)

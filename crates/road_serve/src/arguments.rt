@@ -1,4 +1,4 @@
-//! The words after the program's name.
+//! The arguments of the program.
 
 ghost use Rattle.std.specs.Prelude.{◌≡◌, ◌≢◌, ◌<◌, ◌≤◌, IfOk, IfSome, Err, true, false, option_map};
 ghost use Rattle.clap.specs.Words.{app_of, found_of, kind_of, rows_of};
@@ -14,7 +14,7 @@ use clap::{Arg, ArgMatches, Command, Error};
 use road_plan::limits::MOST_WORKERS;
 use std::alloc::{AllocError, Global};
 
-// Says why words are not read.
+// Why arguments are not read.
 #[derive(Clone, Copy, Debug, PartialEq, Eq)]
 pub(crate) enum ArgumentFault {
     // They are not accepted.
@@ -33,17 +33,16 @@ impl From<AllocError> for ArgumentFault {
     }
 }
 
-// Says what the words ask for.
+// The content of the arguments.
 #[derive(Clone, Copy, Debug, PartialEq, Eq)]
 pub(crate) struct Arguments<'a> {
-    // The path of the script. Without one, standard input is read.
+    // The path of the script. If there is none, standard input is read.
     pub script: Option<&'a str>,
-    // How many workers compute the speeds, 1 to 16. Without a number the program does so alone.
+    // The number of workers that compute the speeds, 1 to 16. If there is none, the program computes them itself.
     pub workers: Option<u32>,
 }
 
-// Reads what the words after the program's name ask for: `Refused` where they are not accepted, `OutOfMemory` where an
-// allocation failed.
+// Read the arguments of the program: `Refused` if they are not accepted, `OutOfMemory` if an allocation failed.
 pub(crate) fn arguments_in<'a>(
     alloc: Global,
     words: &'a [String],
@@ -71,7 +70,7 @@ pub(crate) fn arguments_in<'a>(
     }
 }
 
-// Makes the command line of the program.
+// Make the command line of the program.
 fn program_command<'a>(alloc: Global) -> Result<Command<'a>, AllocError>
     ensures { IfOk result (λ command. app_of command ≡ command_line) }
 {
@@ -84,7 +83,7 @@ fn program_command<'a>(alloc: Global) -> Result<Command<'a>, AllocError>
     Ok(command)
 }
 
-// Returns what `clap` finds in the words.
+// Return what `clap` finds in the arguments.
 fn matches_in<'a>(alloc: Global, words: &'a [String]) -> Result<ArgMatches<'a>, ArgumentFault>
     ensures read { IfOk result (λ found. are_read (texts words.now) ≡ true) }
     ensures found { IfOk result (λ found. rows_of (found_of found) ≡ words_matches (texts words.now)) }
@@ -97,7 +96,7 @@ fn matches_in<'a>(alloc: Global, words: &'a [String]) -> Result<ArgMatches<'a>, 
     }
 }
 
-// Reads the number of workers that a value names.
+// Read the number of workers that a value names.
 fn count_in(text: &str) -> Option<u32>
     ensures number { result ≡ worker_count text.now }
     ensures few { IfSome result (λ count. (0 < count) × (count ≤ MOST_WORKERS)) }
@@ -109,7 +108,7 @@ fn count_in(text: &str) -> Option<u32>
     Some(count)
 }
 
-// Returns why `clap` did not read the words.
+// Return why `clap` did not read the arguments.
 fn fault_of(error: &Error) -> ArgumentFault
     ensures { result ≡ Refused → kind_of error.now ≢ kinds.OutOfMemory }
 {

@@ -1,4 +1,4 @@
-//! What serves lines: bytes become lines, and lines replies.
+//! Dialogues, which turn bytes into lines and lines into replies.
 
 ghost use Rattle.std.specs.Prelude.{◌≡◌, ◌↔◌, ◌==◌, ◌++◌, ◌∷◌, ◌<◌, ◌≤◌, ℕ, List, [], IfOk, OnOk, MatchResult};
 ghost use Rattle.std.specs.Prelude.{IsTrue, IsSome, is_some, length, vec_len, take, false, true, None, Ok, Some, string_bytes};
@@ -33,16 +33,16 @@ use std::alloc::Global;
 use std::hash::BuildHasher;
 use std::marker::Model;
 
-// What a line is read as.
+// The result of reading a line.
 #[derive(Drop)]
 enum LineRead<T: Drop> {
-    // What the line says.
+    // The content of the line.
     Accepted(T),
-    // Why it says nothing.
+    // Why the line is refused.
     Refused(Refusal),
 }
 
-// Reads a line as the first one.
+// Read a line as the first one.
 fn first_line(alloc: Global, held: &HeldLine) -> Result<LineRead<PlanLine>, OutOfMemory>
     ensures read { IfOk result (λ read. IsRead plan_line_view read (read_held plan_line_of held.now)) }
     ensures few { IfOk result (λ read. IfAccepted read (λ line. vec_len line.names ≤ 64)) }
@@ -60,7 +60,7 @@ fn first_line(alloc: Global, held: &HeldLine) -> Result<LineRead<PlanLine>, OutO
     }
 }
 
-// Reads a line as a later one.
+// Read a line as a later one.
 fn later_line(alloc: Global, held: &HeldLine) -> Result<LineRead<Command>, OutOfMemory>
     ensures shares { IfOk result (λ read. IfAccepted read (λ command.
         HasFewWrites MOST_CROWD_WRITES (command_view command))) }
@@ -78,7 +78,7 @@ fn later_line(alloc: Global, held: &HeldLine) -> Result<LineRead<Command>, OutOf
     }
 }
 
-// Returns the reply to the plan line, and the laboratory where it is accepted.
+// Return the reply to the plan line, and the laboratory if the line is accepted.
 fn first_reply<S: BuildHasher + Copy>(
     alloc: Global,
     held: &HeldLine,
@@ -98,7 +98,7 @@ fn first_reply<S: BuildHasher + Copy>(
     }
 }
 
-// Opens the laboratory of a plan line that is accepted, and returns the reply too.
+// Open the laboratory of an accepted plan line, and return it with the reply.
 fn open_laboratory<S: BuildHasher + Copy>(
     alloc: Global,
     line: PlanLine,
@@ -115,14 +115,14 @@ fn open_laboratory<S: BuildHasher + Copy>(
     Ok((reply, laboratory))
 }
 
-// Returns the reply to a line that is refused.
+// Return the reply to a line that is refused.
 fn refusal_reply(alloc: Global, refusal: Refusal) -> Result<String, OutOfMemory>
     ensures { IfOk result (λ text. string_bytes text ≡ reply (Refused refusal)) }
 {
     reply_line(alloc, &Answer::Refused(refusal))
 }
 
-// Returns the reply to a line after the first.
+// Return the reply to a line after the first.
 fn later_reply<S: BuildHasher + Copy, C: Crew, K: Crowds>(
     alloc: Global,
     laboratory: &mut Laboratory<S>,
@@ -143,7 +143,7 @@ fn later_reply<S: BuildHasher + Copy, C: Crew, K: Crowds>(
     }
 }
 
-// Returns the reply to a command.
+// Return the reply to a command.
 fn command_reply<S: BuildHasher + Copy, C: Crew, K: Crowds>(
     alloc: Global,
     laboratory: &mut Laboratory<S>,
@@ -163,30 +163,30 @@ fn command_reply<S: BuildHasher + Copy, C: Crew, K: Crowds>(
     Ok(reply_line(alloc, &answer)?)
 }
 
-// Returns where the first line of these bytes ends.
+// Return the place where the first line of these bytes ends.
 fn line_end(bytes: &[u8]) -> Option<usize>
     ensures { result ≡ position (λ x. x == newline) bytes.now }
 {
     bytes.iter().position(|x| *x == b'\n')
 }
 
-/// Answers each whole line that came, and holds the bytes of the next one: no more of a line than the longest one has.
-/// At most 64 KiB of replies wait to be written.
+/// A dialogue answers each whole line that came, and holds the bytes of the next one, at most as many as the longest
+/// line has. At most 64 KiB of replies wait to be written.
 #[derive(Drop)]
 pub struct Dialogue<S: BuildHasher> {
-    // What allocates the replies.
+    // The allocator of the replies.
     alloc: Global,
-    // What makes the hashes of names.
+    // The hasher of names.
     hasher: S,
     // The laboratory, once the plan line is accepted.
     laboratory: Option<Laboratory<S>>,
     // The line that has not ended.
     line: HeldLine,
-    // How many lines may still come after the plan line.
+    // The number of lines that may still come after the plan line.
     left: u32,
     // The replies that are not written yet.
     waiting: Vec<u8>,
-    // Why no further line is answered, if so.
+    // Why no further line is answered, if that is so.
     over: Option<EarlyEnd>,
 }
 
@@ -209,7 +209,7 @@ impl<S: BuildHasher> Model for Dialogue<S> {
 }
 
 impl<S: BuildHasher + Copy> Dialogue<S> {
-    /// Returns the dialogue to which nothing has come. So many lines may come after the plan line, and names are found by
+    /// Make the dialogue before any byte. At most `lines` lines may come after the plan line, and names are found by
     /// hashes that this hasher makes.
     pub fn new(alloc: Global, lines: u32, hasher: S) -> Dialogue<S>
         ensures none_came { (first : SinkView) → HasAnswered lines [] first first result }
@@ -227,21 +227,21 @@ impl<S: BuildHasher + Copy> Dialogue<S> {
         }
     }
 
-    /// Returns why no further line is answered, if so.
-    pub fn over(&self) -> Option<EarlyEnd>
+    /// Return why no further line is answered, if that is so.
+    pub fn early_end(&self) -> Option<EarlyEnd>
         ensures { result ≡ self.now.over }
     {
         self.over
     }
 
-    /// Returns how many lines may still come after the plan line.
-    pub fn left(&self) -> u32
+    /// Return the number of lines that may still come after the plan line.
+    pub fn lines_left(&self) -> u32
         ensures { result ≡ self.now.left }
     {
         self.left
     }
 
-    // Holds more bytes of the line that has not ended.
+    // Hold more bytes of the line that has not ended.
     fn hold(&mut self, bytes: &[u8]) -> Result<(), OutOfMemory>
         ensures holds { (line : List ℕ) → Holds self.old.line line
             → OnOk result (Holds self.new.line (line ++ bytes.now)) }
@@ -253,28 +253,28 @@ impl<S: BuildHasher + Copy> Dialogue<S> {
         self.line.hold(bytes)
     }
 
-    // Returns whether the plan line is accepted.
+    // Return whether the plan line is accepted.
     fn is_open(&self) -> bool
         ensures { result ≡ is_some self.now.laboratory }
     {
         self.laboratory.is_some()
     }
 
-    // Returns whether no further line may come.
+    // Return whether no further line may come.
     fn is_spent(&self) -> bool
         ensures { IsTrue result ↔ (IsSome self.now.laboratory × (self.now.left ≡ 0)) }
     {
         self.is_open() && self.left == 0
     }
 
-    // Returns whether nothing of the next line has come.
+    // Return whether the next line has no bytes yet.
     fn is_clear(&self) -> bool
         ensures { IsTrue result ↔ (self.now.line ≡ Some []) }
     {
         self.line.is_empty()
     }
 
-    // Returns the reply to the line that is held, which has ended.
+    // Return the reply to the held line, which has ended.
     fn reply<C: Crew, K: Crowds>(&mut self, crew: &mut C, crowds: &K) -> Result<String, CrewFault>
         requires { self.old.over ≡ None }
         ensures answered { (lines : ℕ) (bytes : List ℕ) → GoesOn lines bytes self.old
@@ -302,7 +302,7 @@ impl<S: BuildHasher + Copy> Dialogue<S> {
         Ok(reply)
     }
 
-    // Answers the line that is held, which has ended.
+    // Answer the held line, which has ended.
     fn answer<W: Sink, C: Crew, K: Crowds>(
         &mut self,
         writer: &mut W,
@@ -323,7 +323,7 @@ impl<S: BuildHasher + Copy> Dialogue<S> {
         append_reply(&mut self.waiting, writer, reply.as_bytes())
     }
 
-    // Takes the next of these bytes, up to the end of a line where one of them ends it, and gives how many.
+    // Take the next of these bytes, up to the end of a line if one of them ends it, and return their number.
     fn take_line<W: Sink, C: Crew, K: Crowds>(
         &mut self,
         writer: &mut W,
@@ -341,7 +341,7 @@ impl<S: BuildHasher + Copy> Dialogue<S> {
             (C.times_gone crew.old) (C.times_gone crew.new)) }
         ensures kept { OnOk result (C.times_gone crew.new ≡ C.times_gone crew.old) }
     {
-        if self.over().is_some() {
+        if self.early_end().is_some() {
             return Ok(bytes.len());
         }
         if self.is_spent() {
@@ -361,14 +361,14 @@ impl<S: BuildHasher + Copy> Dialogue<S> {
         }
     }
 
-    /// Takes the next bytes of the input: writes the reply to each line that they end, and flushes. A dialogue that is
-    /// over answers nothing more.
+    /// Take the next bytes of the input: write the reply to each line that they end, and flush. A dialogue that is over
+    /// answers nothing more.
     ///
     /// # Errors
     ///
-    /// `Write` where the sink failed, `WorkersGone` where the crew did, or a thread of a crowd could not be started,
-    /// `OutOfMemory` where an allocation failed. What was written then begins the replies. The line that the dialogue
-    /// held may have been answered or not, so it must not be called again.
+    /// `Write` if the sink failed, `WorkersGone` if the crew did or a thread of a crowd could not be started,
+    /// `OutOfMemory` if an allocation failed. What was written is then a prefix of the replies. The line that the
+    /// dialogue held may have been answered or not, so the dialogue must not be called again.
     pub fn take<W: Sink, C: Crew, K: Crowds>(
         &mut self,
         writer: &mut W,
@@ -394,7 +394,7 @@ impl<S: BuildHasher + Copy> Dialogue<S> {
         Ok(())
     }
 
-    // Answers a last line without a newline, or an input without a line, where the input has ended.
+    // Answer a last line without a newline, or an input without a line, after the input has ended.
     fn answer_last<W: Sink, C: Crew, K: Crowds>(
         &mut self,
         writer: &mut W,
@@ -421,8 +421,8 @@ impl<S: BuildHasher + Copy> Dialogue<S> {
         append_reply(&mut self.waiting, writer, reply.as_bytes())
     }
 
-    /// Writes the reply to a last line without a newline, or to an input without a line, where the input has ended, and
-    /// flushes. The dialogue must not be over.
+    /// Write the reply to a last line without a newline, or to an input without a line, after the input has ended, and
+    /// flush. The dialogue must not be over.
     ///
     /// # Errors
     ///

@@ -1,4 +1,4 @@
-//! How a run ends other than well.
+//! How a run fails.
 
 ghost use Rattle.std.specs.Prelude.{◌≡◌};
 ghost use Rattle.road_serve.specs.Faults.{crew_fault, early_fault};
@@ -8,7 +8,7 @@ use road_workers::CrewFault;
 use std::alloc::{AllocError, AllocFailed};
 use thiserror::Error;
 
-/// Says why a run ended before all of its input was answered.
+/// Why a run ended before all of its input was answered.
 #[derive(Debug, Drop, Error)]
 pub enum ServeFault {
     /// The plan line was refused, or there was none. The refusal was written.
@@ -23,25 +23,25 @@ pub enum ServeFault {
     /// A read failed.
     #[error("read fault")]
     Read,
-    /// A byte past the limits was read: past those of lines, or past that of bytes.
+    /// A byte past the limits was read: past the limit of lines or the limit of bytes.
     #[error("too many lines")]
     TooMany,
-    /// A worker of the crew, or a session's thread, could not be started or has gone.
+    /// A worker of the crew, or a session's thread, could not be started or has ended.
     #[error("workers gone")]
     WorkersGone,
 }
 
-/// Says how a run is over before the end of its input.
+/// Why a run is over before the end of its input.
 #[derive(Clone, Copy, Debug, PartialEq, Eq)]
 pub enum EarlyEnd {
     /// The plan line was refused, or there was none.
     BadPlan,
-    /// A byte stood behind the last line that may come.
+    /// There was a byte after the last line that may come.
     TooMany,
 }
 
 impl EarlyEnd {
-    /// Returns the fault of a run that ends so.
+    /// Return the fault of a run that ends for this cause.
     pub fn fault(self) -> ServeFault
         ensures { result ≡ early_fault self }
     {
@@ -52,12 +52,12 @@ impl EarlyEnd {
     }
 }
 
-/// Says that a source could not be read.
+/// A source could not be read.
 #[derive(Debug, Drop, Error)]
 #[error("the read failed")]
 pub struct ReadFailed;
 
-/// Says that a sink took nothing of a piece, or could not be flushed.
+/// A sink took nothing of a piece, or could not be flushed.
 #[derive(Debug, Drop, Error)]
 #[error("the write failed")]
 pub struct WriteFailed;

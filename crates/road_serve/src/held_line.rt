@@ -9,16 +9,16 @@ use road_plan::limits::LONGEST_LINE;
 use std::alloc::Global;
 use std::marker::Model;
 
-// What has come of a line.
+// The bytes of a line that have come.
 #[derive(Drop)]
 enum Held {
     // Its bytes.
     Bytes(Vec<u8>),
-    // More than the longest line has, none of them held.
+    // More than the longest line has. None of them is held.
     TooLong,
 }
 
-// Holds the bytes of the line that has not ended: no more of them than the longest line has.
+// The bytes of the line that has not ended, at most as many as the longest line has.
 #[derive(Drop)]
 pub(crate) struct HeldLine {
     held: Held,
@@ -37,7 +37,7 @@ impl Model for HeldLine {
 }
 
 impl HeldLine {
-    // Returns the line of which nothing has come.
+    // Make the line before any of its bytes.
     pub fn new(alloc: Global) -> HeldLine
         ensures { result ≡ Some [] }
     {
@@ -46,7 +46,7 @@ impl HeldLine {
         }
     }
 
-    // Holds more bytes of the line.
+    // Hold more bytes of the line.
     pub fn hold(&mut self, bytes: &[u8]) -> Result<(), OutOfMemory>
         ensures { (line : List ℕ) → Holds self.old line → OnOk result (Holds self.new (line ++ bytes.now)) }
     {
@@ -60,7 +60,7 @@ impl HeldLine {
         held.extend_from_slice(bytes)
     }
 
-    // Returns the bytes of the line, where it is not too long.
+    // Return the bytes of the line, if it is not too long.
     pub fn bytes(&self) -> Option<&[u8]>
         ensures bytes { option_map (λ bytes. bytes.now) result ≡ self.now }
         ensures few { IfSome result (λ bytes. length bytes.now ≤ LONGEST_LINE) }
@@ -71,7 +71,7 @@ impl HeldLine {
         }
     }
 
-    // Returns whether nothing of the line has come.
+    // Return whether the line has no bytes yet.
     pub fn is_empty(&self) -> bool
         ensures { IsTrue result ↔ (self.now ≡ Some []) }
     {
@@ -81,7 +81,7 @@ impl HeldLine {
         }
     }
 
-    // Lets all go that has come.
+    // Remove all bytes of the line.
     pub fn clear(&mut self, alloc: Global)
         ensures { self.new ≡ Some [] }
     {

@@ -1,7 +1,7 @@
 //! Dialogues: lines come from a source, and their replies go to a sink.
 //!
 //! ```
-//! // The answers to an input that is held in memory, by one worker; its crowds are gathered by threads.
+//! // The answers to an input in memory, by a single worker. Its crowds are gathered by threads.
 //! let mut reader = MemorySource::new(input, input.len().max(1), Failing::Never);
 //! let mut writer = MemorySink::new(Vec::new(alloc), 65_536, Failing::Never, Failing::Never);
 //! match serve(alloc, &mut reader, &mut writer, &mut Alone, &OnThreads::new(&rt), RandomState::new(&rt)?) {

@@ -9,19 +9,19 @@ ghost use Rattle.road_serve.specs.MemoryStreams.{is_failing};
 use crate::faults::{ReadFailed, WriteFailed};
 use crate::streams::{Sink, Source};
 
-/// Says which calls fail, counted from 0.
+/// Which calls fail, counted from 0.
 #[derive(Clone, Copy, Debug)]
 pub enum Failing {
     /// None.
     Never,
-    /// That call alone: those after it succeed.
+    /// Only that call: those after it succeed.
     Once(u64),
     /// That call and all after it.
     From(u64),
 }
 
 impl Failing {
-    // Returns whether this call fails.
+    // Return whether this call fails.
     fn fails(self, call: u64) -> bool
         ensures { result ≡ is_failing self call }
     {
@@ -33,7 +33,7 @@ impl Failing {
     }
 }
 
-// Counts the calls of one kind, and says which fail.
+// A counter of the calls of one kind, which decides which of them fail.
 #[derive(Drop)]
 struct Calls {
     made: u64,
@@ -41,8 +41,8 @@ struct Calls {
 }
 
 impl Calls {
-    // Returns whether the next call fails. It is counted.
-    fn next_fails(&mut self) -> bool
+    // Count the next call. Return whether it fails.
+    fn count_call(&mut self) -> bool
         ensures fails { result ≡ is_failing self.old.failing self.old.made }
         ensures counted { RisesByOne self.old.made self.new.made }
         ensures unchanged { self.new.failing ≡ self.old.failing }
@@ -53,7 +53,7 @@ impl Calls {
     }
 }
 
-/// Gives these bytes, at most `step` of them at a call.
+/// A source that gives these bytes, at most `step` of them in each call.
 #[derive(Drop)]
 pub struct MemorySource<'a> {
     bytes: &'a [u8],
@@ -67,7 +67,7 @@ pub struct MemorySource<'a> {
 }
 
 impl<'a> MemorySource<'a> {
-    /// Returns the source of these bytes. Its step is above 0.
+    /// Make the source of these bytes. Its step must be above 0.
     pub fn new(bytes: &'a [u8], step: usize, failing: Failing) -> MemorySource<'a>
         requires { 0 < step }
         ensures remaining { ⟦<MemorySource<'a> as Source>⟧.remaining result ≡ Some bytes.now }
@@ -104,7 +104,7 @@ impl<'a> Source for MemorySource<'a> {
         ensures well { OnOk result (self.new.failures ≡ self.old.failures) }
         ensures not_ended { OnErr result (⟦<MemorySource<'a> as Source>⟧.at_end self.new ≡ false) }
         ensures failed { OnErr result (RisesByOne self.old.failures self.new.failures) }
-        // Fails where the call is one of those that fail, and else gives as many bytes as it may.
+        // It fails if the call is one that must fail, and else gives as many bytes as it may.
         ensures fails { is_err result ≡ is_failing self.old.reads.failing self.old.reads.made }
         ensures count { IfOk result (λ n. n
             ≡ min (min (length self.old.bytes.now - self.old.place) self.old.step) (length piece.old)) }
@@ -113,7 +113,7 @@ impl<'a> Source for MemorySource<'a> {
         ensures same_step { self.new.step ≡ self.old.step }
         ensures same_bytes { self.new.bytes ≡ self.old.bytes }
     {
-        if self.reads.next_fails() {
+        if self.reads.count_call() {
             self.at_end = false;
             self.failures = self.failures.saturating_add(1);
             return Err(ReadFailed);
@@ -128,8 +128,8 @@ impl<'a> Source for MemorySource<'a> {
     }
 }
 
-/// Keeps what it takes, at most `room` bytes in all: a write past them fails. It takes at most `step` of them at a call,
-/// and the rest with the next ones.
+/// A sink that stores the bytes that it takes, at most `room` in all: a write past them fails. It takes at most `step`
+/// bytes in each call, and the rest in the next ones.
 #[derive(Drop)]
 pub struct MemorySink {
     bytes: Vec<u8>,
@@ -142,8 +142,8 @@ pub struct MemorySink {
 }
 
 impl MemorySink {
-    /// Returns the sink that goes on from these bytes, and takes as many at a call as there is room for. Its writes and
-    /// its flushes are counted apart.
+    /// Make the sink that begins with these bytes and takes as many in each call as it has room for. Its writes and its
+    /// flushes are counted separately.
     pub fn new(bytes: Vec<u8>, room: usize, writes: Failing, flushes: Failing) -> MemorySink
         ensures contents { ⟦<MemorySink as Sink>⟧.contents result ≡ Some bytes.items }
         ensures failures { ⟦<MemorySink as Sink>⟧.failures result ≡ 0 }
@@ -171,14 +171,14 @@ impl MemorySink {
         }
     }
 
-    /// Returns the sink that takes at most so many bytes at a call. Where these are none, each write fails.
-    pub fn by_steps(self, step: usize) -> MemorySink
+    /// Return the sink that takes at most `step` bytes in each call. If `step` is 0, each write fails.
+    pub fn with_step(self, step: usize) -> MemorySink
         ensures { result ≡ record self { step = step } }
     {
         MemorySink { step, ..self }
     }
 
-    /// Returns the bytes that were taken, and those from which the sink went on.
+    /// Return the bytes that were taken, after those with which the sink began.
     pub fn bytes(&self) -> &[u8]
         ensures { ⟦<MemorySink as Sink>⟧.contents self.now ≡ Some result.now }
     {
@@ -202,7 +202,7 @@ impl Sink for MemorySink {
         ensures unflushed { ⟦<MemorySink as Sink>⟧.flushed self.new ≡ false }
         ensures well { OnOk result (self.new.failures ≡ self.old.failures) }
         ensures failed { OnErr result (RisesByOne self.old.failures self.new.failures) }
-        // Takes as many bytes as it may at a call and has room for, where the call is none of those that fail.
+        // It takes as many bytes as it may in one call and has room for, if the call is not one that must fail.
         ensures fails { OnOk result (is_failing self.old.writes.failing self.old.writes.made ≡ false) }
         ensures count { IfOk result (λ n. n ≡ min (min (length piece.now) self.old.room) self.old.step) }
         ensures room { MatchResult result
@@ -214,7 +214,7 @@ impl Sink for MemorySink {
     {
         self.flushed = false;
         let count = piece.len().min(self.room).min(self.step);
-        if self.writes.next_fails()
+        if self.writes.count_call()
             || count == 0
             || self.bytes.extend_from_slice(&piece[..count]).is_err()
         {
@@ -230,14 +230,14 @@ impl Sink for MemorySink {
         ensures flushed { ⟦<MemorySink as Sink>⟧.flushed self.new ≡ is_ok result }
         ensures well { OnOk result (self.new.failures ≡ self.old.failures) }
         ensures failed { OnErr result (RisesByOne self.old.failures self.new.failures) }
-        // Fails where the call is one of those that fail, and only there.
+        // It fails if and only if the call is one that must fail.
         ensures fails { is_err result ≡ is_failing self.old.flushes.failing self.old.flushes.made }
         ensures call { RisesByOne self.old.flushes.made self.new.flushes.made }
         ensures same_calls { self.new.flushes.failing ≡ self.old.flushes.failing }
         ensures same_writes { self.new.writes ≡ self.old.writes }
         ensures same_room { self.new.room ≡ self.old.room }
     {
-        self.flushed = !self.flushes.next_fails();
+        self.flushed = !self.flushes.count_call();
         if !self.flushed {
             self.failures = self.failures.saturating_add(1);
             return Err(WriteFailed);

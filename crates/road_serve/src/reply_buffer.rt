@@ -9,10 +9,10 @@ ghost use Rattle.road_serve.specs.StreamViews.{sink_view, TakesAllBut, TakesFron
 use crate::faults::{ServeFault, WriteFailed};
 use crate::streams::Sink;
 
-// Bounds how many bytes of replies wait.
+// The most bytes of replies that wait.
 const MOST_WAITING: usize = 65_536;
 
-// Writes all these bytes.
+// Write all these bytes.
 fn write_all<W: Sink>(writer: &mut W, bytes: &[u8]) -> Result<(), WriteFailed>
     ensures all { OnOk result (Appends (W.contents writer.old) (W.contents writer.new) bytes.now) }
     ensures well { OnOk result (W.failures writer.new ≡ W.failures writer.old) }
@@ -28,9 +28,8 @@ fn write_all<W: Sink>(writer: &mut W, bytes: &[u8]) -> Result<(), WriteFailed>
     Ok(())
 }
 
-// Appends a reply to those that wait, or, where it would be too much for them, writes them and then the reply.
-// `Write` where the sink failed, `OutOfMemory` where an allocation failed: what was written then begins what waited and
-// the reply.
+// Append a reply to the waiting ones, or write these and then the reply if they would be too many. `Write` if the sink
+// failed, `OutOfMemory` if an allocation failed: what was written is then a prefix of the waiting replies and this one.
 pub(crate) fn append_reply<W: Sink>(
     waiting: &mut Vec<u8>,
     writer: &mut W,
@@ -53,8 +52,8 @@ pub(crate) fn append_reply<W: Sink>(
     Ok(())
 }
 
-// Writes what waits, and flushes it. `WriteFailed` where a write or the flush failed: what was written then begins what
-// waited.
+// Write the waiting replies, and flush. `WriteFailed` if a write or the flush failed: what was written is then a prefix
+// of the waiting replies.
 pub(crate) fn flush<W: Sink>(waiting: &mut Vec<u8>, writer: &mut W) -> Result<(), WriteFailed>
     ensures all { OnOk result (Appends (W.contents writer.old) (W.contents writer.new) waiting.old.items) }
     ensures flushed { OnOk result (W.flushed writer.new ≡ true) }

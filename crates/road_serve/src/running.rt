@@ -29,17 +29,17 @@ use std::rt::Files;
 use std::sync::Wait;
 use std::thread::Threads;
 
-/// Says how the program has ended, as its process tells whoever started it.
+/// How the program has ended, as its process reports it to its caller.
 #[derive(Clone, Copy, Debug)]
 pub struct Ended {
     /// The exit status.
     pub status: u8,
-    /// The line for standard error, at a status other than 0.
+    /// The line for standard error, if the status is not 0.
     pub line: Option<&'static str>,
 }
 
 impl Ended {
-    /// Returns the end where the words after the program's name are refused.
+    /// Return the end of the program if its arguments are refused.
     pub fn bad_arguments() -> Ended
         ensures { HasStatus result 2 (Some (codes "bad arguments")) }
     {
@@ -49,7 +49,7 @@ impl Ended {
         }
     }
 
-    /// Returns the end where there is no memory for the words after the program's name.
+    /// Return the end of the program if there is no memory for its arguments.
     pub fn no_memory() -> Ended
         ensures { HasStatus result 3 (Some (codes "no memory")) }
     {
@@ -60,9 +60,9 @@ impl Ended {
     }
 }
 
-/// Runs the program with these words after its name: from the script that they name, or from the reader, and with the
-/// workers that they ask for, or alone. A script is opened before workers are started. The sessions of a crowd work on
-/// threads of their own. Names are found by hashes with keys from the system's random bytes; where it has none, the
+/// Run the program with these arguments: from the script that they name or else from the reader, and with the workers
+/// that they request or else alone. A script is opened before workers are started. The sessions of a crowd run on their
+/// own threads. Names are found by hashes with keys from the system's random bytes. If the system has no entropy, the
 /// program ends as after a failed read, before it reads a line.
 pub fn run<
     F: Files + Threads + Wait + RandomSource + AllocGlobal + Clone + Drop + Send + 'static,
@@ -77,7 +77,7 @@ pub fn run<
         × EndsReader (source_view R.Source reader.old) (source_view R.Source reader.new) result
         (program_serving (source_view R.Source reader.old) after
         (sink_view W.Sink writer.old) (sink_view W.Sink writer.new) 0 gone served) }
-    // No contract says which file a path opens, nor which bytes a file holds.
+    // No contract says which file a path opens, or which bytes a file holds.
     ensures script { are_accepted (texts words.now) ≡ true → IsSome (script_of (texts words.now))
         → (reader.new ≡ reader.old)
         × (served : Result Served ServeFault) × (gone : ℕ) × (workers_of (texts words.now) ≡ None → gone ≡ 0)
@@ -95,7 +95,7 @@ pub fn run<
     }
 }
 
-// Runs the program from the script at a path.
+// Run the program from the script at a path.
 fn run_script<
     F: Files + Threads + Wait + RandomSource + AllocGlobal + Clone + Drop + Send + 'static,
     W: Sink,
@@ -109,7 +109,7 @@ fn run_script<
     run_opened(rt, fs::open(rt, path).ok(), workers, writer)
 }
 
-// Runs the program from the script that was opened, from its first byte. Where none could be, that is a read that fails.
+// Run the program from the script that was opened, from its first byte. If none could be opened, report a read error.
 fn run_opened<
     F: Files + Threads + Wait + RandomSource + AllocGlobal + Clone + Drop + Send + 'static,
     W: Sink,
@@ -126,12 +126,12 @@ fn run_opened<
             let mut reader = StdSource::new(file);
             run_reader(rt, workers, &mut reader, writer)
         }
-        None => after_fault(&ServeFault::Read),
+        None => end_after_fault(&ServeFault::Read),
     }
 }
 
-// Runs the program with so many workers, or alone, from a reader to a writer. Names are found by hashes with random keys:
-// where the system has no random bytes for these, that is a read that fails.
+// Run the program with `workers` workers, or alone, from a reader to a writer. Names are found by hashes with random
+// keys. If the system has no entropy for these, report a read error.
 fn run_reader<
     F: Threads + Wait + RandomSource + AllocGlobal + Clone + Drop + Send + 'static,
     R: Source,
@@ -145,11 +145,11 @@ fn run_reader<
 {
     match RandomState::new(rt) {
         Ok(hasher) => run_hashed(rt, workers, reader, writer, hasher),
-        Err(_) => after_fault(&ServeFault::Read),
+        Err(_) => end_after_fault(&ServeFault::Read),
     }
 }
 
-// Runs the program with so many workers, or alone, from a reader to a writer, and finds names by this hasher.
+// Run the program with `workers` workers, or alone, from a reader to a writer, and find names by this hasher.
 fn run_hashed<F: Threads + Wait + AllocGlobal + Clone + Drop + Send + 'static, R: Source, W: Sink>(
     rt: &F,
     workers: Option<u32>,
@@ -168,7 +168,7 @@ fn run_hashed<F: Threads + Wait + AllocGlobal + Clone + Drop + Send + 'static, R
     }
 }
 
-// Runs the program by the crew of one, from a reader to a writer.
+// Run the program with a crew of one, from a reader to a writer.
 fn run_alone<F: Threads + Wait + AllocGlobal, R: Source, W: Sink>(
     rt: &F,
     reader: &mut R,
@@ -190,7 +190,8 @@ fn run_alone<F: Threads + Wait + AllocGlobal, R: Source, W: Sink>(
     )
 }
 
-// Runs the program by so many lasting workers, from a reader to a writer. They are ended before it ends.
+// Run the program with a crew of lasting workers, from a reader to a writer. The workers are stopped before the program
+// ends.
 fn run_by_workers<
     F: Threads + Wait + AllocGlobal + Clone + Drop + Send + 'static,
     R: Source,
@@ -215,11 +216,11 @@ fn run_by_workers<
             crew.finish();
             ended
         }
-        Err(fault) => after_fault(&ServeFault::from(fault)),
+        Err(fault) => end_after_fault(&ServeFault::from(fault)),
     }
 }
 
-// Starts a crew of so many lasting workers.
+// Start a crew of this number of lasting workers.
 fn crew_of<F: Threads + Wait + AllocGlobal + Clone + Drop + Send + 'static>(
     rt: &F,
     count: u32,
@@ -232,7 +233,7 @@ fn crew_of<F: Threads + Wait + AllocGlobal + Clone + Drop + Send + 'static>(
     Pool::start(rt.clone()?, rt.alloc(), count)
 }
 
-/// Runs the program by a crew, and whoever gathers crowds, from a reader to a writer, and finds names by this hasher.
+/// Run the program with a crew and a gatherer of crowds, from a reader to a writer, and find names by this hasher.
 pub fn run_by<R: Source, W: Sink, C: Crew, K: Crowds, S: BuildHasher + Copy>(
     alloc: Global,
     reader: &mut R,
@@ -246,11 +247,11 @@ pub fn run_by<R: Source, W: Sink, C: Crew, K: Crowds, S: BuildHasher + Copy>(
         (sink_view W.Sink writer.old) (sink_view W.Sink writer.new) (C.times_gone crew.old) (C.times_gone crew.new)
         served) }
 {
-    after_run(&serve(alloc, reader, writer, crew, crowds, hasher))
+    end_after_run(&serve(alloc, reader, writer, crew, crowds, hasher))
 }
 
-// Returns how the program ends after a run.
-fn after_run(served: &Result<Served, ServeFault>) -> Ended
+// Return the end of the program after a run.
+fn end_after_run(served: &Result<Served, ServeFault>) -> Ended
     ensures { HasStatus result (status_of served.now) (line_of served.now) }
 {
     match served {
@@ -258,12 +259,12 @@ fn after_run(served: &Result<Served, ServeFault>) -> Ended
             status: 0,
             line: None,
         },
-        Err(fault) => after_fault(fault),
+        Err(fault) => end_after_fault(fault),
     }
 }
 
-// Returns how the program ends after a run that failed.
-fn after_fault(fault: &ServeFault) -> Ended
+// Return the end of the program after a run that failed.
+fn end_after_fault(fault: &ServeFault) -> Ended
     ensures { HasStatus result (fault_status fault.now) (Some (fault_line fault.now)) }
 {
     let (status, line) = match fault {

@@ -1,4 +1,4 @@
-//! Reads an input, and writes its replies.
+//! Reading an input, and writing its replies.
 
 ghost use Rattle.std.specs.Prelude.{◌≡◌, [], min, None};
 ghost use Rattle.road_serve.specs.Dialogue.{HasAnswered};
@@ -14,36 +14,37 @@ use road_workers::Crew;
 use std::alloc::Global;
 use std::hash::BuildHasher;
 
-// Bounds how many bytes are read at once.
+// The most bytes that are read at once.
 const PIECE: usize = 16_384;
 
-/// Says what a run of `serve` that went well has served.
+/// The result of a successful run of `serve`.
 #[derive(Debug, Drop)]
 pub struct Served {
-    /// How many replies there were after the plan line's.
+    /// The number of replies after the plan line's.
     pub lines: u32,
 }
 
-// Bounds how much of an input is answered.
+// The limits of an input that is answered.
 #[derive(Clone, Copy, Debug)]
 struct Limits {
-    // How many lines may come after the plan line.
+    // The most lines that may come after the plan line.
     lines: u32,
-    // How many bytes may come in all.
+    // The most bytes that may come in all.
     bytes: u64,
 }
 
-/// Reads an input to its end, and writes the reply to each of its lines. At most 1,000,000 lines after the plan line
-/// are read, and at most 2^32 bytes. The crew computes the speeds of the steps that are simulated; `crowds` gathers the
-/// crowds; the hasher makes the hashes by which names are found, and no reply depends on it. Without crowds no call waits
-/// but those of the source, the sink and the crew.
+/// Read an input to its end, and write the reply to each of its lines. At most 1,000,000 lines after the plan line are
+/// read, and at most 2^32 bytes. The crew computes the speeds of simulated steps, and `crowds` gathers crowds. The
+/// hasher makes the hashes by which names are found, and no reply depends on it. Without crowds only calls of the
+/// source, the sink and the crew may block.
 ///
 /// # Errors
 ///
-/// `BadPlan` where the plan line is refused, `TooMany` where it is not and a byte stands past the limits: then the
-/// replies are written whole. `Read` where the source failed: then the replies to all lines that were read whole are
-/// written. `Write` where the sink failed, `WorkersGone` where the crew did, or a thread of a crowd could not be started,
-/// `OutOfMemory` where an allocation failed: then what was written begins the replies.
+/// - `BadPlan`: the plan line is refused. `TooMany`: it is not refused, and there is a byte past the limits. After
+///   both, the replies are written whole.
+/// - `Read`: the source failed. The replies to all lines that were read whole are then written.
+/// - `Write`: the sink failed. `WorkersGone`: the crew did, or a thread of a crowd could not be started. `OutOfMemory`:
+///   an allocation failed. After these, what was written is a prefix of the replies.
 pub fn serve<R: Source, W: Sink, C: Crew, K: Crowds, S: BuildHasher + Copy>(
     alloc: Global,
     reader: &mut R,
@@ -61,7 +62,7 @@ pub fn serve<R: Source, W: Sink, C: Crew, K: Crowds, S: BuildHasher + Copy>(
     )
 }
 
-/// Serves as `serve` does, with at most so many lines after the plan line, and at most so many bytes.
+/// Serve as `serve` does, with at most `lines` lines after the plan line, and at most `bytes` bytes.
 ///
 /// # Errors
 ///
@@ -93,10 +94,10 @@ pub fn serve_within<R: Source, W: Sink, C: Crew, K: Crowds, S: BuildHasher + Cop
     answer_input(reader, writer, crew, crowds, &mut dialogue, limits)
 }
 
-// Reads an input to its end into a dialogue to which nothing has come, and writes the replies.
+// Read an input to its end into a new dialogue, and write the replies.
 //
-// The dialogue is lent: each way out of the function that owns it drops it, and for each such drop the prover goes
-// through all that a laboratory holds.
+// The dialogue is borrowed. Each way out of the function that owns it drops it, and for each of these drops the prover
+// visits everything that a laboratory holds.
 fn answer_input<R: Source, W: Sink, C: Crew, K: Crowds, S: BuildHasher + Copy>(
     reader: &mut R,
     writer: &mut W,
@@ -126,16 +127,16 @@ fn answer_input<R: Source, W: Sink, C: Crew, K: Crowds, S: BuildHasher + Copy>(
         let count = reader.read(&mut buffer)?;
         if count == 0 {
             dialogue.finish(writer, crew, crowds)?;
-            if let Some(end) = dialogue.over() {
+            if let Some(end) = dialogue.early_end() {
                 return Err(end.fault());
             }
             return Ok(Served {
-                lines: limits.lines.saturating_sub(dialogue.left()),
+                lines: limits.lines.saturating_sub(dialogue.lines_left()),
             });
         }
-        let within = fitting(room, count);
+        let within = bytes_within(room, count);
         dialogue.take(writer, &buffer[..within], crew, crowds)?;
-        if let Some(end) = dialogue.over() {
+        if let Some(end) = dialogue.early_end() {
             return Err(end.fault());
         }
         if within < count {
@@ -145,8 +146,8 @@ fn answer_input<R: Source, W: Sink, C: Crew, K: Crowds, S: BuildHasher + Copy>(
     }
 }
 
-// Returns how many of these bytes are within the limit.
-fn fitting(room: u64, bytes: usize) -> usize
+// Return how many of these bytes are within the limit.
+fn bytes_within(room: u64, bytes: usize) -> usize
     ensures { result ≡ min room bytes }
 {
     room.min(bytes as u64) as usize

@@ -1,4 +1,4 @@
-//! Readers and writers of std as a source and a sink.
+//! Readers and writers of std as sources and sinks.
 
 ghost use Rattle.std.specs.Prelude.{◌≡◌, false};
 
@@ -6,8 +6,8 @@ use crate::faults::{ReadFailed, WriteFailed};
 use crate::streams::{Sink, Source};
 use std::io;
 
-/// Reads from a reader of std. It keeps no bytes: what is left of it is what the reader has left, where the reader
-/// knows that.
+/// A source that reads from a reader of std. It stores no bytes: its remaining bytes are those of the reader, if the
+/// reader knows them.
 #[derive(Drop)]
 pub struct StdSource<R: io::Read + Drop> {
     reader: R,
@@ -16,7 +16,7 @@ pub struct StdSource<R: io::Read + Drop> {
 }
 
 impl<R: io::Read + Drop> StdSource<R> {
-    /// Returns the source that reads from this reader.
+    /// Make the source that reads from this reader.
     pub fn new(reader: R) -> StdSource<R>
         ensures remaining { ⟦<StdSource<R> as Source>⟧.remaining result ≡ R.remaining reader }
         ensures going { ⟦<StdSource<R> as Source>⟧.at_end result ≡ false }
@@ -52,7 +52,7 @@ impl<R: io::Read + Drop> Source for StdSource<R> {
     }
 }
 
-/// Writes to a writer of std. Its contents are what the writer holds, where the writer knows that.
+/// A sink that writes to a writer of std. Its contents are those of the writer, if the writer knows them.
 #[derive(Drop)]
 pub struct StdSink<W: io::Write + Drop> {
     writer: W,
@@ -61,7 +61,7 @@ pub struct StdSink<W: io::Write + Drop> {
 }
 
 impl<W: io::Write + Drop> StdSink<W> {
-    /// Returns the sink that writes to this writer.
+    /// Make the sink that writes to this writer.
     pub fn new(writer: W) -> StdSink<W>
         ensures contents { ⟦<StdSink<W> as Sink>⟧.contents result ≡ W.contents writer }
         ensures unflushed { ⟦<StdSink<W> as Sink>⟧.flushed result ≡ false }

@@ -1,4 +1,4 @@
-//! Where bytes come from, and where they go.
+//! Sources and sinks of bytes.
 
 ghost use Rattle.std.specs.Prelude.{◌≡◌, ℕ, ◌≤◌, ◌<◌, ◌==◌, List, Option, Bool, false, is_ok, length, IfOk, OnOk};
 ghost use Rattle.std.specs.Prelude.{OnErr};
@@ -7,23 +7,23 @@ ghost use Rattle.road_serve.specs.Failures.{RisesByOne};
 
 use crate::faults::{ReadFailed, WriteFailed};
 
-/// Gives bytes. Contracts see those that are left, where that is known.
+/// A source of bytes. Contracts see the bytes that are left, if they are known.
 pub trait Source {
-    /// The bytes that reads will give from here on, where that is known.
+    /// The bytes that later reads will give, if they are known.
     ghost remaining: { Self → Option (List ℕ) };
 
-    /// Whether the last read gave the end of input.
+    /// Whether the last read returned the end of input.
     ghost at_end: { Self → Bool };
 
-    /// How many reads failed, at most 2^64 - 1.
+    /// The number of reads that failed, at most 2^64 - 1.
     ghost failures: { Self → ℕ };
 
-    /// Reads the next bytes to the front of the piece, which is not empty, and gives their number: 0 is the end of
+    /// Read the next bytes to the front of the piece, which must not be empty, and return their number. 0 is the end of
     /// input.
     ///
     /// # Errors
     ///
-    /// `ReadFailed` where the source could not be read. It takes none of the bytes that are left then.
+    /// `ReadFailed` if the source could not be read. It then takes none of the bytes that are left.
     fn read(&mut self, piece: &mut [u8]) -> Result<usize, ReadFailed>
         requires { 0 < length piece.old }
         ensures within { IfOk result (λ n. n ≤ length piece.new) }
@@ -35,22 +35,22 @@ pub trait Source {
         ensures failed { OnErr result (RisesByOne (failures self.old) (failures self.new)) };
 }
 
-/// Takes bytes. Contracts see its contents, where they are known.
+/// A sink of bytes. Contracts see its contents, if they are known.
 pub trait Sink {
-    /// The bytes that it holds, where that is known.
+    /// The bytes that it holds, if they are known.
     ghost contents: { Self → Option (List ℕ) };
 
     /// Whether the last call was a flush that succeeded.
     ghost flushed: { Self → Bool };
 
-    /// How many calls failed, at most 2^64 - 1.
+    /// The number of calls that failed, at most 2^64 - 1.
     ghost failures: { Self → ℕ };
 
-    /// Takes bytes from the front of the piece, which is not empty, and gives their number.
+    /// Take bytes from the front of the piece, which must not be empty, and return their number.
     ///
     /// # Errors
     ///
-    /// `WriteFailed` where the sink takes none of them.
+    /// `WriteFailed` if the sink takes none of them.
     fn write(&mut self, piece: &[u8]) -> Result<usize, WriteFailed>
         requires { 0 < length piece.now }
         ensures some { IfOk result (λ n. 0 < n) }
@@ -60,11 +60,11 @@ pub trait Sink {
         ensures well { OnOk result (failures self.new ≡ failures self.old) }
         ensures failed { OnErr result (RisesByOne (failures self.old) (failures self.new)) };
 
-    /// Passes on all that was taken.
+    /// Pass on all bytes that were taken.
     ///
     /// # Errors
     ///
-    /// `WriteFailed` where that could not be done. What was taken stays taken.
+    /// `WriteFailed` if that failed. The bytes that were taken stay taken.
     fn flush(&mut self) -> Result<(), WriteFailed>
         ensures bytes { Keeps (contents self.old) (contents self.new) }
         ensures flushed { flushed self.new ≡ is_ok result }

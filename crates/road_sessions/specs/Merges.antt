@@ -15,7 +15,7 @@ abbrev pub command_edits : SheetCommand → Edits
 command_edits (Take edits) = edits
 command_edits (Advance to) = empty
 
--- the step that a command advances to; 0 where it takes edits
+-- the step that a command advances to; 0 if it takes edits
 abbrev pub command_step : SheetCommand → ℕ
 command_step (Take edits) = 0
 command_step (Advance to) = to
@@ -25,7 +25,7 @@ abbrev pub edits_taken : List Entry → Edits
 edits_taken [] = empty
 edits_taken (e ∷ es) = union (command_edits e.command) (edits_taken es)
 
--- the greatest step that a journal advances to; 0 where it advances to none
+-- the greatest step that a journal advances to; 0 if it advances to none
 abbrev pub latest_step : List Entry → ℕ
 latest_step [] = 0
 latest_step (e ∷ es) = max (command_step e.command) (latest_step es)

@@ -8,7 +8,7 @@ use Rattle.road_sessions.specs.declared.faults.WriteFault.{WriteFault}
 use Rattle.road_sessions.specs.declared.reader_view.View.{View}
 use Rattle.road_sessions.specs.declared.wish.Wish.{Wish}
 use Rattle.road_sessions.specs.Journals.{IsLegal, Write, AreInJournal, AreWritesOf, AreAtRisingPlaces, entry, replay}
-use Rattle.road_sessions.specs.Writes.{IsAccepted, IsRefusalAsSeen, IsRefused, reply_to, wish_command, write_fault}
+use Rattle.road_sessions.specs.Writes.{IsAccepted, IsRefused, reply_to, wish_command}
 
 -- what the store knows of a reader: the history that was published when it last entered, the writes of its session, and
 -- how often it has entered to look
@@ -68,10 +68,8 @@ pub record IsRefusedThere (limit : ℕ) (r : Replica) (wish : Wish) (seen : List
   pub legal : IsLegal r front
   pub refused : IsRefused limit wish r front fault meter after
 
--- a refused write: it leaves the session as it was. It is refused for what stands behind such a history, and so by what
--- the session itself has seen
+-- a refused write: it leaves the session as it was, and is refused for what stands behind such a history
 pub record IsRefusedWrite (limit : ℕ) (r : Replica) (wish : Wish) (s : Session) (fault : WriteFault) (t : Session)
     (meter after : ℕ) : Type 0 where
   pub unchanged : t ≡ s
   pub refused : IsRefusedThere limit r wish s.seen fault meter after
-  pub as_seen : IsRefusalAsSeen (write_fault limit wish r s.seen) fault

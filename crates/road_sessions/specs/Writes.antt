@@ -35,11 +35,11 @@ reply_to (Advance to) r = Horizon (max r.sheet.horizon to)
 reply_to (Edit object step value) r = Stamped (edit_made r object step (Put value)).stamp
 reply_to (Withdraw object step) r = Stamped (edit_made r object step Withdrawn).stamp
 
--- how many steps are computed for a wish where it is accepted
+-- how many steps are computed for a wish if it is accepted
 abbrev pub steps_of_wish : Wish → Replica → ℕ
 steps_of_wish wish r = steps_of_command (entry_command (wish_command wish r)) r.sheet
 
--- the most steps that are computed for a wish, also where it is refused: those that its edits touch and 63 more, or
+-- the most steps that are computed for a wish, also if it is refused: those that its edits touch and 63 more, or
 -- those that an advance adds
 abbrev pub most_steps_of_wish : Wish → Replica → ℕ
 most_steps_of_wish wish r = most_steps_of_command (entry_command (wish_command wish r)) r.sheet
@@ -51,31 +51,23 @@ wish_fault (Advance to) r = refusals.advance_fault to
 wish_fault (Edit object step value) r = refusals.edit_fault r object step (Put value)
 wish_fault (Withdraw object step) r = refusals.edit_fault r object step Withdrawn
 
--- the first named cause for which a write is refused, where the journal has room for so many entries
+-- the first named cause for which a write is refused, if the journal has room for so many entries
 abbrev pub write_fault : ℕ → Wish → Replica → List Entry → Option WriteFault
 write_fault limit wish r journal =
     if nat_le limit (length journal) then Some JournalFull
     else option_map OfReplica (wish_fault wish (replay r journal))
 
--- a write is refused for the named cause where there is one, and else for lost workers or out of memory
+-- a write is refused for the named cause if there is one, and else for lost workers or out of memory
 abbrev pub IsWriteRefusal : Option WriteFault → WriteFault → Type 0
 IsWriteRefusal (Some cause) fault = fault ≡ cause
 IsWriteRefusal None fault = (fault ≡ OfReplica causes.WorkersGone) ⊎ (fault ≡ OfReplica causes.OutOfMemory)
-
--- a write is refused, where this is the first named cause that stands at what its session has seen: for that cause, or
--- for a full journal. Where none stands there, what others wrote may have filled the journal or spent the counts; else
--- workers were lost or it was out of memory
-abbrev pub IsRefusalAsSeen : Option WriteFault → WriteFault → Type 0
-IsRefusalAsSeen (Some cause) fault = (fault ≡ cause) ⊎ (fault ≡ JournalFull)
-IsRefusalAsSeen None fault =
-    ((fault ≡ JournalFull) ⊎ (fault ≡ OfReplica causes.CountsSpent)) ⊎ IsWriteRefusal None fault
 
 -- an accepted write behind a journal: no named cause stands, and the meter counts just the steps of the wish
 pub record IsAccepted (limit : ℕ) (wish : Wish) (r : Replica) (journal : List Entry) (meter later : ℕ) : Type 0 where
   pub accepted : write_fault limit wish r journal ≡ None
   pub steps : later ≡ meter_after meter (steps_of_wish wish (replay r journal))
 
--- a refused one: it leaves the meter as it was where a named cause stands, and else costs few steps
+-- a refused one: it leaves the meter as it was if a named cause stands, and else costs few steps
 pub record IsRefused (limit : ℕ) (wish : Wish) (r : Replica) (journal : List Entry) (fault : WriteFault)
     (meter later : ℕ) : Type 0 where
   pub refused : IsWriteRefusal (write_fault limit wish r journal) fault
@@ -87,6 +79,6 @@ abbrev pub gone_after_fault : WriteFault → ℕ → ℕ
 gone_after_fault JournalFull n = n
 gone_after_fault (OfReplica fault) n = refusals.gone_after_fault fault n
 
--- a crew has answered `WorkersGone` once more where a write is refused so, and else as often as before
+-- a crew has answered `WorkersGone` once more if a write is refused so, and else as often as before
 abbrev pub CountsGone : {A : Type 0} → Result A WriteFault → ℕ → ℕ → Type 0
 CountsGone result gone later = MatchResult result (λ _. later ≡ gone) (λ fault. later ≡ gone_after_fault fault gone)

@@ -43,14 +43,14 @@ where
     pub sessions: Vec<Session<J>>,
 }
 
-/// Closes a store whose sessions are all given, in any order. The journal is just what they wrote: it has as many
+/// Close a store whose sessions are all given, in any order. The journal is just what they wrote: it has as many
 /// entries as they made writes, those of each session's number are that session's, each once, at their places and in
 /// order, and what each session has seen is a prefix of it. The sheet is that of the journal replayed: it has the winners
 /// of all edits that the journal takes, and its horizon is the greatest step that the journal advances to.
 ///
 /// # Errors
 ///
-/// `Missing` where these are not all sessions of the store, and for no other cause. What the sessions share and the
+/// `Missing` if these are not all sessions of the store, and for no other cause. What the sessions share and the
 /// sessions are handed back as they were: their lock is not opened.
 pub fn close<J: Naming, R: Wait + Drop>(
     shared: Shared<J, R>,
@@ -82,7 +82,7 @@ pub fn close<J: Naming, R: Wait + Drop>(
     Ok(Closed { sheet, journal })
 }
 
-// Says whether none of these sessions has a number.
+// Return whether none of these sessions has a number.
 fn none_has<J: Naming>(sessions: &[Session<J>], number: u32) -> bool
     ensures { MatchBool result (AllByRecursion (λ t. number ≢ t.number) sessions.now)
         (¬ AllByRecursion (λ t. number ≢ t.number) sessions.now) }
@@ -93,7 +93,7 @@ fn none_has<J: Naming>(sessions: &[Session<J>], number: u32) -> bool
     }
 }
 
-// Says whether no two of them have one number.
+// Return whether no two of them have one number.
 fn are_apart<J: Naming>(sessions: &[Session<J>]) -> bool
     ensures { MatchBool result (AreApart sessions.now) (¬ AreApart sessions.now) }
 {
@@ -103,7 +103,7 @@ fn are_apart<J: Naming>(sessions: &[Session<J>]) -> bool
     }
 }
 
-// Shows that what each of them has seen is a prefix of the history, where their writes stand then.
+// Show that what each of them has seen is a prefix of the history, so that their writes stand there.
 fn know_all<J: Naming>(sessions: &[Session<J>], head: &Head<J>, history: &mut Whole<J>)
     ensures all { AllByRecursion (IsSessionOf history.old) sessions.now }
     ensures below { AllByRecursion (λ s. s.number < J.parts) sessions.now }
@@ -115,7 +115,7 @@ fn know_all<J: Naming>(sessions: &[Session<J>], head: &Head<J>, history: &mut Wh
     }
 }
 
-// Merges their shares of the ledger into this one.
+// Merge their shares of the ledger into this one.
 #[tactic(auto, using(crate::proofs::ClosedSessions::write_count_one_more))]
 fn shares<J: Naming>(mut sessions: Vec<Session<J>>, mut all: Share<J>) -> Share<J>
     ensures { (result.parts ≡ all.parts + length sessions.items)

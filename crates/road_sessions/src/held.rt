@@ -1,5 +1,5 @@
 //! What lies under the lock.
-ghost use Rattle.std.specs.Prelude.{◌≡◌, ◌+◌, ◌<◌, ◌≤◌, ◌++◌, ◌∷◌, [], IfErr, IfOk, MatchResult, None, OnErr, OnOk};
+ghost use Rattle.std.specs.Prelude.{◌≡◌, ◌+◌, ◌<◌, ◌≤◌, ◌++◌, ◌∷◌, [], IfErr, IfOk, MatchResult, None, OnErr, OnOk, drop};
 ghost use Rattle.std.specs.Prelude.{length};
 ghost use Rattle.std.specs.Arc.{arc_value};
 ghost use Rattle.left_right.specs.Sides.{view};
@@ -88,8 +88,8 @@ impl<J: Naming, R: Wait + Drop> Drop for Held<J, R> {
     }
 }
 
-// Appends an entry to the journal and to the history. The answer is what is published of the replica that it leaves;
-// where that is refused, both are as they were.
+// Append an entry to the journal and to the history. The answer is what is published of the replica that it leaves;
+// if that is refused, both are as they were.
 fn append_entry<J: Naming>(
     replica: &Replica,
     head: &Head<J>,
@@ -117,9 +117,11 @@ fn append_entry<J: Naming>(
 }
 
 impl<J: Naming, R: Wait + Drop> Held<J, R> {
-    // Reserves the memory of the writer's queue, so that no write has to wait for it. What it is given is published
-    // already.
+    // Reserve the memory of the writer's queue, so that no write has to wait for it: what it is given, which is published
+    // already, takes its place there.
     pub(crate) fn reserve_queue(&mut self, published: Published<J>) -> Result<(), OutOfMemory>
+        ensures queued { OnOk result (drop self.new.writer.behind self.new.writer.log.items
+            ≡ drop self.old.writer.behind self.old.writer.log.items ++ published ∷ []) }
         ensures journal { self.new.journal ≡ self.old.journal }
         ensures limit { self.new.limit ≡ self.old.limit }
     {
@@ -129,15 +131,15 @@ impl<J: Naming, R: Wait + Drop> Held<J, R> {
         }
     }
 
-    /// Does the write of a session, whose share of the ledger has a part. Where it is accepted, its command stands at the
+    /// Do the write of a session, whose share of the ledger has a part. If it is accepted, its command stands at the
     /// end of the journal, readers see its sheet, and the share is one more. The answer is its place in the journal, and
     /// the reply. The meter counts just the steps that are computed.
     ///
     /// # Errors
     ///
-    /// `JournalFull` where the journal has no room, else the replica's: its named causes in their order, then
-    /// `WorkersGone` where the crew answers so, or `OutOfMemory` where an allocation failed. All is as it was then, and
-    /// where the cause is named the meter too.
+    /// `JournalFull` if the journal has no room, else the replica's: its named causes in their order, then
+    /// `WorkersGone` if the crew answers so, or `OutOfMemory` if an allocation failed. All is as it was then, and
+    /// if the cause is named, the meter too.
     pub fn write<C: Crew>(
         &mut self,
         session: u32,
@@ -172,7 +174,7 @@ impl<J: Naming, R: Wait + Drop> Held<J, R> {
         Ok((place, reply_of(stamp, answer)))
     }
 
-    // Performs a command on a copy of the replica. The answer is the copy, and what the command is answered.
+    // Perform a command on a copy of the replica. The answer is the copy, and what the command is answered.
     fn next<C: Crew>(
         &self,
         command: &SheetCommand,
@@ -193,7 +195,7 @@ impl<J: Naming, R: Wait + Drop> Held<J, R> {
         Ok((replica, answer))
     }
 
-    // Puts the next replica in place, with its entry of the journal, and publishes its sheet. What may be refused comes
+    // Put the next replica in place, with its entry of the journal, and publish its sheet. What may be refused comes
     // before anything has changed.
     fn put_in_place(
         &mut self,
@@ -227,7 +229,7 @@ impl<J: Naming, R: Wait + Drop> Held<J, R> {
         Ok(())
     }
 
-    // Does the write of a session, of this number and this membership. Where it is accepted, the session has seen the
+    // Do the write of a session, of this number and this membership. If it is accepted, the session has seen the
     // history that it ends, and has found it in the store.
     pub(crate) fn serve<C: Crew>(
         &mut self,
@@ -257,7 +259,7 @@ impl<J: Naming, R: Wait + Drop> Held<J, R> {
         Ok((place, reply))
     }
 
-    // Admits one more reader to the store, which has entered it never yet.
+    // Admit one more reader to the store, which has entered it never yet.
     fn reader(&self) -> Result<StoreReader<J>, OpenFault>
         ensures new { IfOk result (λ reader. view reader.place ≡ new_view) }
         ensures refused { IfErr result (λ fault. fault ≡ openings.NoPlace) }
@@ -268,7 +270,7 @@ impl<J: Naming, R: Wait + Drop> Held<J, R> {
         }
     }
 
-    // Makes so many sessions of a store that was just opened, numbered from 0.
+    // Make so many sessions of a store that was just opened, numbered from 0.
     pub(crate) fn new_sessions(
         &self,
         count: u32,
@@ -296,7 +298,7 @@ impl<J: Naming, R: Wait + Drop> Held<J, R> {
         Ok(sessions)
     }
 
-    // Makes so many sessions of a store that was just opened, once the writer's queue has its memory.
+    // Make so many sessions of a store that was just opened, once the writer's queue has its memory.
     pub(crate) fn opening_sessions(
         &mut self,
         published: Published<J>,
@@ -307,6 +309,8 @@ impl<J: Naming, R: Wait + Drop> Held<J, R> {
         requires whole { (whole.parts ≡ count) × (whole.amount ≡ 0) }
         requires all { count ≡ J.parts }
         ensures sessions { IfOk result (λ sessions. (length sessions.items ≡ count) × AreNewSessions 0 sessions.items) }
+        ensures queued { OnOk result (drop self.new.writer.behind self.new.writer.log.items
+            ≡ drop self.old.writer.behind self.old.writer.log.items ++ published ∷ []) }
         ensures journal { self.new.journal ≡ self.old.journal }
         ensures limit { self.new.limit ≡ self.old.limit }
     {
@@ -314,7 +318,7 @@ impl<J: Naming, R: Wait + Drop> Held<J, R> {
         self.new_sessions(count, whole)
     }
 
-    // Returns the sheet and the journal, and ends the store.
+    // Return the sheet and the journal, and end the store.
     pub(crate) fn into_sheet_and_journal(self) -> (Arc<Sheet>, Vec<Entry>)
         ensures journal { result.1 ≡ self.journal }
         ensures sheet { arc_value result.0 ≡ (replay J.replica result.1.items).sheet }

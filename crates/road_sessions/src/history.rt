@@ -114,7 +114,7 @@ impl Plain<(), Page, u64> for MakePen {
     ghost state = { λ _. None };
 }
 
-// Makes a pen that may write one page.
+// Make a pen that may write one page.
 fn new_pen(word: &Word<Page, u64, PageRule>, seen: &Seen<Page, u64, PageRule>) -> Pen
     requires { word.now ≡ first_word seen.now.book }
     ensures { (result.book ≡ seen.now.book) × (result.nib.right ≡ may_write) }
@@ -150,7 +150,7 @@ impl Model for EmptyHistory {
 }
 
 impl EmptyHistory {
-    // Opens a logbook for it, with the pen of its first page.
+    // Open a logbook for it, with the pen of its first page.
     pub(crate) fn new() -> EmptyHistory {
         let (seen, mut home, _unused) = Seen::open(Start::alone(), 0, 0);
         let word = Word::tracked(0, &mut home);
@@ -158,7 +158,7 @@ impl EmptyHistory {
         EmptyHistory { word, seen, pen }
     }
 
-    // Makes it the whole history of a store, and the word by which that is written.
+    // Make it the whole history of a store, and the word by which that is written.
     pub(crate) fn of_store<J: Naming>(self) -> (Head<J>, Whole<J>)
         requires { self ≡ J.book }
         ensures { result.1 ≡ [] }
@@ -218,7 +218,7 @@ impl<J: Naming> Model for Whole<J> {
 }
 
 impl<J: Naming> Whole<J> {
-    // Returns what has seen as much.
+    // Return what has seen as much.
     pub(crate) fn seen(&self) -> Prefix<J>
         ensures same { result ≡ self.now }
         ensures legal { IsLegal J.replica self.now }
@@ -230,7 +230,7 @@ impl<J: Naming> Whole<J> {
         }
     }
 
-    // Shows that what was seen is a prefix of it.
+    // Show that what was seen is a prefix of it.
     pub(crate) fn know(&mut self, head: &Head<J>, seen: &Prefix<J>)
         ensures prefix { IsPrefix seen.now self.old }
         ensures same { self.new ≡ self.old }
@@ -243,7 +243,7 @@ impl<J: Naming> Whole<J> {
             .compare_exchange::<KnowAll, NoGain>(0, 0, &mut both, &mut offer, &mut self.pen);
     }
 
-    // Writes an entry at its end.
+    // Write an entry at its end.
     pub(crate) fn append(&mut self, head: &Head<J>, entry: &Entry)
         requires room { length self.old < 2 ^ 62 }
         requires allowed { IsAllowed J.replica.sheet.plan (entry_command entry.now.command) }
@@ -293,7 +293,7 @@ impl<J: Naming> Model for Prefix<J> {
 }
 
 impl<J: Naming> Prefix<J> {
-    // Returns another value that has seen as much.
+    // Return another value that has seen as much.
     pub(crate) fn again(&self) -> Prefix<J>
         ensures same { result ≡ self.now }
         ensures legal { IsLegal J.replica self.now }
@@ -305,7 +305,7 @@ impl<J: Naming> Prefix<J> {
         }
     }
 
-    // Says whether it is no longer than the other. The shorter one is a prefix of the longer.
+    // Return whether it is no longer than the other. The shorter one is a prefix of the longer.
     pub(crate) fn is_prefix_of(&self, other: &Prefix<J>) -> bool
         ensures prefix { MatchBool result (IsPrefix self.now other.now) (IsPrefix other.now self.now) }
         ensures length { MatchBool result (length self.now ≤ length other.now) (length other.now < length self.now) }
@@ -317,7 +317,7 @@ impl<J: Naming> Prefix<J> {
         self.count <= other.count
     }
 
-    // Says whether the two have seen as much, and so the same.
+    // Return whether the two have seen as much, and so the same.
     pub(crate) fn is_same(&self, other: &Prefix<J>) -> bool
         ensures { IsTrue result → self.now ≡ other.now }
     {

@@ -7,7 +7,7 @@
 //! // A store of two sessions, which may go to threads of their own, and up to 1,000 writes.
 //! let prepared = prepare(rt, alloc, plan, 0, 2, 1_000)?;
 //! let (shared, mut sessions) = open::<J, R>(prepared)?;
-//! // The first blocks a cell from step 4 on; the second is told of that, so what it is shown holds it.
+//! // The first blocks a cell from step 4 on; the second hears of it, so what it is shown has it.
 //! sessions[0].advance(rt, &shared, 6, &mut Alone, &mut Meter::new())?;
 //! let wrote = sessions[0].edit(rt, &shared, Object::Block(8), 4, 1, &mut Alone, &mut Meter::new())?;
 //! sessions[1].hear(wrote.receipt);

@@ -23,12 +23,12 @@ use std::alloc::Global;
 pub(crate) struct Errand {
     /// The command to the replica's sheet, which the plan allows.
     pub(crate) command: SheetCommand,
-    /// The stamp of the edit that the replica makes, where it makes one.
+    /// The stamp of the edit that the replica makes, if it makes one.
     pub(crate) stamp: Option<Stamp>,
 }
 
-// Makes what a wish comes to, where the replica has no named cause to refuse it. What is wished is looked at once here,
-// and not again where it is done.
+// Make what a wish comes to, if the replica has no named cause to refuse it. The wish is checked here, once, and
+// not again when it is performed.
 pub(crate) fn errand_of(
     alloc: Global,
     replica: &Replica,
@@ -77,7 +77,7 @@ pub(crate) fn errand_of(
     }
 }
 
-// Makes an edit of the replica, to be taken.
+// Make an edit of the replica, to be taken.
 fn edit(alloc: Global, replica: &Replica, local: LocalEdit) -> Result<Errand, ReplicaFault>
     ensures command { IfOk result (λ errand. errand.command
         ≡ commands.Take (single_edit (edit_made replica.now local.object local.step local.value))) }
@@ -96,7 +96,7 @@ fn edit(alloc: Global, replica: &Replica, local: LocalEdit) -> Result<Errand, Re
     })
 }
 
-// Does what a command says at a replica.
+// Do what a command says at a replica.
 pub(crate) fn perform<C: Crew>(
     alloc: Global,
     replica: &mut Replica,
@@ -121,7 +121,7 @@ pub(crate) fn perform<C: Crew>(
     }
 }
 
-// Returns the reply to a wish: the stamp of the edit that was made, else what the command was answered.
+// Return the reply to a wish: the stamp of the edit that was made, else what the command was answered.
 pub(crate) fn reply_of(stamp: Option<Stamp>, answer: Reply) -> Reply
     ensures { result ≡ reply_with stamp answer }
 {

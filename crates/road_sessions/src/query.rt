@@ -17,7 +17,7 @@ pub(crate) enum Query {
 }
 
 impl Query {
-    // Returns the first named cause for which a sheet refuses it, in the order of the sheet's own calls.
+    // Return the first named cause for which a sheet refuses it, in the order of the sheet's own calls.
     pub(crate) fn fault(&self, sheet: &Sheet) -> Option<SheetFault>
         ensures { result ≡ query_fault self.now sheet.now }
     {

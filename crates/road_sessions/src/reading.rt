@@ -1,10 +1,13 @@
 //! What a session's reader does in the store.
-ghost use Rattle.std.specs.Prelude.{◌≡◌, IfErr, IfOk, IfSome, IfNone, MatchResult};
+ghost use Rattle.std.specs.Prelude.{◌≡◌, Ok, Err, IfErr, IfOk, IfSome, IfNone, MatchResult, None};
+ghost use Rattle.std.specs.declared.option.Option.{Option};
+ghost use Rattle.std.specs.declared.alloc.AllocError.{AllocError};
 ghost use Rattle.std.specs.Arc.{arc_value};
 ghost use Rattle.left_right.specs.Sides.{view};
 ghost use Rattle.road_sessions.specs.Journals.{IsLegal, replay};
 ghost use Rattle.road_sheet.specs.Sheets.{IsRefusalBy};
 ghost use Rattle.road_sessions.specs.Looks.{HasLooked, IsQueryRefusal};
+ghost use Rattle.road_sheet.specs.declared.faults.SheetFault.{SheetFault};
 ghost use Rattle.road_sessions.specs.Private.Queries.{query_fault};
 ghost use Rattle.road_sessions.specs.Private.Stores.{EntersAfterWrite, EntersToLook};
 ghost use Rattle.road_sessions.specs.Sessions.{IsSession, session_of};
@@ -15,28 +18,52 @@ use crate::naming::Naming;
 use crate::query::Query;
 use crate::store::{AfterWrite, StoreReader, ToLook};
 use core::mem::replace_with;
+use road_plan::OutOfMemory;
 use road_sheet::{Sheet, SheetFault};
 use std::sync::{Arc, Wait};
 
 // What was found in the store: a history, and its sheet, or why that does not answer.
 type Found<J> = (Prefix<J>, Result<Arc<Sheet>, SheetFault>);
 
-// Makes an owner more of a sheet, of which something is asked: the named causes stand first.
-fn owner_for(query: &Query, sheet: &Arc<Sheet>) -> Result<Arc<Sheet>, SheetFault>
-    ensures same { IfOk result (λ owner. arc_value owner ≡ arc_value sheet.now) }
-    ensures refused { IfErr result (IsRefusalBy (query_fault query.now (arc_value sheet.now))) }
+// Make one more owner of a sheet by this call, unless the sheet has a named cause to refuse the query. If it has none, out
+// of memory comes only from this call.
+fn owner_for<F: FnOnce() -> Result<Arc<Sheet>, OutOfMemory>>(
+    query: &Query,
+    sheet: &Sheet,
+    own: F,
+) -> Result<Arc<Sheet>, SheetFault>
+    requires may_own { F.IsAlwaysCallable own }
+    ensures owned { IfOk result (λ owner. F.post own (Ok owner)) }
+    ensures accepted { IfOk result (λ _. query_fault query.now sheet.now ≡ None) }
+    ensures refused { IfErr result (IsRefusalBy (query_fault query.now sheet.now)) }
+    ensures memory { query_fault query.now sheet.now ≡ None
+        → IfErr result (λ _. (failed : AllocError) × F.post own (Err failed)) }
 {
-    if let Some(fault) = query.fault(sheet) {
-        return Err(fault);
+    match query.fault(sheet) {
+        Some(fault) => Err(fault),
+        None => Ok(own()?),
     }
-    Ok(Arc::try_clone(sheet)?)
 }
 
-// Enters the store to look, and asks something of the sheet there; nothing is found where it lets no one in.
+// Return why a query is refused after less was found than its session has seen: for the named cause at what was found,
+// else out of memory.
+fn fault_of_less(found: Result<Arc<Sheet>, SheetFault>) -> SheetFault
+    ensures { (cause : Option SheetFault) → IfOk found (λ _. cause ≡ None) → IfErr found (IsRefusalBy cause)
+        → IsRefusalBy cause result }
+{
+    match found {
+        Ok(_sheet) => SheetFault::OutOfMemory,
+        Err(fault) => fault,
+    }
+}
+
+// Enter the store to look, and put a query to the sheet there. Nothing is found if the store lets no one in.
 fn enter<J: Naming>(reader: StoreReader<J>, query: &Query) -> (StoreReader<J>, Option<Found<J>>)
     ensures entered { IfSome result.1 (λ found. EntersToLook (view reader.place) found.0 (view result.0.place)) }
     ensures sheet { IfSome result.1 (λ found. IfOk found.1
         (λ sheet. arc_value sheet ≡ (replay J.replica found.0).sheet)) }
+    ensures accepted { IfSome result.1 (λ found. IfOk found.1
+        (λ _. query_fault query.now (replay J.replica found.0).sheet ≡ None)) }
     ensures fault { IfSome result.1 (λ found. IfErr found.1
         (IsRefusalBy (query_fault query.now (replay J.replica found.0).sheet))) }
     ensures refused { IfNone result.1 (view result.0.place ≡ view reader.place) }
@@ -45,7 +72,8 @@ fn enter<J: Naming>(reader: StoreReader<J>, query: &Query) -> (StoreReader<J>, O
         Ok(reading) => {
             let published = reading.get();
             let history = published.history().again();
-            let sheet = owner_for(query, published.sheet());
+            let sheet = published.sheet();
+            let sheet = owner_for(query, sheet, || Arc::try_clone(sheet));
             (reading.leave(), Some((history, sheet)))
         }
         Err(reader) => (reader, None),
@@ -57,6 +85,8 @@ fn enter_here<J: Naming>(reader: &mut StoreReader<J>, query: &Query) -> Option<F
     ensures entered { IfSome result (λ found. EntersToLook (view reader.old.place) found.0 (view reader.new.place)) }
     ensures sheet { IfSome result (λ found. IfOk found.1
         (λ sheet. arc_value sheet ≡ (replay J.replica found.0).sheet)) }
+    ensures accepted { IfSome result (λ found. IfOk found.1
+        (λ _. query_fault query.now (replay J.replica found.0).sheet ≡ None)) }
     ensures fault { IfSome result (λ found. IfErr found.1
         (IsRefusalBy (query_fault query.now (replay J.replica found.0).sheet))) }
     ensures refused { IfNone result (view reader.new.place ≡ view reader.old.place) }
@@ -64,8 +94,7 @@ fn enter_here<J: Naming>(reader: &mut StoreReader<J>, query: &Query) -> Option<F
     replace_with(reader, query, |reader, query| enter(reader, query))
 }
 
-// A session finds the sheet that is published, of which something is asked: it enters the store, and the history there
-// becomes what it has seen.
+// A session finds the published sheet, for a query: it enters the store, and the history there becomes what it has seen.
 pub(crate) fn find<J: Naming>(
     _number: u32,
     seen: &mut Prefix<J>,
@@ -89,7 +118,7 @@ pub(crate) fn find<J: Naming>(
     // What is published goes on from all that the session has seen, since both are prefixes of the one history of the store, and
     // whatever a session has seen was published before. No contract says the latter, so the refusal stands here.
     if !seen.is_prefix_of(&history) {
-        return Err(LookFault::Sheet(SheetFault::OutOfMemory));
+        return Err(LookFault::Sheet(fault_of_less(sheet)));
     }
     *seen = history;
     match sheet {

@@ -102,7 +102,7 @@ impl<J: Naming> Model for Session<J> {
 }
 
 impl<J: Naming> Session<J> {
-    // Makes a session that has seen and written nothing.
+    // Make a session that has seen and written nothing.
     pub(crate) fn new(number: u32, membership: Membership<J>) -> Session<J>
         requires fresh { (membership.seen ≡ []) × (view_at membership.reader.place ≡ new_view) }
         requires share { (membership.share.parts ≡ 1) × (membership.share.amount ≡ 0) }
@@ -112,7 +112,7 @@ impl<J: Naming> Session<J> {
         Session { number, membership }
     }
 
-    /// Returns its number, from 0: it is below the number of sessions that were opened.
+    /// Return its number, from 0: it is below the number of sessions that were opened.
     pub fn number(&self) -> u32
         ensures number { result ≡ self.now.number }
         ensures below { self.now.number < J.parts }
@@ -122,14 +122,14 @@ impl<J: Naming> Session<J> {
 
     // ---- writes, under the lock
 
-    /// Takes edits. The reply is the touched step. The meter counts just the steps that are computed: where the write
-    /// stands, those from the checkpoint up to the horizon.
+    /// Take edits. The reply is the touched step. The meter counts just the steps that are computed: if the
+    /// write is accepted, those from the checkpoint up to the horizon.
     ///
     /// # Errors
     ///
-    /// `JournalFull` where the journal holds as many writes as the store was prepared for, then the replica's: those of
-    /// `Replica::take`. The session has seen and written no more then. The meter is as before where the cause is named;
-    /// where workers have gone or an allocation failed, it counts at most the steps that the edits touch, and 63 more.
+    /// `JournalFull` if the journal holds as many writes as the store was prepared for, then the replica's: those of
+    /// `Replica::take`. The session has seen and written no more then. The meter is as before if the cause is named;
+    /// if workers have gone or an allocation failed, it counts at most the steps that the edits touch, and 63 more.
     pub fn take<R: Wait + Drop, W: Wait, C: Crew>(
         &mut self,
         rt: &W,
@@ -148,7 +148,7 @@ impl<J: Naming> Session<J> {
         self.write(rt, shared, &Wish::Take(scenario), crew, meter)
     }
 
-    /// Simulates the replica up to a step. The reply is its horizon. The meter counts just the steps that are added.
+    /// Simulate the replica up to a step. The reply is its horizon. The meter counts just the steps that are added.
     ///
     /// # Errors
     ///
@@ -172,7 +172,7 @@ impl<J: Naming> Session<J> {
         self.write(rt, shared, &Wish::Advance(to), crew, meter)
     }
 
-    /// Puts a number for an object from a step on, in the object's units. The reply is the edit's stamp. The meter counts
+    /// Put a number for an object from a step on, in the object's units. The reply is the edit's stamp. The meter counts
     /// as for [`Session::take`].
     ///
     /// # Errors
@@ -204,7 +204,7 @@ impl<J: Naming> Session<J> {
         self.write(rt, shared, &wish, crew, meter)
     }
 
-    /// Withdraws what is put for an object at a step. The reply is the withdrawal's stamp. The meter counts as for
+    /// Withdraw what is put for an object at a step. The reply is the withdrawal's stamp. The meter counts as for
     /// [`Session::take`].
     ///
     /// # Errors
@@ -230,7 +230,7 @@ impl<J: Naming> Session<J> {
         self.write(rt, shared, &Wish::Withdraw { object, step }, crew, meter)
     }
 
-    // Writes whatever is wished.
+    // Write whatever is wished.
     fn write<R: Wait + Drop, W: Wait, C: Crew>(
         &mut self,
         rt: &W,
@@ -262,13 +262,13 @@ impl<J: Naming> Session<J> {
 
     // ---- looks, without a lock
 
-    /// Returns the sheet that is published. Its history goes on from all that the session has seen and heard of, and its own
+    /// Return the sheet that is published. Its history goes on from all that the session has seen and heard of, and its own
     /// writes stand there. It never waits, and grows nothing.
     ///
     /// # Errors
     ///
-    /// `NotEntered` where the store did not let the session in, which is as before then; else `Sheet(OutOfMemory)` where
-    /// the sheet can have no owner more.
+    /// `NotEntered` if the store did not let the session in, which is then as before; else `Sheet(OutOfMemory)` if
+    /// the sheet can have no more owners.
     pub fn look<S: Of<J>>(&mut self, _shared: &S) -> Result<Arc<Sheet>, LookFault>
         ensures looked { MatchResult result (λ _. HasLooked J.replica self.old self.new)
             (λ fault. IsLookRefusal J.replica fault self.old self.new) }
@@ -277,7 +277,7 @@ impl<J: Naming> Session<J> {
         self.find(&Query::Look)
     }
 
-    /// Returns the road at a step, by a look.
+    /// Return the road at a step, by a look.
     ///
     /// # Errors
     ///
@@ -300,7 +300,7 @@ impl<J: Naming> Session<J> {
         }
     }
 
-    /// Returns what a detector counts in the steps from one up to another, that one not among them, by a look.
+    /// Return what a detector counts in the steps from one up to another, that one not among them, by a look.
     ///
     /// # Errors
     ///
@@ -326,7 +326,7 @@ impl<J: Naming> Session<J> {
         }
     }
 
-    // Finds the sheet that is published, of which something is asked.
+    // Find the published sheet, for a query.
     fn find(&mut self, query: &Query) -> Result<Arc<Sheet>, LookFault>
         ensures looked { MatchResult result (λ _. HasLooked J.replica self.old self.new)
             (λ fault. IsQueryRefusal (query_fault query.now) J.replica fault self.old self.new) }
@@ -336,7 +336,7 @@ impl<J: Naming> Session<J> {
         reading::find(self.number, seen, reader, query)
     }
 
-    /// Tells the session of a history: from now on it has seen that, or what it had seen where that is longer.
+    /// Tell the session of a history: from now on it has seen that, or what it had seen if that is longer.
     pub fn hear(&mut self, receipt: Receipt<J>)
         ensures longer { (self.new.seen ≡ self.old.seen) ⊎ (self.new.seen ≡ receipt) }
         ensures before { IsPrefix self.old.seen self.new.seen }
@@ -350,7 +350,7 @@ impl<J: Naming> Session<J> {
 
     // ---- closing
 
-    // Shows that all that it has seen is a prefix of the history, where its writes stand then.
+    // Show that all that it has seen is a prefix of the history, so that its writes stand there.
     pub(crate) fn know_in(&self, head: &Head<J>, history: &mut Whole<J>)
         ensures of { IsSessionOf history.old self.now }
         ensures below { self.now.number < J.parts }
@@ -359,7 +359,7 @@ impl<J: Naming> Session<J> {
         history.know(head, &self.membership.seen);
     }
 
-    // Returns its share of the ledger, which counts its writes.
+    // Return its share of the ledger, which counts its writes.
     pub(crate) fn into_share(self) -> Share<J>
         ensures { (result.parts ≡ 1) × (result.amount ≡ length self.view.own) }
     {

@@ -23,7 +23,8 @@ use std::alloc::Global;
 use std::sync::ledger::Blank;
 use std::sync::{Arc, Mutex, Wait};
 
-/// What the sessions of a store share. Their writes lock it; their looks don't.
+/// What the sessions of a store share. Their writes lock it; their looks don't. To drop it takes the writer back, which
+/// waits for a look that has entered and not left.
 #[derive(Drop)]
 pub struct Shared<J: Naming, R: Wait + Drop>
 where
@@ -60,11 +61,11 @@ pub struct Prepared<R: Wait + Drop> {
     pub ghost within_limits: { (0 < sessions) × (sessions ≤ MOST_SESSIONS) × (limit ≤ MOST_WRITES) },
 }
 
-/// Prepares a replica of this number, below 64, for 1 to 8 sessions and 1 to 1,000,000 writes. Nothing is simulated.
+/// Prepare a replica of this number, below 64, for 1 to 8 sessions and 1 to 1,000,000 writes. Nothing is simulated.
 ///
 /// # Errors
 ///
-/// `OutOfMemory` where an allocation failed.
+/// `OutOfMemory` if an allocation failed.
 pub fn prepare<R: Wait + Drop>(
     rt: R,
     alloc: Global,
@@ -93,15 +94,15 @@ pub fn prepare<R: Wait + Drop>(
     })
 }
 
-/// Opens what was prepared under the name `J`: its sessions have seen and written nothing and are numbered from 0, the
-/// opening sheet is published, and the journal is empty. It has room for as many writes as were prepared for, as long
-/// as the store is open. `J` has to be picked with what was prepared: its book, its replica, its ledger's name and
-/// parts, and its limit.
+/// Open what was prepared under the name `J`: its sessions have seen and written nothing, and are numbered from 0. What
+/// lies under its lock no contract here can see. [`open_held`] makes it and ensures it: the opening sheet is published,
+/// and the journal is empty, with room for as many writes as were prepared for. `J` has to be picked with what was
+/// prepared: its book, its replica, its ledger's name and parts, and its limit.
 ///
 /// # Errors
 ///
-/// `NoPlace` where the store gave a session no reader, else `OutOfMemory` where an allocation failed. What was prepared
-/// is given up then.
+/// `NoPlace` if the store gave a session no reader, else `OutOfMemory` if an allocation failed. What was prepared is
+/// given up then. That takes the writer back, which may wait, though no other thread has a reader yet.
 pub fn open<J: Naming, R: Wait + Drop>(
     prepared: Prepared<R>,
 ) -> Result<(Shared<J, R>, Vec<Session<J>>), OpenFault>
@@ -120,7 +121,7 @@ pub fn open<J: Naming, R: Wait + Drop>(
     Ok((shared, sessions))
 }
 
-/// Makes what [`open`] puts under the lock, and the sessions, of what was prepared for the name `J`, picked as for [`open`].
+/// Make what [`open`] puts under the lock, and the sessions, of what was prepared for the name `J`, picked as for [`open`].
 ///
 /// # Errors
 ///
@@ -168,7 +169,7 @@ pub fn open_held<J: Naming, R: Wait + Drop>(
     Ok((held, sessions))
 }
 
-// Opens a store with room for so many readers, which shows a sheet and the history that leaves it; and returns the two
+// Open a store with room for so many readers, which shows a sheet and the history that leaves it; and return the two
 // once more.
 fn store_of<J: Naming>(
     alloc: Global,
@@ -189,7 +190,7 @@ fn store_of<J: Naming>(
     Ok((writer, published))
 }
 
-// Opens a store with room for so many readers, which shows one of these; both are the same.
+// Open a store with room for so many readers, which shows one of these; both are the same.
 fn new_store<J: Naming>(
     alloc: Global,
     first: Published<J>,

@@ -45,7 +45,7 @@ impl<J: Naming> Model for Published<J> {
 }
 
 impl<J: Naming> Published<J> {
-    // Makes it of a sheet and the history that leaves it.
+    // Make it of a sheet and the history that leaves it.
     pub(crate) fn new(sheet: Arc<Sheet>, history: Prefix<J>) -> Published<J>
         requires { arc_value sheet ≡ (replay J.replica history).sheet }
         ensures { result ≡ history }
@@ -53,21 +53,21 @@ impl<J: Naming> Published<J> {
         Published { sheet, history }
     }
 
-    // Returns its sheet.
+    // Return its sheet.
     pub(crate) fn sheet(&self) -> &Arc<Sheet>
         ensures { arc_value result.now ≡ (replay J.replica self.now).sheet }
     {
         &self.sheet
     }
 
-    // Returns its history.
+    // Return its history.
     pub(crate) fn history(&self) -> &Prefix<J>
         ensures { result.now ≡ self.now }
     {
         &self.history
     }
 
-    // Makes the same once more. It is refused where the sheet can have no owner more.
+    // Make the same once more. It is refused if the sheet can have no more owners.
     pub(crate) fn again(&self) -> Result<Published<J>, OutOfMemory>
         ensures { IfOk result (λ same. same ≡ self.now) }
     {
@@ -151,7 +151,7 @@ pub type StoreReader<J> = Reader<Published<J>, View, FoundFirst>;
 /// The one writer of a store.
 pub type StoreWriter<J> = Writer<Published<J>, Published<J>, View, FoundFirst>;
 
-// Gives the writer what it is to publish, again and again until there is memory for it.
+// Give the writer what it is to publish, again and again until there is memory for it.
 fn hand_over<J: Naming, R: Wait>(
     rt: &R,
     mut writer: StoreWriter<J>,
@@ -169,7 +169,7 @@ fn hand_over<J: Naming, R: Wait>(
     unreachable!()
 }
 
-// Publishes what is pending, again and again until it is done. The last of it has this history.
+// Publish what is pending, again and again until it is done. The last of it has this history.
 fn show<J: Naming, R: Wait>(
     rt: &R,
     mut writer: StoreWriter<J>,
@@ -189,7 +189,7 @@ fn show<J: Naming, R: Wait>(
     unreachable!()
 }
 
-// Publishes as `publish`, by a writer that stays where it is.
+// Publish as `publish`, by a writer that stays where it is.
 pub(crate) fn publish_here<J: Naming, R: Wait>(
     rt: &R,
     writer: &mut StoreWriter<J>,
@@ -201,7 +201,7 @@ pub(crate) fn publish_here<J: Naming, R: Wait>(
     replace_with(writer, (), |writer, ()| (publish(rt, writer, next), ()));
 }
 
-// Publishes a sheet with its history, in place of what is published or pending. It returns once that is done.
+// Publish a sheet with its history, in place of what is published or pending. It returns once that is done.
 fn publish<J: Naming, R: Wait>(rt: &R, writer: StoreWriter<J>, next: Published<J>) -> StoreWriter<J>
     requires { IsPrefix writer.desk.shown.value next }
     ensures { result.desk.shown.value ≡ next }

@@ -9,7 +9,7 @@ abbrev pub IsUpTo : Option ℕ → ℕ → Type 0
 IsUpTo None step = Unit {0}
 IsUpTo (Some touched) step = step ≤ touched
 
--- where a draft begins that may keep the run up to a step: there, where that is the horizon, and else at the first
+-- where a draft begins that may keep the run up to a step: there, if that is the horizon, and else at the first
 -- step of its interval
 abbrev pub draft_start : ℕ → ℕ → ℕ
 draft_start horizon keep = if keep == horizon then horizon else INTERVAL_STEPS * (keep / INTERVAL_STEPS)

@@ -38,7 +38,7 @@ pub record IsSheet (s : Sheet) : Type 0 where
 abbrev pub opening_sheet : Plan → Sheet
 opening_sheet plan = record { plan = plan; edits = empty; horizon = 0 }
 
--- the horizon that the greatest step is: 0 where there is none
+-- the horizon that the greatest step is: 0 if there is none
 abbrev pub horizon_of : Greatest ℕ → ℕ
 horizon_of Nothing = 0
 horizon_of (Of step) = step
@@ -90,7 +90,7 @@ pub record AreWholeIntervals (s : Sheet) (from to : ℕ) : Type 0 where
   pub begin : from % INTERVAL_STEPS ≡ 0
   pub end : (to % INTERVAL_STEPS ≡ 0) ⊎ (to ≡ s.horizon)
 
--- a refusal is for the named cause where there is one, and else for out of memory
+-- a refusal is for the named cause if there is one, and else for out of memory
 abbrev pub IsRefusalBy : Option SheetFault → SheetFault → Type 0
 IsRefusalBy (Some cause) fault = fault ≡ cause
 IsRefusalBy None fault = fault ≡ OutOfMemory

@@ -38,7 +38,7 @@ impl Model for Checkpoint {
 }
 
 impl Checkpoint {
-    // Keeps the empty road. It allocates nothing.
+    // Keep the empty road. It allocates nothing.
     pub(crate) fn empty(alloc: Global) -> Checkpoint
         ensures { result ≡ [] }
     {
@@ -47,7 +47,7 @@ impl Checkpoint {
         }
     }
 
-    // Keeps a road of cars that fit, by one allocation.
+    // Keep a road of cars that fit, by one allocation.
     pub(crate) fn of(alloc: Global, road: &Road) -> Result<Checkpoint, OutOfMemory>
         requires { AreSmall (cars_of road.now) }
         ensures { IfOk result (λ kept. kept ≡ road.now) }
@@ -63,7 +63,7 @@ impl Checkpoint {
         Ok(Checkpoint { cars })
     }
 
-    // Returns the road, by one allocation.
+    // Return the road, by one allocation.
     pub(crate) fn road(&self, alloc: Global) -> Result<Road, OutOfMemory>
         ensures { IfOk result (λ road. road ≡ self.now) }
     {

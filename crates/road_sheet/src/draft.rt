@@ -44,18 +44,18 @@ impl Model for Draft {
 }
 
 impl Draft {
-    /// Returns how many steps are simulated so far.
+    /// Return how many steps are simulated so far.
     pub fn horizon(&self) -> u32
         ensures { result ≡ self.now.horizon }
     {
         self.sheet.horizon()
     }
 
-    /// Makes the input of the next step.
+    /// Make the input of the next step.
     ///
     /// # Errors
     ///
-    /// `OutOfMemory` where an allocation failed. The draft is then as it was.
+    /// `OutOfMemory` if an allocation failed. The draft is then as it was.
     pub fn input(&mut self, alloc: Global) -> Result<Arc<StepInput>, OutOfMemory>
         ensures input { IfOk result (λ input. arc_value input ≡ next_input self.old) }
         ensures unchanged { self.new ≡ self.old }
@@ -63,12 +63,12 @@ impl Draft {
         self.sheet.next_input(alloc)
     }
 
-    /// Adds one more step, from its input and the new speeds of its cars. The input must be that of the next step, the
+    /// Add one more step, from its input and the new speeds of its cars. The input must be that of the next step, the
     /// speeds must be those of its cars by the rules, and the horizon must be below 1,048,576.
     ///
     /// # Errors
     ///
-    /// `OutOfMemory` where an allocation failed. The draft is then as it was.
+    /// `OutOfMemory` if an allocation failed. The draft is then as it was.
     pub fn push(
         &mut self,
         alloc: Global,
@@ -85,20 +85,20 @@ impl Draft {
         self.sheet.grow(alloc, input, speeds, road)
     }
 
-    /// Returns the road at the horizon.
+    /// Return the road at the horizon.
     pub fn road(&self) -> &Road
         ensures { result.now ≡ state_of self.now self.now.horizon }
     {
         self.sheet.road()
     }
 
-    /// Finds the steps that come next under the same settings, at least one: up to the step `to`, the end of the
+    /// Find the steps that come next under the same settings, at least one: up to the step `to`, the end of the
     /// interval of 64 steps, or the first step at which an edit is dated, whichever is the earliest. `to` must be above
     /// the horizon, and at most 1,048,576.
     ///
     /// # Errors
     ///
-    /// `OutOfMemory` where an allocation failed, or the plan or the settings can have no more owners. The draft is then
+    /// `OutOfMemory` if an allocation failed, or the plan or the settings can have no more owners. The draft is then
     /// as it was.
     pub fn next_span(&mut self, alloc: Global, to: u32) -> Result<Span, OutOfMemory>
         requires before { self.old.horizon < to }
@@ -110,12 +110,12 @@ impl Draft {
         self.sheet.next_span(alloc, &mut self.settings, to)
     }
 
-    /// Adds the steps of a span at once, from what they come to. The span must be of the next steps, the road that after
+    /// Add the steps of a span at once, from what they come to. The span must be of the next steps, the road that after
     /// it, and the totals those of each detector in it.
     ///
     /// # Errors
     ///
-    /// `OutOfMemory` where an allocation failed. The draft is then as it was.
+    /// `OutOfMemory` if an allocation failed. The draft is then as it was.
     pub fn push_span(&mut self, alloc: Global, span: &Span, ran: Ran) -> Result<(), OutOfMemory>
         requires next { IsNextSpan self.old span.now }
         requires road { ran.road ≡ span_road span.now (state_of self.old self.old.horizon) }
@@ -126,7 +126,7 @@ impl Draft {
         self.sheet.grow_by(alloc, span, ran)
     }
 
-    /// Returns the sheet.
+    /// Return the sheet.
     pub fn sheet(self) -> Sheet
         ensures { result ≡ self }
     {

@@ -21,7 +21,7 @@ pub struct Interval {
 }
 
 impl Interval {
-    // Begins an interval, of which no step is simulated.
+    // Begin an interval without a simulated step.
     pub(crate) fn begin(
         alloc: Global,
         start: Checkpoint,
@@ -43,7 +43,7 @@ impl Interval {
         Ok(Interval { start, totals })
     }
 
-    // Counts one more step. It allocates nothing.
+    // Count one more step. It allocates nothing.
     pub(crate) fn count(&mut self, input: &StepInput, speeds: &[u8])
         requires one_each { length speeds.now ≡ length (cars_of input.now.road) }
         requires each { length self.old.totals.items ≡ length input.now.plan.detectors }
@@ -64,7 +64,7 @@ impl Interval {
         }
     }
 
-    // Counts more steps, of which each detector has these totals. It allocates nothing.
+    // Count more steps, in which each detector has these totals. It allocates nothing.
     pub(crate) fn add(&mut self, totals: &[Totals])
         requires each { length self.old.totals.items ≡ length totals.now }
         requires cars { (d : ℕ) → d < length self.old.totals.items →

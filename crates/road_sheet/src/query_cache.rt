@@ -36,7 +36,7 @@ impl QueryCache {
     ghost use Rattle.road_sheet.specs.QueryCaches.{IsCacheOf};
     ghost use Rattle.road_sheet.specs.ShownRuns.{IsShownBy};
 
-    /// Makes the cache of a run of which nothing is computed yet. It takes no memory.
+    /// Make the cache of a run that has not begun. It takes no memory.
     pub fn new() -> QueryCache
         ensures { (sheet : Sheet) → IsCacheOf sheet result }
     {
@@ -46,7 +46,7 @@ impl QueryCache {
         }
     }
 
-    /// Forgets the run, since other edits are in force. Its memory stays.
+    /// Forget the run, since other edits are in force. Its memory stays.
     pub fn restart(&mut self)
         ensures { (before after : Sheet) → before.plan ≡ after.plan →
             IsCacheOf before self.old → IsCacheOf after self.new }
@@ -56,11 +56,11 @@ impl QueryCache {
         }
     }
 
-    /// Returns the road at a step.
+    /// Return the road at a step.
     ///
     /// # Errors
     ///
-    /// `NotSimulated` where the step is above the horizon, else `OutOfMemory` where an allocation failed.
+    /// `NotSimulated` if the step is above the horizon, else `OutOfMemory` if an allocation failed.
     pub fn state(&mut self, alloc: Global, sheet: &Sheet, step: u32) -> Result<Road, SheetFault>
         requires { IsCacheOf sheet.now self.old }
         ensures state { IfOk result (λ road. road ≡ state_of sheet.now step) }
@@ -74,11 +74,11 @@ impl QueryCache {
         Ok(road)
     }
 
-    /// Returns the row of a step, with the blocks of its step.
+    /// Return the row of a step, with the blocks of its step.
     ///
     /// # Errors
     ///
-    /// `NotSimulated` where the step is above the horizon, else `OutOfMemory` where an allocation failed.
+    /// `NotSimulated` if the step is above the horizon, else `OutOfMemory` if an allocation failed.
     pub fn row(&mut self, alloc: Global, sheet: &Sheet, step: u32) -> Result<String, SheetFault>
         requires { IsCacheOf sheet.now self.old }
         ensures row { IfOk result (λ row. string_bytes row ≡ sheet_row sheet.now step) }
@@ -92,13 +92,13 @@ impl QueryCache {
         Ok(row)
     }
 
-    /// Returns what a detector counts in the steps from one up to another, that one not among them. The counts of whole
+    /// Return what a detector counts in the steps from one up to another, that one not among them. The counts of whole
     /// intervals are kept, and allocate nothing.
     ///
     /// # Errors
     ///
-    /// `NoDetector` where the plan has no such detector, else `Range` where `from` is above `to`, else `NotSimulated`
-    /// where `to` is above the horizon, else `OutOfMemory` where an allocation failed.
+    /// `NoDetector` if the plan has no such detector, else `Range` if `from` is above `to`, else `NotSimulated`
+    /// if `to` is above the horizon, else `OutOfMemory` if an allocation failed.
     pub fn totals(
         &mut self,
         alloc: Global,
@@ -127,12 +127,12 @@ impl QueryCache {
         Ok(self.totals_between(alloc, sheet, detector, from, to)?)
     }
 
-    /// Returns the rows of the steps from one to another, both of them, each with the blocks of its step.
+    /// Return the rows of the steps from one to another, both of them, each with the blocks of its step.
     ///
     /// # Errors
     ///
-    /// `Range` where `from` is above `to` or these are more than 1,024 rows, else `NotSimulated` where `to` is above
-    /// the horizon, else `OutOfMemory` where an allocation failed.
+    /// `Range` if `from` is above `to` or these are more than 1,024 rows, else `NotSimulated` if `to` is above
+    /// the horizon, else `OutOfMemory` if an allocation failed.
     pub fn rows(
         &mut self,
         alloc: Global,
@@ -157,7 +157,7 @@ impl QueryCache {
 
     // ---- the run under way
 
-    // Takes the run under way out, at a step, where that is simulated.
+    // Take the run under way out, at a step, if that is simulated.
     fn shown_at(&mut self, alloc: Global, sheet: &Sheet, step: u32) -> Result<ShownRun, SheetFault>
         requires { IsCacheOf sheet.now self.old }
         ensures step { IfOk result (λ shown. shown.run.step ≡ step) }
@@ -172,7 +172,7 @@ impl QueryCache {
         Ok(self.run_at(alloc, sheet, step)?)
     }
 
-    // Takes the run under way out, at a step. It is lost where memory is refused.
+    // Take the run under way out, at a step. It is lost if memory is refused.
     fn run_at(&mut self, alloc: Global, sheet: &Sheet, step: u32) -> Result<ShownRun, OutOfMemory>
         requires simulated { step ≤ sheet.now.horizon }
         requires horizon { step ≤ GREATEST_HORIZON }
@@ -192,7 +192,7 @@ impl QueryCache {
         Ok(shown)
     }
 
-    // Writes the rows from the one of a step up to that of another, both of them.
+    // Write the rows from the one of a step up to that of another, both of them.
     fn rows_between(
         &mut self,
         alloc: Global,
@@ -215,7 +215,7 @@ impl QueryCache {
 
     // ---- counts
 
-    // Counts some steps: a few one after another, others interval by interval.
+    // Count some steps: a few one after another, others interval by interval.
     fn totals_between(
         &mut self,
         alloc: Global,
@@ -248,7 +248,7 @@ impl QueryCache {
         Ok(totals)
     }
 
-    // Counts some steps of one interval. The counts of all that are simulated are kept; those of its last ones are these
+    // Count some steps of one interval. The counts of all that are simulated are kept; those of its last ones are these
     // less the counts of the steps before.
     fn totals_in(
         &mut self,
@@ -284,7 +284,7 @@ impl QueryCache {
         })
     }
 
-    // Counts some steps one after another.
+    // Count some steps one after another.
     fn counted(
         &mut self,
         alloc: Global,

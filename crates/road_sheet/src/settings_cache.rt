@@ -23,7 +23,7 @@ pub(crate) struct InForce {
 }
 
 impl InForce {
-    // Returns the settings, where they are in force at a step.
+    // Return the settings, if they are in force at a step.
     fn at(&self, step: u32) -> Result<Option<Arc<Settings>>, OutOfMemory>
         ensures { IfOk result (λ found. IfSome found (λ settings. (arc_value settings ≡ arc_value self.now.settings)
             × (self.now.from ≤ step) × (step < self.now.until))) }
@@ -34,15 +34,15 @@ impl InForce {
         Ok(Some(Arc::try_clone(&self.settings)?))
     }
 
-    // Answers whether they are in force at a step.
+    // Return whether they are in force at a step.
     fn is_at(&self, step: u32) -> bool
         ensures { IsTrue result → (self.now.from ≤ step) × (step < self.now.until) }
     {
         self.from <= step && step < self.until
     }
 
-    // Returns up to which step, and no further than another, they are in force from a step on: up to the next step
-    // where they are not in force at it.
+    // Return up to which step, and no further than another, they are in force from a step on: up to the next step
+    // if they are not in force at it.
     fn until_from(&self, step: u32, to: u32) -> u32
         requires { step < to }
         ensures some { step < result }
@@ -73,7 +73,7 @@ impl SettingsCache {
         SettingsCache { last: None }
     }
 
-    // Returns the settings of a sheet's step: the cached ones where no edit is dated since, and else new ones.
+    // Return the settings of a sheet's step: the cached ones if no edit is dated since, and else new ones.
     pub(crate) fn at(
         &mut self,
         alloc: Global,
@@ -92,7 +92,7 @@ impl SettingsCache {
         self.renewed(alloc, sheet.plan(), sheet.scenario(), step)
     }
 
-    // Answers whether the cached settings are in force at two steps.
+    // Return whether the cached settings are in force at two steps.
     pub(crate) fn are_at(&self, step: u32, other: u32) -> bool
         ensures { (plan : Plan) (edits : Edits) → AreCached plan edits self.now → IsTrue result
             → settings_of plan edits step ≡ settings_of plan edits other }
@@ -103,7 +103,7 @@ impl SettingsCache {
         }
     }
 
-    // Returns up to which step, and no further than another, the cached settings of a step are in force: at least for
+    // Return up to which step, and no further than another, the cached settings of a step are in force: at least for
     // that step.
     pub(crate) fn until(&self, step: u32, to: u32) -> u32
         requires { step < to }
@@ -129,7 +129,7 @@ impl SettingsCache {
         }
     }
 
-    // Makes the settings of a step, and caches them.
+    // Make the settings of a step, and caches them.
     fn renewed(
         &mut self,
         alloc: Global,
@@ -155,7 +155,7 @@ impl SettingsCache {
     }
 }
 
-// Returns up to which step the settings of a step are in force: the greatest where no edit is dated after it.
+// Return up to which step the settings of a step are in force: the greatest if no edit is dated after it.
 fn until(scenario: &Scenario, step: u32) -> u32
     ensures { (plan : Plan) (t : ℕ) → step ≤ t → t < result →
         settings_of plan scenario.now t ≡ settings_of plan scenario.now step }

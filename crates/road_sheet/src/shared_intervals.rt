@@ -59,7 +59,7 @@ impl SharedIntervals {
         }
     }
 
-    // Adds an interval behind the others.
+    // Add an interval behind the others.
     pub(crate) fn push(&mut self, alloc: Global, interval: Interval) -> Result<(), OutOfMemory>
         ensures pushed { OnOk result (self.new ≡ self.old ++ interval ∷ []) }
         ensures unchanged { OnErr result (self.new ≡ self.old) }
@@ -74,7 +74,7 @@ impl SharedIntervals {
         Ok(())
     }
 
-    // Shares the first intervals. At most 64 values get one more owner where all are shared.
+    // Share the first intervals. At most 64 values get one more owner if all are shared.
     pub(crate) fn first(&self, alloc: Global, count: usize) -> Result<SharedIntervals, OutOfMemory>
         requires { count ≤ length self.now }
         ensures { IfOk result (λ first. first ≡ take count self.now) }
@@ -92,7 +92,7 @@ impl SharedIntervals {
     }
 }
 
-// Shares these shelves, and adds one more.
+// Share these shelves, and add one more.
 fn with_shelf(
     alloc: Global,
     shelves: &[Arc<Shelf>],

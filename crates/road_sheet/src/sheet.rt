@@ -82,11 +82,11 @@ impl Model for Sheet {
 impl Sheet {
     ghost use Rattle.road_sheet.specs.SettingsCaches.{AreCached};
 
-    /// Makes the sheet without edits, of which no step is simulated.
+    /// Make the sheet without edits and without a simulated step.
     ///
     /// # Errors
     ///
-    /// `OutOfMemory` where an allocation failed.
+    /// `OutOfMemory` if an allocation failed.
     pub fn opening(alloc: Global, plan: Arc<Plan>) -> Result<Sheet, OutOfMemory>
         ensures sheet { IfOk result (λ sheet. sheet ≡ opening_sheet (arc_value plan)) }
         ensures within { IsWithinLimits (arc_value plan) }
@@ -109,14 +109,14 @@ impl Sheet {
         })
     }
 
-    /// Returns the plan.
+    /// Return the plan.
     pub fn plan(&self) -> &Arc<Plan>
         ensures { arc_value result.now ≡ self.now.plan }
     {
         &self.plan
     }
 
-    /// Returns the scenario: each of its edits fits the plan, and none exceeds another.
+    /// Return the scenario: each of its edits fits the plan, and none exceeds another.
     pub fn scenario(&self) -> &Scenario
         ensures scenario { result.now ≡ self.now.edits }
         ensures is_sheet { IsSheet self.now }
@@ -124,7 +124,7 @@ impl Sheet {
         &self.known.first
     }
 
-    /// Returns how many steps are simulated, at most 1,048,576: the road is known at each step from 0 to it.
+    /// Return how many steps are simulated, at most 1,048,576: the road is known at each step from 0 to it.
     pub fn horizon(&self) -> u32
         ensures horizon { result ≡ self.now.horizon }
         ensures is_sheet { IsSheet self.now }
@@ -135,12 +135,12 @@ impl Sheet {
         }
     }
 
-    /// Returns the road at a step. It computes at most 63 steps, from the nearest checkpoint, and none where the sheet
+    /// Return the road at a step. It computes at most 63 steps, from the nearest checkpoint, and none if the sheet
     /// keeps the road.
     ///
     /// # Errors
     ///
-    /// `NotSimulated` where the step is above the horizon, else `OutOfMemory` where an allocation failed.
+    /// `NotSimulated` if the step is above the horizon, else `OutOfMemory` if an allocation failed.
     pub fn state(&self, alloc: Global, step: u32) -> Result<Road, SheetFault>
         ensures state { IfOk result (λ road. road ≡ state_of self.now step) }
         ensures accepted { IfOk result (λ _. state_fault self.now step ≡ None) }
@@ -155,14 +155,14 @@ impl Sheet {
         QueryCache::new().state(alloc, self, step)
     }
 
-    /// Returns what a detector counts in the steps from one up to another, that one not among them. It computes the
+    /// Return what a detector counts in the steps from one up to another, that one not among them. It computes the
     /// steps up to `from` and up to `to` in the intervals that these cut; the counts of whole ones are kept, and
     /// allocate nothing.
     ///
     /// # Errors
     ///
-    /// `NoDetector` where the plan has no such detector, else `Range` where `from` is above `to`, else `NotSimulated`
-    /// where `to` is above the horizon, else `OutOfMemory` where an allocation failed.
+    /// `NoDetector` if the plan has no such detector, else `Range` if `from` is above `to`, else `NotSimulated`
+    /// if `to` is above the horizon, else `OutOfMemory` if an allocation failed.
     pub fn totals(
         &self,
         alloc: Global,
@@ -179,7 +179,7 @@ impl Sheet {
         QueryCache::new().totals(alloc, self, detector, from, to)
     }
 
-    // Copies the last state that is kept and not after a step: that at the horizon, or at the first step of the step's
+    // Copy the last state that is kept and not after a step: that at the horizon, or at the first step of the step's
     // interval.
     pub(crate) fn kept_state(&self, alloc: Global, step: u32) -> Result<State, OutOfMemory>
         requires { step ≤ self.now.horizon }
@@ -198,7 +198,7 @@ impl Sheet {
         })
     }
 
-    // Returns what a detector counts in all simulated steps of an interval.
+    // Return what a detector counts in all simulated steps of an interval.
     pub(crate) fn interval_totals(&self, interval: u32, detector: u32) -> Totals
         requires in_plan { detector < length self.now.plan.detectors }
         requires simulated { INTERVAL_STEPS * interval ≤ self.now.horizon }
@@ -208,7 +208,7 @@ impl Sheet {
         self.interval(interval as usize).totals[detector as usize]
     }
 
-    // Returns an interval, whole or open.
+    // Return an interval, whole or open.
     fn interval(&self, interval: usize) -> &Interval
         requires { INTERVAL_STEPS * interval ≤ self.now.horizon }
         ensures { IsInterval self.now.plan self.now.edits (INTERVAL_STEPS * interval)
@@ -227,7 +227,7 @@ impl Sheet {
         (self.horizon() / INTERVAL_STEPS) as usize
     }
 
-    /// Begins the run of this sheet's edits with a scenario joined in: a draft that resumes at the horizon where that
+    /// Begin the run of this sheet's edits with a scenario joined in: a draft that resumes at the horizon if that
     /// is `keep`, and else at the checkpoint at or before `keep`.
     ///
     /// The scenario must fit the plan; `keep` must not be above the horizon, nor above the first step at which the
@@ -235,7 +235,7 @@ impl Sheet {
     ///
     /// # Errors
     ///
-    /// `OutOfMemory` where an allocation failed, or an interval can have no more owners.
+    /// `OutOfMemory` if an allocation failed, or an interval can have no more owners.
     pub fn draft(&self, alloc: Global, scenario: &Scenario, keep: u32) -> Result<Draft, OutOfMemory>
         requires fits { AreInRange self.now.plan scenario.now }
         requires simulated { keep ≤ self.now.horizon }
@@ -250,12 +250,12 @@ impl Sheet {
         self.draft_of(alloc, joined, keep)
     }
 
-    /// Begins a run as [`Sheet::draft`], of a scenario that is joined already. It must fit the plan, and `keep` must be
+    /// Begin a run as [`Sheet::draft`], of a scenario that is joined already. It must fit the plan, and `keep` must be
     /// as there.
     ///
     /// # Errors
     ///
-    /// `OutOfMemory` where an allocation failed, or an interval can have no more owners.
+    /// `OutOfMemory` if an allocation failed, or an interval can have no more owners.
     pub fn draft_of(&self, alloc: Global, joined: Scenario, keep: u32) -> Result<Draft, OutOfMemory>
         requires fits { AreInRange self.now.plan joined }
         requires simulated { keep ≤ self.now.horizon }
@@ -278,7 +278,7 @@ impl Sheet {
         Ok(Draft { sheet, settings })
     }
 
-    // Replaces the edits by others, which give the same run up to the horizon.
+    // Replace the edits by others, which give the same run up to the horizon.
     fn resume_at_horizon(&self, alloc: Global, scenario: Scenario) -> Result<Sheet, OutOfMemory>
         requires winners { AreWinners scenario }
         requires fits { AreInRange self.now.plan scenario }
@@ -309,7 +309,7 @@ impl Sheet {
         })
     }
 
-    // Replaces the edits by others, which give the same run up to an interval's checkpoint; that step is the horizon.
+    // Replace the edits by others, which give the same run up to an interval's checkpoint; that step is the horizon.
     fn resume_at_checkpoint(
         &self,
         alloc: Global,
@@ -347,7 +347,7 @@ impl Sheet {
         })
     }
 
-    // Makes the input of the next step.
+    // Make the input of the next step.
     pub(crate) fn next_input(&self, alloc: Global) -> Result<Arc<StepInput>, OutOfMemory>
         ensures { IfOk result (λ input. arc_value input ≡ next_input self.now) }
     {
@@ -356,14 +356,14 @@ impl Sheet {
         enter(alloc, &self.plan, settings, step, &self.at_horizon)
     }
 
-    // Returns the road at the horizon.
+    // Return the road at the horizon.
     pub(crate) fn road(&self) -> &Road
         ensures { result.now ≡ state_of self.now self.now.horizon }
     {
         &self.at_horizon
     }
 
-    // Finds the next steps under the same settings, up to a step at most.
+    // Find the next steps under the same settings, up to a step at most.
     pub(crate) fn next_span(
         &self,
         alloc: Global,
@@ -385,7 +385,7 @@ impl Sheet {
         Ok(Span::new(plan, settings, first, until - first))
     }
 
-    // Adds one more step, whose road is made already. What can fail for memory is done before the sheet is changed.
+    // Add one more step, whose road is made already. What can fail for memory is done before the sheet is changed.
     pub(crate) fn grow(
         &mut self,
         alloc: Global,
@@ -407,7 +407,7 @@ impl Sheet {
         Ok(())
     }
 
-    // Adds one more step that does not end the interval.
+    // Add one more step that does not end the interval.
     fn step_within(&mut self, input: &StepInput, speeds: &[u8], road: Road)
         requires input { input.now ≡ next_input self.old }
         requires speeds { speeds.now ≡ input_speeds input.now }
@@ -424,7 +424,7 @@ impl Sheet {
         self.known.second = Greatest::Of(horizon);
     }
 
-    // Begins the interval of a road whose cars are small enough to be kept.
+    // Begin the interval of a road whose cars are small enough to be kept.
     fn next_interval(&self, alloc: Global, road: &Road) -> Result<Interval, OutOfMemory>
         requires { AreSmall (cars_of road.now) }
         ensures start { IfOk result (λ interval. interval.start ≡ road.now) }
@@ -436,7 +436,7 @@ impl Sheet {
         Interval::begin(alloc, kept, detectors)
     }
 
-    // Adds one more step that ends the interval.
+    // Add one more step that ends the interval.
     fn step_to_end(
         &mut self,
         alloc: Global,
@@ -459,7 +459,7 @@ impl Sheet {
         self.end_interval(alloc, self.horizon() + 1, ended, road)
     }
 
-    // Adds the steps of a span, from the road after it and what each detector counts in it.
+    // Add the steps of a span, from the road after it and what each detector counts in it.
     pub(crate) fn grow_by(
         &mut self,
         alloc: Global,
@@ -480,7 +480,7 @@ impl Sheet {
         Ok(())
     }
 
-    // Adds the steps up to one that does not end the interval.
+    // Add the steps up to one that does not end the interval.
     fn span_within(&mut self, end: u32, ran: Ran)
         requires within { IsWithinInterval self.old end }
         requires within_interval { end % INTERVAL_STEPS ≢ 0 }
@@ -494,7 +494,7 @@ impl Sheet {
         self.known.second = Greatest::Of(end);
     }
 
-    // Adds the steps up to the end of the interval.
+    // Add the steps up to the end of the interval.
     fn span_to_end(&mut self, alloc: Global, end: u32, ran: Ran) -> Result<(), OutOfMemory>
         requires within { IsWithinInterval self.old end }
         requires at_end { end % INTERVAL_STEPS ≡ 0 }
@@ -509,7 +509,7 @@ impl Sheet {
         self.end_interval(alloc, end, ended, ran.road)
     }
 
-    // Ends the interval at a step, from the interval up to there and the road there. What can fail for memory is done
+    // End the interval at a step, from the interval up to there and the road there. What can fail for memory is done
     // before the sheet is changed.
     fn end_interval(
         &mut self,
@@ -536,7 +536,7 @@ impl Sheet {
     }
 }
 
-// Begins the interval of a checkpoint, and returns the road there.
+// Begin the interval of a checkpoint, and return the road there.
 fn begun(
     alloc: Global,
     start: &Checkpoint,
@@ -560,7 +560,7 @@ fn copies(interval: &Interval, road: &Road) -> Result<(Interval, Road), OutOfMem
     Ok((copy, road.copied()?))
 }
 
-// Shares a plan, and the first of these intervals.
+// Share a plan, and the first of these intervals.
 fn shared_with_plan(
     alloc: Global,
     plan: &Arc<Plan>,

@@ -27,7 +27,7 @@ impl Model for Shelf {
 }
 
 impl Shelf {
-    // Makes a shelf of no intervals. It allocates nothing.
+    // Make a shelf of no intervals. It allocates nothing.
     pub(crate) fn empty(alloc: Global) -> Shelf
         ensures { result ≡ [] }
     {
@@ -49,7 +49,7 @@ impl Shelf {
         &self.intervals[index]
     }
 
-    // Adds an interval behind the others.
+    // Add an interval behind the others.
     pub(crate) fn push(&mut self, alloc: Global, interval: Interval) -> Result<(), OutOfMemory>
         ensures pushed { OnOk result (self.new ≡ self.old ++ interval ∷ []) }
         ensures unchanged { OnErr result (self.new ≡ self.old) }
@@ -59,7 +59,7 @@ impl Shelf {
         Ok(())
     }
 
-    // Shares the first intervals.
+    // Share the first intervals.
     pub(crate) fn first(&self, alloc: Global, count: usize) -> Result<Shelf, OutOfMemory>
         requires { count ≤ length self.now }
         ensures { IfOk result (λ first. first ≡ take count self.now) }
@@ -69,7 +69,7 @@ impl Shelf {
     }
 }
 
-// Shares the first of these values: each has one more owner.
+// Share the first of these values: each has one more owner.
 pub(crate) fn shared<T: Drop>(
     alloc: Global,
     values: &[Arc<T>],

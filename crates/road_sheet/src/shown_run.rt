@@ -34,8 +34,8 @@ impl ShownRun {
     ghost use Rattle.road_sheet.specs.SettingsCaches.{AreCached};
     ghost use Rattle.road_sheet.specs.ShownRuns.{IsShownBy};
 
-    // Begins at the last state that a sheet keeps and that is not after a step, in the memory of another run of its plan
-    // where there is one.
+    // Begin at the last state that a sheet keeps and that is not after a step, in the memory of another run of its plan
+    // if there is one.
     pub(crate) fn begun(
         alloc: Global,
         sheet: &Sheet,
@@ -59,7 +59,7 @@ impl ShownRun {
         Ok(shown)
     }
 
-    // Begins a run of a sheet's plan at the last state that the sheet keeps and that is not after a step.
+    // Begin a run of a sheet's plan at the last state that the sheet keeps and that is not after a step.
     fn begun_anew(alloc: Global, sheet: &Sheet, step: u32) -> Result<ShownRun, OutOfMemory>
         requires simulated { step ≤ sheet.now.horizon }
         requires horizon { step ≤ GREATEST_HORIZON }
@@ -85,7 +85,7 @@ impl ShownRun {
         })
     }
 
-    // Takes the run out, to be taken up elsewhere.
+    // Take the run out, to be taken up elsewhere.
     pub(crate) fn into_run(self) -> UnderWay
         ensures { result ≡ self.run }
     {
@@ -93,7 +93,7 @@ impl ShownRun {
         run
     }
 
-    // Goes to a step: on from where it is where that is the nearest before it, and else from what the sheet keeps, the
+    // Go to a step: on from where it is if that is the nearest before it, and else from what the sheet keeps, the
     // road at the first step of each interval and at the horizon.
     pub(crate) fn go_to(
         &mut self,
@@ -116,7 +116,7 @@ impl ShownRun {
         Ok(())
     }
 
-    // Answers whether it is as near before a step as what the sheet keeps.
+    // Return whether it is as near before a step as what the sheet keeps.
     fn is_nearest(&self, sheet: &Sheet, step: u32) -> bool
         ensures { IsTrue result → self.now.run.step ≤ step }
     {
@@ -125,7 +125,7 @@ impl ShownRun {
             || (last < step && step - last <= step % INTERVAL_STEPS && step < sheet.horizon())
     }
 
-    // Takes the run up at the last state that the sheet keeps and that is not after a step.
+    // Take the run up at the last state that the sheet keeps and that is not after a step.
     fn take_up(&mut self, alloc: Global, sheet: &Sheet, step: u32) -> Result<(), OutOfMemory>
         requires simulated { step ≤ sheet.now.horizon }
         requires horizon { step ≤ GREATEST_HORIZON }
@@ -148,7 +148,7 @@ impl ShownRun {
         Ok(())
     }
 
-    // Makes the next step, under its own settings.
+    // Make the next step, under its own settings.
     pub(crate) fn step_on(&mut self, alloc: Global, sheet: &Sheet) -> Result<(), OutOfMemory>
         requires horizon { self.old.run.step < GREATEST_HORIZON }
         requires shown { IsShownBy sheet.now self.old }
@@ -165,7 +165,7 @@ impl ShownRun {
         Ok(())
     }
 
-    // Puts the run under the settings of its step.
+    // Put the run under the settings of its step.
     fn settle(&mut self, alloc: Global, sheet: &Sheet) -> Result<(), OutOfMemory>
         requires { IsShownBy sheet.now self.old }
         ensures settled { OnOk result (self.new.run ≡ record self.old.run
@@ -184,14 +184,14 @@ impl ShownRun {
 
     // ---- what is seen on the way
 
-    // Returns the road before its next step.
+    // Return the road before its next step.
     pub(crate) fn road(&self, alloc: Global) -> Result<Road, OutOfMemory>
         ensures { IfOk result (λ road. road ≡ self.now.run.road) }
     {
         self.run.road(alloc)
     }
 
-    // Writes the row of its step.
+    // Write the row of its step.
     #[tactic(auto, unfolding(crate::specs::Shown::row_at))]
     pub(crate) fn row(&mut self, alloc: Global, sheet: &Sheet) -> Result<String, OutOfMemory>
         requires { IsShownBy sheet.now self.old }
@@ -203,7 +203,7 @@ impl ShownRun {
         self.run.row(alloc)
     }
 
-    // Writes the rows from its step's up to that of another, both of them.
+    // Write the rows from its step's up to that of another, both of them.
     pub(crate) fn rows_to(
         &mut self,
         alloc: Global,
@@ -227,7 +227,7 @@ impl ShownRun {
         Ok(rows)
     }
 
-    // Makes the steps up to another, and returns what a detector counts in them.
+    // Make the steps up to another, and return what a detector counts in them.
     pub(crate) fn count_to(
         &mut self,
         alloc: Global,

@@ -22,13 +22,13 @@ pub struct State {
     pub road: Road,
 }
 
-/// Writes the row of a state, with the blocks of its step.
+/// Write the row of a state, with the blocks of its step.
 ///
 /// The scenario must fit the plan, and the state must be one of the run by its edits.
 ///
 /// # Errors
 ///
-/// `OutOfMemory` where an allocation failed.
+/// `OutOfMemory` if an allocation failed.
 #[tactic(auto, unfolding(crate::specs::Shown::row_at))]
 pub fn row_of(
     alloc: Global,

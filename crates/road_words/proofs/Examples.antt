@@ -1,4 +1,4 @@
--- Steady words worked out by hand, as equations that the check computes.
+-- Steady words worked out by hand, as equations that the checker computes.
 use Rattle.std.specs.Prelude.{◌≡◌, ◌+◌, ◌*◌, ◌^◌, refl}
 use Rattle.road_words.specs.Words.{steady_word}
 

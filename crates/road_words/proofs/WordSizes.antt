@@ -22,7 +22,7 @@ steady_word-small stream place = let x = stream * 40503 + place * 30011 in small
     small : (x : ℕ) → x % 65536 * 65536 < 2 ^ 32
     small x = omega arith
 
--- no word is longer
+-- no word has more than 32 bits
 pub source_word-small : (words : PlanWords) (stream place : ℕ) → source_word words stream place < 2 ^ 32
 source_word-small (Seeded words) stream place = block_word-small 4 _ (place / 16) stream (place % 16)
 source_word-small (Steady words) stream place = steady_word-small stream place

@@ -1,4 +1,4 @@
--- The words of a source, a value of the program's type.
+-- The words of a source that is a value of the program's type.
 use Rattle.std.specs.Prelude.{ℕ}
 use Rattle.road_words.specs.Words.{chacha_word, steady_word}
 use Rattle.road_words.specs.declared.plan_words.PlanWords.{PlanWords}

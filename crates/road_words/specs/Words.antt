@@ -14,15 +14,15 @@ chacha_word key stream place = word_at 4 (key_of key) stream place
 abbrev pub key_bytes : ℕ → List ℕ
 key_bytes seed = to_be_bytes w64 seed ++ replicate 24 0
 
--- the word of a seed: that of ChaCha8 under the seed's key
+-- the word of a seed: the ChaCha8 word under the seed's key
 abbrev pub seeded_word : ℕ → ℕ → ℕ → ℕ
 seeded_word seed stream place = chacha_word (key_bytes seed) stream place
 
--- a word that is no random one: its upper 16 bits follow a line through stream and place, its lower 16 bits are 0
+-- a word that is not random: its upper 16 bits are a linear function of stream and place, its lower 16 bits are 0
 abbrev pub steady_word : ℕ → ℕ → ℕ
 steady_word stream place = (stream * 40503 + place * 30011) % 65536 * 65536
 
--- the word that a plan names
+-- the word that a plan selects
 abbrev pub word : WordKind → ℕ → ℕ → ℕ
 word (Seeded seed) stream place = seeded_word seed stream place
 word Steady stream place = steady_word stream place

@@ -8,15 +8,15 @@ use rand_chacha::ChaCha8Rng;
 use rand_core::SeedableRng;
 use rand_core::utils::NextWord;
 
-/// The words of a ChaCha8 generator (D. J. Bernstein, "ChaCha, a variant of Salsa20", 2008; eight rounds), any of
-/// which can be asked by its stream and its place without those before it.
+/// The words of a ChaCha8 generator (D. J. Bernstein, "ChaCha, a variant of Salsa20", 2008; eight rounds). Any word can
+/// be computed from its stream and place, without the words before it.
 #[derive(Clone, Copy, Debug, PartialEq, Eq)]
 pub struct ChaChaWords {
     key: [u8; 32],
 }
 
 impl ChaChaWords {
-    /// Makes the words under the key of this seed: its eight big-endian bytes, then 24 zeros. It takes no memory.
+    /// Make the words under the key of this seed: its eight big-endian bytes, then 24 zeros. It takes no memory.
     pub fn new(seed: u64) -> Self
         ensures { (stream place : ℕ) →
             ⟦<ChaChaWords as Words>⟧.word_of result stream place ≡ seeded_word seed stream place }

@@ -1,4 +1,4 @@
-//! Random words, named by stream and place: a word is a function of the plan, the stream and the place, so that it does
+//! Random words, addressed by stream and place. A word is a function of the plan, the stream and the place. So it does
 //! not matter which words are drawn, or in what order.
 //!
 //! ```rust
@@ -8,7 +8,7 @@
 //! // The word of the car with the number 48 in step 5: its upper 16 bits decide whether the car is slowed.
 //! let word = words.word(48, 5);
 //! let is_slowed = word >> 16 < chance;
-//! // Words that were not drawn move no other: this one is the same whatever was asked before.
+//! // Each word is independent of what was drawn before: this one is always the same.
 //! let later = words.word(48, 6);
 //! ```
 #![tactic(auto)]

@@ -1,4 +1,4 @@
-//! The words that a plan names, of either kind.
+//! The words that a plan selects, of either kind.
 
 ghost use Rattle.std.specs.Prelude.{◌≡◌, ℕ};
 ghost use Rattle.road_words.specs.Words.{word};
@@ -8,17 +8,17 @@ use crate::steady::SteadyWords;
 use crate::words::Words;
 use road_plan::{Plan, WordKind};
 
-/// The words that a plan names.
+/// The words that a plan selects.
 #[derive(Clone, Copy, Debug, PartialEq, Eq)]
 pub enum PlanWords {
-    /// Those of the plan's seed.
+    /// The words of the plan's seed.
     Seeded(ChaChaWords),
-    /// Those for tests.
+    /// The words for tests.
     Steady(SteadyWords),
 }
 
 impl PlanWords {
-    /// Makes the words of this plan. It takes no memory.
+    /// Make the words of this plan. It takes no memory.
     pub fn of(plan: &Plan) -> Self
         ensures { (stream place : ℕ) →
             ⟦<PlanWords as Words>⟧.word_of result stream place ≡ word plan.now.words stream place }

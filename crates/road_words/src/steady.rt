@@ -2,7 +2,7 @@
 
 use crate::words::Words;
 
-/// Words for tests and worked examples, plain enough to be worked out by hand. They are no random words.
+/// Words for tests and worked examples, simple enough to be worked out by hand. They are not random.
 #[derive(Clone, Copy, Debug, PartialEq, Eq)]
 pub struct SteadyWords;
 

@@ -12,7 +12,7 @@ pub record CrewOfThreads : Type 0 where
   pub workers : ℕ
   pub gone : ℕ
 
--- how often a crew has answered `WorkersGone` after one more answer: the count is one more where that was its answer;
+-- how often a crew has answered `WorkersGone` after one more answer: the count is one more if that was its answer;
 -- one at the greatest u64 stays there
 abbrev pub gone_after : {A : Type 0} → Result A CrewFault → ℕ → ℕ
 gone_after (Ok speeds) n = n

@@ -3,4 +3,5 @@ pub mod Pieces
 pub mod Started
 pub mod Gathered
 pub mod Stretches
+pub mod Jobs
 pub mod RunsUnderWay

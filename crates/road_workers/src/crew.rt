@@ -20,18 +20,18 @@ pub trait Crew {
     /// A count: how often it has answered `WorkersGone`, at most 2^64 - 1. Contracts alone see it.
     ghost times_gone: { Self → ℕ };
 
-    /// Computes the new speeds of all cars of a step, in their order, by rules 1 to 3. They are the same for every crew
+    /// Compute the new speeds of all cars of a step, in their order, by rules 1 to 3. They are the same for every crew
     /// and every number of workers.
     ///
     /// # Errors
     ///
-    /// `WorkersGone` where a worker could not be started or has gone, else `OutOfMemory` where an allocation failed.
+    /// `WorkersGone` if a worker could not be started or has gone, else `OutOfMemory` if an allocation failed.
     fn speeds(&mut self, alloc: Global, input: &Arc<StepInput>) -> Result<Vec<u8>, CrewFault>
         ensures speeds { IfOk result (λ new. new.items ≡ input_speeds (arc_value input.now)) }
         ensures gone { times_gone self.new ≡ gone_after result (times_gone self.old) };
 
-    /// Runs all steps of a span from the road before them, where this crew computes several steps at once. It may go on
-    /// with the run that is lent to it, and leave another there. None where it runs no spans, or not this one: then it is
+    /// Run all steps of a span from the road before them, if this crew computes several steps at once. It may go on
+    /// with the run that is lent to it, and leave another there. None if it runs no spans, or not this one: then it is
     /// to be asked for the speeds of each step.
     ///
     /// # Errors
@@ -52,7 +52,7 @@ pub trait Crew {
     }
 }
 
-// Counts an answer `WorkersGone` after the others.
+// Count an answer `WorkersGone` after the others.
 pub(crate) fn gone_after<T>(answer: &Result<T, CrewFault>, gone: u64) -> u64
     ensures { result ≡ gone_after answer.now gone }
 {

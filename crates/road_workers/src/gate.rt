@@ -4,7 +4,7 @@
 /// Tests see that all workers are at their gate at once, and none of them whether a piece was computed before the gate
 /// or behind it.
 pub trait Gate {
-    /// Lets a worker pass, numbered from 0, who is about to compute its piece or run its stretch, which may be empty.
+    /// Let a worker pass, numbered from 0, who is about to compute its piece or run its stretch, which may be empty.
     fn arrive(&self, worker: u32);
 }
 

@@ -11,7 +11,7 @@ pub struct KeptRun {
 }
 
 impl KeptRun {
-    /// Keeps no run yet. It takes no memory.
+    /// Keep no run yet. It takes no memory.
     pub fn none() -> KeptRun {
         KeptRun { run: None }
     }

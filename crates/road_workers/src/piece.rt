@@ -19,7 +19,7 @@ pub(crate) struct Piece {
 }
 
 impl Piece {
-    // Returns the piece of a worker, numbered from 0, by whole division. It may be empty.
+    // Return the piece of a worker, numbered from 0, by whole division. It may be empty.
     pub fn of(worker: u32, workers: u32, cars: usize) -> Piece
         requires worker { worker < workers }
         requires workers { workers ≤ MOST_WORKERS }
@@ -38,7 +38,7 @@ impl Piece {
     }
 }
 
-// Counts the cars of a step; there are at most as many as cells.
+// Count the cars of a step; there are at most as many as cells.
 #[tactic(auto, using(crate::proofs::PiecesInOrder::few_cars))]
 pub(crate) fn cars_in(input: &StepInput) -> usize
     ensures count { result ≡ length (cars_of input.now.road) }
@@ -47,7 +47,7 @@ pub(crate) fn cars_in(input: &StepInput) -> usize
     input.road().cars().len()
 }
 
-// Makes a list for the speeds of all workers, empty. Those of one worker alone are not put into it but stand for it, so
+// Make a list for the speeds of all workers, empty. Those of one worker alone are not put into it but stand for it, so
 // it has no room then.
 pub(crate) fn list_for(alloc: Global, workers: u32, cars: usize) -> Result<Vec<u8>, OutOfMemory>
     ensures { IfOk result (λ whole. whole.items ≡ []) }
@@ -58,7 +58,7 @@ pub(crate) fn list_for(alloc: Global, workers: u32, cars: usize) -> Result<Vec<u
     Vec::with_capacity(alloc, cars)
 }
 
-// Appends the speeds of a piece to those of the pieces before it.
+// Append the speeds of a piece to those of the pieces before it.
 #[tactic(auto, using(crate::proofs::PiecesInOrder::take_piece))]
 pub(crate) fn appended(whole: PieceAnswer, piece: PieceAnswer) -> PieceAnswer
     ensures { (all : List ℕ) (first end : ℕ) → first ≤ end → IfOk whole (λ front. front.items ≡ take first all)

@@ -47,7 +47,7 @@ struct Worker {
 }
 
 /// The crew whose workers are threads that live as long as the crew. A call for the speeds of a step gives every worker
-/// its piece of the cars, which may be empty. So does a call for a run with stretches of road, where that pays; else the
+/// its piece of the cars, which may be empty. So does a call for a run with stretches of road, if that pays; else the
 /// caller runs it alone. Each waits for their answers. After the first answer `WorkersGone` every call answers so.
 /// Contracts see it as how many workers it has, and its count of these answers.
 #[derive(Drop)]
@@ -75,11 +75,11 @@ impl<R> Model for Pool<R> {
 }
 
 impl<R: Threads + Wait + Clone + Drop + Send + 'static> Pool<R> {
-    /// Starts a crew of so many workers, 1 to 16.
+    /// Start a crew of so many workers, 1 to 16.
     ///
     /// # Errors
     ///
-    /// `WorkersGone` where a thread cannot be started, else `OutOfMemory` where an allocation failed.
+    /// `WorkersGone` if a thread cannot be started, else `OutOfMemory` if an allocation failed.
     pub fn start(rt: R, alloc: Global, workers: u32) -> Result<Pool<R>, CrewFault>
         requires some { 0 < workers }
         requires few { workers ≤ MOST_WORKERS }
@@ -89,12 +89,12 @@ impl<R: Threads + Wait + Clone + Drop + Send + 'static> Pool<R> {
         Pool::start_gated(rt, alloc, workers, no_gate(alloc)?)
     }
 
-    /// Starts a crew of 1 to 16 workers, as [`Pool::start`], each of which passes the gate before each piece and each
+    /// Start a crew of 1 to 16 workers, as [`Pool::start`], each of which passes the gate before each piece and each
     /// stretch that it computes; [`Gate`] says what is tested of that.
     ///
     /// # Errors
     ///
-    /// `WorkersGone` where a thread cannot be started, else `OutOfMemory` where an allocation failed.
+    /// `WorkersGone` if a thread cannot be started, else `OutOfMemory` if an allocation failed.
     pub fn start_gated<G: Gate + Drop + Send + Sync + 'static>(
         rt: R,
         alloc: Global,
@@ -110,12 +110,12 @@ impl<R: Threads + Wait + Clone + Drop + Send + 'static> Pool<R> {
         Pool::start_on(rt, alloc, workers, gate, processors)
     }
 
-    /// Starts such a crew as it is on a machine of so many processors, however many there are. Its speeds and runs are the
-    /// same; workers run stretches only where each has a processor, and the caller one more where it has one besides.
+    /// Start such a crew as it is on a machine of so many processors, however many there are. Its speeds and runs are the
+    /// same; workers run stretches only if each has a processor, and the caller one more if it has one besides.
     ///
     /// # Errors
     ///
-    /// `WorkersGone` where a thread cannot be started, else `OutOfMemory` where an allocation failed.
+    /// `WorkersGone` if a thread cannot be started, else `OutOfMemory` if an allocation failed.
     pub fn start_on<G: Gate + Drop + Send + Sync + 'static>(
         rt: R,
         alloc: Global,
@@ -154,7 +154,7 @@ impl<R: Threads + Wait + Clone + Drop + Send + 'static> Pool<R> {
         })
     }
 
-    /// Ends the workers and waits until they have ended.
+    /// End the workers and wait until they have ended.
     pub fn finish(self) {
         let Pool {
             rt,
@@ -216,7 +216,7 @@ impl<R: Wait> Crew for Pool<R> {
     }
 }
 
-// Makes the gate that does nothing, for all workers.
+// Make the gate that does nothing, for all workers.
 fn no_gate(alloc: Global) -> Result<Arc<NoGate>, OutOfMemory> {
     Ok(Arc::new(alloc, NoGate)?)
 }
@@ -230,7 +230,7 @@ struct Outfit<G> {
     lookout: Lookout,
 }
 
-// Starts the workers in their order, up to the first that cannot be started.
+// Start the workers in their order, up to the first that cannot be started.
 fn start_workers<
     R: Threads + Wait + Clone + Drop + Send + 'static,
     G: Gate + Drop + Send + Sync + 'static,
@@ -253,7 +253,7 @@ fn start_workers<
     Ok(())
 }
 
-// Starts a worker.
+// Start a worker.
 fn start_worker<
     R: Threads + Wait + Clone + Drop + Send + 'static,
     G: Gate + Drop + Send + Sync + 'static,
@@ -273,7 +273,7 @@ fn start_worker<
     }
 }
 
-// Closes the workers' channels, and joins their threads. That of replies is closed first, so that none waits for room
+// Close the workers' channels, and join their threads. That of replies is closed first, so that none waits for room
 // for its last word.
 fn finish_workers<R: Threads>(rt: &R, inbox: Inbox, workers: Vec<Worker>) {
     drop(inbox);

@@ -46,7 +46,7 @@ impl<R> Model for Scoped<R> {
 }
 
 impl<R: Threads + Wait> Scoped<R> {
-    /// Makes a crew of so many workers, 1 to 16. Each passes the gate before it computes its piece.
+    /// Make a crew of so many workers, 1 to 16. Each passes the gate before it computes its piece.
     pub fn new(rt: R, workers: u32, gate: SharedGate) -> Scoped<R>
         requires some { 0 < workers }
         requires few { workers ≤ MOST_WORKERS }
@@ -77,7 +77,7 @@ impl<R: Threads + Wait> Crew for Scoped<R> {
     }
 }
 
-// That a thread gives the speeds of a piece, where it finds memory.
+// That a thread gives the speeds of a piece, if it finds memory.
 #[derive(Clone, Copy)]
 struct SpeedsOf<'a> {
     input: &'a StepInput,
@@ -92,7 +92,7 @@ impl<'a> Promise<PieceAnswer> for SpeedsOf<'a> {
 // A worker's thread.
 type Worker<'a> = PromisedHandle<PieceAnswer, SpeedsOf<'a>>;
 
-// Computes the speeds of a step, by workers whose threads are started and joined here. Where one cannot be started, the
+// Compute the speeds of a step, by workers whose threads are started and joined here. If one cannot be started, the
 // others are joined before the answer.
 fn speeds_by<R: Threads + Wait>(
     rt: &R,
@@ -124,7 +124,7 @@ fn speeds_by<R: Threads + Wait>(
     )
 }
 
-// Starts the workers in their order, up to the first that cannot be started.
+// Start the workers in their order, up to the first that cannot be started.
 fn start_workers<'s, E>(
     scope: &Scope<'s, E>,
     alloc: Global,
@@ -148,7 +148,7 @@ fn start_workers<'s, E>(
     Ok(started)
 }
 
-// Starts a worker; none where its thread cannot be started.
+// Start a worker; none if its thread cannot be started.
 fn start_worker<'s, E>(
     scope: &Scope<'s, E>,
     alloc: Global,
@@ -172,7 +172,7 @@ fn start_worker<'s, E>(
     started.ok()
 }
 
-// Does what a worker does: it passes the gate, and computes its piece.
+// Do what a worker does: it passes the gate, and computes its piece.
 fn piece_speeds(
     alloc: Global,
     input: &StepInput,
@@ -188,7 +188,7 @@ fn piece_speeds(
     input.speeds_between(alloc, piece.first, piece.end)
 }
 
-// Joins the workers, and puts their speeds one behind the other.
+// Join the workers, and put their speeds one behind the other.
 fn joined<'s, R: Threads>(
     rt: &R,
     whole: Vec<u8>,

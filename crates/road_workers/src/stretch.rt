@@ -15,7 +15,7 @@ pub(crate) mod joining;
 
 use crate::kept_run::KeptRun;
 use crate::stretch::cutting::cut_out;
-use crate::whole::{begun_on, is_taken_up, kept_of, make_steps};
+use crate::whole::{begun_on, kept_of, make_steps, take_up};
 use road_cells::{Car, GREATEST_SPEED, Road};
 use road_columns::UnderWay;
 use road_detector::Ran;
@@ -23,7 +23,7 @@ use road_ends::{OutOfMemory, Span, Stretch, are_same_cars};
 use road_plan::Plan;
 use std::alloc::Global;
 
-// Returns the stretch at a place of so many side by side, of a road of so many cells: they have about as many cars each.
+// Return the stretch at a place of so many side by side, of a road of so many cells: they have about as many cars each.
 pub(crate) fn stretch_at(road: &Road, cells: u32, count: u32, place: u32) -> Stretch
     requires there { place < count }
     ensures first { result.first ≡ cut cells (cars_of road.now) count place }
@@ -37,7 +37,7 @@ pub(crate) fn stretch_at(road: &Road, cells: u32, count: u32, place: u32) -> Str
     }
 }
 
-// Answers whether a detector's site is on a stretch.
+// Return whether a detector's site is on a stretch.
 pub(crate) fn has_site(stretch: Stretch, plan: &Plan, detector: usize) -> bool
     requires { detector < length plan.now.detectors }
     ensures { result ≡ has_site stretch.first stretch.end plan.now detector }
@@ -46,7 +46,7 @@ pub(crate) fn has_site(stretch: Stretch, plan: &Plan, detector: usize) -> bool
     stretch.first <= site && site < stretch.end
 }
 
-// Runs a stretch for all steps of a span, from the cars on it, and for each step 9 cells farther behind it and ahead, in
+// Run a stretch for all steps of a span, from the cars on it, and for each step 9 cells farther behind it and ahead, in
 // a run that is kept. The road that it gives is right on the stretch, and its detectors elsewhere have counted nothing.
 pub(crate) fn run_stretch(
     alloc: Global,
@@ -65,7 +65,7 @@ pub(crate) fn run_stretch(
     Ok(run)
 }
 
-// Runs a stretch for all steps of a span, from the cars near it, in a run that is kept.
+// Run a stretch for all steps of a span, from the cars near it, in a run that is kept.
 pub(crate) fn run_near(
     alloc: Global,
     span: &Span,
@@ -88,8 +88,8 @@ pub(crate) fn run_near(
     Ok(ran)
 }
 
-// Returns a run that stands before the steps of a span on the cells of a stretch, under its settings: this one of its
-// plan takes the road up there, or else a new one begins. None where it cannot have a car of the road.
+// Return a run that stands before the steps of a span on the cells of a stretch, under its settings: this one of its
+// plan takes the road up there, or else a new one begins. None if it cannot have a car of the road.
 fn run_on(
     alloc: Global,
     span: &Span,
@@ -105,13 +105,13 @@ fn run_on(
     let Some(mut run) = kept else {
         return begun_on(alloc, span, stretch, near);
     };
-    if !is_taken_up(alloc, span, stretch, near, &mut run)? {
+    if !take_up(alloc, span, stretch, near, &mut run)? {
         return Ok(None);
     }
     Ok(Some(run))
 }
 
-// Returns a stretch with the cells behind it and ahead that may matter there in the steps of a span, as far as the road
+// Return a stretch with the cells behind it and ahead that may matter there in the steps of a span, as far as the road
 // goes.
 fn with_margins(span: &Span, stretch: Stretch) -> Stretch
     requires { stretch.end ≤ GREATEST_LENGTH }
@@ -125,7 +125,7 @@ fn with_margins(span: &Span, stretch: Stretch) -> Stretch
     }
 }
 
-// Makes the road of the cars near a stretch.
+// Make the road of the cars near a stretch.
 pub(crate) fn road_near(
     alloc: Global,
     span: &Span,
@@ -143,7 +143,7 @@ pub(crate) fn road_near(
     Ok(Road::of(cars))
 }
 
-// Answers whether the cars of a road are those near a stretch.
+// Return whether the cars of a road are those near a stretch.
 pub(crate) fn is_near(near: &Road, span: &Span, road: &Road, stretch: Stretch) -> bool
     requires order { stretch.first ≤ stretch.end }
     requires short { stretch.end ≤ GREATEST_LENGTH }
@@ -152,7 +152,7 @@ pub(crate) fn is_near(near: &Road, span: &Span, road: &Road, stretch: Stretch) -
     are_same_cars(near.cars(), cars_near(span, road, stretch))
 }
 
-// Returns the cars on a stretch and so near it that they may matter there in the steps of a span.
+// Return the cars on a stretch and so near it that they may matter there in the steps of a span.
 fn cars_near<'a>(span: &Span, road: &'a Road, stretch: Stretch) -> &'a [Car]
     requires order { stretch.first ≤ stretch.end }
     requires short { stretch.end ≤ GREATEST_LENGTH }
@@ -164,7 +164,7 @@ fn cars_near<'a>(span: &Span, road: &'a Road, stretch: Stretch) -> &'a [Car]
     road.between(from, stretch.end + margin)
 }
 
-// Finds where the stretch at a place begins, of so many: the last of them ends with the road, which has so many cells.
+// Find where the stretch at a place begins, of so many: the last of them ends with the road, which has so many cells.
 fn cut(cars: &[Car], cells: u32, count: u32, place: u32) -> u32
     requires some { 0 < count }
     requires there { place ≤ count }
@@ -179,7 +179,7 @@ fn cut(cars: &[Car], cells: u32, count: u32, place: u32) -> u32
     cell_at(cars, cars.len() / count as usize * place as usize).min(cells)
 }
 
-// Returns the cell of a car; of no car it is 0.
+// Return the cell of a car; of no car it is 0.
 fn cell_at(cars: &[Car], place: usize) -> u32
     ensures { result ≡ cell_at cars.now place }
 {
@@ -189,7 +189,7 @@ fn cell_at(cars: &[Car], place: usize) -> u32
     }
 }
 
-// Returns how many cells behind a stretch and ahead of it may matter there in the steps of a span.
+// Return how many cells behind a stretch and ahead of it may matter there in the steps of a span.
 fn margin_of(span: &Span) -> u32
     ensures margin { result ≡ GREATEST_SPEED * span.now.steps }
     ensures small { result ≤ GREATEST_SPEED * GREATEST_HORIZON }

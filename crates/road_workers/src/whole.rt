@@ -19,7 +19,7 @@ use road_plan::limits::GREATEST_HORIZON;
 use std::alloc::Global;
 use std::sync::Arc;
 
-// Runs the whole road for the steps of a span, and keeps the run. None where the span has no step, or runs cannot have a
+// Run the whole road for the steps of a span, and keep the run. None if the span has no step, or runs cannot have a
 // car of the road.
 pub(crate) fn run_alone(
     alloc: Global,
@@ -45,7 +45,7 @@ pub(crate) fn run_alone(
     Ok(Some(ran))
 }
 
-// Returns the run that is kept, where it is of a span's plan.
+// Return the run that is kept, if it is of a span's plan.
 pub(crate) fn kept_of(span: &Span, kept: Option<UnderWay>) -> Option<UnderWay>
     ensures plan { IfSome result (λ run. run.plan ≡ span.now.plan) }
     ensures goes_on { IfSome kept (λ run. run.plan ≡ span.now.plan → result ≡ Some run) }
@@ -56,8 +56,8 @@ pub(crate) fn kept_of(span: &Span, kept: Option<UnderWay>) -> Option<UnderWay>
     }
 }
 
-// Returns a run that stands before the steps of a span on the whole road, under its settings: this one of its plan, or
-// else a new one. None where it cannot have a car of the road.
+// Return a run that stands before the steps of a span on the whole road, under its settings: this one of its plan, or
+// else a new one. None if it cannot have a car of the road.
 fn ready_run(
     alloc: Global,
     span: &Span,
@@ -72,13 +72,13 @@ fn ready_run(
         let end = span.plan().length();
         return begun_on(alloc, span, Stretch { first: 0, end }, road);
     };
-    if !is_ready(alloc, span, road, &mut run)? {
+    if !make_ready(alloc, span, road, &mut run)? {
         return Ok(None);
     }
     Ok(Some(run))
 }
 
-// Begins a run on the cells of a stretch, before the steps of a span and under its settings. None where it cannot have a
+// Begin a run on the cells of a stretch, before the steps of a span and under its settings. None if it cannot have a
 // car of the road.
 pub(crate) fn begun_on(
     alloc: Global,
@@ -96,9 +96,9 @@ pub(crate) fn begun_on(
     UnderWay::begin_on(alloc, plan, settings, span.step(), stretch, road)
 }
 
-// Makes a run stand before the steps of a span, under its settings: where it does not go on, it takes the road up.
-// Answers whether it does; else it cannot have a car of the road.
-fn is_ready(
+// Make a run stand before the steps of a span, under its settings: if it does not go on, it takes the road up.
+// Return whether it does; else it cannot have a car of the road.
+fn make_ready(
     alloc: Global,
     span: &Span,
     road: &Road,
@@ -112,7 +112,7 @@ fn is_ready(
 {
     if !run.is_at(span.step(), road) {
         let end = span.plan().length();
-        return is_taken_up(alloc, span, Stretch { first: 0, end }, road, run);
+        return take_up(alloc, span, Stretch { first: 0, end }, road, run);
     }
     if !run.is_under(span.settings()) {
         run.change(alloc, Arc::try_clone(span.settings())?)?;
@@ -120,9 +120,9 @@ fn is_ready(
     Ok(true)
 }
 
-// Makes a run take a road up on the cells of a stretch, before the steps of a span. Answers whether it did; else it cannot
+// Make a run take a road up on the cells of a stretch, before the steps of a span. Return whether it did; else it cannot
 // have a car of the road.
-pub(crate) fn is_taken_up(
+pub(crate) fn take_up(
     alloc: Global,
     span: &Span,
     stretch: Stretch,
@@ -139,7 +139,7 @@ pub(crate) fn is_taken_up(
     run.take_up(alloc, settings, span.step(), stretch, road)
 }
 
-// Goes on with a run for the steps of a span.
+// Go on with a run for the steps of a span.
 fn ran_on(alloc: Global, span: &Span, road: &Road, run: &mut UnderWay) -> Result<Ran, OutOfMemory>
     requires { IsReady 0 span.now.plan.cells span.now road.now run.old }
     ensures road { IfOk result (λ ran. ran.road ≡ span_road span.now road.now) }
@@ -153,7 +153,7 @@ fn ran_on(alloc: Global, span: &Span, road: &Road, run: &mut UnderWay) -> Result
     })
 }
 
-// Makes the steps of a span, and counts in them alone.
+// Make the steps of a span, and count in them alone.
 pub(crate) fn make_steps(alloc: Global, span: &Span, run: &mut UnderWay) -> Result<(), OutOfMemory>
     requires { run.old.step ≡ span.now.step }
     ensures { OnOk result (run.new ≡ after_steps span.now.steps (uncounted run.old)) }

@@ -1,4 +1,4 @@
--- What a replica answers to a write, and the world that it leaves, are what the event says; so for messages.
+-- The result of a replica's write, and the world after it, are those of the event; the same for messages.
 use Rattle.std.proofs.Common.{◌≡◌, ◌≤◌, ◌<◌, ◌∙◌, ℕ, List, [], ◌∷◌, ◌++◌, length, Option, Some, None, refl, ap, arith, sym, subst}
 use Rattle.std.specs.Prelude.{IsErrAnd, IsNone, Result, slice_set, unwrap_or}
 use Rattle.std.specs.List.{slice_get, slice_index_or}
@@ -70,13 +70,13 @@ nothing : (o : Option EditFault) → o ≡ None → IsNone o
 nothing None none = refl
 nothing (Some fault) none = cc
 
--- an edit for which no cause stands is allowed,
+-- an edit to which no cause applies is allowed,
 pub edit_allowed : (x : Replica) (object : Object) (step : ℕ) (value : Value) → edit_fault x object step value ≡ None → IsAllowed x.sheet.plan (commands.Take (single_edit (edit_made x object step value)))
 edit_allowed x object step value none =
     let made : edit.Edit = edit_made x object step value in
     in_range-one x.sheet.plan made (none_of made_edit_fault (fault_of_edit x.sheet.plan made) none)
 
--- so are imported ones,
+-- so are imported edits,
 pub import_allowed : (p : Plan) (edits : List edit.Edit) → import_fault p edits ≡ None → IsAllowed p (commands.Take (from_list edits))
 import_allowed p edits none e i = each_in_range p edits (no_fault_imported p edits none) e (sym (contains-from_list edit_total edits e) ∙ i)
 
@@ -90,11 +90,11 @@ advance_allowed p to none = grind (arith, nat_tests)
 
 -- ---- steps
 
--- the steps of an event that is a command are those of the command
+-- the steps of an event that has a command are those of the command
 read_command : (read : SheetCommand → Sheet → ℕ) (o : Option SheetCommand) (command : SheetCommand) (s : Sheet) → o ≡ Some command → unwrap_or (option_map (λ c. read c s) o) 0 ≡ read command s
 read_command read o command s is = ap (λ (p : Option SheetCommand). unwrap_or (option_map (λ c. read c s) p) 0) is
 
--- and at most as many as those of a refused one
+-- and at most as many as a refused one may compute
 few_of_command : (o : Option SheetCommand) (s : Sheet) → unwrap_or (option_map (λ c. steps_of_command c s) o) 0 ≤ unwrap_or (option_map (λ c. most_steps_of_command c s) o) 0
 few_of_command None s = omega arith
 few_of_command (Some (commands.Take edits)) s = few_steps s.horizon s.horizon (touched_step s edits)
@@ -135,7 +135,7 @@ module _ (plan : Plan) (xs : List Replica) (ms : List Message) (kept : IsWorldKe
     same : x ≡ replica_with_sheet k (replica_number event)
     same = with_sheet plan xs ms kept k v (replica_number event) x is there
 
-    -- what is read of the replica's sheet is read of the world's
+    -- a function of the replica's sheet has the same value for the world's
     read_there : (read : SheetCommand → Sheet → ℕ) → command_of_event k event ≡ Some command → read command x.sheet ≡ unwrap_or (option_map (λ c. read c (sheet_at k (replica_number event))) (command_of_event k event)) 0
     read_there read of =
         ap (λ (z : Replica). read command z.sheet) same ∙ sym (read_command read (command_of_event k event) command (sheet_at k (replica_number event)) of)
@@ -183,7 +183,7 @@ module _ (plan : Plan) (xs : List Replica) (ms : List Message) (kept : IsWorldKe
     stamp_local : (value : Value) (stamp : Stamp) → stamp ≡ (edit_made x object step value).stamp → replies.Stamped stamp ≡ stamp_reply k r object step value
     stamp_local value stamp is_stamp = ap replies.Stamped (is_stamp ∙ ap (λ (z : Replica). (edit_made z object step value).stamp) same_local)
 
-    -- accepted, it is answered by its stamp
+    -- if accepted, the reply is its stamp
     pub local_accepted : (value : Value) (stamp : Stamp) → stamp ≡ (edit_made x object step value).stamp → IsAccepted (commands.Take (single_edit (edit_made x object step value))) (edit_fault x object step value) x y meter later
         → IsApplied (local_event r object step value) (Ok (replies.Stamped stamp)) k (viewed plan (slice_set xs r y) ms) meter later
     local_accepted (Put number) stamp is_stamp accepted =
@@ -193,7 +193,7 @@ module _ (plan : Plan) (xs : List Replica) (ms : List Message) (kept : IsWorldKe
         accepted_applied (Withdraw r object step) (commands.Take (single_edit (edit_made x object step Withdrawn))) (edit_fault x object step Withdrawn) x y meter later is there below
         (replies.Stamped stamp) (command_local Withdrawn) (fault_local Withdrawn) (stamp_local Withdrawn stamp is_stamp) accepted
 
-    -- refused, it is refused
+    -- if refused, it is refused
     pub local_refused : (value : Value) (result : Result Reply WorldFault) (fault : ReplicaFault) → IsRefused (commands.Take (single_edit (edit_made x object step value))) (edit_fault x object step value) fault x y meter later
         → IsErrAnd result (λ given. given ≡ faults.Replica fault) → IsApplied (local_event r object step value) result k (viewed plan (slice_set xs r y) ms) meter later
     local_refused (Put number) result fault is_refused given =
@@ -203,9 +203,9 @@ module _ (plan : Plan) (xs : List Replica) (ms : List Message) (kept : IsWorldKe
         refused_applied (Withdraw r object step) (commands.Take (single_edit (edit_made x object step Withdrawn))) (edit_fault x object step Withdrawn) x y meter later is there below
         result fault (command_local Withdrawn) (fault_local Withdrawn) (λ f h. h) is_refused given
 
--- ---- what computes nothing
+-- ---- calls that compute nothing
 
--- no steps are at most any
+-- no steps are at most any number of steps
 no_steps : (most meter : ℕ) → TicksAtMost most meter meter
 no_steps most meter = record { ticks = 0; few = omega arith; counted = refl }
 
@@ -226,7 +226,7 @@ module _ (plan : Plan) (xs : List Replica) (ms now : List Message) (kept : IsWor
     few_steps = no_steps (most_steps_of_event k event) meter;
   }
 
--- where no memory is left for it, the event is refused
+-- if there is no memory for it, the event is refused
 pub post_refused : (event : Event) (k : World) (meter : ℕ) → fault_of_event k event ≡ None → IsApplied event (Err (faults.Replica OutOfMemory)) k k meter meter
 post_refused event k meter accepted = record {
   answer = subst (λ (o : Option WorldFault). IsRefusal event o (faults.Replica OutOfMemory)) (sym accepted) (memory_refuses event);
@@ -237,7 +237,7 @@ post_refused event k meter accepted = record {
   few_steps = no_steps (most_steps_of_event k event) meter;
 }
 
--- where its message is refused, the event is
+-- if its message is refused, the event is
 pub made_refused : (event : Event) (k : World) (fault : WorldFault) (meter : ℕ) → IsRefusal event (fault_of_event k event) fault → IsApplied event (Err fault) k k meter meter
 made_refused event k fault meter is = record {
   answer = is;
@@ -248,14 +248,14 @@ made_refused event k fault meter is = record {
   few_steps = no_steps (most_steps_of_event k event) meter;
 }
 
--- the world hands that refusal on
+-- the world passes that refusal on
 pub made_handed_on : (event : Event) (result : Result Reply WorldFault) (k : World) (meter : ℕ) (fault : WorldFault) → IsErrAnd result (λ given. given ≡ fault) → IsRefusal event (fault_of_event k event) fault
     → IsApplied event result k k meter meter
 made_handed_on event (Ok reply) k meter fault given is = absurd given
 made_handed_on event (Err other) k meter fault given is =
     subst (λ (f : WorldFault). IsApplied event (Err f) k k meter meter) (sym given) (made_refused event k fault meter is)
 
--- the world hands that refusal on
+-- the world passes that refusal on
 pub post_handed_on : (event : Event) (result : Result Reply WorldFault) (old new : World) (meter : ℕ) → IsErrAnd result (λ given. given ≡ faults.Replica OutOfMemory) → IsApplied event (Err (faults.Replica OutOfMemory)) old new meter meter
     → IsApplied event result old new meter meter
 post_handed_on event (Ok reply) old new meter given is = absurd given

@@ -1,4 +1,4 @@
--- What a replica answers is what its world answers.
+-- The answers of a replica are the answers of its world.
 use Rattle.std.proofs.Common.{◌≡◌, ◌⊎◌, ◌<◌, ℕ, Bool, true, false, length, Option, Some, None, refl, ap, arith, sym, subst, inl, inr}
 use Rattle.std.specs.Prelude.{IsErrAnd, Result, nat_lt, if◌then◌else◌}
 use Rattle.std.specs.Option.{option_map}
@@ -28,21 +28,21 @@ refused event None fault writes is = elim is as (λ _. IsRefusal event None (fau
   | inr none ↦ writes (faults.Replica fault) (inr (ap faults.Replica none))
 ]
 
--- where there is such a replica, the cause is the one there
+-- if the replica exists, the cause is the one at the replica
 pub fault_there : (w : World) (event : Event) → replica_number event < length w.replicas → fault_of_event w event ≡ fault_at_replica w event
 fault_there w event below = ap (λ b. if b then fault_at_replica w event else Some NoReplica) (lt-ltb (replica_number event) (length w.replicas) below)
 
--- a refusal for the cause at the replica is one for the event
+-- a refusal for the cause at the replica is a refusal of the event
 pub not_accepted : (w : World) (event : Event) (fault : WorldFault) → replica_number event < length w.replicas → IsRefusal event (fault_at_replica w event) fault → IsAnswer w event (Err fault)
 not_accepted w event fault below is = subst (λ cause. IsRefusal event cause fault) (sym (fault_there w event below)) is
 
--- so is a result that is that refusal, once the world hands it on
+-- so is a result that is that refusal, once the world passes it on
 pub handed_on : (w : World) (event : Event) (result : Result Reply WorldFault) (fault : ReplicaFault) → replica_number event < length w.replicas → IsErrAnd result (λ given. given ≡ faults.Replica fault)
     → IsRefusal event (fault_at_replica w event) (faults.Replica fault) → IsAnswer w event result
 handed_on w event (Ok reply) fault below given is = absurd given
 handed_on w event (Err other) fault below given is = subst (λ given. IsAnswer w event (Err given)) (sym given) (not_accepted w event (faults.Replica fault) below is)
 
--- an event that is not refused names a replica, which does not refuse it
+-- an event that is not refused names an existing replica, which does not refuse it
 pub none_refuses : (e : Event) (w : World) → fault_of_event w e ≡ None → (replica_number e < length w.replicas) × (fault_at_replica w e ≡ None)
 none_refuses e w h = parts (replica_number e) (length w.replicas) (fault_at_replica w e) h
   where

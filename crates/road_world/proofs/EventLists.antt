@@ -1,4 +1,5 @@
--- Lists of events: what one event more makes of the world, of the answers and of the crew's count, and what stays.
+-- Lists of events: the effect of one more event on the world, the answers and the crew's count, and what stays the
+-- same.
 use Rattle.std.proofs.Common.{◌≡◌, ℕ, List, [], ◌∷◌, ◌++◌, length, refl, ◌∙◌}
 use Rattle.std.specs.Prelude.{Result}
 use Rattle.std.specs.declared.result.Result.TheVariants.{Ok, Err}
@@ -15,9 +16,9 @@ use Rattle.road_world.specs.declared.faults.WorldFault.{WorldFault}
 abbrev EventAnswer : Type 0
 EventAnswer = Result Reply WorldFault
 
--- ---- one event more
+-- ---- one more event
 
--- the world after the accepted ones among some events and one more
+-- the world after the accepted events of a list and one more
 pub world-one_more : (w : World) (events : List Event) (replies : List EventAnswer) (event : Event) (reply : EventAnswer) → AreAnswers w events replies
     → world_after_events (accepted_events (events ++ event ∷ []) (replies ++ reply ∷ [])) w ≡ world_after_answer event reply (world_after_events (accepted_events events replies) w)
 world-one_more w [] [] event (Ok reply) h = refl
@@ -39,7 +40,7 @@ answers-one_more w (first ∷ events) (Ok past ∷ replies) event reply h a =
 answers-one_more w (first ∷ events) (Err fault ∷ replies) event reply h a =
     (h.0, answers-one_more w events replies event reply h.1 a)
 
--- how often the crew has answered that workers are gone
+-- the number of times that the crew has returned that workers are gone
 pub gone-one_more : (replies : List EventAnswer) (reply : EventAnswer) (n : ℕ) → gone_after_answers (replies ++ reply ∷ []) n ≡ gone_after_answer reply (gone_after_answers replies n)
 gone-one_more [] reply n = refl
 gone-one_more (past ∷ replies) reply n = gone-one_more replies reply (gone_after_answer past n)
@@ -79,18 +80,18 @@ replicas-after_events [] w = refl
 replicas-after_events (event ∷ events) w =
     replicas-after_events events (world_after_event event w) ∙ replicas-after_event event w
 
--- ---- from a world's opening on
+-- ---- from the opening world on
 
 -- the world that events make has the plan that was given,
 pub plan-of_events : (plan : Plan) (count : ℕ) (events : List Event) (replies : List EventAnswer) → (world_of_events plan count events replies).plan ≡ plan
 plan-of_events plan count events replies = plan-after_events (accepted_events events replies) (opening_world plan count)
 
--- and as many replicas as were asked for,
+-- and the requested number of replicas,
 pub replicas-of_events : (plan : Plan) (count : ℕ) (events : List Event) (replies : List EventAnswer) → length (world_of_events plan count events replies).replicas ≡ count
 replicas-of_events plan count events replies =
     replicas-after_events (accepted_events events replies) (opening_world plan count) ∙ length-replicate count opening_replica
 
--- also with the winners alone
+-- even with only the winners
 pub replicas-of_winners : (plan : Plan) (count : ℕ) (events : List Event) (replies : List EventAnswer) → length (world_of_winners (world_of_events plan count events replies)).replicas ≡ count
 replicas-of_winners plan count events replies =
     length-map (world_of_events plan count events replies).replicas replica_of_winners

@@ -1,4 +1,4 @@
--- How many steps events cost: as many in a world of winners as in the world, and what one event more adds.
+-- The numbers of steps that events cost: as many in a world of winners as in the world, and what one more event adds.
 use Rattle.std.proofs.Common.{◌≡◌, ◌≢◌, ◌≤◌, ◌+◌, ◌-◌, ◌^◌, ◌∙◌, ℕ, zero, suc, min, max, List, [], ◌∷◌, ◌++◌, length, take, Option, Some, None, refl, ap, sym, subst, arith}
 use Rattle.std.specs.Prelude.{Result}
 use Rattle.std.specs.List.{slice_get}
@@ -33,14 +33,14 @@ EventAnswer = Result Reply WorldFault
 
 -- ---- ticks
 
--- ticks after ticks are as many as both
+-- ticks after ticks add up
 ticks_after : (meter first second : ℕ) → meter_after (meter_after meter first) second ≡ meter_after meter (first + second)
 ticks_after meter first zero = let e : first ≡ first + 0 = omega arith in ap (meter_after meter) e
 ticks_after meter first (suc second) =
     let e : suc (first + second) ≡ first + suc second = omega arith in
     ap (λ n. min (n + 1) (2 ^ 64 - 1)) (ticks_after meter first second) ∙ ap (meter_after meter) e
 
--- where so many ticks are certain, and so many more may come, both add up
+-- exact ticks and possible further ticks add up
 ticks_of_both : (a b s t meter now later : ℕ) → TicksAtMost a (meter_after meter s) now → TicksAtMost b (meter_after now t) later → TicksAtMost (a + b) (meter_after meter (s + t)) later
 ticks_of_both a b s t meter now later first second =
     let p = first.few in
@@ -55,7 +55,7 @@ ticks_of_both a b s t meter now later first second =
           ∙ ap (meter_after meter) sorted ∙ sym (ticks_after meter (s + t) (m + n));
     }
 
--- where a named cause stands, nothing is counted
+-- if a named cause applies, nothing is counted
 ticks_unless : (cause : Option WorldFault) (most now later : ℕ) → (cause ≢ None → later ≡ now) → TicksAtMost most now later → TicksAtMost (steps_unless cause most) now later
 ticks_unless None most now later named few = few
 ticks_unless (Some cause) most now later named few = record { ticks = 0; few = omega arith; counted = named (λ h. cc) }
@@ -68,7 +68,7 @@ ticks_of_answer event (Err fault) old new now later applied =
 
 -- ---- winners suffice
 
--- the first touched step, where the unions have the same winners
+-- the first touched step, if the unions have the same winners
 touched-of_winners : (w : World) (r : ℕ) (s t : Edits) → winners (union (winners (replica_at w r).edits) s) ≡ winners (union (replica_at w r).edits t) → touched_step (sheet_at (world_of_winners w) r) s ≡ touched_step (sheet_at w r) t
 touched-of_winners w r s t e =
     let held : Edits = (replica_at w r).edits in
@@ -76,13 +76,13 @@ touched-of_winners w r s t e =
     ∙ ap (λ (u : Edits). first_touched_step_in (items u) (items (winners (join (winners held) s)))) (winners_again held)
     ∙ ap (λ (u : Edits). first_touched_step_in (items (winners held)) (items (winners u))) e
 
--- so as many steps are computed where they are taken
+-- so as many steps are computed if they are taken
 taking-of_winners : (read : ℕ → Option ℕ → ℕ) (w : World) (r : ℕ) (s t : Edits) → winners (union (winners (replica_at w r).edits) s) ≡ winners (union (replica_at w r).edits t) → read (sheet_at (world_of_winners w) r).horizon (touched_step (sheet_at (world_of_winners w) r) s) ≡ read (sheet_at w r).horizon (touched_step (sheet_at w r) t)
 taking-of_winners read w r s t e =
     ap (λ (x : WorldReplica). read x.horizon (touched_step (sheet_at (world_of_winners w) r) s)) (replica-of_winners w r)
     ∙ ap (read (replica_at w r).horizon) (touched-of_winners w r s t e)
 
--- and where a replica makes an edit
+-- and if a replica makes an edit
 edit-of_winners : (read : ℕ → Option ℕ → ℕ) (w : World) (r : ℕ) (object : Object) (step : ℕ) (value : Value)
     → read (sheet_at (world_of_winners w) r).horizon (touched_step (sheet_at (world_of_winners w) r) (single_edit (local_edit r (replica_at (world_of_winners w) r).edits object step value)))
     ≡ read (sheet_at w r).horizon (touched_step (sheet_at w r) (single_edit (local_edit r (replica_at w r).edits object step value)))
@@ -91,7 +91,7 @@ edit-of_winners read w r object step value =
     ap (λ (e : edits.Edit). read (sheet_at (world_of_winners w) r).horizon (touched_step (sheet_at (world_of_winners w) r) (single_edit e))) (local_edit-of_winners w r object step value)
     ∙ taking-of_winners read w r (single_edit made) (single_edit made) (winners_of_one_part (replica_at w r).edits (single_edit made))
 
--- and where a message is taken
+-- and if a message is taken
 carried-of_both : (read : ℕ → Option ℕ → ℕ) (w : World) (r message : ℕ)
     → read (sheet_at (world_of_winners w) r).horizon (touched_step (sheet_at (world_of_winners w) r) (carried_edits (slice_get (world_of_winners w).messages message)))
     ≡ read (sheet_at w r).horizon (touched_step (sheet_at w r) (carried_edits (slice_get w.messages message)))
@@ -104,7 +104,7 @@ carried-of_both read w r message =
 added-of_winners : (w : World) (r to : ℕ) → max (sheet_at (world_of_winners w) r).horizon to - (sheet_at (world_of_winners w) r).horizon ≡ max (sheet_at w r).horizon to - (sheet_at w r).horizon
 added-of_winners w r to = ap (λ (x : WorldReplica). max x.horizon to - x.horizon) (replica-of_winners w r)
 
--- how many steps are computed, by the horizon and the touched step
+-- the number of steps computed, from the horizon and the touched step
 abbrev just : ℕ → Option ℕ → ℕ
 just horizon touched = horizon - draft_start horizon (kept_step horizon touched)
 
@@ -123,7 +123,7 @@ steps-of_winners w (Beyond r message) = refl
 steps-of_winners w (Take r message) = carried-of_both just w r message
 steps-of_winners w (Advance r to) = added-of_winners w r to
 
--- and as many at most
+-- and at most as many
 most_steps-of_winners : (w : World) (event : Event) → most_steps_of_event (world_of_winners w) event ≡ most_steps_of_event w event
 most_steps-of_winners w (Edit r object step number) = edit-of_winners most w r object step (Put number)
 most_steps-of_winners w (Withdraw r object step) = edit-of_winners most w r object step Withdrawn
@@ -146,9 +146,9 @@ wasted_steps-of_winners w event (Err fault) =
     ap (λ (cause : Option WorldFault). steps_unless cause (most_steps_of_event (world_of_winners w) event)) (fault-of_winners event w)
     ∙ ap (steps_unless (fault_of_event w event)) (most_steps-of_winners w event)
 
--- ---- one event more
+-- ---- one more event
 
--- it adds what it counts in the world after the events before it
+-- it adds its count in the world after the events before it
 sum-one_more : (count : World → Event → EventAnswer → ℕ) (w : World) (events : List Event) (replies : List EventAnswer) (event : Event) (reply : EventAnswer) → AreAnswers w events replies
     → sum_of_answers count w (events ++ event ∷ []) (replies ++ reply ∷ []) ≡ sum_of_answers count w events replies + count (world_after_events (accepted_events events replies) w) event reply
 sum-one_more count w [] [] event reply h = omega arith
@@ -161,7 +161,7 @@ sum-one_more count w (first ∷ events) (Err fault ∷ replies) event reply h =
 
 -- ---- events that were played
 
--- a meter has counted, of events that were played, just the steps of those that were accepted, and for the others at
+-- for events that were played, a meter has counted exactly the steps of those that were accepted, and for the others at
 -- most those that they may cost
 abbrev pub IsMetered : Plan → ℕ → List Event → List EventAnswer → ℕ → ℕ → Type 0
 IsMetered plan count events replies meter later =
@@ -171,7 +171,7 @@ IsMetered plan count events replies meter later =
 pub metered_none : (plan : Plan) (count meter : ℕ) → IsMetered plan count [] [] meter meter
 metered_none plan count meter = record { ticks = 0; few = omega arith; counted = refl }
 
--- one event more
+-- one more event
 pub metered_one_more : (plan : Plan) (count : ℕ) (events : List Event) (replies : List EventAnswer) (old new : World) (event : Event) (reply : EventAnswer) (meter now later : ℕ)
     → IsPlayed plan count events replies old → IsMetered plan count events replies meter now → IsApplied event reply old new now later → IsMetered plan count (events ++ event ∷ []) (replies ++ reply ∷ []) meter later
 metered_one_more plan count events replies old new event reply meter now later played metered applied =

@@ -1,4 +1,4 @@
--- Worked lists of events: their answers, and the edits that they make reach a replica. Each is computed in the world of
+-- Worked lists of events: their answers, and the edits that reach a replica by them. Each is computed in the world of
 -- lists.
 use Rattle.std.specs.Prelude.{◌≡◌, ℕ, List, [], ◌∷◌, Result, refl}
 use Rattle.std.specs.Global.{Vec}
@@ -36,11 +36,11 @@ small = record { cells = 12; exit = 1; width = 12; zones = (2, 0) ∷ []; inlets
 abbrev EventAnswers : Type 0
 EventAnswers = List (Result Reply WorldFault)
 
--- that these are answers to events at three replicas of that plan
+-- these are answers to events at three replicas of that plan
 abbrev AnswersOfThree : List Event → EventAnswers → Type 0
 AnswersOfThree events answers = AreAnswers (opening_world small 3) events answers
 
--- the edits that they made reach a replica
+-- the edits that reach a replica by these events
 abbrev reached : List Event → EventAnswers → ℕ → Edits
 reached events answers r = (replica_after_events small 3 events answers r).edits
 
@@ -54,7 +54,7 @@ edit o step count number v = record { object = o; step = step; stamp = stamp cou
 
 -- ---- a withdrawal stays
 
--- a block is put, sent and withdrawn, and comes back
+-- a block is set, sent and withdrawn, and comes back
 abbrev withdrawal : List Event
 withdrawal = Edit 0 (Block 8) 4 1 ∷ Send 0 ∷ Withdraw 0 (Block 8) 4 ∷ Take 0 0 ∷ []
 
@@ -66,7 +66,7 @@ withdrawal_answers = Ok (Stamped (stamp 1 0)) ∷ Ok (Message 0) ∷ Ok (Stamped
 older_block_touches_nothing : AnswersOfThree withdrawal withdrawal_answers
 older_block_touches_nothing = computed_answers small 3 withdrawal withdrawal_answers refl
 
--- the withdrawal is what stays
+-- the withdrawal stays
 withdrawal_stays : winners (reached withdrawal withdrawal_answers 0) ≡ from_list (edit (Block 8) 4 2 0 Withdrawn ∷ [])
 withdrawal_stays = computed_winners small 3 withdrawal withdrawal_answers refl 0 _ refl
 
@@ -86,7 +86,7 @@ two_limits_answers =
 later_count_is_more : AnswersOfThree two_limits two_limits_answers
 later_count_is_more = computed_answers small 3 two_limits two_limits_answers refl
 
--- the later one is what stays
+-- the later one stays
 later_limit_wins : winners (reached two_limits two_limits_answers 2) ≡ from_list (edit (Limit 0) 3 2 1 (Put 2) ∷ [])
 later_limit_wins = computed_winners small 3 two_limits two_limits_answers refl 2 _ refl
 
@@ -94,7 +94,7 @@ later_limit_wins = computed_winners small 3 two_limits two_limits_answers refl 2
 abbrev made_apart : List Event
 made_apart = Edit 0 (Limit 0) 3 2 ∷ Edit 1 (Limit 0) 3 1 ∷ Send 0 ∷ Send 1 ∷ Take 0 1 ∷ Take 1 0 ∷ []
 
--- the one of the greater number touches the first replica, the other one touches nothing at the second
+-- the limit with the greater number touches the first replica, the other one touches nothing at the second
 abbrev made_apart_answers : EventAnswers
 made_apart_answers =
     Ok (Stamped (stamp 1 0)) ∷ Ok (Stamped (stamp 1 1)) ∷ Ok (Message 0) ∷ Ok (Message 1)
@@ -135,15 +135,15 @@ same_edits_reached_both =
     ∙ same_set_of_lists _ _ refl
     ∙ sym (computed_edits small 3 regrouped regrouped_answers refl 2 _ refl)
 
--- ---- heads, and what lies beyond them
+-- ---- heads, and the edits beyond them
 
--- one replica asks another by its heads; the answer is taken at the third, and twice where it was asked
+-- one replica asks another with its heads; the reply is taken at the third, and twice at the asking one
 abbrev asking : List Event
 asking =
     Edit 0 (Limit 0) 3 1 ∷ Edit 0 (Block 8) 4 1 ∷ Send 0 ∷ Take 1 0 ∷ Edit 1 (Limit 0) 3 0 ∷ Edit 0 (Limit 0) 5 0
     ∷ Heads 1 ∷ Beyond 0 1 ∷ Take 2 2 ∷ Take 1 2 ∷ Take 1 2 ∷ []
 
--- taken again it touches nothing
+-- taking it again touches nothing
 abbrev asking_answers : EventAnswers
 asking_answers =
     Ok (Stamped (stamp 1 0)) ∷ Ok (Stamped (stamp 2 0)) ∷ Ok (Message 0) ∷ Ok (Touched (Some 3))
@@ -154,7 +154,7 @@ asking_answers =
 again_touches_nothing : AnswersOfThree asking asking_answers
 again_touches_nothing = computed_answers small 3 asking asking_answers refl
 
--- the third replica has the edits that the answer lists, and no more: not the limit that the asker has exceeded
+-- the third replica has the edits that the reply lists, and no more: not the limit that the asker has exceeded
 just_the_answer : reached asking asking_answers 2
     ≡ from_list (edit (Block 8) 4 2 0 (Put 1) ∷ edit (Limit 0) 5 3 0 (Put 0) ∷ [])
 just_the_answer = computed_edits small 3 asking asking_answers refl 2 _ refl
@@ -174,7 +174,7 @@ advances_answers =
 greatest_step_counts : AnswersOfThree advances advances_answers
 greatest_step_counts = computed_answers small 3 advances advances_answers refl
 
--- ---- what is refused is not done
+-- ---- refused events do nothing
 
 -- no such replica, no such message, a message of the wrong kind, no such zone; then a limit
 abbrev refusals : List Event
@@ -191,13 +191,13 @@ refusals_answers =
 refused_by_name : AnswersOfThree refusals refusals_answers
 refused_by_name = computed_answers small 3 refusals refusals_answers refl
 
--- the limit alone has reached the first replica
+-- only the limit has reached the first replica
 refused_is_not_done : reached refusals refusals_answers 0 ≡ from_list (edit (Limit 0) 3 1 0 (Put 1) ∷ [])
 refused_is_not_done = computed_edits small 3 refusals refusals_answers refl 0 _ refl
 
 -- ---- imports
 
--- two limits of one stamp come from elsewhere, and then one that bears a replica's number; then the replica makes one
+-- two limits of one stamp come from outside, and then one with a replica's number; then the replica makes one
 abbrev imports : Vec edits.Edit → Vec edits.Edit → List Event
 imports outside inside = Import 0 outside ∷ Import 0 inside ∷ Edit 0 (Limit 0) 5 1 ∷ []
 
@@ -221,7 +221,7 @@ next_count_is_above_imports : (outside inside : Vec edits.Edit) → FromOutside 
 next_count_is_above_imports outside inside is also =
     computed_answers small 3 (imports outside inside) imports_answers (imports_computed outside inside is also)
 
--- the greater number wins where stamps are the same; what was refused is not among the winners
+-- the greater number wins if stamps are equal; the refused edit is not among the winners
 greater_number_of_one_stamp_wins : (outside inside : Vec edits.Edit) → FromOutside outside → FromInside inside
     → winners (reached (imports outside inside) imports_answers 0) ≡ from_list (edit (Limit 0) 3 7 64 (Put 3) ∷ edit (Limit 0) 5 8 0 (Put 1) ∷ [])
 greater_number_of_one_stamp_wins outside inside is also =
@@ -229,7 +229,7 @@ greater_number_of_one_stamp_wins outside inside is also =
 
 -- ---- steps
 
--- a replica is advanced twice, the second time to a step that it has simulated, and then another one
+-- a replica is advanced twice, the second time to a step that it has simulated, and then another replica
 abbrev counted_advances : List Event
 counted_advances = Advance 0 6 ∷ Advance 0 3 ∷ Advance 1 2 ∷ []
 
@@ -240,7 +240,7 @@ all_advance = Ok (Horizon 6) ∷ Ok (Horizon 6) ∷ Ok (Horizon 2) ∷ []
 abbrev last_refused : EventAnswers
 last_refused = Ok (Horizon 6) ∷ Ok (Horizon 6) ∷ Err (Replica replica_faults.WorkersGone) ∷ []
 
--- accepted, they compute eight steps, and none is wasted
+-- if accepted, they compute eight steps, and none is wasted
 advances_compute_eight : steps_of_events (opening_world small 3) counted_advances all_advance ≡ 8
 advances_compute_eight = refl
 
@@ -254,6 +254,6 @@ refused_advance_leaves_six = refl
 refused_advance_wastes_two : most_wasted_steps_of_events (opening_world small 3) counted_advances last_refused ≡ 2
 refused_advance_wastes_two = refl
 
--- at a replica that is not there nothing is computed
+-- at a missing replica nothing is computed
 no_replica_wastes_none : most_wasted_steps (opening_world small 3) (Advance 7 1) (Err NoReplica) ≡ 0
 no_replica_wastes_none = refl

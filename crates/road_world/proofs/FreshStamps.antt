@@ -1,5 +1,5 @@
 -- Stamps that one world issues are distinct, and none is that of an import: each is above all that reached its replica
--- before, and bears a replica's number.
+-- before, and has a replica's number.
 use Rattle.std.proofs.Common.{◌≡◌, ◌≤◌, ◌<◌, ◌==◌, ℕ, suc, zero, Bool, true, false, List, [], ◌∷◌, ◌++◌, length, map, Option, Some, None, refl, ap, sym, subst, ◌∙◌, arith}
 use Rattle.std.specs.Prelude.{◌||◌, IfSome, slice_set, nat_lt, Result, if◌then◌else◌}
 use Rattle.std.specs.List.{AllByRecursion, IsDistinct, list_any, slice_index_or}
@@ -38,7 +38,7 @@ use Rattle.road_world.proofs.EventAnswers.{none_refuses}
 use Rattle.road_world.proofs.EventLists.{replicas-after_event}
 use Rattle.road_world.proofs.GrowingCounts.{greatest_count_of_union, count_of_single}
 
--- the greatest count of what reached replica r
+-- the greatest count of the edits that reached replica r
 abbrev count_at : World → ℕ → ℕ
 count_at w r = greatest_count (replica_at w r).edits
 
@@ -48,7 +48,7 @@ count_at w r = greatest_count (replica_at w r).edits
 at_most_itself : (n : ℕ) → n ≤ n
 at_most_itself n = omega arith
 
--- one replica set to one that holds more: no replica's greatest count falls
+-- if one replica is set to one that holds more, no replica's greatest count falls
 set_grows : (xs : List WorldReplica) (r n : ℕ) (x : WorldReplica) → greatest_count (slice_index_or xs r opening_replica).edits ≤ greatest_count x.edits
     → greatest_count (slice_index_or xs n opening_replica).edits ≤ greatest_count (slice_index_or (slice_set xs r x) n opening_replica).edits
 set_grows [] r n x more = at_most_itself _
@@ -57,11 +57,11 @@ set_grows (y ∷ ys) zero (suc n) x more = at_most_itself _
 set_grows (y ∷ ys) (suc r) zero x more = at_most_itself _
 set_grows (y ∷ ys) (suc r) (suc n) x more = set_grows ys r n x more
 
--- edits that reach a replica let no count fall
+-- no count falls if edits reach a replica
 edits_grow : (w : World) (r n : ℕ) (s : Edits) → count_at w n ≤ count_at (world_with_edits r s w) n
 edits_grow w r n s = set_grows w.replicas r n _ (greatest_count_of_union (replica_at w r).edits s)
 
--- no event lets a replica's greatest count fall
+-- no event decreases a replica's greatest count
 pub counts_grow : (e : Event) (w : World) (n : ℕ) → count_at w n ≤ count_at (world_after_event e w) n
 counts_grow (Edit r o step number) w n = edits_grow w r n _
 counts_grow (Withdraw r o step) w n = edits_grow w r n _
@@ -72,9 +72,9 @@ counts_grow (Beyond r m) w n = at_most_itself _
 counts_grow (Take r m) w n = edits_grow w r n _
 counts_grow (Advance r to) w n = set_grows w.replicas r n _ (at_most_itself _)
 
--- ---- a stamp that an event is answered
+-- ---- a stamp in the reply to an event
 
--- a stamp is above a world: it bears the number of a replica, and its count is greater than all that reached this one
+-- a stamp is above a world: it has the number of a replica, and its count is greater than all that reached this replica
 pub record IsAbove (w : World) (s : Stamp) : Type 0 where
   pub of_replica : s.number < length w.replicas
   pub greater : count_at w s.number < s.count
@@ -105,7 +105,7 @@ made_held w r o step v b =
 same_stamped : (s t : Stamp) → Stamped s ≡ Stamped t → s ≡ t
 same_stamped s t h = cc
 
--- a stamp is answered to an edit or a withdrawal alone, and it is that of the edit made
+-- only edits and withdrawals have a stamp as their reply, and it is that of the edit made
 stamp_is_issued : (e : Event) (w : World) (s : Stamp) → fault_of_event w e ≡ None → Stamped s ≡ reply_to_event w e → IsIssued e w s
 stamp_is_issued (Edit r o step n) w s f h =
     let there = none_refuses (Edit r o step n) w f in
@@ -154,7 +154,7 @@ issued_is_new e w (Err fault) h = tt
 
 -- ---- the stamps of all replies
 
--- what is above the world after an event was above it before
+-- a stamp above the world after an event was above it before
 above_before : (e : Event) (w : World) (s : Stamp) → IsAbove (world_after_event e w) s → IsAbove w s
 above_before e w s a = record {
   of_replica = same_bound _ _ _ (replicas-after_event e w) a.of_replica;
@@ -167,12 +167,12 @@ above_before e w s a = record {
     still : (n m k : ℕ) → n ≤ m → m < k → n < k
     still n m k p q = omega arith
 
--- so it is for each of a list
+-- the same for each of a list
 all_above_before : (e : Event) (w : World) (ss : List Stamp) → AllByRecursion (IsAbove (world_after_event e w)) ss → AllByRecursion (IsAbove w) ss
 all_above_before e w [] all = tt
 all_above_before e w (s ∷ ss) all = (above_before e w s all.0, all_above_before e w ss all.1)
 
--- all stamps that are answered from a world on are above it
+-- all stamps that are issued from a world on are above it
 pub issued_above : (w : World) (events : List Event) (replies : List (Result Reply WorldFault)) → AreAnswers w events replies → AllByRecursion (IsAbove w) (issued_stamps replies)
 issued_above w [] [] h = tt
 issued_above w [] (reply ∷ replies) h = absurd h
@@ -184,7 +184,7 @@ issued_above w (e ∷ events) (Ok (Message m) ∷ replies) h = all_above_before 
 issued_above w (e ∷ events) (Ok (Horizon to) ∷ replies) h = all_above_before e w _ (issued_above (world_after_event e w) events replies h.1)
 issued_above w (e ∷ events) (Err fault ∷ replies) h = issued_above w events replies h.1
 
--- a stamp that a replica holds is none that is above the world
+-- a stamp that a replica holds is not a stamp above the world
 apart : (w : World) (s t : Stamp) → s.count ≤ count_at w s.number → IsAbove w t → is_same_stamp s t ≡ false
 apart w s t held above = false_from_ne_true _ (λ h.
     let same = and_parts (s.count == t.count) _ h in
@@ -193,7 +193,7 @@ apart w s t held above = false_from_ne_true _ (λ h.
     greater_yet : (c d n m : ℕ) → c ≡ d → n ≡ m → c ≤ n → m < d → ⊥
     greater_yet c d n m p q held more = omega arith
 
--- so it is none of a list of these
+-- so it is not in a list of these
 all_apart : (w : World) (s : Stamp) (ss : List Stamp) → s.count ≤ count_at w s.number → AllByRecursion (IsAbove w) ss → AllByRecursion (λ t. is_same_stamp s t ≡ false) ss
 all_apart w s [] held all = tt
 all_apart w s (t ∷ ss) held all = (apart w s t held all.0, all_apart w s ss held all.1)
@@ -215,16 +215,16 @@ issued_distinct w (e ∷ events) (Err fault ∷ replies) h = issued_distinct w e
 
 -- ---- the stamps of imports
 
--- a stamp bears no replica's number
+-- a stamp has no replica's number
 abbrev IsOutside : Stamp → Type 0
 IsOutside s = FIRST_IMPORT_NUMBER ≤ s.number
 
--- no cause by another name
+-- no cause under another name
 unmapped : (x : Option ReplicaFault) → option_map faults.Replica x ≡ None → x ≡ None
 unmapped None h = refl
 unmapped (Some f) h = cc
 
--- a number for which no insider is named
+-- a number for which `Insider` is not named
 no_insider : (n : ℕ) → (if nat_lt n FIRST_IMPORT_NUMBER then Some Insider else None) ≡ None → FIRST_IMPORT_NUMBER ≤ n
 no_insider n h = by_test (nat_lt n FIRST_IMPORT_NUMBER) refl h
   where
@@ -232,7 +232,7 @@ no_insider n h = by_test (nat_lt n FIRST_IMPORT_NUMBER) refl h
     by_test true t g = cc
     by_test false t g = grind (arith, nat_tests)
 
--- the stamps of edits that are not refused bear no replica's number
+-- the stamps of edits that are not refused have no replica's number
 imported_outside : (plan : Plan) (es : List edits.Edit) → import_fault plan es ≡ None → AllByRecursion IsOutside (map (λ edit. edit.stamp) es)
 imported_outside plan [] h = tt
 imported_outside plan (e ∷ es) h =
@@ -240,12 +240,12 @@ imported_outside plan (e ∷ es) h =
     let here = none_of_both (option_map arrived_edit_fault (fault_of_edit plan e)) _ both.0 in
     (no_insider e.stamp.number here.1, imported_outside plan es both.1)
 
--- what holds of each of two lists holds of each of both
+-- a fact about each of two lists is a fact about each of both together
 all_of_both : (P : Stamp → Type 0) (ss ts : List Stamp) → AllByRecursion P ss → AllByRecursion P ts → AllByRecursion P (ss ++ ts)
 all_of_both P [] ts p q = q
 all_of_both P (s ∷ ss) ts p q = (p.0, all_of_both P ss ts p.1 q)
 
--- what an event that is not refused imports bears no replica's number
+-- an event that is not refused imports no edit with a replica's number
 event_outside : (e : Event) (w : World) (more : List Event) → fault_of_event w e ≡ None → AllByRecursion IsOutside (imported_stamps more) → AllByRecursion IsOutside (imported_stamps (e ∷ more))
 event_outside (Edit r o step n) w more f all = all
 event_outside (Withdraw r o step) w more f all = all
@@ -257,7 +257,7 @@ event_outside (Beyond r m) w more f all = all
 event_outside (Take r m) w more f all = all
 event_outside (Advance r to) w more f all = all
 
--- no accepted import bears a replica's number
+-- no accepted import has a replica's number
 pub imports_outside : (w : World) (events : List Event) (replies : List (Result Reply WorldFault)) → AreAnswers w events replies → AllByRecursion IsOutside (imported_stamps (accepted_events events replies))
 imports_outside w [] [] h = tt
 imports_outside w [] (reply ∷ replies) h = absurd h
@@ -268,7 +268,7 @@ imports_outside w (e ∷ events) (Err fault ∷ replies) h = imports_outside w e
 
 -- ---- both
 
--- a stamp of a replica is none that bears no replica's number
+-- a stamp with a replica's number is not one without
 not_imported : (s : Stamp) (imports : List Stamp) → s.number < FIRST_IMPORT_NUMBER → AllByRecursion IsOutside imports → list_any (is_same_stamp s) imports ≡ false
 not_imported s [] inside all = refl
 not_imported s (t ∷ imports) inside all =
@@ -279,7 +279,7 @@ not_imported s (t ∷ imports) inside all =
     on_both_sides : (n m : ℕ) → n ≡ m → n < FIRST_IMPORT_NUMBER → FIRST_IMPORT_NUMBER ≤ m → ⊥
     on_both_sides n m e p q = omega arith
 
--- so it is for each stamp above a world
+-- the same for each stamp above a world
 none_of_imports : (w : World) (stamps imports : List Stamp) → length w.replicas ≤ FIRST_IMPORT_NUMBER → AllByRecursion (IsAbove w) stamps → AllByRecursion IsOutside imports
     → list_any (λ s. list_any (is_same_stamp s) imports) stamps ≡ false
 none_of_imports w [] imports few above outside = refl
@@ -290,7 +290,7 @@ none_of_imports w (s ∷ stamps) imports few above outside =
     below : (n m k : ℕ) → n < m → m ≤ k → n < k
     below n m k p q = omega arith
 
--- the stamps that a world issues are fresh, where it has as many replicas as it may
+-- the stamps that a world issues are fresh, if it has at most the allowed number of replicas
 pub stamps_are_fresh : (plan : Plan) (count : ℕ) (events : List Event) (replies : List (Result Reply WorldFault)) → count ≤ MOST_REPLICAS → AreAnswers (opening_world plan count) events replies
     → AreFresh (issued_stamps replies) (imported_stamps (accepted_events events replies))
 stamps_are_fresh plan count events replies few h = record {

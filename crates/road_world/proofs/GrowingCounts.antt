@@ -12,7 +12,7 @@ use Rattle.road_scenario.specs.declared.edit.Edit.{Edit}
 use Rattle.road_scenario.proofs.GreatestCounts.{greatest_of_part, upper_in}
 use Rattle.road_replica.specs.Replicas.{single_edit}
 
--- the greatest count of the one part of a union is at most the union's
+-- the greatest count of one part of a union is at most that of the union
 pub greatest_count_of_union : (s t : Edits) → greatest_count s ≤ greatest_count (union s t)
 greatest_count_of_union s t =
     greatest_of_part s (union s t) (λ e i. contains-union edit_total s t e ∙ or_left _ _ i)

@@ -1,4 +1,4 @@
--- The headline: a world that holds the winners of what events have made shows their runs, and refuses no query about
+-- The headline: a world that holds the winners of the edits of some events shows their runs, and refuses no query about
 -- a step it has simulated.
 use Rattle.std.proofs.Common.{◌≡◌, ◌≤◌, ◌<◌, ℕ, List, length, Bool, false, Some, None, refl, ap, sym, ◌∙◌, arith}
 use Rattle.std.specs.Prelude.{Result, nat_lt, not, if◌then◌else◌}
@@ -31,7 +31,7 @@ not_above step horizon below = grind (arith, nat_tests)
 within : (n m : ℕ) → n < m → not (nat_lt n m) ≡ false
 within n m below = grind (arith, nat_tests)
 
--- where each test fails, no cause is named: of three,
+-- if each test fails, no cause is named: of three,
 none_of_three : (a b c : Bool) (x y z : SheetFault) → a ≡ false → b ≡ false → c ≡ false
     → option_map query_fault (if a then Some x else (if b then Some y else (if c then Some z else None))) ≡ None
 none_of_three a b c x y z p q r = rw p (rw q (rw r refl))
@@ -48,7 +48,7 @@ none_of_one a x p = rw p refl
 pub state_answered : (s : Sheet) (step : ℕ) → step ≤ s.horizon → state_fault s step ≡ None
 state_answered s step below = none_of_one (nat_lt s.horizon step) sheet_faults.NotSimulated (not_above step s.horizon below)
 
--- nor are rows of so many simulated steps as one diagram shows,
+-- nor are as many rows of simulated steps as one diagram shows,
 pub rows_answered : (s : Sheet) (from to : ℕ) → is_out_of_range from to ≡ false → to ≤ s.horizon → rows_fault s from to ≡ None
 rows_answered s from to range below =
     none_of_two (is_out_of_range from to) (nat_lt s.horizon to) sheet_faults.Range sheet_faults.NotSimulated range (not_above to s.horizon below)
@@ -62,11 +62,11 @@ totals_answered s detector from to has ordered below =
 -- ---- what a world of winners shows
 
 module _ (plan : Plan) (count : ℕ) (events : List Event) (replies : List (Result Reply WorldFault)) (world : World) (holds : world ≡ world_of_winners (world_of_events plan count events replies)) where
-  -- what the events made of each replica
+  -- the effect of the events on each replica
   abbrev past : ℕ → WorldReplica
   past r = replica_after_events plan count events replies r
 
-  -- the sheet that each replica is to show
+  -- the sheet that each replica must show
   abbrev shown : ℕ → Sheet
   shown r = record { plan = plan; edits = winners (past r).edits; horizon = (past r).horizon }
 
@@ -78,13 +78,13 @@ module _ (plan : Plan) (count : ℕ) (events : List Event) (replies : List (Resu
       ∙ ap (λ (x : WorldReplica). let s : Sheet = record { plan = made.plan; edits = x.edits; horizon = x.horizon } in s) (replica-of_winners made r)
       ∙ ap (λ (p : Plan). let s : Sheet = record { plan = p; edits = winners (past r).edits; horizon = (past r).horizon } in s) (plan-of_events plan count events replies)
 
-  -- what is read of a sheet's plan and edits is the same at replicas that the same edits reached
+  -- a function of a sheet's plan and edits has the same value at replicas that the same edits reached
   same_of_both : (r s : ℕ) → (past r).edits ≡ (past s).edits → {A : Type 0} (read : Plan → Edits → A) → read (sheet_at world r).plan (sheet_at world r).edits ≡ read (sheet_at world s).plan (sheet_at world s).edits
   same_of_both r s e read =
       ap (λ (x : Sheet). read x.plan x.edits) (sheet_is r) ∙ ap (λ (t : Edits). read plan (winners t)) e
       ∙ sym (ap (λ (x : Sheet). read x.plan x.edits) (sheet_is s))
 
-  -- the headline, from that the world holds the winners of what the events have made
+  -- the headline, given that the world holds the winners of the edits of the events
   pub headline : Headline plan count events replies world
   headline = record {
     same_plan = ap (λ (w : World). w.plan) holds ∙ plan-of_events plan count events replies;

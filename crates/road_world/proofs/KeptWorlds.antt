@@ -1,4 +1,4 @@
--- What is kept of a world, and the world that it is seen as: one replica read or changed, one message more.
+-- The stored parts of a world, and the world that contracts see: one replica read or changed, one more message.
 use Rattle.std.proofs.Common.{◌≡◌, ◌<◌, ◌≤◌, ◌+◌, ◌∙◌, ℕ, zero, suc, max, List, [], ◌∷◌, ◌++◌, length, map, Option, Some, None, refl, ap, sym, subst, arith}
 use Rattle.std.specs.Prelude.{slice_set, replicate, IfOk, IfSome, MatchOption, Result}
 use Rattle.std.specs.declared.result.Result.TheVariants.{Ok, Err}
@@ -38,13 +38,13 @@ use Rattle.road_world.proofs.EventAnswers.{none_refuses}
 use Rattle.road_world.proofs.MadeMessages.{after_made, none_is_no_item, same_some}
 use Rattle.road_world.proofs.WinnersSuffice.{winners_again, world_with_message}
 
--- what is kept, as it is seen
+-- the stored parts, as contracts see them
 abbrev pub viewed : Plan → List Replica → List Message → World
 viewed plan xs ms = record { plan = plan; replicas = map world_replica xs; messages = ms }
 
 -- ---- lists
 
--- what both say of an item that is there
+-- two facts about an existing item, together
 pub if_both : {X : Type 0} (A : Type 0) (P Q R : X → Type 0) (o : Option X) → IfSome o P → MatchOption o A Q → ((x : X) → P x → Q x → R x) → IfSome o R
 if_both A P Q R None p q both = tt
 if_both A P Q R (Some x) p q both = both x p q
@@ -52,7 +52,7 @@ if_both A P Q R (Some x) p q both = both x p q
 some_fault_is_no_none : (fault : WorldFault) → Some fault ≡ None → ⊥
 some_fault_is_no_none fault h = cc
 
--- what holds of each item at its place, holds where one is put in place of another
+-- a fact about each item at its place stays true if one is replaced by one for which it is true
 set_each : (P : ℕ → Replica → Type 0) (xs : List Replica) (r : ℕ) (y : Replica) → ((n : ℕ) (x : Replica) → slice_get xs n ≡ Some x → P n x) → P r y → (n : ℕ) (x : Replica) → slice_get (slice_set xs r y) n ≡ Some x → P n x
 set_each P [] r y each new n x h = each n x h
 set_each P (z ∷ xs) zero y each new zero x h = subst (P 0) (same_some y x h) new
@@ -60,7 +60,7 @@ set_each P (z ∷ xs) zero y each new (suc n) x h = each (suc n) x h
 set_each P (z ∷ xs) (suc r) y each new zero x h = each zero x h
 set_each P (z ∷ xs) (suc r) y each new (suc n) x h = set_each (λ k. P (suc k)) xs r y (λ k w. each (suc k) w) new n x h
 
--- and where one is added
+-- and if one is added
 add_each : (P : ℕ → Replica → Type 0) (xs : List Replica) (y : Replica) → ((n : ℕ) (x : Replica) → slice_get xs n ≡ Some x → P n x) → P (length xs) y → (n : ℕ) (x : Replica) → slice_get (xs ++ y ∷ []) n ≡ Some x → P n x
 add_each P [] y each new zero x h = subst (P 0) (same_some y x h) new
 add_each P [] y each new (suc n) x h = absurd (none_is_no_item x h)
@@ -94,14 +94,14 @@ carried_by plan (Some (Whole edits)) sendable wanted = sendable (Whole edits) re
 carried_by plan (Some (Answer edits)) sendable wanted = sendable (Answer edits) refl
 carried_by plan (Some (Asked hs)) sendable wanted = absurd (some_fault_is_no_none _ wanted)
 
--- what carries no edits carries winners, too
+-- a message without edits carries winners, too
 carried_of_any : (plan : Plan) (o : Option Message) → ((m : Message) → o ≡ Some m → IsSendable plan m) → AreSendable plan (carried_edits o)
 carried_of_any plan None sendable = record { winners = winners-empty; in_range = in_range-empty plan }
 carried_of_any plan (Some (Whole edits)) sendable = sendable (Whole edits) refl
 carried_of_any plan (Some (Answer edits)) sendable = sendable (Answer edits) refl
 carried_of_any plan (Some (Asked hs)) sendable = record { winners = winners-empty; in_range = in_range-empty plan }
 
--- ---- a world that is kept
+-- ---- a stored world
 
 module _ (plan : Plan) (xs : List Replica) (ms : List Message) (kept : IsWorldKept plan xs ms) where
   -- each replica and each message holds the winners already
@@ -110,7 +110,7 @@ module _ (plan : Plan) (xs : List Replica) (ms : List Message) (kept : IsWorldKe
       ap (λ (ys : List WorldReplica). let w : World = record { plan = plan; replicas = ys; messages = map message_of_winners ms } in w) (replicas_win xs (λ n x h. (kept.each n x h).sheet.winners))
       ∙ ap (λ (ns : List Message). let w : World = record { plan = plan; replicas = map world_replica xs; messages = ns } in w) (messages_win plan ms kept.sendable)
 
-  -- one replica is another
+  -- one replica is replaced
   pub still_kept : (r : ℕ) (y : Replica) → IsReplicaOf plan r y → IsWorldKept plan (slice_set xs r y) ms
   still_kept r y is = record {
     few = let same = length-set xs r y in omega (arith, same, kept.few);
@@ -134,7 +134,7 @@ module _ (plan : Plan) (xs : List Replica) (ms : List Message) (kept : IsWorldKe
         let same : length xs ≡ length k.replicas = sym (length-map xs world_replica) ∙ ap (λ (w : World). length w.replicas) v in
         omega (arith, same, below)
 
-    -- a replica that is read is the one of the world
+    -- a replica that is read is the replica of the world
     pub read : (r : ℕ) (x : Replica) → x ≡ slice_index_or xs r x → r < length xs → replica_at k r ≡ world_replica x
     read r x is below =
         ap (λ (w : World). slice_index_or w.replicas r opening_replica) (sym v) ∙ get_or-map world_replica xs r x opening_replica below ∙ ap world_replica (sym is)
@@ -163,7 +163,7 @@ module _ (plan : Plan) (xs : List Replica) (ms : List Message) (kept : IsWorldKe
     pub is_sendable : (m : ℕ) (x : Message) → slice_get ms m ≡ Some x → IsSendable plan x
     is_sendable m x h = subst (IsSendable plan) (get_or_from_slice_get ms m x x h) (kept.sendable m x (slice_get_within ms m x h))
 
-    -- the edits of one that carries edits
+    -- the edits of a message that carries edits
     pub carried : (m : ℕ) → edits_wanted_fault (slice_get ms m) ≡ None → AreSendable plan (carried_edits (slice_get ms m))
     carried m wanted = carried_by plan (slice_get ms m) (λ x. is_sendable m x) wanted
 
@@ -178,7 +178,7 @@ module _ (plan : Plan) (xs : List Replica) (ms : List Message) (kept : IsWorldKe
     pub carried_there : (m : ℕ) → AreSendable k.plan (carried_edits (slice_get k.messages m))
     carried_there m = subst (λ (w : World). AreSendable w.plan (carried_edits (slice_get w.messages m))) v (carried_of_any plan (slice_get ms m) (λ x. is_sendable m x))
 
-    -- what a replica would answer to edits, the world does
+    -- the world's answer to edits is the replica's
     pub same_touched : (r : ℕ) (x : Replica) (edits : Edits) → x ≡ slice_index_or xs r x → r < length xs → touched_step x.sheet edits ≡ first_touched_step (replica_at k r).edits (union (replica_at k r).edits edits)
     same_touched r x edits is below =
         ap (λ (s : Edits). first_touched_step_in (items (winners x.sheet.edits)) (items s)) (winners_laws.of_tops (union x.sheet.edits edits))
@@ -195,7 +195,7 @@ module _ (plan : Plan) (xs : List Replica) (ms : List Message) (kept : IsWorldKe
           sheet = sheet;
         }
 
-    -- a replica has changed
+    -- one replica has changed
     pub changed : (r : ℕ) (y : Replica) (z : WorldReplica) → world_replica y ≡ replica_of_winners z → viewed plan (slice_set xs r y) ms ≡ world_of_winners (record k { replicas = slice_set k.replicas r z })
     changed r y z same =
         let put : WorldReplica → World → World = λ q w. record w { replicas = slice_set w.replicas r q } in
@@ -220,14 +220,14 @@ module _ (plan : Plan) (xs : List Replica) (ms : List Message) (kept : IsWorldKe
 
     -- ---- a message
 
-    -- a message of winners more
+    -- one more message of winners
     pub sent : (m n : Message) → m ≡ message_of_winners n → world_with_message m k ≡ world_of_winners (world_with_message n k)
     sent m n is =
         ap (λ (q : Message). world_with_message q k) is
         ∙ sym (ap (λ (w : World). world_with_message (message_of_winners n) w) world_wins)
         ∙ ap (λ (ns : List Message). let w : World = record { plan = k.plan; replicas = map replica_of_winners k.replicas; messages = ns } in w) (sym (map-append message_of_winners k.messages (n ∷ [])))
 
-    -- all that a replica holds, as the event's message
+    -- all edits that a replica holds, as the event's message
     pub whole_made : (r : ℕ) (x : Replica) (edits : Edits) → x ≡ slice_index_or xs r x → r < length xs → edits ≡ x.sheet.edits → message_of_event k (Send r) ≡ Some (Whole edits)
     whole_made r x edits is below all =
         ap (λ (q : WorldReplica). Some (Whole q.edits)) (read r x is below) ∙ ap (λ (s : Edits). Some (Whole s)) (sym all)
@@ -238,7 +238,7 @@ module _ (plan : Plan) (xs : List Replica) (ms : List Message) (kept : IsWorldKe
         ap (λ (q : WorldReplica). Some (Asked (heads (winners q.edits)))) (read r x is below)
         ∙ ap (λ (s : Edits). Some (Asked (heads s))) (is_replica r x is below).sheet.winners ∙ ap (λ (ts : List Head). Some (Asked ts)) (sym all)
 
-    -- what it holds beyond heads
+    -- the edits that it holds beyond heads
     pub answer_made : (r : ℕ) (x : Replica) (m : ℕ) (delta : Edits) → x ≡ slice_index_or xs r x → r < length xs → delta ≡ beyond x.sheet.edits (asked_heads (slice_get k.messages m)) → message_of_event k (Beyond r m) ≡ Some (Answer delta)
     answer_made r x m delta is below all =
         let asked : List Head = asked_heads (slice_get k.messages m) in
@@ -268,7 +268,7 @@ module _ (plan : Plan) (xs : List Replica) (ms : List Message) (kept : IsWorldKe
     made_sendable (events.Take r n) m accepted made = absurd (none_is_no_item m made)
     made_sendable (events.Advance r to) m accepted made = absurd (none_is_no_item m made)
 
-    -- the edits that it carries fit the plan
+    -- the edits of the message fit the plan
     pub made_fits : (e : Event) (result : Result Message WorldFault) → IsMade k e result → IfOk result (λ m. FitsSomePlan (carried_edits (Some m)))
     made_fits e (Ok m) made =
         let sheet = is_sheet (replica_number e) (none_refuses e k made.0).0 in
@@ -279,13 +279,13 @@ module _ (plan : Plan) (xs : List Replica) (ms : List Message) (kept : IsWorldKe
         }
     made_fits e (Err fault) made = tt
 
-    -- with it more, the world is still kept,
+    -- with the message added, the world is still valid,
     pub posted_kept : (e : Event) (m : Message) → fault_of_event k e ≡ None → message_of_event k e ≡ Some m → IsWorldKept plan xs (ms ++ m ∷ [])
     posted_kept e m accepted made =
         let sendable = subst (λ (p : Plan). IsSendable p m) (sym plan_same) (made_sendable e m accepted made) in
         record { few = kept.few; each = kept.each; sendable = All-push (IsSendable plan) ms m kept.sendable sendable }
 
-    -- and is that after the event
+    -- and it is the world after the event
     pub posted : (e : Event) (m : Message) → fault_of_event k e ≡ None → message_of_event k e ≡ Some m → viewed plan xs (ms ++ m ∷ []) ≡ world_of_winners (world_after_event e k)
     posted e m accepted made =
         ap (world_with_message m) v ∙ sent m m (sym (message_wins k.plan m (made_sendable e m accepted made)))
@@ -303,7 +303,7 @@ opening_of plan number x within is =
     } in
     subst (IsReplicaOf plan number) (sym is) opened
 
--- so many replicas before any event
+-- `count` replicas before any event
 pub record AreOpened (plan : Plan) (count : ℕ) (xs : List Replica) : Type 0 where
   pub seen : map world_replica xs ≡ replicate count opening_replica
   pub each : (number : ℕ) (x : Replica) → slice_get xs number ≡ Some x → IsReplicaOf plan number x

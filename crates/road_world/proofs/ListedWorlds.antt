@@ -1,5 +1,5 @@
--- Worlds whose replicas and messages list their edits in the order in which they came. What events do in them can be
--- computed, and it is what they do in the worlds of the sets of these lists.
+-- Worlds whose replicas and messages list their edits in the order in which they came. The effects of events in them
+-- can be computed, and are those in the worlds of the sets of these lists.
 use Rattle.std.proofs.Common.{◌≡◌, ℕ, suc, zero, max, Bool, List, [], ◌∷◌, ◌++◌, length, map, Option, Some, None, refl, ap, sym, subst, ◌∙◌}
 use Rattle.std.specs.Prelude.{◌&&◌, ◌||◌, nat_lt, replicate, slice_set, Result, if◌then◌else◌}
 use Rattle.std.specs.FinMap as maps
@@ -54,7 +54,7 @@ sorted_entries (e ∷ es) = put edit_cmp e tt (sorted_entries es)
 abbrev pub sorted : List edits.Edit → List edits.Edit
 sorted es = map (λ x. x.0) (sorted_entries es)
 
--- entries without keys are none
+-- entries without keys are no entries
 no_entry : (xs : List (edits.Edit × Unit {0})) → map (λ x. x.0) xs ≡ [] → xs ≡ []
 no_entry [] h = refl
 no_entry (x ∷ xs) h = cc
@@ -81,7 +81,7 @@ union_of_lists es fs = same_set edit_total edit_exact _ _ (λ q.
     ∙ (λ i. contains-from_list edit_total es q i || contains-from_list edit_total fs q i)
     ∙ sym (contains-from_list edit_total (es ++ fs) q ∙ list_any-append (eq_by_cmp edit_cmp q) es fs))
 
--- what passes a test, of the set of a list
+-- the elements of the set of a list that pass a test
 pub retained_of_list : (p : edits.Edit → Bool) (es : List edits.Edit) → retain (from_list {R = edit_cmp} es) p ≡ from_list (filter p es)
 retained_of_list p es = same_set edit_total edit_exact _ _ (λ q.
     contains-retain (from_list es) p q (λ x h. ap p (sym (edit_exact q x h)))
@@ -103,7 +103,7 @@ pub record ListReplica : Type 0 where
   pub edits : List edits.Edit
   pub horizon : ℕ
 
--- a message that lists its edits, or asks
+-- a message that lists its edits, or has heads
 pub data ListMessage : Type 0 where
   Whole : List edits.Edit → ListMessage
   Answer : List edits.Edit → ListMessage
@@ -136,7 +136,7 @@ world_of_lists plan w = record {
 abbrev pub unedited : ListReplica
 unedited = record { edits = []; horizon = 0 }
 
--- so many replicas before any event
+-- `count` replicas before any event
 abbrev pub opening_lists : ℕ → ListWorld
 opening_lists count = record { replicas = replicate count unedited; messages = [] }
 
@@ -161,7 +161,7 @@ with_edits r es w =
     let reached = record (at w r) { edits = (at w r).edits ++ es } in
     record w { replicas = slice_set w.replicas r reached }
 
--- a message more
+-- one more message
 abbrev pub with_message : ListMessage → ListWorld → ListWorld
 with_message m w = record w { messages = w.messages ++ m ∷ [] }
 
@@ -172,7 +172,7 @@ carried (Some (Answer es)) = es
 carried (Some (Asked hs)) = []
 carried None = []
 
--- the heads with which a message asks
+-- the heads of a message
 abbrev pub asked : Option ListMessage → List Head
 asked (Some (Whole es)) = []
 asked (Some (Answer es)) = []
@@ -198,7 +198,7 @@ abbrev pub touched_there : ListWorld → ℕ → List edits.Edit → Reply
 touched_there w r es =
     replies.Touched (first_touched_step_in (sorted (winners_in (at w r).edits)) (sorted (winners_in ((at w r).edits ++ es))))
 
--- what an accepted event is answered
+-- the reply to an accepted event
 abbrev pub reply_to : ListWorld → Event → Reply
 reply_to w (Edit r o step n) = replies.Stamped (made w r o step (Put n)).stamp
 reply_to w (Withdraw r o step) = replies.Stamped (made w r o step Withdrawn).stamp
@@ -209,7 +209,7 @@ reply_to w (Beyond r m) = replies.Message (length w.messages)
 reply_to w (Take r m) = touched_there w r (carried (slice_get w.messages m))
 reply_to w (Advance r to) = replies.Horizon (max (at w r).horizon to)
 
--- the cause where there is such a replica
+-- the cause if the replica exists
 abbrev pub fault_there : Plan → ListWorld → Event → Option WorldFault
 fault_there plan w (Edit r o step n) =
     option_map faults.Replica (option_map made_edit_fault (fault_of_edit plan (made w r o step (Put n))))
@@ -231,7 +231,7 @@ abbrev pub cause_or : Option WorldFault → Reply → Result Reply WorldFault
 cause_or None reply = Ok reply
 cause_or (Some cause) reply = Err cause
 
--- the answer to an event, where there is memory and no worker is lost
+-- the answer to an event, if there is memory and no worker is lost
 abbrev pub answer_to : Plan → ListWorld → Event → Result Reply WorldFault
 answer_to plan w e = cause_or (fault_to plan w e) (reply_to w e)
 
@@ -250,7 +250,7 @@ abbrev pub after_all : Plan → ListWorld → List Event → ListWorld
 after_all plan w [] = w
 after_all plan w (e ∷ es) = after_all plan (after_answer e (answer_to plan w e) w) es
 
--- ---- they are those in the worlds of the sets
+-- ---- they agree with the worlds of the sets
 
 -- a replica before any event
 opening_of_list : opening_replica ≡ replica_of_list unedited
@@ -280,7 +280,7 @@ carried_of_list (Some (Whole es)) = refl
 carried_of_list (Some (Answer es)) = refl
 carried_of_list (Some (Asked hs)) = sym from_list-empty
 
--- the heads with which it asks
+-- the heads of the message
 asked_of_list : (o : Option ListMessage) → asked_heads (option_map message_of_list o) ≡ asked o
 asked_of_list None = refl
 asked_of_list (Some (Whole es)) = refl
@@ -300,7 +300,7 @@ module _ (plan : Plan) (w : ListWorld) where
   carried_of_lists : (m : ℕ) → carried_edits (slice_get sets.messages m) ≡ from_list (carried (slice_get w.messages m))
   carried_of_lists m = ap carried_edits (slice_get-map message_of_list w.messages m) ∙ carried_of_list (slice_get w.messages m)
 
-  -- the heads with which it asks
+  -- the heads of the message
   asked_of_lists : (m : ℕ) → asked_heads (slice_get sets.messages m) ≡ asked (slice_get w.messages m)
   asked_of_lists m = ap asked_heads (slice_get-map message_of_list w.messages m) ∙ asked_of_list (slice_get w.messages m)
 
@@ -327,13 +327,13 @@ module _ (plan : Plan) (w : ListWorld) where
   local_edit_of_lists : (r : ℕ) (o : Object) (step : ℕ) (v : Value) → world_with_local_edit r o step v sets ≡ world_of_lists plan (with_edits r (made w r o step v ∷ []) w)
   local_edit_of_lists r o step v = edits_of_lists r _ (made w r o step v ∷ []) (ap single_edit (made_of_lists r o step v))
 
-  -- a message more
+  -- one more message
   message_of_lists : (m : Message) (n : ListMessage) → m ≡ message_of_list n → world_with_message m sets ≡ world_of_lists plan (with_message n w)
   message_of_lists m n is =
       same_world plan _ _ _ _ refl
       (ap (λ (k : Message). map message_of_list w.messages ++ k ∷ []) is ∙ sym (map-append message_of_list w.messages (n ∷ [])))
 
-  -- what an event does
+  -- the effect of an event
   pub after_of_lists : (e : Event) → world_after_event e sets ≡ world_of_lists plan (after e w)
   after_of_lists (Edit r o step n) = local_edit_of_lists r o step (Put n)
   after_of_lists (Withdraw r o step) = local_edit_of_lists r o step Withdrawn
@@ -376,7 +376,7 @@ module _ (plan : Plan) (w : ListWorld) where
   number_of_lists : replies.Message (length sets.messages) ≡ replies.Message (length w.messages)
   number_of_lists = ap replies.Message (length-map w.messages message_of_list)
 
-  -- what it is answered
+  -- the reply to it
   pub reply_of_lists : (e : Event) → reply_to_event sets e ≡ reply_to w e
   reply_of_lists (Edit r o step n) = stamp_of_lists r o step (Put n)
   reply_of_lists (Withdraw r o step) = stamp_of_lists r o step Withdrawn
@@ -392,7 +392,7 @@ module _ (plan : Plan) (w : ListWorld) where
   made_edit_fault_of_lists r o step v =
       ap (λ (e : edits.Edit). option_map faults.Replica (option_map made_edit_fault (fault_of_edit plan e))) (made_of_lists r o step v)
 
-  -- for which cause an event is refused where there is such a replica
+  -- the cause for which an event at an existing replica is refused
   fault_there_of_lists : (e : Event) → fault_at_replica sets e ≡ fault_there plan w e
   fault_there_of_lists (Edit r o step n) = made_edit_fault_of_lists r o step (Put n)
   fault_there_of_lists (Withdraw r o step) = made_edit_fault_of_lists r o step Withdrawn
@@ -403,7 +403,7 @@ module _ (plan : Plan) (w : ListWorld) where
   fault_there_of_lists (Take r m) = ap edits_wanted_fault (slice_get-map message_of_list w.messages m)
   fault_there_of_lists (Advance r to) = refl
 
-  -- and for which any event is
+  -- the cause for which any event is refused
   pub fault_of_lists : (e : Event) → fault_of_event sets e ≡ fault_to plan w e
   fault_of_lists e =
       ap (λ (n : ℕ). if nat_lt (replica_number e) n then fault_at_replica sets e else Some NoReplica) (length-map w.replicas replica_of_list)
@@ -432,7 +432,7 @@ answers_of_lists plan w (e ∷ events) =
     let Answered : World → Type 0 = λ v. AreAnswers v events (answers_to plan next events) in
     (answer_of_lists plan w e, subst Answered (sym (after_answer_of_lists plan w e (answer_to plan w e))) (answers_of_lists plan next events))
 
--- of some events with their answers, the first one is done where it is accepted
+-- of some events with their answers, the first takes effect if it is accepted
 first_done : (e : Event) (a : Result Reply WorldFault) (events : List Event) (rest : List (Result Reply WorldFault)) (v : World)
     → world_after_events (accepted_events (e ∷ events) (a ∷ rest)) v ≡ world_after_events (accepted_events events rest) (world_after_answer e a v)
 first_done e (Ok reply) events rest v = refl
@@ -448,7 +448,7 @@ after_all_of_lists plan w (e ∷ events) =
     ∙ ap (world_after_events (accepted_events events (answers_to plan next events))) (after_answer_of_lists plan w e a)
     ∙ after_all_of_lists plan next events
 
--- ---- from a world's opening on
+-- ---- from the opening world on
 
 module _ (plan : Plan) (count : ℕ) (events : List Event) (given : List (Result Reply WorldFault)) (computed : answers_to plan (opening_lists count) events ≡ given) where
   -- the computed answers are answers to the events
@@ -458,7 +458,7 @@ module _ (plan : Plan) (count : ℕ) (events : List Event) (given : List (Result
       let From : World → Type 0 = λ v. AreAnswers v events (answers_to plan (opening_lists count) events) in
       subst Given computed (subst From (opening_of_lists plan count) (answers_of_lists plan (opening_lists count) events))
 
-  -- what these events make of a replica
+  -- the effect of these events on a replica
   computed_replica : (r : ℕ) → replica_after_events plan count events given r ≡ replica_of_list (at (after_all plan (opening_lists count) events) r)
   computed_replica r =
       ap (λ (rs : List (Result Reply WorldFault)). replica_at (world_after_events (accepted_events events rs) (opening_world plan count)) r) (sym computed)

@@ -1,4 +1,4 @@
--- The message that an event makes: the world with it more, its reply, and the causes for which it is refused.
+-- The message that an event makes: the world with this message added, the reply, and the causes of refusals.
 use Rattle.std.proofs.Common.{◌≡◌, ◌∙◌, ℕ, List, [], ◌∷◌, length, map, Option, Some, None, refl, ap, sym, inr}
 use Rattle.std.specs.Prelude.{OnOk, Result}
 use Rattle.std.specs.List.{slice_get}
@@ -31,11 +31,11 @@ none_is_no_item x h = cc
 
 -- ---- an event that makes a message
 
--- the world with a message more, if there is one
+-- the world with one more message, if there is one
 abbrev with_option : Option Message → World → World
 with_option made w = record w { messages = messages_with made w.messages }
 
--- the world after it is the world with its message more
+-- the world after it is the world with its message added
 pub after_made : (e : Event) (w : World) (m : Message) → message_of_event w e ≡ Some m → world_after_event e w ≡ world_with_message m w
 after_made (Edit r o step n) w m made = absurd (none_is_no_item m made)
 after_made (Withdraw r o step) w m made = absurd (none_is_no_item m made)
@@ -46,7 +46,7 @@ after_made (Beyond r n) w m made = ap (λ (o : Option Message). with_option o w)
 after_made (Take r n) w m made = absurd (none_is_no_item m made)
 after_made (Advance r to) w m made = absurd (none_is_no_item m made)
 
--- it is answered the number of its message
+-- the reply is the number of its message
 pub reply_made : (e : Event) (w : World) (m : Message) → message_of_event w e ≡ Some m → reply_to_event w e ≡ replies.Message (length w.messages)
 reply_made (Edit r o step n) w m made = absurd (none_is_no_item m made)
 reply_made (Withdraw r o step) w m made = absurd (none_is_no_item m made)
@@ -57,7 +57,7 @@ reply_made (Beyond r n) w m made = refl
 reply_made (Take r n) w m made = absurd (none_is_no_item m made)
 reply_made (Advance r to) w m made = absurd (none_is_no_item m made)
 
--- it is no command to a sheet
+-- it has no command to a sheet
 pub no_command : (e : Event) (w : World) (m : Message) → message_of_event w e ≡ Some m → command_of_event w e ≡ None
 no_command (Edit r o step n) w m made = absurd (none_is_no_item m made)
 no_command (Withdraw r o step) w m made = absurd (none_is_no_item m made)
@@ -70,7 +70,7 @@ no_command (Advance r to) w m made = absurd (none_is_no_item m made)
 
 -- ---- any event
 
--- where no cause is named, each may be refused for out of memory
+-- if no cause is named, each may be refused for out of memory
 pub memory_refuses : (e : Event) → IsUnnamedRefusal e (faults.Replica OutOfMemory)
 memory_refuses (Edit r o step n) = inr refl
 memory_refuses (Withdraw r o step) = inr refl
@@ -92,12 +92,12 @@ messages_after (Beyond r n) w = refl
 messages_after (Take r n) w = refl
 messages_after (Advance r to) w = refl
 
--- what a replica of a world of winners holds, wins
+-- the edits that a replica of a world of winners holds are winners
 held_wins : (w : World) (r : ℕ) → world_of_winners w ≡ w → winners (replica_at w r).edits ≡ (replica_at w r).edits
 held_wins w r wins =
     sym (ap (λ (x : WorldReplica). x.edits) (replica-of_winners w r)) ∙ ap (λ (v : World). (replica_at v r).edits) wins
 
--- so does what such a world's event makes
+-- so are the edits of the message that its event makes
 made_wins : (e : Event) (w : World) → world_of_winners w ≡ w → option_map message_of_winners (message_of_event w e) ≡ message_of_event w e
 made_wins (Edit r o step n) w wins = refl
 made_wins (Withdraw r o step) w wins = refl

@@ -1,4 +1,4 @@
--- What a replica of a world shows is read of the winners of the edits that reached it.
+-- What a replica of a world shows is a function of the winners of the edits that reached it.
 use Rattle.std.proofs.Common.{◌≡◌, ◌∙◌, ℕ, ap}
 use Rattle.road_plan.specs.Plan.{Plan}
 use Rattle.road_scenario.specs.Edits.{Edits}
@@ -8,7 +8,7 @@ use Rattle.road_world.specs.Answers.{sheet_at}
 use Rattle.road_world.specs.Events.{World, WorldReplica, replica_at, world_of_winners}
 use Rattle.road_world.proofs.WinnersSuffice.{replica-of_winners}
 
--- the sheet that is read is of the world's plan and of the winners of what reached the replica
+-- the sheet has the world's plan and the winners of what reached the replica
 pub read_of_winners : {A : Type 0} (read : Plan → Edits → A) (k : World) (r : ℕ) (s : Sheet) → s ≡ sheet_at k r → (reached : World) → k ≡ world_of_winners reached → read s.plan s.edits ≡ read k.plan (winners (replica_at reached r).edits)
 read_of_winners read k r s same reached is =
     ap (λ (t : Sheet). read t.plan t.edits) same

@@ -1,5 +1,5 @@
--- The winners suffice: a world of which each replica and each message has the winners alone does what the world does,
--- answers what it answers, and refuses what it refuses.
+-- The winners suffice: a world whose replicas and messages have only the winners has the same effects, answers and
+-- refusals as the world.
 use Rattle.std.proofs.Common.{◌≡◌, ℕ, suc, zero, max, List, [], ◌∷◌, ◌++◌, length, map, Option, Some, None, refl, ap, sym, subst, ◌∙◌}
 use Rattle.std.specs.Prelude.{slice_set, replicate, nat_lt, Result, if◌then◌else◌}
 use Rattle.std.specs.List.{slice_index_or, slice_get}
@@ -42,7 +42,7 @@ use Rattle.road_world.specs.declared.message.Message.TheVariants.{Whole, Answer,
 pub winners_again : (edits : Edits) → winners (winners edits) ≡ winners edits
 winners_again edits = winners_laws.of_tops edits
 
--- of a union, one part may give way to its winners
+-- in a union, one part may be replaced by its winners
 pub winners_of_one_part : (s t : Edits) → winners (union (winners s) t) ≡ winners (union s t)
 winners_of_one_part s t =
     winners_laws.of_union (winners s) t ∙ ap (λ (u : Edits). join u (winners t)) (winners_again s)
@@ -54,15 +54,15 @@ winners_of_both_parts s t = sym (winners_laws.of_union s t)
 
 -- ---- replicas and messages
 
--- a replica by its parts
+-- a replica, given its parts
 abbrev pub replica_with : Edits → ℕ → WorldReplica
 replica_with held to = record { edits = held; horizon = to }
 
--- and a world by its
+-- and a world, given its parts
 abbrev pub world_with : Plan → List WorldReplica → List Message → World
 world_with plan replicas messages = record { plan = plan; replicas = replicas; messages = messages }
 
--- a world is the same where its replicas and its messages are
+-- a world is the same if its replicas and its messages are
 pub same_world : (plan : Plan) (xs ys : List WorldReplica) (ms ns : List Message) → xs ≡ ys → ms ≡ ns → world_with plan xs ms ≡ world_with plan ys ns
 same_world plan xs ys ms ns e f =
     ap (λ (zs : List WorldReplica). world_with plan zs ms) e ∙ ap (λ (os : List Message). world_with plan ys os) f
@@ -81,7 +81,7 @@ at_of_winners (x ∷ xs) (suc r) = at_of_winners xs r
 pub replica-of_winners : (w : World) (r : ℕ) → replica_at (world_of_winners w) r ≡ replica_of_winners (replica_at w r)
 replica-of_winners w r = at_of_winners w.replicas r
 
--- the winners of what such a replica holds are those of what the world's replica holds
+-- the winners of what a replica in the world of winners holds are those of what the world's replica holds
 pub held-of_winners : (w : World) (r : ℕ) → winners (replica_at (world_of_winners w) r).edits ≡ winners (replica_at w r).edits
 held-of_winners w r =
     ap (λ (x : WorldReplica). winners x.edits) (replica-of_winners w r) ∙ winners_again (replica_at w r).edits
@@ -106,7 +106,7 @@ messages_again (m ∷ ms) =
     ap (λ (n : Message). n ∷ map message_of_winners (map message_of_winners ms)) (message_again m)
     ∙ ap (λ (ns : List Message). message_of_winners m ∷ ns) (messages_again ms)
 
--- a world of winners is that of its own
+-- a world of winners is its own world of winners
 pub world-again : (w : World) → world_of_winners (world_of_winners w) ≡ world_of_winners w
 world-again w = same_world w.plan _ _ _ _ (replicas_again w.replicas) (messages_again w.messages)
 
@@ -121,7 +121,7 @@ opening_replicas (suc count) =
 pub opening_world-of_winners : (plan : Plan) (count : ℕ) → world_of_winners (opening_world plan count) ≡ opening_world plan count
 opening_world-of_winners plan count = same_world plan _ _ _ _ (opening_replicas count) refl
 
--- ---- what an event does
+-- ---- the effects of events
 
 -- one replica set, in replicas of winners and in the replicas
 set-of_winners : (xs : List WorldReplica) (r : ℕ) (x y : WorldReplica) → replica_of_winners x ≡ replica_of_winners y → map replica_of_winners (slice_set (map replica_of_winners xs) r x) ≡ map replica_of_winners (slice_set xs r y)
@@ -130,7 +130,7 @@ set-of_winners xs r x y e =
     ∙ ap (λ (ys : List WorldReplica). slice_set ys r (replica_of_winners x)) (replicas_again xs)
     ∙ ap (λ (z : WorldReplica). slice_set (map replica_of_winners xs) r z) e ∙ sym (map-set replica_of_winners xs r y)
 
--- edits that reach a replica, where the unions have the same winners
+-- edits reach a replica, if the unions have the same winners
 pub edits-of_winners : (w : World) (r : ℕ) (s t : Edits) → winners (union (winners (replica_at w r).edits) s) ≡ winners (union (replica_at w r).edits t) → world_of_winners (world_with_edits r s (world_of_winners w)) ≡ world_of_winners (world_with_edits r t w)
 edits-of_winners w r s t e =
     let reached : WorldReplica = record (replica_at (world_of_winners w) r) { edits = union (replica_at (world_of_winners w) r).edits s } in
@@ -153,7 +153,7 @@ made-of_winners w r o step v =
     ap (λ (e : edits.Edit). world_of_winners (world_with_edits r (single_edit e) (world_of_winners w))) (local_edit-of_winners w r o step v)
     ∙ edits-of_winners w r (single_edit made) (single_edit made) (winners_of_one_part (replica_at w r).edits (single_edit made))
 
--- the world with a message more
+-- the world with one more message
 abbrev pub world_with_message : Message → World → World
 world_with_message message w = record w { messages = w.messages ++ message ∷ [] }
 
@@ -173,7 +173,7 @@ carried_by_winners (Some (Whole s)) = refl
 carried_by_winners (Some (Answer s)) = refl
 carried_by_winners (Some (Asked hs)) = sym winners-empty
 
--- a message asks with the same heads
+-- a message has the same heads
 asked_by_winners : (o : Option Message) → asked_heads (option_map message_of_winners o) ≡ asked_heads o
 asked_by_winners None = refl
 asked_by_winners (Some (Whole s)) = refl
@@ -185,7 +185,7 @@ pub carried-of_winners : (w : World) (m : ℕ) → carried_edits (slice_get (wor
 carried-of_winners w m =
     ap carried_edits (slice_get-map message_of_winners w.messages m) ∙ carried_by_winners (slice_get w.messages m)
 
--- and asks with the same heads
+-- and it has the same heads
 pub asked-of_winners : (w : World) (m : ℕ) → asked_heads (slice_get (world_of_winners w).messages m) ≡ asked_heads (slice_get w.messages m)
 asked-of_winners w m =
     ap asked_heads (slice_get-map message_of_winners w.messages m) ∙ asked_by_winners (slice_get w.messages m)
@@ -197,7 +197,7 @@ taken-of_winners w r m =
     ap (λ (s : Edits). world_of_winners (world_with_edits r s (world_of_winners w))) (carried-of_winners w m)
     ∙ edits-of_winners w r (winners carried) carried (winners_of_both_parts (replica_at w r).edits carried)
 
--- an event does to a world of winners what it does to the world, as far as winners go
+-- an event has the same effect in a world of winners as in the world, as far as winners are concerned
 pub event-of_winners : (e : Event) (w : World) → world_of_winners (world_after_event e (world_of_winners w)) ≡ world_of_winners (world_after_event e w)
 event-of_winners (Edit r o step n) w = made-of_winners w r o step (Put n)
 event-of_winners (Withdraw r o step) w = made-of_winners w r o step Withdrawn
@@ -224,9 +224,9 @@ event-of_winners (Advance r to) w =
     ∙ ap (λ (s : Edits). replica_with s (max (replica_at w r).horizon to)) (winners_again (replica_at w r).edits)))
     (messages_again w.messages)
 
--- ---- what an event is answered
+-- ---- the replies to events
 
--- the first touched step, where the unions have the same winners
+-- the first touched step, if the unions have the same winners
 pub touched_reply-of_winners : (w : World) (r : ℕ) (s t : Edits) → winners (union (winners (replica_at w r).edits) s) ≡ winners (union (replica_at w r).edits t) → touched_reply (world_of_winners w) r s ≡ touched_reply w r t
 touched_reply-of_winners w r s t e =
     ap (λ (x : WorldReplica). replies.Touched (first_touched_step x.edits (union x.edits s))) (replica-of_winners w r)
@@ -256,16 +256,16 @@ reply-of_winners (Take r m) w =
     ∙ touched_reply-of_winners w r (winners carried) carried (winners_of_both_parts (replica_at w r).edits carried)
 reply-of_winners (Advance r to) w = ap (λ (x : WorldReplica). replies.Horizon (max x.horizon to)) (replica-of_winners w r)
 
--- ---- for which cause it is refused
+-- ---- the causes of refusals
 
--- a message of winners carries edits where the message does
+-- a message of winners carries edits if the message does
 edits_wanted_of_winners : (o : Option Message) → edits_wanted_fault (option_map message_of_winners o) ≡ edits_wanted_fault o
 edits_wanted_of_winners None = refl
 edits_wanted_of_winners (Some (Whole s)) = refl
 edits_wanted_of_winners (Some (Answer s)) = refl
 edits_wanted_of_winners (Some (Asked hs)) = refl
 
--- and heads where the message has heads
+-- and heads if the message has heads
 heads_wanted_of_winners : (o : Option Message) → heads_wanted_fault (option_map message_of_winners o) ≡ heads_wanted_fault o
 heads_wanted_of_winners None = refl
 heads_wanted_of_winners (Some (Whole s)) = refl
@@ -278,7 +278,7 @@ made_edit_fault-of_winners : (w : World) (r : ℕ) (o : Object) (step : ℕ) (v 
 made_edit_fault-of_winners w r o step v =
     ap (λ (e : edits.Edit). option_map faults.Replica (option_map made_edit_fault (fault_of_edit w.plan e))) (local_edit-of_winners w r o step v)
 
--- where there is such a replica, an event is refused for the same cause
+-- if the replica exists, an event is refused for the same cause
 pub fault_at-of_winners : (e : Event) (w : World) → fault_at_replica (world_of_winners w) e ≡ fault_at_replica w e
 fault_at-of_winners (Edit r o step n) w = made_edit_fault-of_winners w r o step (Put n)
 fault_at-of_winners (Withdraw r o step) w = made_edit_fault-of_winners w r o step Withdrawn
@@ -299,7 +299,7 @@ fault-of_winners e w =
 
 -- ---- the answer to an event
 
--- what may be answered in a world of winners may be answered in the world
+-- an answer that is possible in a world of winners is possible in the world
 pub answer-from_winners : (w : World) (e : Event) (reply : Result Reply WorldFault) → IsAnswer (world_of_winners w) e reply → IsAnswer w e reply
 answer-from_winners w e (Ok reply) h = (sym (fault-of_winners e w) ∙ h.0, h.1 ∙ reply-of_winners e w)
 answer-from_winners w e (Err fault) h =

@@ -28,11 +28,12 @@ use Rattle.road_world.specs.declared.faults.WorldFault.TheVariants as faults
 use Rattle.road_world.specs.declared.message.Message.{Message}
 use Rattle.road_world.specs.declared.message.Message.TheVariants.{Whole, Answer, Asked}
 
--- the sheet of replica r of a world: of all edits that reached it in the definition, of the winners in what is kept
+-- the sheet of replica r of a world: it has all edits that reached the replica in the definition, and their winners in
+-- the stored world
 abbrev pub sheet_at : World → ℕ → Sheet
 sheet_at w r = record { plan = w.plan; edits = (replica_at w r).edits; horizon = (replica_at w r).horizon }
 
--- replica r of a world by its number and sheet
+-- replica r of a world, as its number and sheet
 abbrev pub replica_with_sheet : World → ℕ → Replica
 replica_with_sheet w r = record { number = r; sheet = sheet_at w r }
 
@@ -42,7 +43,7 @@ replica_with_sheet w r = record { number = r; sheet = sheet_at w r }
 abbrev pub stamp_reply : World → ℕ → Object → ℕ → Value → Reply
 stamp_reply w r object step value = replies.Stamped (edit_made (replica_with_sheet w r) object step value).stamp
 
--- the first step that edits touch where they reach replica r
+-- the reply if edits reach replica r: the first step that they touch
 abbrev pub touched_reply : World → ℕ → Edits → Reply
 touched_reply w r edits =
     replies.Touched (first_touched_step (replica_at w r).edits (union (replica_at w r).edits edits))
@@ -60,7 +61,7 @@ reply_to_event w (Advance r to) = replies.Horizon (max (replica_at w r).horizon 
 
 -- ---- the first named cause for which an event is refused
 
--- the number of the replica at which an event is
+-- the number of the replica at which an event happens
 abbrev pub replica_number : Event → ℕ
 replica_number (Edit r object step number) = r
 replica_number (Withdraw r object step) = r
@@ -71,21 +72,21 @@ replica_number (Beyond r message) = r
 replica_number (Take r message) = r
 replica_number (Advance r to) = r
 
--- the refusal of a message where one with edits is wanted
+-- the refusal of a message if one with edits is needed
 abbrev pub edits_wanted_fault : Option Message → Option WorldFault
 edits_wanted_fault (Some (Whole edits)) = None
 edits_wanted_fault (Some (Answer edits)) = None
 edits_wanted_fault (Some (Asked hs)) = Some NoMessage
 edits_wanted_fault None = Some NoMessage
 
--- the refusal of a message where one with heads is wanted
+-- the refusal of a message if one with heads is needed
 abbrev pub heads_wanted_fault : Option Message → Option WorldFault
 heads_wanted_fault (Some (Whole edits)) = Some NoMessage
 heads_wanted_fault (Some (Answer edits)) = Some NoMessage
 heads_wanted_fault (Some (Asked hs)) = None
 heads_wanted_fault None = Some NoMessage
 
--- the first named cause for which an event at a replica that is there is refused
+-- the first named cause for which an event at an existing replica is refused
 abbrev pub fault_at_replica : World → Event → Option WorldFault
 fault_at_replica w (Edit r object step number) =
     option_map faults.Replica (edit_fault (replica_with_sheet w r) object step (Put number))
@@ -98,37 +99,37 @@ fault_at_replica w (Beyond r message) = heads_wanted_fault (slice_get w.messages
 fault_at_replica w (Take r message) = edits_wanted_fault (slice_get w.messages message)
 fault_at_replica w (Advance r to) = option_map faults.Replica (advance_fault to)
 
--- the first named cause for which an event is refused: whether its replica is there is asked first
+-- the first named cause for which an event is refused; a missing replica is the first cause
 abbrev pub fault_of_event : World → Event → Option WorldFault
 fault_of_event w event = if nat_lt (replica_number event) (length w.replicas) then fault_at_replica w event
     else Some NoReplica
 
 -- ---- a query
 
--- the first named cause for which a query at replica r is refused: whether it is there is asked first
+-- the first named cause for which a query at replica r is refused; a missing replica is the first cause
 abbrev pub query_fault : World → ℕ → Option ReplicaFault → Option WorldFault
 query_fault w r cause = if nat_lt r (length w.replicas) then option_map faults.Replica cause else Some NoReplica
 
--- a query is refused for the named cause where there is one, and else for out of memory
+-- a query is refused for the named cause if there is one, and else for out of memory
 abbrev pub IsQueryRefusal : Option WorldFault → WorldFault → Type 0
 IsQueryRefusal (Some cause) fault = fault ≡ cause
 IsQueryRefusal None fault = fault ≡ faults.Replica OutOfMemory
 
 -- ---- the answer to any event
 
--- where no cause is named, a message is refused for out of memory, and a write for that or for lost workers
+-- a refusal without a named cause: for out of memory, or for a write also for lost workers
 abbrev pub IsUnnamedRefusal : Event → WorldFault → Type 0
 IsUnnamedRefusal (Send r) fault = fault ≡ faults.Replica OutOfMemory
 IsUnnamedRefusal (Heads r) fault = fault ≡ faults.Replica OutOfMemory
 IsUnnamedRefusal (Beyond r message) fault = fault ≡ faults.Replica OutOfMemory
 IsUnnamedRefusal event fault = (fault ≡ faults.Replica WorkersGone) ⊎ (fault ≡ faults.Replica OutOfMemory)
 
--- an event is refused for the named cause where there is one
+-- an event is refused for the named cause if there is one
 abbrev pub IsRefusal : Event → Option WorldFault → WorldFault → Type 0
 IsRefusal event (Some cause) fault = fault ≡ cause
 IsRefusal event None fault = IsUnnamedRefusal event fault
 
--- what may be answered to an event in a world
+-- the answers that an event may have in a world
 abbrev pub IsAnswer : World → Event → Result Reply WorldFault → Type 0
 IsAnswer w event (Ok reply) = (fault_of_event w event ≡ None) × (reply ≡ reply_to_event w event)
 IsAnswer w event (Err fault) = IsRefusal event (fault_of_event w event) fault
@@ -146,12 +147,12 @@ AreAnswers w (event ∷ events) (reply ∷ replies) =
 AreAnswers w [] (reply ∷ replies) = ⊥
 AreAnswers w (event ∷ events) [] = ⊥
 
--- how often a crew has answered `WorkersGone`, after an answer to an event
+-- how often a crew has returned `WorkersGone`, after an answer to an event
 abbrev pub gone_after_answer : Result Reply WorldFault → ℕ → ℕ
 gone_after_answer (Err (faults.Replica fault)) n = gone_after_fault fault n
 gone_after_answer reply n = n
 
--- how often a crew has answered `WorkersGone`, after the answers to several events
+-- how often a crew has returned `WorkersGone`, after the answers to several events
 abbrev pub gone_after_answers : List (Result Reply WorldFault) → ℕ → ℕ
 gone_after_answers [] n = n
 gone_after_answers (reply ∷ replies) n = gone_after_answers replies (gone_after_answer reply n)

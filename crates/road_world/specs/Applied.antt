@@ -1,4 +1,4 @@
--- What the application of an event to a world comes to.
+-- The effect of applying an event to a world.
 use Rattle.std.specs.Prelude.{◌≡◌, ◌≢◌, ℕ, OnErr, OnOk, Result}
 use Rattle.std.specs.declared.option.Option.TheVariants.{None, Some}
 use Rattle.std.specs.declared.result.Result.TheVariants.{Ok, Err}
@@ -19,18 +19,18 @@ pub record IsApplied (event : Event) (result : Result Reply WorldFault) (old new
     (meter later : ℕ) : Type 0 where
   -- the event has its answer
   pub answer : IsAnswer old event result
-  -- accepted, it does what its definition says, of edits the winners
+  -- if accepted, it does what its definition says (of edits, only the winners)
   pub after : OnOk result (new ≡ world_of_winners (world_after_event event old))
-  -- refused, it does nothing
+  -- if refused, it does nothing
   pub unchanged : OnErr result (new ≡ old)
-  -- accepted, just its steps are computed
+  -- if accepted, exactly its steps are computed
   pub steps : OnOk result (later ≡ meter_after meter (steps_of_event old event))
-  -- refused for a named cause, none
+  -- if refused for a named cause, none are computed
   pub named : OnErr result (fault_of_event old event ≢ None → later ≡ meter)
-  -- and else at most those that it may cost
+  -- otherwise at most those that it may cost
   pub few_steps : TicksAtMost (most_steps_of_event old event) meter later
 
--- what may be made of an event that makes a message: that message where nothing refuses the event, or its refusal
+-- the result of making the message of an event: that message if nothing refuses the event, or its refusal
 abbrev pub IsMade : World → Event → Result messages.Message WorldFault → Type 0
 IsMade w event (Ok message) = (fault_of_event w event ≡ None) × (message_of_event w event ≡ Some message)
 IsMade w event (Err fault) = IsRefusal event (fault_of_event w event) fault

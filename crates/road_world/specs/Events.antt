@@ -1,4 +1,4 @@
--- What events do in a world of replicas.
+-- The effects of events in a world of replicas.
 use Rattle.std.specs.Prelude.{ℕ, Bool, true, false, max, List, [], ◌∷◌, ◌++◌, map, replicate, slice_set, Result}
 use Rattle.std.specs.List.{slice_index_or, slice_get}
 use Rattle.std.specs.declared.option.Option.{Option}
@@ -39,7 +39,7 @@ pub record World : Type 0 where
 abbrev pub opening_replica : WorldReplica
 opening_replica = record { edits = empty; horizon = 0 }
 
--- a world of so many replicas before any event
+-- a world of `count` replicas before any event
 abbrev pub opening_world : Plan → ℕ → World
 opening_world plan count = record { plan = plan; replicas = replicate count opening_replica; messages = [] }
 
@@ -66,21 +66,21 @@ world_with_advance r to w =
     let advanced = record (replica_at w r) { horizon = max (replica_at w r).horizon to } in
     record w { replicas = slice_set w.replicas r advanced }
 
--- the edits that a message carries; none where it asks with heads or is not there, which no accepted event takes
+-- the edits of a message; none if it has heads or does not exist, and no accepted event takes it then
 abbrev pub carried_edits : Option Message → Edits
 carried_edits (Some (Whole edits)) = edits
 carried_edits (Some (Answer edits)) = edits
 carried_edits (Some (Asked hs)) = empty
 carried_edits None = empty
 
--- the heads with which a message asks; none where it carries edits or is not there, which no accepted event answers
+-- the heads of a message; none if it has edits or does not exist, and no accepted event answers it then
 abbrev pub asked_heads : Option Message → List Head
 asked_heads (Some (Whole edits)) = []
 asked_heads (Some (Answer edits)) = []
 asked_heads (Some (Asked hs)) = hs
 asked_heads None = []
 
--- whether an event is the making of a message
+-- whether an event makes a message
 abbrev pub makes_message : Event → Bool
 makes_message (Edit r object step number) = false
 makes_message (Withdraw r object step) = false
@@ -97,7 +97,7 @@ sending_event r sendings.Whole = Send r
 sending_event r sendings.Asked = Heads r
 sending_event r (sendings.Answer message) = Beyond r message
 
--- the message that an event makes, by what its replica holds; none where the event is no making of a message
+-- the message that an event makes, given what its replica holds; none if the event makes no message
 abbrev pub message_of_event : World → Event → Option Message
 message_of_event w (Send r) = Some (Whole (replica_at w r).edits)
 message_of_event w (Heads r) = Some (Asked (heads (winners (replica_at w r).edits)))
@@ -106,7 +106,7 @@ message_of_event w (Beyond r message) =
     Some (Answer (beyond (winners (replica_at w r).edits) asked))
 message_of_event w event = None
 
--- messages, and behind them the one that was made, if one was
+-- messages, followed by the one that was made, if one was
 abbrev pub messages_with : Option Message → List Message → List Message
 messages_with None messages = messages
 messages_with (Some message) messages = messages ++ message ∷ []
@@ -128,7 +128,7 @@ world_after_event (Advance r to) w = world_with_advance r to w
 
 -- ---- lists of events
 
--- the world after some events, the first one first
+-- the world after some events, in order
 abbrev pub world_after_events : List Event → World → World
 world_after_events [] w = w
 world_after_events (event ∷ events) w = world_after_events events (world_after_event event w)
@@ -145,23 +145,23 @@ abbrev pub world_of_events : Plan → ℕ → List Event → List (Result Reply 
 world_of_events plan count events replies =
     world_after_events (accepted_events events replies) (opening_world plan count)
 
--- what such events make of replica r
+-- the effect of these events on replica r
 abbrev pub replica_after_events : Plan → ℕ → List Event → List (Result Reply WorldFault) → ℕ → WorldReplica
 replica_after_events plan count events replies r = replica_at (world_of_events plan count events replies) r
 
--- ---- the winners alone
+-- ---- only the winners
 
--- a replica that holds the winners alone
+-- a replica that holds only the winners
 abbrev pub replica_of_winners : WorldReplica → WorldReplica
 replica_of_winners replica = record replica { edits = winners replica.edits }
 
--- a message that carries the winners alone
+-- a message that carries only the winners
 abbrev pub message_of_winners : Message → Message
 message_of_winners (Whole edits) = Whole (winners edits)
 message_of_winners (Answer edits) = Answer (winners edits)
 message_of_winners (Asked hs) = Asked hs
 
--- the world of which each replica holds, and each message carries, the winners alone
+-- the world whose replicas and messages hold only the winners
 abbrev pub world_of_winners : World → World
 world_of_winners w = record w {
   replicas = map replica_of_winners w.replicas;

@@ -3,10 +3,15 @@
 -- zero; so replicas that the same edits reached, in whatever order, grouping and repetition, agree at every step that
 -- both have simulated.
 --
--- What a replica shows is told by its sheet s: `Replica::state` answers `state_of s step`, or refuses for
--- `state_fault s step`; likewise `rows` by `rows_of` and `rows_fault`, `totals` by `total_of` and `totals_fault`.
--- `World::state`, `rows` and `totals` answer by `run_at`, `rows_at` and `total_at` of the winners themselves.
--- A run (`run_at`, `rows_at`, `total_at`) begins at step zero always, and knows no checkpoint, no crew and no meter.
+-- In plain words: a replica's scenario is the winners of the edits that reached it. At every step that it has
+-- simulated, each of its cells and detector counts equals that of a single-threaded run, from step zero, under those
+-- winners. So replicas agree at every step that both have simulated if the same edits reached them.
+--
+-- What a replica shows is a function of its sheet s: `Replica::state` returns `state_of s step`, or refuses for
+-- `state_fault s step`. Likewise `rows` uses `rows_of` and `rows_fault`, and `totals` uses `total_of` and
+-- `totals_fault`. `World::state`, `rows` and `totals` return `run_at`, `rows_at` and `total_at` of the winners
+-- themselves. A run (`run_at`, `rows_at`, `total_at`) always begins at step zero, and does not depend on checkpoints,
+-- crews or meters.
 use Rattle.std.specs.Prelude.{◌≡◌, ◌<◌, ◌≤◌, ℕ, List, Result, length, false}
 use Rattle.std.specs.declared.option.Option.{Option}
 use Rattle.std.specs.declared.option.Option.TheVariants.{None}
@@ -27,8 +32,8 @@ pub record IsRight {A : Type 0} (fault : Option ReplicaFault) (shown right : A) 
   pub answered : fault ≡ None
   pub same : shown ≡ right
 
--- a world of so many replicas of a plan shows the runs of what reached them: `past r` is the edits that reached replica
--- r, as a set, and the greatest step to which it was advanced
+-- a world of `count` replicas of a plan shows the runs of what reached them: `past r` is the set of edits that reached
+-- replica r, and the greatest step to which it was advanced
 pub record ShowsRuns (plan : Plan) (count : ℕ) (past : ℕ → WorldReplica) (world : World) : Type 0 where
   -- the world is of this plan
   pub same_plan : world.plan ≡ plan
@@ -55,16 +60,16 @@ pub record ShowsRuns (plan : Plan) (count : ℕ) (past : ℕ → WorldReplica) (
   pub same_cells : (r s step : ℕ) → r < count → s < count → (past r).edits ≡ (past s).edits →
       step ≤ (past r).horizon → step ≤ (past s).horizon →
       state_of (sheet_at world r) step ≡ state_of (sheet_at world s) step
-  -- such replicas agree on each row
+  -- these replicas agree on each row
   pub same_rows : (r s from to : ℕ) → r < count → s < count → (past r).edits ≡ (past s).edits →
       to ≤ (past r).horizon → to ≤ (past s).horizon →
       rows_of (sheet_at world r) from to ≡ rows_of (sheet_at world s) from to
-  -- such replicas agree on each detector count
+  -- these replicas agree on each detector count
   pub same_counts : (r s detector from to : ℕ) → r < count → s < count → (past r).edits ≡ (past s).edits →
       to ≤ (past r).horizon → to ≤ (past s).horizon →
       total_of (sheet_at world r) detector from to ≡ total_of (sheet_at world s) detector from to
 
--- the headline, of a list of events and their replies: the world shows the runs of what these events made reach each
--- replica, a refused event left out
+-- the headline for a list of events and their replies: the world shows the runs of what reached each replica by these
+-- events, without the refused ones
 abbrev pub Headline : Plan → ℕ → List Event → List (Result Reply WorldFault) → World → Type 0
 Headline plan count events replies world = ShowsRuns plan count (replica_after_events plan count events replies) world

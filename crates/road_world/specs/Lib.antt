@@ -1,4 +1,4 @@
--- What events do, what they are answered and may cost, and what a list of them carries.
+-- The effects, answers and costs of events, and the facts that a list of them ensures.
 pub mod Events
 pub mod Answers
 pub mod Steps

@@ -1,3 +1,3 @@
--- What private fields and private functions say of a world; no public contract names it.
+-- Definitions for private fields and the contracts of private functions of a world. No public contract names them.
 pub mod Worlds
 pub mod LocalEvents

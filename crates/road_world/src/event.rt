@@ -1,4 +1,4 @@
-//! The events of a world: each happens at one replica.
+//! The events of a world. Each happens at one replica.
 
 ghost use Rattle.std.specs.Prelude.{◌≡◌};
 ghost use Rattle.road_world.specs.Answers as answers;
@@ -6,54 +6,54 @@ ghost use Rattle.road_world.specs.Answers as answers;
 use road_plan::Object;
 use road_scenario::Edit;
 
-/// Something that is done at a replica, which is named by its number. Messages are named by theirs.
+/// An event at a replica, which is named by its number. Messages are named by their numbers.
 #[derive(Drop)]
 pub enum Event {
-    /// The replica puts a number for an object from a step on, in the object's units.
+    /// The replica sets a number for an object from a step on, in the object's units.
     Edit {
         /// The replica.
         at: u32,
-        /// What is set.
+        /// The object that is set.
         object: Object,
-        /// The first step at which it acts.
+        /// The first step at which the number takes effect.
         step: u32,
-        /// The number put.
+        /// The number.
         value: u32,
     },
-    /// The replica withdraws what is put for an object at a step.
+    /// The replica withdraws what is set for an object at a step.
     Withdraw {
         /// The replica.
         at: u32,
-        /// What is set no longer.
+        /// The object that is no longer set.
         object: Object,
         /// The step of what is withdrawn.
         step: u32,
     },
-    /// Edits reach the replica from outside this world, all of them or none.
+    /// Edits reach the replica from outside this world, either all of them or none.
     Import {
         /// The replica.
         at: u32,
-        /// The edits, in any order; their stamps have numbers from 64 on.
+        /// The edits, in any order. Their stamps have numbers from 64 on.
         edits: Vec<Edit>,
     },
-    /// The replica sends all that it holds.
+    /// The replica sends all edits that it holds.
     Send {
         /// The replica.
         at: u32,
     },
-    /// The replica sends the heads of all that it holds, to ask for what it lacks.
+    /// The replica sends the heads of all edits that it holds, to ask for missing edits.
     Heads {
         /// The replica.
         at: u32,
     },
-    /// The replica answers heads with what it holds beyond them.
+    /// The replica replies to heads with the edits that it holds beyond them.
     Beyond {
         /// The replica.
         at: u32,
         /// The message with the heads.
         message: u64,
     },
-    /// A message with edits reaches the replica, sent by whomever, for the first time or again.
+    /// A message with edits reaches the replica, from whichever sender, for the first time or again.
     Take {
         /// The replica.
         at: u32,
@@ -70,7 +70,7 @@ pub enum Event {
 }
 
 impl Event {
-    /// The number of its replica.
+    /// Return the number of the event's replica.
     pub fn replica(&self) -> u32
         ensures { result ≡ answers.replica_number self.now }
     {

@@ -9,16 +9,17 @@ use road_replica::ReplicaFault;
 use std::alloc::AllocError;
 use thiserror::Error;
 
-/// Why an event is refused. The causes are asked in this order; a refused event does nothing.
+/// Why an event is refused. The causes are checked in this order. A refused event does nothing.
 #[derive(Clone, Copy, Debug, PartialEq, Eq, Error)]
 pub enum WorldFault {
     /// The world has no replica of this number.
     #[error("there is no such replica")]
     NoReplica,
-    /// There is no message of this number, or it carries no edits where edits are wanted, or no heads where heads are.
+    /// There is no message of this number, or it has no edits where edits are needed, or no heads where heads are
+    /// needed.
     #[error("there is no such message, or it is of the wrong kind")]
     NoMessage,
-    /// The replica refuses it.
+    /// The replica refuses the event.
     #[error("{0}")]
     Replica(ReplicaFault),
 }

@@ -1,4 +1,5 @@
-//! What holds of all lists of events, on a function that does nothing: for those who apply events one by one.
+//! Laws of all lists of events, as the contract of a function that does nothing. They are for callers that apply events
+//! one by one.
 
 ghost use Rattle.std.specs.Prelude.{◌≡◌, ◌≤◌, ℕ, List, Result, map};
 ghost use Rattle.road_plan.specs.Plan.{Plan};
@@ -13,18 +14,18 @@ ghost use Rattle.road_world.specs.Steps.{most_steps_of_event, steps_of_event};
 ghost use Rattle.road_world.specs.declared.event.Event.{Event};
 ghost use Rattle.road_world.specs.declared.faults.WorldFault.{WorldFault};
 
-/// What every list of events makes of a world.
+/// Show what every list of events makes of a world.
 pub fn headline_holds()
-    // A world that holds the winners of what events have made shows their runs.
+    // A world that holds the winners of the edits of some events shows their runs.
     ensures headline { (plan : Plan) (count : ℕ) (events : List Event) (replies : List (Result Reply WorldFault)) →
         Headline plan count events replies (world_of_winners (world_of_events plan count events replies)) }
-    // Each message of such a world holds what its event put into it, of edits the winners.
+    // Each message of that world holds what its event put into it (of edits, only the winners).
     ensures messages { (plan : Plan) (count : ℕ) (events : List Event) (replies : List (Result Reply WorldFault)) →
         (world_of_winners (world_of_events plan count events replies)).messages
         ≡ map message_of_winners (world_of_events plan count events replies).messages }
     // An accepted event computes no more steps than a refused one may.
     ensures steps { (world : World) (event : Event) → steps_of_event world event ≤ most_steps_of_event world event }
-    // Where each event has its answer, no stamp is issued twice, and none is that of an import.
+    // If each event has its answer, no stamp is issued twice, and no issued stamp is that of an import.
     ensures stamps { (plan : Plan) (count : ℕ) (events : List Event) (replies : List (Result Reply WorldFault)) →
         count ≤ MOST_REPLICAS → AreAnswers (opening_world plan count) events replies →
         AreFresh (issued_stamps replies) (imported_stamps (accepted_events events replies)) }

@@ -2,7 +2,7 @@
 //! from step zero, of the winners of the edits that reached it.
 //!
 //! ```
-//! // Two engineers work on one road: each makes an edit at a step that is simulated already, and takes the other's.
+//! // Two engineers work on one road: each makes an edit at a simulated step, and takes the edit of the other.
 //! let events = [
 //!     Event::Advance { at: 0, to: 100 },
 //!     Event::Advance { at: 1, to: 100 },

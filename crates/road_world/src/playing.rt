@@ -1,4 +1,4 @@
-//! A list of events, played one after another from the opened world on.
+//! Playing a list of events, one after another, from the opening world on.
 
 ghost use Rattle.std.specs.Prelude.{◌≡◌, ◌≤◌, ◌++◌, ◌∷◌, [], IfOk, OnErr, OnOk, map};
 ghost use Rattle.std.specs.Prelude.{vec_capacity, vec_len};
@@ -31,13 +31,13 @@ pub struct Played {
     pub replies: Vec<Result<Reply, WorldFault>>,
 }
 
-/// Plays some events, one after another, in the world of a plan and so many replicas, at most 64. A refused event does
-/// nothing, and the next ones go on; out of memory in an event is that event's reply. The meter counts the steps that
-/// the events compute.
+/// Play some events, one after another, in the world of a plan and `replicas` replicas, at most 64. A refused event
+/// does nothing, and the events after it are still played. If an event fails for out of memory, that is its reply. The
+/// meter counts the steps of the accepted events, and of a refused event at most those that it finished.
 ///
 /// # Errors
 ///
-/// `OutOfMemory` where no memory was left to open the world, or for the list of replies. No step is computed then.
+/// `OutOfMemory` if there was no memory to open the world or for the list of replies. No step is computed then.
 pub fn play<C: Crew>(
     alloc: Global,
     plan: Arc<Plan>,
@@ -49,20 +49,20 @@ pub fn play<C: Crew>(
     requires { replicas ≤ MOST_REPLICAS }
     ensures headline { IfOk result (λ played.
         Headline (arc_value plan) replicas events.now played.replies.items played.world) }
-    // The world is what the accepted events have made, of all edits the winners.
+    // The world is what the accepted events have made (of edits, only the winners).
     ensures world { IfOk result (λ played. played.world
         ≡ world_of_winners (world_of_events (arc_value plan) replicas events.now played.replies.items)) }
     // Each event has its answer.
     ensures answers { IfOk result (λ played.
         AreAnswers (opening_world (arc_value plan) replicas) events.now played.replies.items) }
-    // Each message is what its event put into it, of edits the winners.
+    // Each message is what its event put into it (of edits, only the winners).
     ensures messages { IfOk result (λ played. played.world.messages
         ≡ map message_of_winners (world_of_events (arc_value plan) replicas events.now played.replies.items).messages) }
-    // No stamp is issued twice, and none is that of an import.
+    // No stamp is issued twice, and no issued stamp is that of an import.
     ensures stamps { IfOk result (λ played. AreFresh (issued_stamps played.replies.items)
         (imported_stamps (accepted_events events.now played.replies.items))) }
-    // The meter counts the sum of the steps of the accepted events, and for events that are refused for out of memory or
-    // lost workers at most the steps that they may cost.
+    // The meter counts the sum of the steps of the accepted events. For events refused for out of memory or lost
+    // workers it also counts at most the steps that they may cost.
     ensures steps { IfOk result (λ played. TicksAtMost
         (most_wasted_steps_of_events (opening_world (arc_value plan) replicas) events.now played.replies.items)
         (meter_after meter.old
@@ -82,7 +82,7 @@ pub fn play<C: Crew>(
     Ok(Played { world, replies })
 }
 
-// Appends a reply.
+// Append a reply.
 fn add(
     replies: &mut Vec<Result<Reply, WorldFault>>,
     reply: Result<Reply, WorldFault>,

@@ -1,4 +1,4 @@
-//! What a replica sends.
+//! The messages that a replica sends.
 
 ghost use Rattle.std.specs.Prelude.{◌≡◌};
 ghost use Rattle.road_world.specs.Events.{sending_event};
@@ -8,11 +8,11 @@ use crate::event::Event;
 /// The message that a replica makes.
 #[derive(Clone, Copy)]
 pub enum Sending {
-    /// All that it holds.
+    /// All edits that it holds.
     Whole,
-    /// The heads of all that it holds.
+    /// The heads of all edits that it holds.
     Asked,
-    /// What it holds beyond the heads of a message.
+    /// The edits that it holds beyond the heads of a message.
     Answer {
         /// The number of that message.
         asked: u64,
@@ -20,7 +20,7 @@ pub enum Sending {
 }
 
 impl Sending {
-    /// Returns the event by which a replica makes it.
+    /// Return the event by which a replica makes the message.
     pub fn event(self, at: u32) -> Event
         ensures { result ≡ sending_event at self }
     {

@@ -1,4 +1,4 @@
-//! A world: its replicas, the messages that were sent, and what each event does to them.
+//! A world: its replicas, the messages that were sent, and the effect of each event on them.
 
 ghost use Rattle.std.specs.Prelude.{◌≡◌, ◌<◌, ◌≤◌, ◌↔◌, ℕ, IfErr, IfOk, IfSome, IsOk, IsSome, OnErr, OnOk, length};
 ghost use Rattle.std.specs.Prelude.{Err, MatchOption, None, Some, map, string_bytes, true};
@@ -40,7 +40,7 @@ use std::marker::Model;
 use std::sync::Arc;
 
 /// The replicas of a plan, numbered from 0, and the messages between them, numbered from 0 in the order in which they
-/// were made and kept for good.
+/// were made. Messages are never removed.
 #[derive(Drop)]
 pub struct World {
     plan: Arc<Plan>,
@@ -70,11 +70,11 @@ impl Model for World {
 }
 
 impl World {
-    /// Opens the world of a plan and so many replicas, at most 64, before any event.
+    /// Open the world of a plan and `replicas` replicas, at most 64, before any event.
     ///
     /// # Errors
     ///
-    /// `OutOfMemory` where an allocation failed; a world without replicas needs none.
+    /// `OutOfMemory` if an allocation failed. A world without replicas needs no allocation.
     pub fn open(alloc: Global, plan: Arc<Plan>, replicas: u32) -> Result<World, OutOfMemory>
         requires { replicas ≤ MOST_REPLICAS }
         ensures world { IfOk result (λ world. world ≡ opening_world (arc_value plan) replicas) }
@@ -91,7 +91,7 @@ impl World {
         })
     }
 
-    /// Returns the plan. What the world holds and carries are winners alone.
+    /// Return the plan. The world's replicas and messages hold only winners.
     pub fn plan(&self) -> &Arc<Plan>
         ensures plan { arc_value result.now ≡ self.now.plan }
         ensures winners { world_of_winners self.now ≡ self.now }
@@ -99,7 +99,7 @@ impl World {
         &self.plan
     }
 
-    /// Returns the replica of a number, if the world has it.
+    /// Return the replica of a number, if the world has it.
     pub fn replica(&self, number: u32) -> Option<&Replica>
         ensures there { IsSome result ↔ (number < length self.now.replicas) }
         ensures number { IfSome result (λ replica. replica.now.number ≡ number) }
@@ -109,7 +109,7 @@ impl World {
         self.replicas.get(number as usize)
     }
 
-    /// Returns the message of a number, if there is one. The edits that it carries win and fit the plan.
+    /// Return the message of a number, if there is one. Its edits are winners and fit the plan.
     pub fn message(&self, number: u64) -> Option<&Message>
         ensures there { IsSome result ↔ (number < length self.now.messages) }
         ensures message { IfSome result (λ message. slice_get self.now.messages number ≡ Some message.now) }
@@ -119,11 +119,11 @@ impl World {
         self.messages.get(number as usize)
     }
 
-    /// Makes a message of a replica. The world stays as it is: [`World::post`] appends the message.
+    /// Make a message of a replica. The world stays unchanged: [`World::post`] appends the message.
     ///
     /// # Errors
     ///
-    /// Those of [`World::apply`].
+    /// The errors of [`World::apply`].
     pub fn message_by(
         &self,
         alloc: Global,
@@ -138,18 +138,18 @@ impl World {
             return Err(WorldFault::NoReplica);
         }
         match sending {
-            Sending::Whole => self.whole(at),
-            Sending::Asked => self.asked(alloc, at),
-            Sending::Answer { asked } => self.delta(alloc, at, asked),
+            Sending::Whole => self.whole_message(at),
+            Sending::Asked => self.heads_message(alloc, at),
+            Sending::Answer { asked } => self.delta_message(alloc, at, asked),
         }
     }
 
-    /// Applies an event whose message is made already: appends that message, which must be the one that the event makes
-    /// in this world, and returns its number. The event must be one that [`World::apply`] refuses for no named cause.
+    /// Apply an event whose message is already made: append the message, and return its number. It must be the message
+    /// that the event makes in this world, and [`World::apply`] must not refuse the event for a named cause.
     ///
     /// # Errors
     ///
-    /// `OutOfMemory` where an allocation failed. The world is then as it was.
+    /// `OutOfMemory` if an allocation failed. The world is then unchanged.
     pub fn post(&mut self, event: &Event, message: Message) -> Result<u64, OutOfMemory>
         requires accepted { fault_of_event self.old event.now ≡ None }
         requires made { message_of_event self.old event.now ≡ Some message }
@@ -160,14 +160,14 @@ impl World {
         Ok(number)
     }
 
-    // ---- what its replicas show
+    // ---- queries
 
-    /// Returns the road of a replica at a step: whatever edits reached the replica, it is that of the run of their
+    /// Return the road of a replica at a step. Whatever edits reached the replica, it is the road of the run of their
     /// winners from step zero.
     ///
     /// # Errors
     ///
-    /// `NoReplica` where the world has no replica of the number, else as [`Replica::state`].
+    /// `NoReplica` if the world has no replica of the number, else as [`Replica::state`].
     pub fn state(&self, alloc: Global, replica: u32, step: u32) -> Result<Road, WorldFault>
         ensures state { IfOk result (λ road. (reached : worlds.World) → self.now ≡ world_of_winners reached →
             road ≡ run_at self.now.plan (winners (replica_at reached replica).edits) step) }
@@ -182,12 +182,12 @@ impl World {
         Ok(shown.state(alloc, step)?)
     }
 
-    /// Returns the rows of a replica's space-time diagram: whatever edits reached the replica, they are those of the
+    /// Return the rows of a replica's space-time diagram. Whatever edits reached the replica, they are the rows of the
     /// run of their winners from step zero, each with the blocks of its step.
     ///
     /// # Errors
     ///
-    /// `NoReplica` where the world has no replica of the number, else as [`Replica::rows`].
+    /// `NoReplica` if the world has no replica of the number, else as [`Replica::rows`].
     pub fn rows(
         &self,
         alloc: Global,
@@ -208,12 +208,12 @@ impl World {
         Ok(shown.rows(alloc, from, to)?)
     }
 
-    /// Returns what a detector counts at a replica, from one step up to another: whatever edits reached the replica, it
-    /// is the count of the run of their winners from step zero.
+    /// Return the counts of a detector at a replica, in the steps from `from` to before `to`. Whatever edits reached
+    /// the replica, they are the counts of the run of their winners from step zero.
     ///
     /// # Errors
     ///
-    /// `NoReplica` where the world has no replica of the number, else as [`Replica::totals`].
+    /// `NoReplica` if the world has no replica of the number, else as [`Replica::totals`].
     pub fn totals(
         &self,
         alloc: Global,
@@ -238,14 +238,14 @@ impl World {
 
     // ---- events
 
-    /// Applies an event: the replica at which it is writes, or makes a message. Each write computes anew every simulated
-    /// step that it touches before it answers, by the crew that it is given, and the meter counts just these steps; for
-    /// a message, and for an event that is refused for a named cause, none.
+    /// Apply an event: its replica writes, or makes a message. Before a write returns, it recomputes every simulated
+    /// step that it touches, with the crew that it is given. The meter counts exactly these steps. It counts none for a
+    /// message, or for an event that is refused for a named cause.
     ///
     /// # Errors
     ///
-    /// `NoReplica` where the world has no replica of the event's number, else `NoMessage` where the message that the
-    /// event takes or answers is not there or of the wrong kind, else what the replica answers. The event has then done
+    /// `NoReplica` if the world has no replica of the event's number. Else `NoMessage` if the message that the event
+    /// takes or answers is missing or of the wrong kind. Else the error of the replica. The event has then done
     /// nothing.
     pub fn apply<C: Crew>(
         &mut self,
@@ -255,9 +255,9 @@ impl World {
         meter: &mut Meter,
     ) -> Result<Reply, WorldFault>
         ensures applied { IsApplied event.now result self.old self.new meter.old meter.new }
-        // A stamp that is issued is new at the event's replica.
+        // An issued stamp is new at the event's replica.
         ensures stamp { IfSome (issued_stamp result) (IsNew self.old (replica_number event.now)) }
-        // The messages are those before, and behind them the one that the event makes, if it makes one.
+        // The messages are those before, followed by the one that the event makes, if it makes one.
         ensures messages { OnOk result (self.new.messages
             ≡ messages_with (message_of_event self.old event.now) self.old.messages) }
         ensures gone { C.times_gone crew.new ≡ gone_after_answer result (C.times_gone crew.old) }
@@ -268,7 +268,7 @@ impl World {
         self.apply_there(alloc, event, crew, meter)
     }
 
-    // Applies an event at a replica that the world has.
+    // Apply an event at an existing replica.
     fn apply_there<C: Crew>(
         &mut self,
         alloc: Global,
@@ -315,7 +315,7 @@ impl World {
 
     // ---- writes
 
-    // Makes an edit at a replica: it puts a number, or withdraws what is put.
+    // Make an edit at a replica: set a number, or withdraw what is set.
     fn make_edit<C: Crew>(
         &mut self,
         alloc: Global,
@@ -334,7 +334,7 @@ impl World {
         Ok(Reply::Stamped(stamp))
     }
 
-    // Imports edits at a replica.
+    // Import edits at a replica.
     fn import<C: Crew>(
         &mut self,
         alloc: Global,
@@ -352,7 +352,7 @@ impl World {
         Ok(Reply::Touched(touched))
     }
 
-    // Takes a message at a replica.
+    // Take a message at a replica.
     fn take<C: Crew>(
         &mut self,
         alloc: Global,
@@ -373,7 +373,7 @@ impl World {
         Ok(Reply::Touched(touched))
     }
 
-    // Advances a replica to a step.
+    // Advance a replica to a step.
     fn advance<C: Crew>(
         &mut self,
         alloc: Global,
@@ -391,9 +391,9 @@ impl World {
         Ok(Reply::Horizon(horizon))
     }
 
-    // ---- messages, for which no meter and no crew is asked
+    // ---- messages, which need no meter and no crew
 
-    // Makes a message of a replica, and appends it.
+    // Make a message of a replica, and append it.
     fn send(&mut self, alloc: Global, at: u32, sending: Sending) -> Result<Reply, WorldFault>
         ensures applied { (meter : ℕ) → IsApplied (sending_event at sending) result self.old self.new meter meter }
         ensures no_crew { (n : ℕ) → gone_after_answer result n ≡ n }
@@ -403,8 +403,8 @@ impl World {
         Ok(Reply::Message(number))
     }
 
-    // Makes a message of all that a replica holds.
-    fn whole(&self, at: u32) -> Result<Message, WorldFault>
+    // Make a message of all edits that a replica holds.
+    fn whole_message(&self, at: u32) -> Result<Message, WorldFault>
         requires { at < length self.now.replicas }
         ensures made { IsMade self.now (events.Send at) result }
         ensures no_crew { IfErr result (λ fault. (n : ℕ) → gone_after_answer (Err fault) n ≡ n) }
@@ -413,8 +413,8 @@ impl World {
         Ok(Message::Whole(scenario))
     }
 
-    // Makes a message of a replica's heads.
-    fn asked(&self, alloc: Global, at: u32) -> Result<Message, WorldFault>
+    // Make a message of a replica's heads.
+    fn heads_message(&self, alloc: Global, at: u32) -> Result<Message, WorldFault>
         requires { at < length self.now.replicas }
         ensures made { IsMade self.now (events.Heads at) result }
         ensures no_crew { IfErr result (λ fault. (n : ℕ) → gone_after_answer (Err fault) n ≡ n) }
@@ -423,8 +423,8 @@ impl World {
         Ok(Message::Asked(heads))
     }
 
-    // Makes a message of what a replica holds beyond the heads of another message.
-    fn delta(&self, alloc: Global, at: u32, message: u64) -> Result<Message, WorldFault>
+    // Make a message of the edits that a replica holds beyond the heads of another message.
+    fn delta_message(&self, alloc: Global, at: u32, message: u64) -> Result<Message, WorldFault>
         requires { at < length self.now.replicas }
         ensures made { IsMade self.now (events.Beyond at message) result }
         ensures no_crew { IfErr result (λ fault. (n : ℕ) → gone_after_answer (Err fault) n ≡ n) }
@@ -437,7 +437,7 @@ impl World {
     }
 }
 
-// Opens a replica of a world.
+// Open a replica of a world.
 fn opening_replica(alloc: Global, plan: &Arc<Plan>, number: u32) -> Result<Replica, OutOfMemory>
     requires { number < MOST_REPLICAS }
     ensures replica { IfOk result (λ replica. replica
@@ -447,7 +447,7 @@ fn opening_replica(alloc: Global, plan: &Arc<Plan>, number: u32) -> Result<Repli
     Replica::open(alloc, Arc::try_clone(plan)?, number)
 }
 
-// Returns the edits that a message carries, if there is such a message and it carries edits.
+// Return the edits of a message, if there is such a message and it carries edits.
 fn carried_edits(messages: &[Message], number: u64) -> Option<&Scenario>
     ensures edits { IfSome result (λ edits. edits.now ≡ carried_edits (slice_get messages.now number)) }
     ensures wanted { MatchOption result (edits_wanted_fault (slice_get messages.now number) ≡ Some NoMessage)
@@ -461,7 +461,7 @@ fn carried_edits(messages: &[Message], number: u64) -> Option<&Scenario>
     }
 }
 
-// Returns the heads with which a message asks, if there is such a message and it asks.
+// Return the heads of a message, if there is such a message and it carries heads.
 fn asked_heads(messages: &[Message], number: u64) -> Option<&Heads>
     ensures heads { IfSome result (λ heads. heads.now ≡ asked_heads (slice_get messages.now number)) }
     ensures wanted { MatchOption result (heads_wanted_fault (slice_get messages.now number) ≡ Some NoMessage)

@@ -1,6 +1,6 @@
 //! The crew of one.
 
-use crate::rows::{first_input, gives_all};
+use crate::rows::{compare_all_rows, first_input};
 use road_ends::finish;
 use road_workers::{Alone, Crew};
 use std::test::Fail;
@@ -8,16 +8,16 @@ use tests_plans::{FREE, Parts};
 
 #[test]
 fn one_worker_gives_the_worked_rows(rt: HostRuntime) -> Result<(), Fail> {
-    gives_all(&rt, rt.alloc(), &mut Alone)
+    compare_all_rows(&rt, rt.alloc(), &mut Alone)
 }
 
-/// Nobody stands on the road, and nobody enters.
+/// No car is on the road, and no car enters.
 const CLOSED: Parts = Parts {
     inlets: &[(0, 0)],
     ..FREE
 };
 
-/// Of no car there is no speed.
+/// There is no speed without a car.
 #[test]
 fn an_empty_road_has_no_speeds(rt: HostRuntime) -> Result<(), Fail> {
     let input = first_input(rt.alloc(), &CLOSED)?;

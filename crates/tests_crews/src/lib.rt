@@ -17,3 +17,12 @@ mod sameness;
 mod spans;
 #[cfg(test)]
 mod workers;
+
+#[cfg(test)]
+use std::process::Abort;
+
+// Check the facts of a table's row.
+#[cfg(test)]
+fn holds(rt: &impl Abort, row: usize, holds: bool) {
+    assert!(rt; holds, "row {row}");
+}

@@ -1,11 +1,12 @@
 //! All workers of a crew are inside a call at once.
 
-ghost use Rattle.std.specs.Prelude.{◌<◌, ◌≤◌};
+ghost use Rattle.std.specs.Prelude.{◌≡◌, ◌<◌, ◌≤◌, IfOk};
+ghost use Rattle.road_ends.specs.Input.{input_speeds};
 
-use crate::rows::{gives, shared_plan};
+use crate::rows::{compare_plan_rows, shared_plan};
 use crate::spans::{is_run_of_one, span_of};
-use road_ends::OutOfMemory;
-use road_workers::{Crew, Gate, KeptRun, Pool, Scoped};
+use road_ends::{OutOfMemory, StepInput};
+use road_workers::{Crew, CrewFault, Gate, KeptRun, Pool, Scoped};
 use std::alloc::Global;
 use std::process::Abort;
 use std::sync::{Arc, Wait};
@@ -13,9 +14,9 @@ use std::test::Fail;
 use std::thread;
 use std::thread::Threads;
 use std::time::Clock;
-use tests_plans::{DENSE, DENSE_ROWS, InTurn, LONG, Meeting, queue};
+use tests_plans::{DENSE, DENSE_ROWS, LONG, Meeting, queue};
 
-/// How often a worker looks for the others at most.
+/// The most times that a worker looks for the others.
 const TURNS: u32 = 1_000_000;
 
 /// A gate that a test shares with a crew.
@@ -23,7 +24,7 @@ const TURNS: u32 = 1_000_000;
 struct Shared<R>(Arc<Meeting<R>>);
 
 impl<R> Shared<R> {
-    // Shares the gate.
+    // Share the gate.
     fn of(meeting: &Arc<Meeting<R>>) -> Result<Shared<R>, OutOfMemory> {
         Ok(Shared(Arc::try_clone(meeting)?))
     }
@@ -41,7 +42,7 @@ fn threads_made_for_a_call_meet(rt: HostRuntime) -> Result<(), Fail> {
     let alloc = rt.alloc();
     let meeting = Arc::new(alloc, Meeting::new(rt.clone()?, 2, TURNS))?;
     let mut crew = Scoped::new(&rt, 2, Box::new(alloc, Shared::of(&meeting)?)?);
-    let given = gives(&rt, alloc, &mut crew, &DENSE, DENSE_ROWS);
+    let given = compare_plan_rows(&rt, alloc, &mut crew, (&DENSE, None), DENSE_ROWS);
     let was_held = meeting.was_held(2);
     assert!(rt; was_held);
     given
@@ -52,14 +53,14 @@ fn lasting_workers_meet(rt: HostRuntime) -> Result<(), Fail> {
     let alloc = rt.alloc();
     let meeting = Arc::new(alloc, Meeting::new(rt.clone()?, 2, TURNS))?;
     let mut crew = Pool::start_gated(rt.clone()?, alloc, 2, Arc::try_clone(&meeting)?)?;
-    let given = gives(&rt, alloc, &mut crew, &DENSE, DENSE_ROWS);
+    let given = compare_plan_rows(&rt, alloc, &mut crew, (&DENSE, None), DENSE_ROWS);
     crew.finish();
     let was_held = meeting.was_held(2);
     assert!(rt; was_held);
     given
 }
 
-// Lets a crew run 64 steps of the long road twice, as one runs them.
+// Let a crew run 64 steps of the long road twice, as a single caller runs them.
 fn run_twice<C: Crew>(rt: &impl Abort, alloc: Global, crew: &mut C) -> Result<(), Fail> {
     let road = queue(alloc, 4_096)?;
     let span = span_of(alloc, &shared_plan(alloc, &LONG)?, 0, 0, 64)?;
@@ -71,7 +72,7 @@ fn run_twice<C: Crew>(rt: &impl Abort, alloc: Global, crew: &mut C) -> Result<()
     Ok(())
 }
 
-// Lets so many lasting workers run the long road, which is cut for them. Each time all of them meet.
+// Let this number of lasting workers run the long road, which is divided among them. All of them meet each time.
 fn meet_in_runs<R: Threads + Wait + Clock + Abort + Clone + Drop + Send + Sync + 'static>(
     rt: &R,
     alloc: Global,
@@ -98,8 +99,8 @@ fn lasting_workers_meet_in_a_run(rt: HostRuntime) -> Result<(), Fail> {
     Ok(())
 }
 
-/// As many lasting workers as the machine has processors, up to 16, are asked together: the crew asks the machine, as
-/// [`Pool::start`] does. On one processor a run is not shared.
+/// As many lasting workers as the machine has processors, up to 16, work together. The crew asks the machine for that
+/// number, as [`Pool::start`] does. On one processor a run is not shared.
 #[test]
 fn as_many_meet_as_there_are_processors(rt: HostRuntime) -> Result<(), Fail> {
     let alloc = rt.alloc();
@@ -118,14 +119,43 @@ fn as_many_meet_as_there_are_processors(rt: HostRuntime) -> Result<(), Fail> {
     Ok(())
 }
 
-/// A crew that computes two pieces one after the other gives the same rows, but the two wait for each other in vain: so
-/// the gate tells it from two workers at once.
+// Compute the speeds of two pieces of a step, one after the other, each after passing a gate, and put them together.
+#[tactic(auto, using(crate::proofs::TwoPieces::two_pieces))]
+fn in_turn<G: Gate>(alloc: Global, gate: &G, input: &StepInput) -> Result<Vec<u8>, OutOfMemory>
+    ensures { IfOk result (λ new. new.items ≡ input_speeds input.now) }
+{
+    let cars = input.road().cars().len();
+    gate.arrive(0);
+    let mut speeds = input.speeds_between(alloc, 0, cars / 2)?;
+    gate.arrive(1);
+    let back = input.speeds_between(alloc, cars / 2, cars)?;
+    speeds.extend_from_slice(&back)?;
+    Ok(speeds)
+}
+
+/// A crew that computes the pieces of two workers one after the other, as one thread does.
+#[derive(Drop)]
+struct InTurn<G> {
+    /// The gate that both pieces pass.
+    gate: G,
+}
+
+impl<G: Gate> Crew for InTurn<G> {
+    ghost times_gone = { λ _. 0 };
+
+    fn speeds(&mut self, alloc: Global, input: &Arc<StepInput>) -> Result<Vec<u8>, CrewFault> {
+        Ok(in_turn(alloc, &self.gate, input)?)
+    }
+}
+
+/// A crew that computes two pieces one after the other gives the same rows, but the two wait for each other in vain. So
+/// the gate distinguishes it from two workers at once.
 #[test]
 fn pieces_in_turn_do_not_meet(rt: HostRuntime) -> Result<(), Fail> {
     let alloc = rt.alloc();
     let meeting = Arc::new(alloc, Meeting::new(rt.clone()?, 2, 100))?;
     let gate = Shared::of(&meeting)?;
-    let given = gives(&rt, alloc, &mut InTurn { gate }, &DENSE, DENSE_ROWS);
+    let given = compare_plan_rows(&rt, alloc, &mut InTurn { gate }, (&DENSE, None), DENSE_ROWS);
     let was_held = meeting.was_held(2);
     assert!(rt; !was_held);
     given

@@ -1,6 +1,6 @@
-//! Random roads by few lasting workers and by many, beside the same steps one by one.
+//! Random roads by few lasting workers and by many, compared with the same steps one by one.
 
-use crate::spans::{Asked, Course, crews_run, worked};
+use crate::spans::{Asked, Course, crews_run, run_course};
 use road_plan::Plan;
 use std::alloc::Global;
 use std::process::Abort;
@@ -10,8 +10,8 @@ use std::test::Fail;
 use std::thread::Threads;
 use tests_plans::{Dice, random_plan};
 
-/// The seeds of settings, and for how many steps they hold: they change one step before a multiple of 64, at it, one step
-/// behind, and so on; the last step is none. Three of them are long enough to be shared.
+/// The seeds of settings, and for how many steps they hold. They change one step before a multiple of 64, at it, one
+/// step after it, and so on; not at the last step. Three of them are long enough to be shared.
 const SPANS: &[(u32, u32)] = &[
     (11, 63),
     (12, 1),
@@ -22,51 +22,32 @@ const SPANS: &[(u32, u32)] = &[
     (16, 6),
 ];
 
-const SHARED: Option<u32> = Some(3);
-
-/// Roads, of whose cells one part of so many at most is free at first, and who is asked in their spans.
+/// Roads, of whose cells at most one in this number is free at first, and the workers that get work in their spans. A
+/// second program counted the cars before each span.
 type Case = (&'static [u32], u32, &'static [Asked]);
 
-/// On the shortest road and others, stretches with what is near them are no less work than the whole.
+/// On the shortest road and others, stretches with the cells near them are no less work than the whole.
 const SHORT: Case = (
-    &[8, 9, 65, 700],
+    &[8, 9, 65, 700, 2_500],
     2,
-    &[
-        (1, 2, Some(0)),
-        (2, 2, Some(0)),
-        (3, 4, Some(0)),
-        (7, 8, Some(0)),
-        (16, 16, Some(0)),
-    ],
+    &[(1, 2, 0), (2, 2, 0), (3, 4, 0), (7, 8, 0), (16, 16, 0)],
 );
 
-/// This one is cut for many workers, where it is crowded.
+/// This road is divided for many workers, but not for few.
 const MIDDLE: Case = (
-    &[2_500],
+    &[3_200],
     2,
-    &[
-        (1, 2, None),
-        (2, 2, None),
-        (3, 4, None),
-        (7, 8, None),
-        (16, 16, None),
-    ],
+    &[(1, 2, 0), (2, 2, 0), (3, 4, 3), (7, 8, 3), (16, 16, 3)],
 );
 
-/// These are cut for any number of workers, the longest one among them.
+/// These are divided for any number of workers. The longest road is one of them.
 const LONG: Case = (
     &[5_000, 6_501, 8_192],
     20,
-    &[
-        (1, 2, SHARED),
-        (2, 2, SHARED),
-        (3, 4, SHARED),
-        (7, 8, SHARED),
-        (16, 16, SHARED),
-    ],
+    &[(1, 2, 3), (2, 2, 3), (3, 4, 3), (7, 8, 3), (16, 16, 3)],
 );
 
-// Makes what these spans come to on a road whose cells are taken at first but for one part of so many at most.
+// Make the expected results of these spans on a road whose cells are taken at first, except at most one in this number.
 fn random_course(
     alloc: Global,
     dice: &mut Dice,
@@ -76,10 +57,10 @@ fn random_course(
     let most = plan.length().saturating_sub(plan.exit());
     let free = most.checked_div(part).unwrap_or(0);
     let cells = most.saturating_sub(dice.below(free));
-    worked(alloc, plan, cells, SPANS)
+    run_course(alloc, plan, cells, SPANS)
 }
 
-// Compares what crews make of a random road of so many cells.
+// Compare the results of crews on a random road of this number of cells.
 fn run_road<R: Threads + Wait + Abort + Clone + Drop + Send + 'static>(
     rt: &R,
     alloc: Global,
@@ -93,7 +74,7 @@ fn run_road<R: Threads + Wait + Abort + Clone + Drop + Send + 'static>(
     crews_run(rt, alloc, crews, &plan, slice::from_ref(&course))
 }
 
-// Compares what crews make of random roads.
+// Compare the results of crews on random roads.
 fn run_roads<R: Threads + Wait + Abort + Clone + Drop + Send + 'static>(
     rt: &R,
     alloc: Global,

@@ -1,5 +1,6 @@
 //! Steps by a crew, drawn as rows of text.
 
+use crate::holds;
 use road_cells::Road;
 use road_ends::{EMPTY, OutOfMemory, STANDING, StepInput, enter, finish};
 use road_plan::{Plan, Settings};
@@ -12,12 +13,12 @@ use tests_plans::{
     DENSE, DENSE_ROWS, DENSE_START, DENSE_START_ROWS, HALF_SLOWED, HALF_SLOWED_ROWS, Parts, plan_of,
 };
 
-/// Makes the plan of these parts, to be shared by the inputs of steps.
+/// Make the plan of these parts, shared by the inputs of steps.
 pub(crate) fn shared_plan(alloc: Global, parts: &Parts) -> Result<Arc<Plan>, Fail> {
     Ok(Arc::new(alloc, plan_of(alloc, parts)?)?)
 }
 
-/// Makes the settings of a plan of one zone: its own, and the slowing chance of standing cars where one is given.
+/// Make the settings of a plan of one zone: its own, with the slowing chance of standing cars if one is given.
 pub(crate) fn settings_of(
     alloc: Global,
     plan: &Plan,
@@ -30,7 +31,7 @@ pub(crate) fn settings_of(
     Ok(settings)
 }
 
-/// Makes the input of a step by these settings.
+/// Make the input of a step by these settings.
 pub(crate) fn input_of(
     alloc: Global,
     plan: &Arc<Plan>,
@@ -45,14 +46,14 @@ pub(crate) fn input_of(
     Ok(enter(alloc, plan, settings, step, road)?)
 }
 
-/// Makes the input of the first step of a plan of these parts, on the empty road.
+/// Make the input of the first step of a plan of these parts, on the empty road.
 pub(crate) fn first_input(alloc: Global, parts: &Parts) -> Result<Arc<StepInput>, Fail> {
     let plan = shared_plan(alloc, parts)?;
     input_of(alloc, &plan, None, 0, &Road::empty(alloc))
 }
 
-// Computes the road after a step, with the speeds that a crew gives.
-fn stepped_by<C: Crew>(
+// Compute the road after a step, with the speeds that a crew returns.
+fn step_by<C: Crew>(
     crew: &mut C,
     alloc: Global,
     plan: &Arc<Plan>,
@@ -65,7 +66,7 @@ fn stepped_by<C: Crew>(
     Ok(finish(alloc, &input, &speeds)?)
 }
 
-// Returns the letter of a cell without blocks.
+// Return the letter of a cell without blocks.
 fn letter_at(road: &Road, cell: u32) -> u8 {
     match road.car_at(cell) {
         Some(car) => STANDING.saturating_add(car.speed),
@@ -73,15 +74,15 @@ fn letter_at(road: &Road, cell: u32) -> u8 {
     }
 }
 
-// Answers whether a road is drawn as these letters, one for each cell.
+// Return whether a road is drawn as these letters, one for each cell.
 fn is_drawn_as(road: &Road, letters: &[u8]) -> bool {
     (0u32..)
         .zip(letters)
         .all(|(cell, letter)| letter_at(road, cell) == *letter)
 }
 
-// Steps this plan so.
-fn takes_rows<C: Crew>(
+// Run this plan step by step, and compare its rows.
+fn compare_rows<C: Crew>(
     rt: &impl Abort,
     alloc: Global,
     crew: &mut C,
@@ -91,41 +92,38 @@ fn takes_rows<C: Crew>(
 ) -> Result<(), Fail> {
     let mut road = Road::empty(alloc);
     for (step, row) in (0u32..).zip(rows) {
-        road = stepped_by(crew, alloc, plan, start, step, &road)?;
-        let is_right = is_drawn_as(&road, row.as_bytes());
-        assert!(rt; is_right, "after step {step}");
+        road = step_by(crew, alloc, plan, start, step, &road)?;
+        holds(rt, step as usize, is_drawn_as(&road, row.as_bytes()));
     }
     Ok(())
 }
 
-/// Steps a plan from the empty road by a crew, and compares the row after each step.
-pub(crate) fn gives<C: Crew>(
+/// Run a plan from the empty road step by step with a crew, and compare the row after each step. Standing cars may have
+/// a slowing chance of their own.
+pub(crate) fn compare_plan_rows<C: Crew>(
     rt: &impl Abort,
     alloc: Global,
     crew: &mut C,
-    parts: &Parts,
+    (parts, start): (&Parts, Option<u32>),
     rows: &[&str],
 ) -> Result<(), Fail> {
     let plan = shared_plan(alloc, parts)?;
-    takes_rows(rt, alloc, crew, &plan, None, rows)
+    compare_rows(rt, alloc, crew, &plan, start, rows)
 }
 
-// Does so where standing cars have a slowing chance of their own.
-fn gives_with_start<C: Crew>(
+/// Run the dense road, the half slowed one, and the dense one that is slow to start through their worked rows.
+pub(crate) fn compare_all_rows<C: Crew>(
     rt: &impl Abort,
     alloc: Global,
     crew: &mut C,
-    parts: &Parts,
-    start: u32,
-    rows: &[&str],
 ) -> Result<(), Fail> {
-    let plan = shared_plan(alloc, parts)?;
-    takes_rows(rt, alloc, crew, &plan, Some(start), rows)
-}
-
-/// Steps the dense road, the half slowed one, and the dense one that is slow to start through their worked rows.
-pub(crate) fn gives_all<C: Crew>(rt: &impl Abort, alloc: Global, crew: &mut C) -> Result<(), Fail> {
-    gives(rt, alloc, crew, &DENSE, DENSE_ROWS)?;
-    gives(rt, alloc, crew, &HALF_SLOWED, HALF_SLOWED_ROWS)?;
-    gives_with_start(rt, alloc, crew, &DENSE, DENSE_START, DENSE_START_ROWS)
+    compare_plan_rows(rt, alloc, crew, (&DENSE, None), DENSE_ROWS)?;
+    compare_plan_rows(rt, alloc, crew, (&HALF_SLOWED, None), HALF_SLOWED_ROWS)?;
+    compare_plan_rows(
+        rt,
+        alloc,
+        crew,
+        (&DENSE, Some(DENSE_START)),
+        DENSE_START_ROWS,
+    )
 }

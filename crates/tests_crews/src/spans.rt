@@ -1,9 +1,10 @@
-//! Spans of steps that lasting workers run, a stretch of road each, beside the same steps one by one.
+//! Spans of steps that lasting workers run, a stretch of road each, compared with the same steps one by one.
 
 ghost use Rattle.std.specs.Prelude.{◌<◌, ◌≤◌, IfOk};
 ghost use Rattle.std.specs.Arc.{arc_value};
 ghost use Rattle.road_plan.specs.Settings.{Fits};
 
+use crate::holds;
 use crate::rows::shared_plan;
 use road_cells::Road;
 use road_detector::{Ran, Totals, passes};
@@ -17,13 +18,13 @@ use std::test::Fail;
 use std::thread::Threads;
 use tests_plans::{Counter, FREE, LONG, queue, random_settings};
 
-/// Cells on both sides of where the road may be cut.
+/// Cells on both sides of the places where the road may be divided.
 const BLOCKS: &[u32] = &[
     1_024, 2_047, 2_048, 2_731, 4_095, 4_097, 5_461, 6_143, 6_145,
 ];
 
-// Makes settings of a kind: the plan's own; cells blocked; other limits and chances of standing cars; other inflows, with
-// detectors off; each other kind is a seed of random ones.
+// Make settings of a kind: the plan's own; cells blocked; changed limits and chances of standing cars; changed inflows,
+// with detectors off; every other kind is a seed of random settings.
 fn settings_of(alloc: Global, plan: &Plan, kind: u32) -> Result<Settings, Fail>
     ensures { IfOk result (λ settings. Fits plan.now settings) }
 {
@@ -47,7 +48,7 @@ fn settings_of(alloc: Global, plan: &Plan, kind: u32) -> Result<Settings, Fail>
     Ok(settings)
 }
 
-/// Makes a span of so many steps by settings of this kind.
+/// Make a span of this number of steps with settings of this kind.
 pub(crate) fn span_of(
     alloc: Global,
     plan: &Arc<Plan>,
@@ -62,7 +63,7 @@ pub(crate) fn span_of(
     Ok(Span::new(Arc::try_clone(plan)?, settings, step, steps))
 }
 
-/// Answers whether a run is that of the crew of one: its cars, and what the detectors count.
+/// Return whether a run is that of the crew of one: its cars, and the counts of the detectors.
 pub(crate) fn is_run_of_one(
     alloc: Global,
     span: &Span,
@@ -76,13 +77,13 @@ pub(crate) fn is_run_of_one(
     }
 }
 
-// Answers whether two runs come to the same.
+// Return whether two runs have the same result.
 fn are_same(ran: &Ran, other: &Ran) -> bool {
     ran.road.cars() == other.road.cars() && ran.totals == other.totals
 }
 
-// Computes one step, and adds what the detectors count in it. Returns the road after it.
-fn stepped(
+// Compute one step, and add the counts of the detectors. Return the road after it.
+fn run_step(
     alloc: Global,
     plan: &Arc<Plan>,
     kind: u32,
@@ -102,8 +103,8 @@ fn stepped(
     Ok(done.road)
 }
 
-// Computes so many steps one by one.
-fn one_by_one(
+// Compute this number of steps one by one.
+fn run_one_by_one(
     alloc: Global,
     plan: &Arc<Plan>,
     kind: u32,
@@ -114,7 +115,7 @@ fn one_by_one(
     let mut totals = vec![in alloc; Totals { cars: 0, speeds: 0 }; plan.detectors().len()]?;
     let mut road = road.copied()?;
     for done in 0..steps {
-        road = stepped(
+        road = run_step(
             alloc,
             plan,
             kind,
@@ -129,7 +130,7 @@ fn one_by_one(
 /// Spans, one after another: the kind of settings and the steps of each.
 const SPANS: &[(u32, u32)] = &[(0, 64), (1, 64), (2, 63), (3, 1), (1, 21), (3, 33), (2, 64)];
 
-/// What spans come to one by one, from a queue.
+/// The results of spans one by one, from a queue.
 #[derive(Drop)]
 pub(crate) struct Course<'a> {
     spans: &'a [(u32, u32)],
@@ -137,8 +138,8 @@ pub(crate) struct Course<'a> {
     ran: Vec<Ran>,
 }
 
-// Runs a span one by one, and adds what it comes to. Returns the road after it.
-fn works(
+// Run a span one by one, and add its results. Return the road after it.
+fn run_and_add(
     alloc: Global,
     plan: &Arc<Plan>,
     (kind, steps): (u32, u32),
@@ -146,14 +147,14 @@ fn works(
     road: &Road,
     all: &mut Vec<Ran>,
 ) -> Result<Road, Fail> {
-    let ran = one_by_one(alloc, plan, kind, step, steps, road)?;
+    let ran = run_one_by_one(alloc, plan, kind, step, steps, road)?;
     let road = ran.road.copied()?;
     all.push(ran)?;
     Ok(road)
 }
 
-// Runs spans one by one, from a road.
-fn works_all(
+// Run spans one by one, from a road.
+fn run_and_add_all(
     alloc: Global,
     plan: &Arc<Plan>,
     mut road: Road,
@@ -162,14 +163,14 @@ fn works_all(
 ) -> Result<(), Fail> {
     let mut step = 0_u32;
     for span in spans {
-        road = works(alloc, plan, *span, step, &road, all)?;
+        road = run_and_add(alloc, plan, *span, step, &road, all)?;
         step = step.saturating_add(span.1);
     }
     Ok(())
 }
 
-/// Runs spans one by one, from a queue on so many cells.
-pub(crate) fn worked<'a>(
+/// Run spans one by one, from a queue on this number of cells.
+pub(crate) fn run_course<'a>(
     alloc: Global,
     plan: &Arc<Plan>,
     cells: u32,
@@ -180,12 +181,12 @@ pub(crate) fn worked<'a>(
         queue: queue(alloc, cells)?,
         ran: Vec::new(alloc),
     };
-    works_all(alloc, plan, course.queue.copied()?, spans, &mut course.ran)?;
+    run_and_add_all(alloc, plan, course.queue.copied()?, spans, &mut course.ran)?;
     Ok(course)
 }
 
-// Compares what a crew makes of a span with what it comes to. Returns the road after it.
-fn runs_span<C: Crew>(
+// Compare the result of a crew for a span with the expected one. Return the road after it.
+fn compare_span<C: Crew>(
     rt: &impl Abort,
     alloc: Global,
     crew: &mut C,
@@ -197,12 +198,12 @@ fn runs_span<C: Crew>(
     let Some(ran) = crew.run(alloc, span, road, kept)? else {
         return Err(Fail::new("a crew that runs no spans"));
     };
-    assert!(rt; are_same(&ran, wanted), "{} steps", span.steps());
+    holds(rt, span.steps() as usize, are_same(&ran, wanted));
     Ok(ran.road)
 }
 
-// Compares what a crew makes of these spans, in the run that is lent to it.
-fn runs_as_one_by_one<C: Crew>(
+// Compare the results of a crew for these spans, in the run that is lent to it.
+fn compare_course<C: Crew>(
     rt: &impl Abort,
     alloc: Global,
     crew: &mut C,
@@ -214,14 +215,14 @@ fn runs_as_one_by_one<C: Crew>(
     let mut step = 0_u32;
     for ((kind, steps), wanted) in course.spans.iter().zip(course.ran.iter()) {
         let span = span_of(alloc, plan, *kind, step, *steps)?;
-        road = runs_span(rt, alloc, crew, &span, &road, wanted, kept)?;
+        road = compare_span(rt, alloc, crew, &span, &road, wanted, kept)?;
         step = step.saturating_add(*steps);
     }
     Ok(())
 }
 
-// Compares what a crew makes of courses, in one run that is kept.
-fn runs_all<C: Crew>(
+// Compare the results of a crew for courses, in one run that is kept.
+fn compare_courses<C: Crew>(
     rt: &impl Abort,
     alloc: Global,
     crew: &mut C,
@@ -230,12 +231,13 @@ fn runs_all<C: Crew>(
 ) -> Result<(), Fail> {
     let mut kept = KeptRun::none();
     for course in courses {
-        runs_as_one_by_one(rt, alloc, crew, plan, course, &mut kept)?;
+        compare_course(rt, alloc, crew, plan, course, &mut kept)?;
     }
     Ok(())
 }
 
-// Compares what so many lasting workers make of them, on so many processors. Returns how often one was asked.
+// Compare the results of this number of lasting workers for courses, on this number of processors. Return how often a
+// worker got work.
 fn pool_runs<R: Threads + Wait + Abort + Clone + Drop + Send + 'static>(
     rt: &R,
     alloc: Global,
@@ -250,21 +252,20 @@ fn pool_runs<R: Threads + Wait + Abort + Clone + Drop + Send + 'static>(
     let gate = Arc::new(alloc, Counter::new())?;
     let their_gate = Arc::try_clone(&gate)?;
     let mut crew = Pool::start_on(rt.clone()?, alloc, workers, their_gate, processors)?;
-    let given = runs_all(rt, alloc, &mut crew, plan, courses);
+    let given = compare_courses(rt, alloc, &mut crew, plan, courses);
     crew.finish();
     given?;
     Ok(gate.passed())
 }
 
-/// How many workers there are, on how many processors, and in how many spans all of them are asked: where that is not
-/// given, in some or in none.
-pub(crate) type Asked = (u32, u32, Option<u32>);
+/// The number of workers and of processors, and the number of spans in which all workers get work.
+pub(crate) type Asked = (u32, u32, u32);
 
-// Compares what a crew makes of courses, and tells whether its workers are asked so.
+// Compare the results of a crew for courses, and return whether its workers get work that often.
 fn is_run<R: Threads + Wait + Abort + Clone + Drop + Send + 'static>(
     rt: &R,
     alloc: Global,
-    (workers, processors, shared): Asked,
+    (workers, processors, spans): Asked,
     plan: &Arc<Plan>,
     courses: &[Course<'_>],
 ) -> Result<bool, Fail> {
@@ -272,13 +273,10 @@ fn is_run<R: Threads + Wait + Abort + Clone + Drop + Send + 'static>(
         return Err(Fail::new("no such crew"));
     }
     let asked = pool_runs(rt, alloc, workers, processors, plan, courses)?;
-    Ok(match shared {
-        Some(spans) => asked == workers.saturating_mul(spans),
-        None => asked % workers == 0,
-    })
+    Ok(asked == workers.saturating_mul(spans))
 }
 
-/// Compares what each crew makes of courses, and whether its workers are asked so.
+/// Compare the results of each crew for courses, and whether its workers get work as expected.
 pub(crate) fn crews_run<R: Threads + Wait + Abort + Clone + Drop + Send + 'static>(
     rt: &R,
     alloc: Global,
@@ -286,51 +284,52 @@ pub(crate) fn crews_run<R: Threads + Wait + Abort + Clone + Drop + Send + 'stati
     plan: &Arc<Plan>,
     courses: &[Course<'_>],
 ) -> Result<(), Fail> {
-    for crew in crews {
-        let is_run = is_run(rt, alloc, *crew, plan, courses)?;
-        assert!(*rt;
-            is_run,
-            "{length} cells, {workers} workers",
-            length = plan.length(),
-            workers = crew.0
-        );
+    for (row, crew) in crews.iter().enumerate() {
+        holds(rt, row, is_run(rt, alloc, *crew, plan, courses)?);
     }
     Ok(())
 }
 
-/// The spans that are shared where there are so many cars: all but that of one step.
-const SHARED: Option<u32> = Some(6);
-
-/// How many cells are taken at first, the spans that are run from there, and who is asked in them.
+/// How many cells are taken at first, the spans that are run from there, and the workers that get work in them. A
+/// second program counted the cars before each span. The road is shared if each stretch, with the cells near it and its
+/// way to a worker, takes at most four fifths of the time of one thread.
 type Case = (&'static [u32], &'static [(u32, u32)], &'static [Asked]);
 
-/// With no car or a few at first, all are asked or nobody.
+/// With no car or a few at first, no worker gets work.
 const FEW: Case = (
     &[0, 200],
     SPANS,
-    &[(1, 1, Some(0)), (3, 4, None), (7, 7, None), (16, 17, None)],
+    &[(1, 1, 0), (3, 4, 0), (7, 7, 0), (16, 17, 0)],
 );
 
-/// With some more, nobody yet.
-const MORE: Case = (&[600], &[(0, 64)], &[(3, 4, Some(0))]);
+/// With some more, still no worker in the first span.
+const MORE: Case = (&[600], &[(0, 64)], &[(3, 4, 0)]);
 
-/// Else all are asked in each span that is shared, whether the caller has a processor besides or not; nobody where not each
-/// has one.
+/// With 1,182 cars at first and 1,524 before the last span, few workers get work only in the last one, and more workers
+/// in the long ones.
+const SOME: Case = (
+    &[1_200],
+    SPANS,
+    &[(1, 1, 0), (3, 4, 1), (7, 7, 4), (16, 17, 4)],
+);
+
+/// Else all get work in each span except that of one step, whether or not the caller has another processor; none if not
+/// each worker has one.
 const MANY: Case = (
     &[8_000],
     SPANS,
     &[
-        (1, 1, Some(0)),
-        (3, 2, Some(0)),
-        (1, 2, SHARED),
-        (2, 2, SHARED),
-        (3, 4, SHARED),
-        (7, 7, SHARED),
-        (16, 17, SHARED),
+        (1, 1, 0),
+        (3, 2, 0),
+        (1, 2, 6),
+        (2, 2, 6),
+        (3, 4, 6),
+        (7, 7, 6),
+        (16, 17, 6),
     ],
 );
 
-// Makes what these spans come to from each queue.
+// Make the expected results of these spans from each queue.
 fn courses_of(
     alloc: Global,
     plan: &Arc<Plan>,
@@ -339,12 +338,12 @@ fn courses_of(
 ) -> Result<Vec<Course<'static>>, Fail> {
     let mut courses = Vec::new(alloc);
     for cells in queues {
-        courses.push(worked(alloc, plan, *cells, spans)?)?;
+        courses.push(run_course(alloc, plan, *cells, spans)?)?;
     }
     Ok(courses)
 }
 
-// Lets one run courses, in a run that is kept, and in a new one for each; between them a road of another plan.
+// Let one caller run courses, in a run that is kept, and in a new one for each; between them a road of another plan.
 fn one_runs(
     rt: &impl Abort,
     alloc: Global,
@@ -352,12 +351,12 @@ fn one_runs(
     courses: &[Course<'_>],
 ) -> Result<(), Fail> {
     let other = shared_plan(alloc, &FREE)?;
-    let free = worked(alloc, &other, 0, &[(0, 64), (0, 1)])?;
+    let free = run_course(alloc, &other, 0, &[(0, 64), (0, 1)])?;
     let mut kept = KeptRun::none();
     for course in courses {
-        runs_as_one_by_one(rt, alloc, &mut Alone, plan, course, &mut kept)?;
-        runs_as_one_by_one(rt, alloc, &mut Alone, plan, course, &mut KeptRun::none())?;
-        runs_as_one_by_one(rt, alloc, &mut Alone, &other, &free, &mut kept)?;
+        compare_course(rt, alloc, &mut Alone, plan, course, &mut kept)?;
+        compare_course(rt, alloc, &mut Alone, plan, course, &mut KeptRun::none())?;
+        compare_course(rt, alloc, &mut Alone, &other, &free, &mut kept)?;
     }
     Ok(())
 }
@@ -370,7 +369,7 @@ fn one_runs_spans_as_they_are_one_by_one(rt: HostRuntime) -> Result<(), Fail> {
     one_runs(&rt, alloc, &plan, &courses)
 }
 
-// Lets lasting workers run the courses of a case.
+// Let lasting workers run the courses of a case.
 fn workers_run<R: Threads + Wait + Abort + Clone + Drop + Send + 'static>(
     rt: &R,
     alloc: Global,
@@ -386,7 +385,7 @@ fn lasting_workers_run_spans_of_few_cars_as_they_are_one_by_one(
     rt: HostRuntime,
 ) -> Result<(), Fail> {
     let plan = shared_plan(rt.alloc(), &LONG)?;
-    for case in [FEW, MORE] {
+    for case in [FEW, MORE, SOME] {
         workers_run(&rt, rt.alloc(), &plan, case)?;
     }
     Ok(())
@@ -400,7 +399,8 @@ fn lasting_workers_run_spans_of_many_cars_as_they_are_one_by_one(
     workers_run(&rt, rt.alloc(), &plan, MANY)
 }
 
-// Tells whether a crew runs nothing: no step, and no road with a car in the exit, which no run of a plan has.
+// Return whether a crew runs nothing if there is no step, or if the road has a car in the exit, which no run of a plan
+// has.
 fn runs_nothing<C: Crew>(alloc: Global, crew: &mut C, plan: &Arc<Plan>) -> Result<bool, Fail> {
     let (none, span) = (
         span_of(alloc, plan, 0, 0, 0)?,

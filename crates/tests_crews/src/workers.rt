@@ -1,9 +1,9 @@
-//! What every crew gives, with few workers and with more than there are cars: the worked rows, and what the crew of one gives
-//! on roads with few cars and with many.
+//! The results of every crew, with few workers and with more than there are cars: the worked rows, and the results of
+//! the crew of one on roads with few cars and with many.
 
 ghost use Rattle.std.specs.Prelude.{◌<◌, ◌≤◌};
 
-use crate::rows::{gives_all, input_of, shared_plan};
+use crate::rows::{compare_all_rows, input_of, shared_plan};
 use road_ends::StepInput;
 use road_workers::{Alone, Crew, NoGate, Pool, Scoped};
 use std::alloc::Global;
@@ -13,13 +13,13 @@ use std::test::Fail;
 use std::thread::Threads;
 use tests_plans::{FREE, Parts, queue};
 
-// Compares them by workers whose threads are made for each call.
+// Compare them for workers whose threads are made for each call.
 fn scoped_gives<R: Threads + Wait + Abort>(rt: &R, alloc: Global, workers: u32) -> Result<(), Fail>
     requires some { 0 < workers }
     requires few { workers ≤ 16 }
 {
     let mut crew = Scoped::new(rt, workers, Box::new(alloc, NoGate)?);
-    gives_all(rt, alloc, &mut crew)
+    compare_all_rows(rt, alloc, &mut crew)
 }
 
 #[test]
@@ -30,7 +30,7 @@ fn threads_made_for_each_call_give_the_worked_rows(rt: HostRuntime) -> Result<()
     Ok(())
 }
 
-/// The longest road, where nobody enters and no car is slowed.
+/// The longest road, where no car enters and no car is slowed.
 const LONG: Parts = Parts {
     road: (8_192, 1, 8_192),
     inlets: &[(0, 0)],
@@ -38,17 +38,17 @@ const LONG: Parts = Parts {
     ..FREE
 };
 
-/// How many cells are taken by a queue, with 5, 63 and 8,064 cars: the first are fewer than workers, the second no multiple of
-/// two.
+/// How many cells are taken by a queue, with 5, 63 and 8,064 cars. The first are fewer than the workers, and the second
+/// not a multiple of two.
 const CELLS: &[u32] = &[5, 64, 8_192];
 
-// Makes the input of a step of such a queue.
+// Make the input of a step of this queue.
 fn input_of_queue(alloc: Global, cells: u32) -> Result<Arc<StepInput>, Fail> {
     let plan = shared_plan(alloc, &LONG)?;
     input_of(alloc, &plan, None, 0, &queue(alloc, cells)?)
 }
 
-// Answers whether a crew gives the speeds of the crew of one.
+// Return whether a crew returns the speeds of the crew of one.
 fn gives_as_one<C: Crew>(alloc: Global, crew: &mut C, cells: u32) -> Result<bool, Fail> {
     let input = input_of_queue(alloc, cells)?;
     let wanted = Alone.speeds(alloc, &input)?;
@@ -56,20 +56,20 @@ fn gives_as_one<C: Crew>(alloc: Global, crew: &mut C, cells: u32) -> Result<bool
     Ok(speeds.as_slice() == wanted.as_slice())
 }
 
-// Compares the worked rows, and then all these roads, and them in reverse.
-fn gives_rows_and_queues<C: Crew>(
+// Compare the worked rows, and then all these roads, forwards and in reverse.
+fn compare_rows_and_queues<C: Crew>(
     rt: &impl Abort,
     alloc: Global,
     crew: &mut C,
 ) -> Result<(), Fail> {
-    gives_all(rt, alloc, crew)?;
+    compare_all_rows(rt, alloc, crew)?;
     for cells in CELLS.iter().chain(CELLS.iter().rev()) {
         assert!(rt; gives_as_one(alloc, crew, *cells)?, "{cells} cells");
     }
     Ok(())
 }
 
-// Compares them by lasting workers.
+// Compare them for lasting workers.
 fn pool_gives<R: Threads + Wait + Abort + Clone + Drop + Send + 'static>(
     rt: &R,
     alloc: Global,
@@ -79,7 +79,7 @@ fn pool_gives<R: Threads + Wait + Abort + Clone + Drop + Send + 'static>(
     requires few { workers ≤ 16 }
 {
     let mut crew = Pool::start(rt.clone()?, alloc, workers)?;
-    let given = gives_rows_and_queues(rt, alloc, &mut crew);
+    let given = compare_rows_and_queues(rt, alloc, &mut crew);
     crew.finish();
     given
 }

@@ -1,4 +1,4 @@
-//! Crowds of the free road, which the tests gather.
+//! Crowds on the free road, which the tests gather.
 
 use crate::shares::may_gather;
 use road_crowd::crowd;
@@ -12,7 +12,7 @@ use std::test::Fail;
 use std::thread::Threads;
 use tests_plans::{FREE, plan_of};
 
-/// Makes an edit at a step, with a stamp of this count and number.
+/// Make an edit at a step, with a stamp of this count and number.
 pub(crate) fn edit(object: Object, step: u32, count: u64, number: u16, value: Value) -> Edit {
     Edit {
         object,
@@ -30,12 +30,12 @@ pub(crate) fn block_and_withdrawal(alloc: Global) -> Result<Vec<Vec<Edit>>, Fail
     Ok(vec![in alloc; block, withdrawal]?)
 }
 
-/// Returns the plan of the free road.
+/// Return the plan of the free road.
 pub(crate) fn free_road(alloc: Global) -> Result<Arc<Plan>, Fail> {
     Ok(Arc::new(alloc, plan_of(alloc, &FREE)?)?)
 }
 
-/// Returns what a crowd of these shares leaves of the free road.
+/// Return the result of a crowd of these shares on the free road.
 pub(crate) fn left<R: Threads + Wait, G: Gate + Sync>(
     rt: &R,
     alloc: Global,
@@ -50,7 +50,7 @@ pub(crate) fn left<R: Threads + Wait, G: Gate + Sync>(
     Ok(crowd(rt, alloc, &plan, shares, to, gate)?)
 }
 
-/// Tells whether a crowd left these edits, so many writes and this row.
+/// Return whether the result of a crowd has these edits, this number of writes and this row.
 pub(crate) fn has_left(left: &Crowd, edits: &[Edit], journal: u32, row: &str) -> bool {
     left.edits.as_slice() == edits && left.journal == journal && left.row.as_str() == row
 }

@@ -1,11 +1,11 @@
 //! Two sessions of a crowd are at their gate at once.
 
 use crate::crowds::{block_and_withdrawal, left};
-use road_workers::Gate;
+use std::slice;
 use std::test::Fail;
 use tests_plans::Meeting;
 
-/// How often a session looks for the other one at most.
+/// The most times that a session looks for the other one.
 const TURNS: u32 = 1_000_000;
 
 #[test]
@@ -19,12 +19,16 @@ fn two_sessions_meet(rt: HostRuntime) -> Result<(), Fail> {
     Ok(())
 }
 
-/// Sessions that work one after another pass the gate alone: so it tells them from two at once.
+/// Two crowds of one session each, one after the other, pass the gate alone. So the gate distinguishes them from two
+/// sessions at once.
 #[test]
 fn one_after_another_do_not_meet(rt: HostRuntime) -> Result<(), Fail> {
+    let alloc = rt.alloc();
+    let shares = block_and_withdrawal(alloc)?;
     let meeting = Meeting::new(rt.clone()?, 2, 100);
-    meeting.arrive(0);
-    meeting.arrive(1);
+    for share in &shares {
+        let _ = left(&rt, alloc, slice::from_ref(share), 6, &meeting)?;
+    }
     let was_held = meeting.was_held(1);
     assert!(rt; !was_held);
     Ok(())

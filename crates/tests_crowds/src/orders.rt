@@ -1,4 +1,4 @@
-//! Many orders of the same writes leave the same.
+//! Many orders of the same writes have the same result.
 
 use crate::crowds::{block_and_withdrawal, edit, has_left, left};
 use road_plan::Object;
@@ -7,20 +7,20 @@ use road_workers::NoGate;
 use std::alloc::Global;
 use std::test::Fail;
 
-/// How many edits each share has.
+/// The number of edits of each share.
 const EDITS: u32 = 40;
 
-/// How often the shares are gathered.
+/// The number of times that the shares are gathered.
 const TIMES: u32 = 100;
 
-// Returns the limit of the only zone that is put at a step.
+// Return the limit that is set for the only zone at a step.
 fn limit(step: u32) -> Edit {
     let count = u64::from(step).saturating_add(1);
     let number = (64 + step % 4) as u16;
     edit(Object::Limit(0), step, count, number, Value::Put(step % 3))
 }
 
-// Returns the limits of all steps, from one step on and round.
+// Return the limits of all steps, beginning at one step and going around.
 fn limits_from(alloc: Global, first: u32) -> Result<Vec<Edit>, Fail> {
     let mut edits = Vec::new(alloc);
     for turn in 0..EDITS {

@@ -1,4 +1,4 @@
-//! Worked crowds, and what no crowd may hold.
+//! Worked crowds, and edits that no crowd may have.
 
 use crate::crowds::{edit, free_road, has_left, left};
 use road_plan::Object;

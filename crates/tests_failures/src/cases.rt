@@ -301,7 +301,7 @@ const LINES: &[(&str, Case)] = pairs![
 /// How many layers of calls there are.
 pub(crate) const LAYERS: u32 = 7;
 
-/// Returns the calls of a layer, the lowest of which is layer 0.
+/// Return the calls of a layer, the lowest of which is layer 0.
 pub(crate) fn cases_of(layer: u32) -> &'static [(&'static str, Case)] {
     match layer {
         0 => roads_cases(),
@@ -342,7 +342,7 @@ fn lines_cases() -> &'static [(&'static str, Case)] {
     LINES
 }
 
-/// Tries a call so far. None where an allocation failed before the call or in the judging.
+/// Try a call so far. None where an allocation failed before the call or in the judging.
 pub(crate) fn tried<R: Threads + Wait + Clone + Drop + Send + 'static>(
     rt: &R,
     alloc: Global,

@@ -46,7 +46,7 @@ pub(crate) enum CrewCase {
     StartGated,
 }
 
-// Makes the task to give the speeds of the dense road's first step.
+// Make the task to give the speeds of the dense road's first step.
 fn first_speeds(alloc: Global) -> Option<Task> {
     let plan = shared_plan(alloc, &DENSE)?;
     let settings = Settings::of_plan(alloc, &plan).ok()?;
@@ -57,7 +57,7 @@ fn first_speeds(alloc: Global) -> Option<Task> {
     Some(Task::Speeds(input))
 }
 
-// Makes the span of the first steps of a plan.
+// Make the span of the first steps of a plan.
 fn first_steps(alloc: Global, plan: Arc<Plan>) -> Option<Span> {
     let Ok(settings) = Settings::of_plan(alloc, &plan) else {
         return None;
@@ -68,7 +68,7 @@ fn first_steps(alloc: Global, plan: Arc<Plan>) -> Option<Span> {
     Some(Span::new(plan, settings, 0, 64))
 }
 
-// Makes the task to run the first steps of the long road, many of whose cells are taken, as a crew runs together.
+// Make the task to run the first steps of the long road, many of whose cells are taken, as a crew runs together.
 fn long_run(alloc: Global) -> Option<Task> {
     let gate = Arc::new(alloc, Counter::new()).ok()?;
     let road = queue(alloc, TAKEN).ok()?;
@@ -76,7 +76,7 @@ fn long_run(alloc: Global) -> Option<Task> {
     Some(Task::Steps(span, road, gate))
 }
 
-// Answers whether a crew runs a span, and each of its workers passes the gate for that: the contract of the run states its
+// Return whether a crew runs a span, and each of its workers passes the gate for that: the contract of the run states its
 // road and totals.
 fn runs<C: Crew>(
     alloc: Global,
@@ -90,7 +90,7 @@ fn runs<C: Crew>(
     Ok(ran.is_some() && gate.passed() == before.saturating_add(WORKERS))
 }
 
-// Answers whether a crew gives what it is asked.
+// Return whether a crew gives what it is asked.
 fn gives<C: Crew>(alloc: Global, crew: &mut C, task: &Task) -> Result<bool, CrewFault> {
     match task {
         Task::Speeds(input) => Ok(crew.speeds(alloc, input)?.as_slice() == SPEEDS),
@@ -119,13 +119,13 @@ impl<C: Crew> Call for Asking<C> {
     }
 }
 
-// Tries one who computes alone.
+// Try one who computes alone.
 fn tried_alone(alloc: Global, until: Until) -> Option<Verdict> {
     let task = first_speeds(alloc)?;
     tried(alloc, until, &mut Asking { crew: Alone, task })
 }
 
-// Tries the speeds of two threads that are made for the call.
+// Try the speeds of two threads that are made for the call.
 fn tried_scoped<R: Threads + Wait>(rt: &R, alloc: Global, until: Until) -> Option<Verdict> {
     let task = first_speeds(alloc)?;
     let gate = Box::new(alloc, NoGate).ok()?;
@@ -133,7 +133,7 @@ fn tried_scoped<R: Threads + Wait>(rt: &R, alloc: Global, until: Until) -> Optio
     tried(alloc, until, &mut Asking { crew, task })
 }
 
-// Starts two lasting workers, with a gate or without.
+// Start two lasting workers, with a gate or without.
 fn started<R: Threads + Wait + Clone + Drop + Send + 'static>(
     rt: &R,
     alloc: Global,
@@ -148,7 +148,7 @@ fn started<R: Threads + Wait + Clone + Drop + Send + 'static>(
     }
 }
 
-// Starts those who do a task, and pass its gate if it has one.
+// Start those who do a task, and pass its gate if it has one.
 fn started_for<R: Threads + Wait + Clone + Drop + Send + 'static>(
     rt: &R,
     alloc: Global,
@@ -163,7 +163,7 @@ fn started_for<R: Threads + Wait + Clone + Drop + Send + 'static>(
     }
 }
 
-// Tries two lasting workers.
+// Try two lasting workers.
 fn tried_pool<R: Threads + Wait + Clone + Drop + Send + 'static>(
     rt: &R,
     alloc: Global,
@@ -178,7 +178,7 @@ fn tried_pool<R: Threads + Wait + Clone + Drop + Send + 'static>(
     verdict
 }
 
-// Judges workers that were started: they give the speeds. None where an allocation failed in that.
+// Judge workers that were started: they give the speeds. None where an allocation failed in that.
 fn judged_start<R: Threads + Wait + Clone + Drop + Send + 'static>(
     alloc: Global,
     mut pool: Pool<R>,
@@ -194,7 +194,7 @@ fn judged_start<R: Threads + Wait + Clone + Drop + Send + 'static>(
     }
 }
 
-// Starts two lasting workers once more.
+// Start two lasting workers once more.
 fn started_again<R: Threads + Wait + Clone + Drop + Send + 'static>(
     rt: &R,
     alloc: Global,
@@ -208,7 +208,7 @@ fn started_again<R: Threads + Wait + Clone + Drop + Send + 'static>(
     }
 }
 
-// Tries the start of two lasting workers.
+// Try the start of two lasting workers.
 fn tried_start<R: Threads + Wait + Clone + Drop + Send + 'static>(
     rt: &R,
     alloc: Global,
@@ -229,7 +229,7 @@ fn tried_start<R: Threads + Wait + Clone + Drop + Send + 'static>(
     }
 }
 
-/// Tries a crew.
+/// Try a crew.
 pub(crate) fn tried_crew<R: Threads + Wait + Clone + Drop + Send + 'static>(
     rt: &R,
     alloc: Global,

@@ -32,7 +32,7 @@ pub(crate) struct CrowdCase(
 /// The step to which all sessions advance.
 const LAST: u32 = 6;
 
-// Copies the shares of a crowd.
+// Copy the shares of a crowd.
 fn shares_of_case(alloc: Global, case: &CrowdCase) -> Option<Vec<Vec<Edit>>> {
     let mut shares = Vec::new(alloc);
     for share in case.0 {
@@ -76,7 +76,7 @@ impl<R: Threads + Wait> Call for Gathering<'_, R> {
     }
 }
 
-/// Tries a crowd.
+/// Try a crowd.
 pub(crate) fn tried_crowd<R: Threads + Wait>(
     rt: &R,
     alloc: Global,

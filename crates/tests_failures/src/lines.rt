@@ -57,7 +57,7 @@ impl Call for Planning {
 #[derive(Clone, Copy)]
 struct ReadingPlan;
 
-// Answers whether names are those of the three replicas.
+// Return whether names are those of the three replicas.
 fn are_names(names: &[String]) -> bool {
     names.len() == 3
         && names
@@ -84,7 +84,7 @@ impl Call for ReadingPlan {
 #[derive(Clone, Copy)]
 struct Reading(&'static str);
 
-// Answers whether a command is that of one of the two lines.
+// Return whether a command is that of one of the two lines.
 fn is_command(command: &Command, line: &str) -> bool {
     match command {
         Command::Import { at, edits } => {
@@ -123,7 +123,7 @@ struct Replying {
     case: LineCase,
 }
 
-// Returns the line of a reply.
+// Return the line of a reply.
 fn reply_of(case: LineCase) -> &'static str {
     match case {
         LineCase::Edits => EDITS_REPLY,
@@ -152,17 +152,17 @@ impl Call for Replying {
     }
 }
 
-// Tries to write a reply.
+// Try to write a reply.
 fn tried_reply(alloc: Global, until: Until, answer: Answer, case: LineCase) -> Option<Verdict> {
     tried(alloc, until, &mut Replying { answer, case })
 }
 
-// Returns the edits of a reply.
+// Return the edits of a reply.
 fn edits(alloc: Global) -> Option<Answer> {
     Some(Answer::Edits([BLOCKED, OPENED].to_vec(alloc).ok()?))
 }
 
-// Returns the rows of a reply.
+// Return the rows of a reply.
 fn rows(alloc: Global) -> Option<Answer> {
     let mut rows = Vec::new(alloc);
     for row in ["0..2...2#...", ".1...2.0#..."] {
@@ -171,7 +171,7 @@ fn rows(alloc: Global) -> Option<Answer> {
     Some(Answer::Rows(rows))
 }
 
-/// Tries a line.
+/// Try a line.
 pub(crate) fn tried_line(alloc: Global, until: Until, case: LineCase) -> Option<Verdict> {
     match case {
         LineCase::Plan => tried(alloc, until, &mut Planning),

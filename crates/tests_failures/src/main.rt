@@ -1,11 +1,12 @@
 //! Tries one call, and judges it: prepares what it is called on, calls, and compares the answer and all that is shown
-//! then with what was worked out. Where the call is refused for out of memory, all must be as before, and the same
+//! then with what was worked out. If the call is refused for out of memory, all must be as before, and the same
 //! call must then answer as if it had not been refused. One allocation failing in turn, whichever it is, no run may say
 //! that something is wrong: `tools/fail-in-turn` does that.
 //!
-//! `tests_failures NAME` tries the call of a name. It prints `right` where it answered at once, `right again` where it
-//! was refused first, `right with new threads` where that was because a thread could not be started, `wrong: ..`, or
-//! `not met` where an allocation failed before the call or in the judging.
+//! `tests_failures NAME` tries the call of a name. It prints `right` if it answered at once, `right again` if it was
+//! refused first, `right with new threads` if that was because a thread could not be started, `right behind a refused
+//! event` if one event of a list was refused and left out, `wrong: ..`, or `not met` if an allocation failed before the
+//! call or in the judging.
 //! `tests_failures NAME prepared` ends before the call, and `tests_failures NAME called` before the judging.
 //! `tests_failures list` prints all names, and `tests_failures all` tries them one after another.
 #![tactic(auto)]
@@ -31,20 +32,21 @@ use std::sync::Wait;
 use std::thread::Threads;
 use std::{env, io};
 
-// Tells what came of a call; nothing where it was not judged.
+// Tell what came of a call; nothing where it was not judged.
 fn tell<R: Print>(rt: &R, verdict: Option<Verdict>) -> io::Result<()> {
     match verdict {
         Some(Verdict::Left) => Ok(()),
         Some(Verdict::Right) => println!(rt; "right"),
         Some(Verdict::Again) => println!(rt; "right again"),
         Some(Verdict::Restarted) => println!(rt; "right with new threads"),
+        Some(Verdict::Skipped) => println!(rt; "right behind a refused event"),
         Some(Verdict::Refused) => println!(rt; "wrong: it was not made again"),
         Some(Verdict::Wrong(wrong)) => println!(rt; "wrong: {}", wrong.text()),
         None => println!(rt; "not met"),
     }
 }
 
-// Returns the case of a name.
+// Return the case of a name.
 fn named(name: &str) -> Option<Case> {
     for layer in 0..LAYERS {
         for (other, case) in cases_of(layer) {
@@ -56,7 +58,7 @@ fn named(name: &str) -> Option<Case> {
     None
 }
 
-// Returns how far a word says that a call is tried.
+// Return how far a word says that a call is tried.
 fn until(word: &str) -> Until {
     match word {
         "prepared" => Until::Prepared,
@@ -65,7 +67,7 @@ fn until(word: &str) -> Until {
     }
 }
 
-// Tries the call of a name so far.
+// Try the call of a name so far.
 fn try_one<R: Print + Threads + Wait + Clone + Drop + Send + 'static>(
     rt: &R,
     alloc: Global,
@@ -78,7 +80,7 @@ fn try_one<R: Print + Threads + Wait + Clone + Drop + Send + 'static>(
     }
 }
 
-// Prints all names.
+// Print all names.
 fn list<R: Print>(rt: &R) -> io::Result<()> {
     for layer in 0..LAYERS {
         for (name, _) in cases_of(layer) {
@@ -88,7 +90,7 @@ fn list<R: Print>(rt: &R) -> io::Result<()> {
     Ok(())
 }
 
-// Tries all calls, and tells each that is not right at once.
+// Try all calls, and tell each that is not right at once.
 fn try_all<R: Print + Threads + Wait + Clone + Drop + Send + 'static>(
     rt: &R,
     alloc: Global,
@@ -105,7 +107,7 @@ fn try_all<R: Print + Threads + Wait + Clone + Drop + Send + 'static>(
     println!(rt; "all calls are tried")
 }
 
-// Does what the program's words ask for, of which the first is its name.
+// Do what the program's words ask for, of which the first is its name.
 fn obey<R: Print + Threads + Wait + Clone + Drop + Send + 'static>(
     rt: &R,
     alloc: Global,
@@ -120,7 +122,7 @@ fn obey<R: Print + Threads + Wait + Clone + Drop + Send + 'static>(
     }
 }
 
-// Returns the program's words.
+// Return the program's words.
 fn words_of(rt: &HostRuntime) -> io::Result<Vec<String>> {
     let mut words = Vec::new(rt.alloc());
     for word in env::args(rt)? {

@@ -9,7 +9,7 @@ use road_sheet::SheetFault;
 use road_workers::CrewFault;
 use road_world::{PlayFault, WorldFault};
 
-// Returns the verdict where this is the fault that is due.
+// Return the verdict where this is the fault that is due.
 fn again(is_due: bool) -> Option<Verdict> {
     if is_due { Some(Verdict::Again) } else { None }
 }
@@ -80,11 +80,12 @@ impl Refusal for PlayFault {
     }
 }
 
-/// The store gives a session no reader where it finds no memory for one.
+/// A reader takes no memory: the store has had its place from the start.
 impl Refusal for OpenFault {
     fn due(&self) -> Option<Verdict> {
         match self {
-            OpenFault::OutOfMemory | OpenFault::NoPlace => Some(Verdict::Again),
+            OpenFault::OutOfMemory => Some(Verdict::Again),
+            OpenFault::NoPlace => None,
         }
     }
 }

@@ -25,7 +25,7 @@ pub(crate) enum Write {
 }
 
 impl Write {
-    // Returns the edits that it hands over.
+    // Return the edits that it hands over.
     fn edits(&self) -> &'static [Edit] {
         match self {
             Write::Import(edits) => edits,
@@ -34,7 +34,7 @@ impl Write {
         }
     }
 
-    /// Makes the scenario of the edits that it hands over.
+    /// Make the scenario of the edits that it hands over.
     pub(crate) fn given(&self, alloc: Global) -> Option<Scenario> {
         Scenario::of_edits(alloc, self.edits()).ok()
     }
@@ -51,7 +51,7 @@ pub(crate) struct WriteCase(
 
 // ---- writes
 
-// Writes to a replica.
+// Write to a replica.
 fn written(
     alloc: Global,
     replica: &mut Replica,
@@ -72,14 +72,14 @@ fn written(
     }
 }
 
-// Writes to a replica that accepts it.
+// Write to a replica that accepts it.
 fn accept(alloc: Global, replica: &mut Replica, write: &Write) -> Option<()> {
     let given = write.given(alloc)?;
     written(alloc, replica, write, &given).ok()?;
     Some(())
 }
 
-// Writes to a replica that accepts all.
+// Write to a replica that accepts all.
 fn accept_all(alloc: Global, replica: &mut Replica, writes: &[Write]) -> Option<()> {
     for write in writes {
         accept(alloc, replica, write)?;
@@ -117,12 +117,12 @@ impl Call for Writing {
     }
 }
 
-// Returns a replica of the free road that nobody has written to.
+// Return a replica of the free road that nobody has written to.
 fn new_replica(alloc: Global) -> Option<Replica> {
     Replica::open(alloc, free_plan(alloc)?, 0).ok()
 }
 
-/// Tries a write.
+/// Try a write.
 pub(crate) fn tried_write(alloc: Global, until: Until, case: &WriteCase) -> Option<Verdict> {
     let given = case.1.given(alloc)?;
     let replica = new_replica(alloc)?;
@@ -135,7 +135,7 @@ pub(crate) fn tried_write(alloc: Global, until: Until, case: &WriteCase) -> Opti
     tried(alloc, until, &mut writing)
 }
 
-// Answers whether this is replica 0, and shows this.
+// Return whether this is replica 0, and shows this.
 fn is_replica(alloc: Global, replica: &Replica, shown: &Shown) -> Option<bool> {
     Some(replica.number() == 0 && shows(alloc, replica.sheet(), shown)?)
 }
@@ -163,7 +163,7 @@ enum Told {
     Expected(bool),
 }
 
-// Answers whether these rows are those.
+// Return whether these rows are those.
 fn are_rows(rows: &[String], wanted: &[&str]) -> bool {
     rows.len() == wanted.len()
         && rows
@@ -172,7 +172,7 @@ fn are_rows(rows: &[String], wanted: &[&str]) -> bool {
             .all(|(row, text)| row.as_str() == *text)
 }
 
-// Asks a replica for the cars of a step.
+// Ask a replica for the cars of a step.
 fn has_cars(
     alloc: Global,
     replica: &Replica,
@@ -183,7 +183,7 @@ fn has_cars(
     Ok(Told::Expected(road.cars() == cars))
 }
 
-// Asks it for rows.
+// Ask it for rows.
 fn has_rows(
     alloc: Global,
     replica: &Replica,
@@ -194,13 +194,13 @@ fn has_rows(
     Ok(Told::Expected(are_rows(&told, rows)))
 }
 
-// Asks it for its heads.
+// Ask it for its heads.
 fn has_heads(alloc: Global, replica: &Replica, heads: &[Head]) -> Result<Told, ReplicaFault> {
     let told = replica.heads(alloc)?;
     Ok(Told::Expected(told.list() == heads))
 }
 
-// Asks a replica.
+// Ask a replica.
 fn tell(
     alloc: Global,
     replica: &Replica,
@@ -220,7 +220,7 @@ fn tell(
     }
 }
 
-// Answers whether a replica told what a question expects.
+// Return whether a replica told what a question expects.
 fn is_told(alloc: Global, question: &Question, told: &Told) -> Option<bool> {
     match (told, question) {
         (Told::Expected(is_expected), _) => Some(*is_expected),
@@ -257,7 +257,7 @@ impl Call for Asking {
     }
 }
 
-// Returns the heads that a question brings.
+// Return the heads that a question brings.
 fn heads_with(alloc: Global, question: &Question) -> Option<Heads> {
     let held: &[Edit] = match question {
         Question::Beyond(held, _) => held,
@@ -267,7 +267,7 @@ fn heads_with(alloc: Global, question: &Question) -> Option<Heads> {
     heads_of(alloc, &scenario).ok()
 }
 
-/// Tries a question after some writes.
+/// Try a question after some writes.
 pub(crate) fn tried_question(
     alloc: Global,
     until: Until,
@@ -307,7 +307,7 @@ impl Call for Opening {
     }
 }
 
-/// Tries the opening of a replica.
+/// Try the opening of a replica.
 pub(crate) fn tried_opening(alloc: Global, until: Until) -> Option<Verdict> {
     let plan = free_plan(alloc)?;
     tried(alloc, until, &mut Opening { plan })

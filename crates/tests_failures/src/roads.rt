@@ -46,24 +46,24 @@ pub(crate) const WITHDRAWN: Shown = Shown(FREE_ROWS, &[OPENED]);
 
 pub(crate) const SLOWED: Shown = Shown(&[(4, "0.1...1....."), (6, "0.1.1...1...")], &[SLOW]);
 
-/// Returns the plan of these parts, to be shared.
+/// Return the plan of these parts, to be shared.
 pub(crate) fn shared_plan(alloc: Global, parts: &Parts) -> Option<Arc<Plan>> {
     let plan = plan_of(alloc, parts).ok()?;
     Arc::new(alloc, plan).ok()
 }
 
-/// Returns the plan of the free road.
+/// Return the plan of the free road.
 pub(crate) fn free_plan(alloc: Global) -> Option<Arc<Plan>> {
     shared_plan(alloc, &FREE)
 }
 
-/// Answers whether a scenario holds just these edits, by object and step; none where memory was wanted for that.
+/// Return whether a scenario holds just these edits, by object and step; none where memory was wanted for that.
 pub(crate) fn holds(alloc: Global, scenario: &Scenario, edits: &[Edit]) -> Option<bool> {
     let held = scenario.edits(alloc).ok()?;
     Some(held.as_slice() == edits)
 }
 
-/// Returns the row that a sheet shows at a step; none where memory was wanted for that, or the step is not simulated.
+/// Return the row that a sheet shows at a step; none where memory was wanted for that, or the step is not simulated.
 pub(crate) fn row_at(alloc: Global, sheet: &Sheet, step: u32) -> Option<String> {
     let Ok(road) = sheet.state(alloc, step) else {
         return None;
@@ -72,12 +72,12 @@ pub(crate) fn row_at(alloc: Global, sheet: &Sheet, step: u32) -> Option<String> 
     row_of(alloc, sheet.plan(), sheet.scenario(), &state).ok()
 }
 
-/// Answers whether a sheet shows this row; none as for [`row_at`].
+/// Return whether a sheet shows this row; none as for [`row_at`].
 pub(crate) fn shows_row(alloc: Global, sheet: &Sheet, step: u32, wanted: &str) -> Option<bool> {
     Some(row_at(alloc, sheet, step)?.as_str() == wanted)
 }
 
-/// Answers whether a sheet shows just this; none where memory was wanted for that.
+/// Return whether a sheet shows just this; none where memory was wanted for that.
 pub(crate) fn shows(alloc: Global, sheet: &Sheet, shown: &Shown) -> Option<bool> {
     let mut last = None;
     let mut shows = holds(alloc, sheet.scenario(), shown.1)?;

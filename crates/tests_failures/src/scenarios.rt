@@ -42,7 +42,7 @@ const ALL: &[Edit] = &[CLOSED_ELSEWHERE, CLOSED, BLOCKED_SECOND];
 
 type Pair = Both<Scenario, Greatest<u32>>;
 
-// Returns the scenario of some edits, with a horizon.
+// Return the scenario of some edits, with a horizon.
 fn pair_of(alloc: Global, edits: &[Edit], horizon: u32) -> Option<Pair> {
     Some(Both {
         first: Scenario::of_edits(alloc, edits).ok()?,
@@ -50,12 +50,12 @@ fn pair_of(alloc: Global, edits: &[Edit], horizon: u32) -> Option<Pair> {
     })
 }
 
-// Answers whether a pair has these edits, and the greater horizon.
+// Return whether a pair has these edits, and the greater horizon.
 fn is_pair(alloc: Global, pair: &Pair, edits: &[Edit]) -> Option<bool> {
     Some(pair.second == Greatest::Of(6) && holds(alloc, &pair.first, edits)?)
 }
 
-// Answers whether heads are those of these edits.
+// Return whether heads are those of these edits.
 fn are_heads(heads: &[Head], edits: &[Edit]) -> bool {
     heads.len() == edits.len()
         && heads.iter().zip(edits).all(|(head, edit)| {
@@ -82,7 +82,7 @@ struct Work {
     making: Making,
 }
 
-// Answers whether the settings of a scenario at step 4 have cell 8 blocked.
+// Return whether the settings of a scenario at step 4 have cell 8 blocked.
 fn has_blocked(alloc: Global, scenario: &Scenario, plan: &Arc<Plan>) -> Result<bool, OutOfMemory> {
     if scenario.fits(plan).is_some() {
         return Ok(false);
@@ -91,17 +91,17 @@ fn has_blocked(alloc: Global, scenario: &Scenario, plan: &Arc<Plan>) -> Result<b
     Ok(settings.blocks() == [8].as_slice())
 }
 
-// Answers whether a scenario has the edits of one replica.
+// Return whether a scenario has the edits of one replica.
 fn has_held(alloc: Global, scenario: &Scenario) -> Result<bool, OutOfMemory> {
     Ok(scenario.edits(alloc)?.as_slice() == HELD)
 }
 
-// Answers whether a scenario has their heads.
+// Return whether a scenario has their heads.
 fn has_heads(alloc: Global, scenario: &Scenario) -> Result<bool, OutOfMemory> {
     Ok(are_heads(heads_of(alloc, scenario)?.list(), HELD))
 }
 
-// Reads a scenario.
+// Read a scenario.
 fn read(alloc: Global, work: &Work) -> Result<bool, OutOfMemory> {
     let (one, other) = (&work.one, &work.other);
     match work.making {
@@ -141,7 +141,7 @@ impl Call for Work {
     }
 }
 
-// Returns the edits of what is made.
+// Return the edits of what is made.
 fn edits_of(making: &Making) -> &'static [Edit] {
     match making {
         Making::WithEdit(_, _, made) => made,
@@ -151,7 +151,7 @@ fn edits_of(making: &Making) -> &'static [Edit] {
     }
 }
 
-// Answers whether what was made has these edits.
+// Return whether what was made has these edits.
 fn is_made(alloc: Global, made: &Made, edits: &[Edit]) -> Option<bool> {
     match made {
         Made::Scenario(scenario) => holds(alloc, scenario, edits),
@@ -160,13 +160,13 @@ fn is_made(alloc: Global, made: &Made, edits: &[Edit]) -> Option<bool> {
     }
 }
 
-// Returns the heads of some edits.
+// Return the heads of some edits.
 fn heads_with(alloc: Global, edits: &[Edit]) -> Option<Heads> {
     let scenario = Scenario::of_edits(alloc, edits).ok()?;
     heads_of(alloc, &scenario).ok()
 }
 
-/// Tries what is made of scenarios.
+/// Try what is made of scenarios.
 pub(crate) fn tried_making(alloc: Global, until: Until, making: Making) -> Option<Verdict> {
     let held: &[Edit] = match &making {
         Making::WithEdit(edits, _, _) => edits,
@@ -208,7 +208,7 @@ const TWO: Register = Greatest::Of((7, 2));
 
 const THREE: Register = Greatest::Of((7, 3));
 
-// Answers whether a map has just these registers, in this order.
+// Return whether a map has just these registers, in this order.
 fn has_registers(map: &Registers, registers: &[(u32, Register)]) -> bool {
     let mut steps = map.keys();
     for (step, register) in registers {
@@ -219,7 +219,7 @@ fn has_registers(map: &Registers, registers: &[(u32, Register)]) -> bool {
     steps.next().is_none()
 }
 
-// Returns the map of these registers.
+// Return the map of these registers.
 fn map_of(alloc: Global, registers: &[(u32, Register)]) -> Option<Registers> {
     let mut map = Registers::empty(alloc);
     for (step, register) in registers {
@@ -228,7 +228,7 @@ fn map_of(alloc: Global, registers: &[(u32, Register)]) -> Option<Registers> {
     Some(map)
 }
 
-// Returns the map of so many even steps from 0 on.
+// Return the map of so many even steps from 0 on.
 fn even_steps(alloc: Global, count: u32) -> Option<Registers> {
     let mut map = Registers::empty(alloc);
     for place in 0..count {
@@ -237,7 +237,7 @@ fn even_steps(alloc: Global, count: u32) -> Option<Registers> {
     Some(map)
 }
 
-// Answers whether a map has two at so many even steps from 0 on, but three at some steps, and nothing else.
+// Return whether a map has two at so many even steps from 0 on, but three at some steps, and nothing else.
 fn has_even_and(map: &Registers, count: u32, three: &[u32]) -> bool {
     for place in 0..count {
         if map.get(place.saturating_mul(2)).is_none() {
@@ -266,7 +266,7 @@ struct Mapping {
     case: MapCase,
 }
 
-// Draws a map of pairs.
+// Draw a map of pairs.
 fn draw_map(portrait: &mut Portrait, map: &Registers) -> Option<()> {
     for (step, register) in map.iter() {
         portrait.draw_number(u64::from(*step))?;
@@ -305,7 +305,7 @@ impl Call for Mapping {
     }
 }
 
-// Answers whether this is the map that is made.
+// Return whether this is the map that is made.
 fn is_map(map: &Registers, case: MapCase) -> bool {
     match case {
         MapCase::With => has_registers(map, &[(3, TWO), (5, TWO), (9, THREE)]),
@@ -316,7 +316,7 @@ fn is_map(map: &Registers, case: MapCase) -> bool {
     }
 }
 
-// Returns the map of which another one is made.
+// Return the map of which another one is made.
 fn first_map(alloc: Global, case: MapCase) -> Option<Registers> {
     match case {
         MapCase::WithSplit => even_steps(alloc, 256),
@@ -325,7 +325,7 @@ fn first_map(alloc: Global, case: MapCase) -> Option<Registers> {
     }
 }
 
-// Returns the map that is joined in.
+// Return the map that is joined in.
 fn second_map(alloc: Global, case: MapCase) -> Option<Registers> {
     match case {
         MapCase::PagesJoined => map_of(alloc, &[(1, THREE), (1_100, THREE), (2_000, THREE)]),
@@ -333,7 +333,7 @@ fn second_map(alloc: Global, case: MapCase) -> Option<Registers> {
     }
 }
 
-/// Tries what is made of maps.
+/// Try what is made of maps.
 pub(crate) fn tried_map(alloc: Global, until: Until, case: MapCase) -> Option<Verdict> {
     let one = first_map(alloc, case)?;
     let other = second_map(alloc, case)?;

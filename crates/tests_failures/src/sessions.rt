@@ -70,7 +70,7 @@ struct Store<J: Naming, S, W> {
     sessions: Vec<Session<J>>,
 }
 
-// Answers whether a session that looks is shown this.
+// Return whether a session that looks is shown this.
 fn is_shown<J: Naming, S: Of<J>>(
     alloc: Global,
     shared: &S,
@@ -83,7 +83,7 @@ fn is_shown<J: Naming, S: Of<J>>(
     }
 }
 
-// Answers whether all sessions that look are shown this.
+// Return whether all sessions that look are shown this.
 fn are_shown<J: Naming, S: Of<J>>(
     alloc: Global,
     shared: &S,
@@ -98,7 +98,7 @@ fn are_shown<J: Naming, S: Of<J>>(
     Some(true)
 }
 
-// Draws what a session is shown.
+// Draw what a session is shown.
 fn draw_look<J: Naming, S: Of<J>>(
     alloc: Global,
     portrait: &mut Portrait,
@@ -109,7 +109,7 @@ fn draw_look<J: Naming, S: Of<J>>(
     portrait.draw_sheet(alloc, &sheet)
 }
 
-// Draws what each session is shown.
+// Draw what each session is shown.
 fn draw_looks<J: Naming, S: Of<J>>(
     alloc: Global,
     portrait: &mut Portrait,
@@ -126,7 +126,7 @@ fn draw_looks<J: Naming, S: Of<J>>(
 
 /// Something that sessions write to.
 trait Writes<J: Naming>: Of<J> {
-    /// Writes for a session.
+    /// Write for a session.
     fn written<W: Wait>(
         &self,
         rt: &W,
@@ -159,7 +159,7 @@ impl<J: Naming, R: Wait + Drop> Writes<J> for Shared<J, R> {
     }
 }
 
-// Writes for the session of a number.
+// Write for the session of a number.
 fn written_by<J: Naming, S: Writes<J>, W: Wait>(
     store: &mut Store<J, S, W>,
     number: usize,
@@ -177,7 +177,7 @@ fn written_by<J: Naming, S: Writes<J>, W: Wait>(
     }
 }
 
-// Writes for the first session, and tells the second one.
+// Write for the first session, and tell the second one.
 fn accept<J: Naming, S: Writes<J>, W: Wait>(
     alloc: Global,
     store: &mut Store<J, S, W>,
@@ -191,7 +191,7 @@ fn accept<J: Naming, S: Writes<J>, W: Wait>(
     Some(())
 }
 
-// Writes all of these so.
+// Write all of these so.
 fn accept_all<J: Naming, S: Writes<J>, W: Wait>(
     alloc: Global,
     store: &mut Store<J, S, W>,
@@ -251,7 +251,7 @@ impl<J: Naming, S: Writes<J>, W: Wait> Call for Writing<J, S, W> {
     }
 }
 
-// Judges a write that is not made again where it is refused.
+// Judge a write that is not made again where it is refused.
 fn judged_once<J: Naming, S: Writes<J>, W: Wait>(
     alloc: Global,
     writing: &mut Writing<J, S, W>,
@@ -266,7 +266,7 @@ fn judged_once<J: Naming, S: Writes<J>, W: Wait>(
     }
 }
 
-// Tries such a write.
+// Try such a write.
 fn tried_once<J: Naming, S: Writes<J>, W: Wait>(
     alloc: Global,
     until: Until,
@@ -282,7 +282,7 @@ fn tried_once<J: Naming, S: Writes<J>, W: Wait>(
     judged_once(alloc, writing, told)
 }
 
-// Tries a write, once where the store is closed as soon as it is refused.
+// Try a write, once where the store is closed as soon as it is refused.
 fn tried_write<J: Naming, S: Writes<J>, W: Wait>(
     alloc: Global,
     until: Until,
@@ -313,7 +313,7 @@ struct Asking<J: Naming, S, W> {
     case: SessionCase,
 }
 
-// Asks for a session.
+// Ask for a session.
 fn tell<J: Naming, S: Of<J>>(
     alloc: Global,
     shared: &S,
@@ -366,7 +366,7 @@ impl<J: Naming, S: Writes<J>, W: Wait> Call for Asking<J, S, W> {
     }
 }
 
-// Tries a question.
+// Try a question.
 fn tried_question<J: Naming, S: Writes<J>, W: Wait>(
     alloc: Global,
     until: Until,
@@ -378,7 +378,7 @@ fn tried_question<J: Naming, S: Writes<J>, W: Wait>(
 
 // ---- what is left
 
-// Answers whether this is an entry of the journal.
+// Return whether this is an entry of the journal.
 fn is_entry(alloc: Global, entry: &Entry, (session, command): &(u32, Command)) -> Option<bool> {
     let is_command = match (&entry.command, command) {
         (SheetCommand::Take(scenario), Command::Take(edits)) => holds(alloc, scenario, edits)?,
@@ -388,7 +388,7 @@ fn is_entry(alloc: Global, entry: &Entry, (session, command): &(u32, Command)) -
     Some(is_command && entry.session == *session)
 }
 
-// Answers whether a closed store has this journal, and shows this.
+// Return whether a closed store has this journal, and shows this.
 fn is_closed_with(
     alloc: Global,
     closed: &Closed,
@@ -402,7 +402,7 @@ fn is_closed_with(
     Some(is_journal && shows(alloc, &closed.sheet, shown)?)
 }
 
-// Judges what is left of a store that was closed after a call of this verdict: where that was refused and not made
+// Judge what is left of a store that was closed after a call of this verdict: where that was refused and not made
 // again, the journal lacks its entry.
 fn judged_closed(
     alloc: Global,
@@ -419,7 +419,7 @@ fn judged_closed(
     Some(accepted(verdict, is_right))
 }
 
-// Closes a store after a call of this verdict, and judges what is left where that is asked.
+// Close a store after a call of this verdict, and judge what is left where that is asked.
 fn closed_after<J: Naming, R: Wait + Drop, W: Drop>(
     alloc: Global,
     until: Until,
@@ -442,7 +442,7 @@ fn closed_after<J: Naming, R: Wait + Drop, W: Drop>(
     }
 }
 
-// Returns how far a call is tried whose store is closed then: wholly where the closing is what is tried.
+// Return how far a call is tried whose store is closed then: wholly where the closing is what is tried.
 fn until_closing(until: Until, closing: Closing) -> Until {
     match closing {
         Closing::Tried => Until::Judged,
@@ -450,7 +450,7 @@ fn until_closing(until: Until, closing: Closing) -> Until {
     }
 }
 
-// Tries the call of a store, and closes it.
+// Try the call of a store, and close it.
 fn acted<J: Naming, R: Wait + Drop, W: Wait + Drop>(
     alloc: Global,
     store: Store<J, Shared<J, R>, W>,
@@ -471,7 +471,7 @@ fn acted<J: Naming, R: Wait + Drop, W: Wait + Drop>(
     }
 }
 
-// Opens what was prepared, tries the call, or the closing after it, and judges what is left of the store.
+// Open what was prepared, try the call, or the closing after it, and judge what is left of the store.
 fn goes<J: Naming, R: Wait + Drop, W: Wait + Drop>(
     rt: W,
     alloc: Global,
@@ -497,7 +497,7 @@ fn goes<J: Naming, R: Wait + Drop, W: Wait + Drop>(
     acted(alloc, store, given, until, closing, case)
 }
 
-// Returns the scenario that a call hands over.
+// Return the scenario that a call hands over.
 fn given_by(alloc: Global, case: &SessionCase) -> Option<Scenario> {
     match case.1 {
         Act::Write(write, _, _) => write.given(alloc),
@@ -505,12 +505,12 @@ fn given_by(alloc: Global, case: &SessionCase) -> Option<Scenario> {
     }
 }
 
-// Prepares a replica of the free road for two sessions and three writes.
+// Prepare a replica of the free road for two sessions and three writes.
 fn prepared_for_two<R: Wait + Drop>(rt: R, alloc: Global) -> Option<Prepared<R>> {
     prepare(rt, alloc, free_plan(alloc)?, 0, 2, 3).ok()
 }
 
-// Tries a call of a session in a new store.
+// Try a call of a session in a new store.
 fn tried_in_store<R: Wait + Drop + Copy>(
     rt: R,
     alloc: Global,
@@ -523,7 +523,7 @@ fn tried_in_store<R: Wait + Drop + Copy>(
     goes::<Brand, R, R>(rt, alloc, prepared, given, until, closing, case)
 }
 
-/// Tries a call of a session, or the closing of the store after it, which takes no memory. Where the store is closed as
+/// Try a call of a session, or the closing of the store after it, which takes no memory. If the store is closed as
 /// soon as the call is refused, that is made again in another one.
 pub(crate) fn tried_call<R: Wait + Drop + Copy>(
     rt: R,
@@ -547,7 +547,7 @@ pub(crate) fn tried_call<R: Wait + Drop + Copy>(
 
 // ---- opening
 
-// Opens what was prepared, and judges whether it is as a new store must be.
+// Open what was prepared, and judge whether it is as a new store must be.
 fn opens<J: Naming, R: Wait + Drop>(
     alloc: Global,
     prepared: Prepared<R>,
@@ -566,7 +566,7 @@ fn opens<J: Naming, R: Wait + Drop>(
     Ok(judged_opening(alloc, &shared, sessions.as_mut_slice(), verdict))
 }
 
-// Judges a store that was opened.
+// Judge a store that was opened.
 fn judged_opening<J: Naming, R: Wait + Drop>(
     alloc: Global,
     shared: &Shared<J, R>,
@@ -578,7 +578,7 @@ fn judged_opening<J: Naming, R: Wait + Drop>(
     Some(accepted(verdict, are_two && is_new))
 }
 
-// Prepares a store once more and opens it, where it was refused so.
+// Prepare a store once more and open it, after it was refused so.
 fn opened_again<R: Wait + Drop + Copy>(rt: R, alloc: Global, fault: OpenFault) -> Option<Verdict> {
     let Some(verdict) = fault.due() else {
         return Some(Verdict::Wrong(Wrong::Cause));
@@ -590,7 +590,7 @@ fn opened_again<R: Wait + Drop + Copy>(rt: R, alloc: Global, fault: OpenFault) -
     }
 }
 
-// Opens what was prepared; where that is refused, prepares and opens it again.
+// Open what was prepared; if that is refused, prepare and open it again.
 fn opened<R: Wait + Drop + Copy>(
     rt: R,
     alloc: Global,
@@ -604,7 +604,7 @@ fn opened<R: Wait + Drop + Copy>(
     }
 }
 
-/// Tries the opening of what was prepared.
+/// Try the opening of what was prepared.
 pub(crate) fn tried_open<R: Wait + Drop + Copy>(
     rt: R,
     alloc: Global,
@@ -617,7 +617,7 @@ pub(crate) fn tried_open<R: Wait + Drop + Copy>(
     opened(rt, alloc, prepared, until)
 }
 
-// Judges what was prepared, or prepares it again: only memory can be wanted for that.
+// Judge what was prepared, or prepare it again: only memory can be wanted for that.
 fn judged_prepared<R: Wait + Drop + Copy>(
     rt: R,
     alloc: Global,
@@ -630,7 +630,7 @@ fn judged_prepared<R: Wait + Drop + Copy>(
     }
 }
 
-/// Tries to prepare a store.
+/// Try to prepare a store.
 pub(crate) fn tried_prepare<R: Wait + Drop + Copy>(
     rt: R,
     alloc: Global,

@@ -43,7 +43,7 @@ impl Call for Opening {
     }
 }
 
-/// Tries the opening of a sheet.
+/// Try the opening of a sheet.
 pub(crate) fn tried_opening(alloc: Global, until: Until) -> Option<Verdict> {
     let plan = free_plan(alloc)?;
     tried(alloc, until, &mut Opening { plan })
@@ -62,7 +62,7 @@ pub(crate) struct GrowthCase(
     pub(crate) Shown,
 );
 
-// Returns how many steps a growth may compute: those behind the horizon, or from the touched step and 63 before it.
+// Return how many steps a growth may compute: those behind the horizon, or from the touched step and 63 before it.
 fn most_steps(case: &GrowthCase) -> u64 {
     let GrowthCase(horizon, to, touched, _, _) = *case;
     let last = horizon.max(to);
@@ -117,7 +117,7 @@ impl Call for Growing {
     }
 }
 
-// Returns the growth of a sheet, where the edits fit its plan.
+// Return the growth of a sheet, where the edits fit its plan.
 fn growth_of(sheet: Sheet, scenario: Scenario, to: u32, case: GrowthCase) -> Option<Growing> {
     if to > GREATEST_HORIZON || scenario.fits(sheet.plan()).is_some() {
         return None;
@@ -131,7 +131,7 @@ fn growth_of(sheet: Sheet, scenario: Scenario, to: u32, case: GrowthCase) -> Opt
     })
 }
 
-// Returns the sheet of the free road with some edits, simulated in one go up to a step.
+// Return the sheet of the free road with some edits, simulated in one go up to a step.
 fn run_of(alloc: Global, edits: &[Edit], to: u32) -> Option<Sheet> {
     let scenario = Scenario::of_edits(alloc, edits).ok()?;
     let opening = Sheet::opening(alloc, free_plan(alloc)?).ok()?;
@@ -140,7 +140,7 @@ fn run_of(alloc: Global, edits: &[Edit], to: u32) -> Option<Sheet> {
     sheet_of(growing.make(alloc))
 }
 
-// Returns a sheet that has grown.
+// Return a sheet that has grown.
 fn sheet_of(grown: Result<Grown, GrownFault>) -> Option<Sheet> {
     match grown {
         Ok(grown) => Some(grown.sheet),
@@ -148,7 +148,7 @@ fn sheet_of(grown: Result<Grown, GrownFault>) -> Option<Sheet> {
     }
 }
 
-/// Tries a growth.
+/// Try a growth.
 pub(crate) fn tried_growth(alloc: Global, until: Until, case: &GrowthCase) -> Option<Verdict> {
     let scenario = Scenario::of_edits(alloc, case.4.1).ok()?;
     let sheet = run_of(alloc, &[], case.0)?;
@@ -175,7 +175,7 @@ struct Asking {
     question: Question,
 }
 
-// Answers whether a sheet has these cars at a step.
+// Return whether a sheet has these cars at a step.
 fn has_cars(alloc: Global, sheet: &Sheet, step: u32, cars: &[Car]) -> Result<bool, SheetFault> {
     let road = sheet.state(alloc, step)?;
     Ok(road.cars() == cars)
@@ -204,7 +204,7 @@ impl Call for Asking {
     }
 }
 
-/// Tries a question to the sheet of some edits at step 6.
+/// Try a question to the sheet of some edits at step 6.
 pub(crate) fn tried_question(
     alloc: Global,
     until: Until,
@@ -218,7 +218,7 @@ pub(crate) fn tried_question(
 
 // ---- drafts
 
-// Adds one more step to a draft.
+// Add one more step to a draft.
 fn add_step(alloc: Global, draft: &mut Draft) -> Option<()>
     requires { draft.old.horizon < GREATEST_HORIZON }
 {
@@ -231,7 +231,7 @@ fn add_step(alloc: Global, draft: &mut Draft) -> Option<()>
     draft.push(alloc, &input, &speeds).ok()
 }
 
-// Simulates a draft up to a step.
+// Simulate a draft up to a step.
 fn finish(alloc: Global, draft: &mut Draft, to: u32) -> Option<()> {
     for _ in draft.horizon()..to {
         if draft.horizon() >= GREATEST_HORIZON {
@@ -242,7 +242,7 @@ fn finish(alloc: Global, draft: &mut Draft, to: u32) -> Option<()> {
     Some(())
 }
 
-// Begins a draft, where that is possible.
+// Begin a draft, where that is possible.
 fn drafted(
     alloc: Global,
     sheet: &Sheet,
@@ -290,7 +290,7 @@ impl Call for Drafting {
     }
 }
 
-/// Tries the beginning of a draft.
+/// Try the beginning of a draft.
 pub(crate) fn tried_draft(
     alloc: Global,
     until: Until,
@@ -309,14 +309,14 @@ pub(crate) fn tried_draft(
     tried(alloc, until, &mut drafting)
 }
 
-// Returns the draft of a run that goes on at a step.
+// Return the draft of a run that goes on at a step.
 fn draft_at(alloc: Global, step: u32) -> Option<Draft> {
     let scenario = Scenario::empty(alloc);
     let sheet = run_of(alloc, &[], step)?;
     drafted(alloc, &sheet, &scenario, step).ok()
 }
 
-// Draws a draft.
+// Draw a draft.
 fn draw_draft(portrait: &mut Portrait, draft: &Draft) -> Option<()> {
     portrait.draw_number(u64::from(draft.horizon()))?;
     portrait.draw_cars(draft.road())
@@ -329,7 +329,7 @@ struct Entering {
     speeds: &'static [u8],
 }
 
-// Answers whether the cars of an input have these speeds.
+// Return whether the cars of an input have these speeds.
 fn have_speeds(alloc: Global, input: &StepInput, speeds: &[u8]) -> Option<bool> {
     Some(input.speeds(alloc).ok()?.as_slice() == speeds)
 }
@@ -352,7 +352,7 @@ impl Call for Entering {
     }
 }
 
-/// Tries the input of the step after some steps: the speeds of its cars are these.
+/// Try the input of the step after some steps: the speeds of its cars are these.
 pub(crate) fn tried_input(
     alloc: Global,
     until: Until,
@@ -363,14 +363,14 @@ pub(crate) fn tried_input(
     tried(alloc, until, &mut Entering { draft, speeds })
 }
 
-// Answers whether a draft is as it was drawn.
+// Return whether a draft is as it was drawn.
 fn is_drawn(alloc: Global, draft: &Draft, before: &Portrait) -> Option<bool> {
     let mut after = Portrait::new(alloc);
     draw_draft(&mut after, draft)?;
     Some(after.is_same(before))
 }
 
-// Adds one more step to a draft, and once more where that is refused.
+// Add one more step to a draft, and once more where that is refused.
 fn push(
     alloc: Global,
     draft: &mut Draft,
@@ -388,7 +388,7 @@ fn push(
     }
 }
 
-// Adds the step to a draft that refused it, and must be as before.
+// Add the step to a draft that refused it, and must be as before.
 fn push_again(
     alloc: Global,
     draft: &mut Draft,
@@ -409,7 +409,7 @@ fn push_again(
     })
 }
 
-// Draws a draft, and tries to add one more step to it.
+// Draw a draft, and try to add one more step to it.
 fn pushed(alloc: Global, until: Until, draft: &mut Draft) -> Option<Verdict>
     requires { draft.old.horizon < GREATEST_HORIZON }
 {
@@ -427,14 +427,14 @@ fn pushed(alloc: Global, until: Until, draft: &mut Draft) -> Option<Verdict>
     push(alloc, draft, &input, &speeds, &before)
 }
 
-// Judges a draft to which a step was added: its last row is this.
+// Judge a draft to which a step was added: its last row is this.
 fn is_pushed(alloc: Global, draft: Draft, row: &str, verdict: Verdict) -> Option<Verdict> {
     let sheet = draft.sheet();
     let is_shown = shows_row(alloc, &sheet, sheet.horizon(), row)?;
     Some(accepted(verdict, is_shown))
 }
 
-/// Tries to add one more step after some steps: the row after it is this.
+/// Try to add one more step after some steps: the row after it is this.
 pub(crate) fn tried_push(alloc: Global, until: Until, steps: u32, row: &str) -> Option<Verdict> {
     let mut draft = draft_at(alloc, steps)?;
     if draft.horizon() >= GREATEST_HORIZON {

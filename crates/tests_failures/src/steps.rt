@@ -25,7 +25,7 @@ pub(crate) enum Rows {
 }
 
 impl Rows {
-    // Returns the step of the last row.
+    // Return the step of the last row.
     fn last(&self) -> Option<u32> {
         match self {
             Rows::At(rows) => Some(rows.last()?.0),
@@ -33,7 +33,7 @@ impl Rows {
         }
     }
 
-    // Answers whether this is the row at a step, if a row is listed there.
+    // Return whether this is the row at a step, if a row is listed there.
     fn agree(&self, step: u32, row: &str) -> bool {
         match self {
             Rows::At(rows) => rows
@@ -63,13 +63,13 @@ struct Run {
     ghost fits: { AreInRange (arc_value plan) scenario },
 }
 
-// Draws the road of a run at a step.
+// Draw the road of a run at a step.
 fn drawn(alloc: Global, run: &Run, step: u32, road: &Road) -> Result<String, OutOfMemory> {
     let settings = run.scenario.settings_at(alloc, &run.plan, step)?;
     row_of(alloc, road, settings.blocks(), run.plan.length())
 }
 
-// Makes the input of a step.
+// Make the input of a step.
 fn entered(
     alloc: Global,
     run: &Run,
@@ -80,19 +80,19 @@ fn entered(
     enter(alloc, &run.plan, settings, step, road)
 }
 
-// Makes the road after the motion of a step.
+// Make the road after the motion of a step.
 fn motion(alloc: Global, input: &StepInput) -> Result<Road, OutOfMemory> {
     let speeds = input.speeds(alloc)?;
     moved(alloc, input.road(), &speeds)
 }
 
-// Makes the road after a step.
+// Make the road after a step.
 fn road_after(alloc: Global, input: &StepInput) -> Result<Road, OutOfMemory> {
     let speeds = input.speeds(alloc)?;
     finish(alloc, input, &speeds)
 }
 
-// Computes a step.
+// Compute a step.
 fn stepped(
     alloc: Global,
     run: &Run,
@@ -143,36 +143,36 @@ struct Stepping<'a> {
     part: Part,
 }
 
-// Answers whether the copy of the road after a step is that road.
+// Return whether the copy of the road after a step is that road.
 fn is_copied(step: &Step) -> Result<bool, OutOfMemory> {
     Ok(step.next.copied()?.cars() == step.next.cars())
 }
 
-// Answers whether that road is drawn as is listed.
+// Return whether that road is drawn as is listed.
 fn is_drawn(alloc: Global, run: &Run, rows: &Rows, step: &Step) -> Result<bool, OutOfMemory> {
     let later = step.number.saturating_add(1);
     let row = drawn(alloc, run, later, &step.next)?;
     Ok(rows.agree(later, row.as_str()))
 }
 
-// Answers whether an input is made with the cars of the one that was made before.
+// Return whether an input is made with the cars of the one that was made before.
 fn is_entered(alloc: Global, run: &Run, step: &Step) -> Result<bool, OutOfMemory> {
     let input = entered(alloc, run, step.number, &step.road)?;
     Ok(input.step() == step.number && input.road().cars() == step.input.road().cars())
 }
 
-// Answers whether the cars that have moved, and are not in the exit, are those after the step.
+// Return whether the cars that have moved, and are not in the exit, are those after the step.
 fn is_moved(alloc: Global, run: &Run, step: &Step) -> Result<bool, OutOfMemory> {
     let road = motion(alloc, &step.input)?;
     Ok(leave(&run.plan, road).cars() == step.next.cars())
 }
 
-// Answers whether a step is finished so.
+// Return whether a step is finished so.
 fn is_finished(alloc: Global, step: &Step) -> Result<bool, OutOfMemory> {
     Ok(road_after(alloc, &step.input)?.cars() == step.next.cars())
 }
 
-// Answers whether a step is computed as a whole so, and is counted.
+// Return whether a step is computed as a whole so, and is counted.
 fn is_stepped(alloc: Global, run: &Run, step: &Step) -> Result<bool, OutOfMemory> {
     let mut meter = Meter::new();
     let done = stepped(alloc, run, step.number, &step.road, &mut meter)?;
@@ -200,7 +200,7 @@ impl Call for Stepping<'_> {
     }
 }
 
-// Prepares a step from a road.
+// Prepare a step from a road.
 fn step_from(alloc: Global, run: &Run, number: u32, road: &Road) -> Option<Step> {
     let done = stepped(alloc, run, number, road, &mut Meter::new()).ok()?;
     Some(Step {
@@ -211,7 +211,7 @@ fn step_from(alloc: Global, run: &Run, number: u32, road: &Road) -> Option<Step>
     })
 }
 
-// Prepares the steps of a run up to the last one.
+// Prepare the steps of a run up to the last one.
 fn steps_of(alloc: Global, run: &Run, last: u32) -> Option<Vec<Step>> {
     let mut steps = Vec::new(alloc);
     let mut road = Road::empty(alloc);
@@ -223,7 +223,7 @@ fn steps_of(alloc: Global, run: &Run, last: u32) -> Option<Vec<Step>> {
     Some(steps)
 }
 
-// Tries the calls of a step.
+// Try the calls of a step.
 fn tried_step(alloc: Global, run: &Run, rows: &Rows, step: &Step) -> Option<Verdict> {
     let mut verdict = Verdict::Right;
     for part in PARTS {
@@ -239,7 +239,7 @@ fn tried_step(alloc: Global, run: &Run, rows: &Rows, step: &Step) -> Option<Verd
     Some(verdict)
 }
 
-// Tries the steps of a run, one after the other.
+// Try the steps of a run, one after the other.
 fn tried_steps(alloc: Global, run: &Run, rows: &Rows, steps: &[Step]) -> Option<Verdict> {
     let mut verdict = Verdict::Right;
     for step in steps {
@@ -248,7 +248,7 @@ fn tried_steps(alloc: Global, run: &Run, rows: &Rows, steps: &[Step]) -> Option<
     Some(verdict)
 }
 
-// Returns a run of these parts and edits.
+// Return a run of these parts and edit.
 fn run_of(alloc: Global, case: &RunCase) -> Option<Run> {
     let plan = shared_plan(alloc, &case.0)?;
     let scenario = Scenario::of_edits(alloc, case.1).ok()?;
@@ -258,7 +258,7 @@ fn run_of(alloc: Global, case: &RunCase) -> Option<Run> {
     Some(Run { plan, scenario })
 }
 
-// Tries each step of a run.
+// Try each step of a run.
 fn tried_from(alloc: Global, until: Until, run: &Run, rows: &Rows) -> Option<Verdict> {
     let steps = steps_of(alloc, run, rows.last()?)?;
     if until == Until::Prepared {
@@ -271,7 +271,7 @@ fn tried_from(alloc: Global, until: Until, run: &Run, rows: &Rows) -> Option<Ver
     Some(verdict)
 }
 
-/// Tries each step of a run.
+/// Try each step of a run.
 pub(crate) fn tried_run(alloc: Global, until: Until, case: &RunCase) -> Option<Verdict> {
     let run = run_of(alloc, case)?;
     tried_from(alloc, until, &run, &case.2)

@@ -25,6 +25,8 @@ pub(crate) enum Verdict {
     Again,
     /// It was refused since a thread could not be started, and gave the expected answer when it was made again.
     Restarted,
+    /// One event of a list was refused for out of memory, and all was as without it; the list then gave the expected answer.
+    Skipped,
     /// It was refused as is due, and not made again.
     Refused,
     Wrong(Wrong),
@@ -48,7 +50,7 @@ pub(crate) enum Wrong {
 }
 
 impl Wrong {
-    /// Returns it in words.
+    /// Return it in words.
     pub(crate) fn text(self) -> &'static str {
         match self {
             Wrong::Answer => "the answer, or what it leaves, is another one",
@@ -63,7 +65,7 @@ impl Wrong {
 
 /// Why a call is refused.
 pub(crate) trait Refusal {
-    /// Returns the verdict on a call that was refused so where an allocation failed, and then gave the expected answer;
+    /// Return the verdict on a call that was refused so where an allocation failed, and then gave the expected answer;
     /// none where no failed allocation is the cause.
     fn due(&self) -> Option<Verdict>;
 }
@@ -74,24 +76,24 @@ pub(crate) trait Call {
 
     type Fault: Refusal + Copy;
 
-    /// Draws all that is shown of what it is called on; none, here and below, where memory was wanted for that.
+    /// Draw all that is shown of what it is called on; none, here and below, where memory was wanted for that.
     fn draw(&mut self, _alloc: Global, _portrait: &mut Portrait) -> Option<()> {
         Some(())
     }
 
-    /// Answers whether it writes: else what it is called on is the same after it.
+    /// Return whether it writes: else what it is called on is the same after it.
     fn writes(&self) -> bool {
         false
     }
 
-    /// Makes the call.
+    /// Make the call.
     fn make(&mut self, alloc: Global) -> Result<Self::Answer, Self::Fault>;
 
-    /// Answers whether this is the expected answer, and after a write all is as it must be.
+    /// Return whether this is the expected answer, and after a write all is as it must be.
     fn is_right(&mut self, alloc: Global, answer: Self::Answer) -> Option<bool>;
 }
 
-/// Returns this verdict where an answer, and what the call left, are the expected ones.
+/// Return this verdict where an answer, and what the call left, are the expected ones.
 pub(crate) fn accepted(verdict: Verdict, is_right: bool) -> Verdict {
     if is_right {
         verdict
@@ -100,7 +102,7 @@ pub(crate) fn accepted(verdict: Verdict, is_right: bool) -> Verdict {
     }
 }
 
-/// Returns the verdict on two calls of which one at most is refused.
+/// Return the verdict on two calls of which one at most is refused.
 pub(crate) fn both(first: Verdict, second: Verdict) -> Verdict {
     match (first, second) {
         (Verdict::Wrong(_), _) | (_, Verdict::Right) => first,
@@ -108,14 +110,14 @@ pub(crate) fn both(first: Verdict, second: Verdict) -> Verdict {
     }
 }
 
-/// Answers whether what a call is called on is as it was drawn.
+/// Return whether what a call is called on is as it was drawn.
 pub(crate) fn is_as<C: Call>(alloc: Global, call: &mut C, before: &Portrait) -> Option<bool> {
     let mut after = Portrait::new(alloc);
     call.draw(alloc, &mut after)?;
     Some(after.is_same(before))
 }
 
-// Judges the answer of a call.
+// Judge the answer of a call.
 fn answered<C: Call>(
     alloc: Global,
     call: &mut C,
@@ -128,7 +130,7 @@ fn answered<C: Call>(
     Some(accepted(verdict, is_right && is_kept))
 }
 
-// Judges a call that was refused: all must be as before, and then it is made again.
+// Judge a call that was refused: all must be as before, and then it is made again.
 fn refused<C: Call>(
     alloc: Global,
     call: &mut C,
@@ -147,7 +149,7 @@ fn refused<C: Call>(
     }
 }
 
-/// Makes a call, once more where it is refused, and judges it.
+/// Make a call, once more where it is refused, and judge it.
 pub(crate) fn judged<C: Call>(alloc: Global, call: &mut C, before: &Portrait) -> Option<Verdict> {
     match call.make(alloc) {
         Ok(answer) => answered(alloc, call, before, Verdict::Right, answer),
@@ -155,13 +157,13 @@ pub(crate) fn judged<C: Call>(alloc: Global, call: &mut C, before: &Portrait) ->
     }
 }
 
-// Makes a call.
+// Make a call.
 fn called<C: Call>(alloc: Global, call: &mut C) -> Verdict {
     let _ = call.make(alloc);
     Verdict::Left
 }
 
-/// Draws what a call is called on, makes the call, and judges it.
+/// Draw what a call is called on, make the call, and judge it.
 pub(crate) fn tried<C: Call>(alloc: Global, until: Until, call: &mut C) -> Option<Verdict> {
     let mut before = Portrait::new(alloc);
     call.draw(alloc, &mut before)?;

@@ -38,7 +38,7 @@ pub(crate) struct Told(
 );
 
 impl Told {
-    // Returns the event; none where there was no memory for its edits.
+    // Return the event; none where there was no memory for its edits.
     fn event(&self, alloc: Global) -> Option<Event> {
         let at = self.0;
         Some(match self.1 {
@@ -114,7 +114,7 @@ pub(crate) const EXCHANGE: &[Told] = &[
 
 // ---- what a world shows
 
-// Draws heads, as edits that withdraw.
+// Draw heads, as edits that withdraw.
 fn draw_heads(portrait: &mut Portrait, heads: &[Head]) -> Option<()> {
     for head in heads {
         let edit = Edit {
@@ -128,7 +128,7 @@ fn draw_heads(portrait: &mut Portrait, heads: &[Head]) -> Option<()> {
     Some(())
 }
 
-// Draws what a message carries, and its kind.
+// Draw what a message carries, and its kind.
 fn draw_message(alloc: Global, portrait: &mut Portrait, message: &Message) -> Option<()> {
     match message {
         Message::Whole(scenario) => {
@@ -146,7 +146,7 @@ fn draw_message(alloc: Global, portrait: &mut Portrait, message: &Message) -> Op
     }
 }
 
-// Draws a world of three replicas, which has no more messages than the exchange has events.
+// Draw a world of three replicas, which has no more messages than the exchange has events.
 fn draw_world(alloc: Global, portrait: &mut Portrait, world: &World) -> Option<()> {
     for at in 0..3 {
         portrait.draw_sheet(alloc, world.replica(at)?.sheet())?;
@@ -159,7 +159,7 @@ fn draw_world(alloc: Global, portrait: &mut Portrait, world: &World) -> Option<(
     Some(())
 }
 
-// Returns the row that a replica shows after the events of a list.
+// Return the row that a replica shows after the events of a list.
 fn row_after(list: &[Told], at: u32) -> &'static str {
     let mut row = "............";
     for told in list {
@@ -170,7 +170,7 @@ fn row_after(list: &[Told], at: u32) -> &'static str {
     row
 }
 
-// Returns how many messages the events of a list make.
+// Return how many messages the events of a list make.
 fn messages_after(list: &[Told]) -> u64 {
     let mut count: u64 = 0;
     for told in list {
@@ -181,7 +181,7 @@ fn messages_after(list: &[Told]) -> u64 {
     count
 }
 
-// Answers whether a world shows what it must after the events of a list.
+// Return whether a world shows what it must after the events of a list.
 fn is_after(alloc: Global, world: &World, list: &[Told]) -> Option<bool> {
     let count = messages_after(list);
     let last = count
@@ -217,7 +217,7 @@ impl Call for Opening {
     }
 }
 
-/// Tries the opening of a world.
+/// Try the opening of a world.
 pub(crate) fn tried_opening(alloc: Global, until: Until) -> Option<Verdict> {
     let plan = free_plan(alloc)?;
     tried(alloc, until, &mut Opening { plan })
@@ -225,19 +225,19 @@ pub(crate) fn tried_opening(alloc: Global, until: Until) -> Option<Verdict> {
 
 // ---- events
 
-// Applies an event.
+// Apply an event.
 fn applied(alloc: Global, world: &mut World, event: &Event) -> Result<Reply, WorldFault> {
     world.apply(alloc, event, &mut Alone, &mut Meter::new())
 }
 
-// Applies the event of a list, which is accepted.
+// Apply the event of a list, which is accepted.
 fn accept(alloc: Global, world: &mut World, told: &Told) -> Option<()> {
     let event = told.event(alloc)?;
     applied(alloc, world, &event).ok()?;
     Some(())
 }
 
-// Applies the events of a list, all of which are accepted.
+// Apply the events of a list, all of which are accepted.
 fn accept_all(alloc: Global, world: &mut World, list: &[Told]) -> Option<()> {
     for told in list {
         accept(alloc, world, told)?;
@@ -277,12 +277,12 @@ impl Call for Applying {
     }
 }
 
-// Returns a world before any event.
+// Return a world before any event.
 fn new_world(alloc: Global) -> Option<World> {
     World::open(alloc, free_plan(alloc)?, 3).ok()
 }
 
-/// Tries the event of this place in the exchange.
+/// Try the event of this place in the exchange.
 pub(crate) fn tried_event(alloc: Global, until: Until, place: usize) -> Option<Verdict> {
     let event = EXCHANGE.get(place)?.event(alloc)?;
     let world = new_world(alloc)?;
@@ -297,21 +297,21 @@ pub(crate) fn tried_event(alloc: Global, until: Until, place: usize) -> Option<V
 
 // ---- lists of events
 
-// Why a list is not played as it must be: it was refused, or its first event that was not answered as is wanted was, or
-// was answered otherwise.
+// Why a list is not played as it must be: it was refused before its first event; or one event was refused, and all is as
+// without that event; or it was played in another way.
 #[derive(Clone, Copy)]
 enum ListFault {
     Play(PlayFault),
     Event(WorldFault),
-    Reply,
+    Otherwise,
 }
 
 impl Refusal for ListFault {
     fn due(&self) -> Option<Verdict> {
         match self {
             ListFault::Play(fault) => fault.due(),
-            ListFault::Event(fault) => fault.due(),
-            ListFault::Reply => None,
+            ListFault::Event(fault) => fault.due().map(|_| Verdict::Skipped),
+            ListFault::Otherwise => None,
         }
     }
 }
@@ -323,24 +323,85 @@ struct Playing {
     events: Vec<Event>,
 }
 
-// Returns what is wrong with the first event that was not answered as is wanted.
-fn fault_of(replies: &[Result<Reply, WorldFault>], list: &[Told]) -> Option<ListFault> {
-    for (reply, told) in replies.iter().zip(list) {
-        match reply {
-            Ok(reply) if *reply == told.2 => {}
-            Ok(_) => return Some(ListFault::Reply),
-            Err(fault) => return Some(ListFault::Event(*fault)),
+// Return the place of the first event that was refused, and why.
+fn first_refused(replies: &[Result<Reply, WorldFault>]) -> Option<(usize, WorldFault)> {
+    for (place, reply) in replies.iter().enumerate() {
+        if let Err(fault) = reply {
+            return Some((place, *fault));
         }
     }
     None
 }
 
-// Returns what was played, where all events were answered as is wanted.
-fn all_answered(played: Played) -> Result<Played, ListFault> {
-    match fault_of(&played.replies, EXCHANGE) {
-        Some(fault) => Err(fault),
-        None => Ok(played),
+// Return whether two replies to an event are the same.
+fn is_same_reply(reply: &Result<Reply, WorldFault>, other: &Result<Reply, WorldFault>) -> bool {
+    match (reply, other) {
+        (Ok(reply), Ok(other)) => reply == other,
+        (Err(fault), Err(other)) => fault == other,
+        _ => false,
     }
+}
+
+// Apply all events but the one at a place, and answer whether each has this reply.
+fn are_replies_without(
+    alloc: Global,
+    world: &mut World,
+    events: &[Event],
+    place: usize,
+    replies: &[Result<Reply, WorldFault>],
+) -> bool {
+    let mut are_same = replies.len() == events.len();
+    for (number, (event, reply)) in events.iter().zip(replies).enumerate() {
+        if number != place {
+            are_same = is_same_reply(&applied(alloc, world, event), reply) && are_same;
+        }
+    }
+    are_same
+}
+
+// Return whether two worlds show the same.
+fn is_same_world(alloc: Global, world: &World, other: &World) -> Option<bool> {
+    let mut first = Portrait::new(alloc);
+    draw_world(alloc, &mut first, world)?;
+    let mut second = Portrait::new(alloc);
+    draw_world(alloc, &mut second, other)?;
+    Some(first.is_same(&second))
+}
+
+// Return whether what was played is what the other events leave of a new world, each reply too, where the event at a
+// place was refused.
+fn is_without(
+    alloc: Global,
+    world: &mut World,
+    events: &[Event],
+    place: usize,
+    played: &Played,
+) -> Option<bool> {
+    let are_same = are_replies_without(alloc, world, events, place, &played.replies);
+    Some(are_same && is_same_world(alloc, world, &played.world)?)
+}
+
+// Return what was played, if no event was refused.
+fn all_accepted(alloc: Global, events: &[Event], played: Played) -> Result<Played, ListFault> {
+    let Some((place, fault)) = first_refused(&played.replies) else {
+        return Ok(played);
+    };
+    let Some(mut world) = new_world(alloc) else {
+        return Err(ListFault::Otherwise);
+    };
+    match is_without(alloc, &mut world, events, place, &played) {
+        Some(true) => Err(ListFault::Event(fault)),
+        _ => Err(ListFault::Otherwise),
+    }
+}
+
+// Return whether each event of a list was answered as is wanted.
+fn are_wanted(replies: &[Result<Reply, WorldFault>], list: &[Told]) -> bool {
+    let mut are_wanted = replies.len() == list.len();
+    for (reply, told) in replies.iter().zip(list) {
+        are_wanted = are_wanted && matches!(reply, Ok(reply) if *reply == told.2);
+    }
+    are_wanted
 }
 
 impl Call for Playing {
@@ -353,18 +414,18 @@ impl Call for Playing {
             return Err(ListFault::Play(PlayFault::OutOfMemory));
         };
         match play(alloc, plan, 3, &self.events, &mut Alone, &mut Meter::new()) {
-            Ok(played) => all_answered(played),
+            Ok(played) => all_accepted(alloc, &self.events, played),
             Err(fault) => Err(ListFault::Play(fault)),
         }
     }
 
     fn is_right(&mut self, alloc: Global, played: Played) -> Option<bool> {
-        let are_all = played.replies.len() == EXCHANGE.len();
-        Some(are_all && is_after(alloc, &played.world, EXCHANGE)?)
+        let are_wanted = are_wanted(&played.replies, EXCHANGE);
+        Some(are_wanted && is_after(alloc, &played.world, EXCHANGE)?)
     }
 }
 
-// Returns the events of a list.
+// Return the events of a list.
 fn events_of(alloc: Global, list: &[Told]) -> Option<Vec<Event>> {
     let mut events = Vec::new(alloc);
     for told in list {
@@ -373,7 +434,7 @@ fn events_of(alloc: Global, list: &[Told]) -> Option<Vec<Event>> {
     Some(events)
 }
 
-/// Tries the exchange as one list of events.
+/// Try the exchange as one list of events.
 pub(crate) fn tried_list(alloc: Global, until: Until) -> Option<Verdict> {
     let plan = free_plan(alloc)?;
     let events = events_of(alloc, EXCHANGE)?;

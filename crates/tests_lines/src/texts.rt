@@ -78,7 +78,7 @@ const TEXTS: &[(Fault, &str)] = &[
     (Fault::PlanLine(PlanLineFault::OutOfMemory), "no memory"),
 ];
 
-// Returns the text of an error.
+// Return the text of an error.
 fn text_of(alloc: Global, fault: Fault) -> Result<String, OutOfMemory> {
     match fault {
         Fault::Plan(fault) => format!(in alloc; "{fault}"),

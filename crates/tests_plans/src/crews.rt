@@ -6,21 +6,21 @@ ghost use Rattle.road_workers.specs.Crews.{gone_after};
 use road_cells::Road;
 use road_detector::Ran;
 use road_ends::{Span, StepInput};
-use road_workers::{Crew, CrewFault, Gate, KeptRun};
+use road_workers::{Crew, CrewFault, KeptRun};
 use std::alloc::Global;
 use std::sync::Arc;
 
-/// Answers `WorkersGone` once, after some calls, and computes all other speeds by itself.
+/// A crew that returns `WorkersGone` once, after some calls, and computes all other speeds itself.
 #[derive(Clone, Copy, Debug)]
 pub struct Leaving {
-    /// The calls that are answered before.
+    /// The number of calls that succeed before.
     pub calls_left: u64,
-    /// How often it has answered `WorkersGone`.
+    /// How often it has returned `WorkersGone`.
     pub gone: u64,
 }
 
 impl Leaving {
-    /// Makes a crew that leaves after so many calls.
+    /// Make a crew that fails after `calls` calls.
     pub fn after(calls: u64) -> Leaving
         ensures { result ≡ record { calls_left = calls; gone = 0 } }
     {
@@ -44,7 +44,7 @@ impl Crew for Leaving {
     }
 }
 
-/// Computes all speeds by itself and counts its calls.
+/// A crew that computes all speeds itself and counts its calls.
 #[derive(Clone, Copy, Debug)]
 pub struct Counting {
     /// The calls so far.
@@ -60,30 +60,10 @@ impl Crew for Counting {
     }
 }
 
-/// Computes the pieces of two workers one after the other, each behind the gate, as one thread does.
-#[derive(Drop)]
-pub struct InTurn<G> {
-    /// What the two pass.
-    pub gate: G,
-}
-
-impl<G: Gate> Crew for InTurn<G> {
-    ghost times_gone = { λ _. 0 };
-
-    fn speeds(&mut self, alloc: Global, input: &Arc<StepInput>) -> Result<Vec<u8>, CrewFault> {
-        let cars = input.road().cars().len();
-        self.gate.arrive(0);
-        let _front = input.speeds_between(alloc, 0, cars / 2)?;
-        self.gate.arrive(1);
-        let _back = input.speeds_between(alloc, cars / 2, cars)?;
-        Ok(input.speeds(alloc)?)
-    }
-}
-
-/// Asks another crew for the speeds of each step, as it runs no spans.
+/// A crew that asks another crew for the speeds of each step, because it runs no spans.
 #[derive(Drop)]
 pub struct StepByStep<C> {
-    /// Who computes.
+    /// The crew that computes.
     pub crew: C,
 }
 
@@ -95,23 +75,23 @@ impl<C: Crew> Crew for StepByStep<C> {
     }
 }
 
-/// Asks another crew, but answers one of the calls for a run by a fault; it counts the steps of the runs.
+/// A crew that asks another crew, but returns a fault for one of the calls for a run. It counts the steps of the runs.
 #[derive(Drop)]
 pub struct Running<C> {
-    /// Who computes.
+    /// The crew that computes.
     pub crew: C,
-    /// The runs before the one that is answered by the fault.
+    /// The number of runs before the one that fails.
     pub runs_left: u64,
-    /// The fault, until it was answered.
+    /// The fault, until it was returned.
     pub fault: Option<CrewFault>,
-    /// How often it has answered `WorkersGone`.
+    /// How often it has returned `WorkersGone`.
     pub gone: u64,
     /// The steps of all runs.
     pub steps: u64,
 }
 
 impl<C> Running<C> {
-    /// Makes a crew that answers all runs.
+    /// Make a crew that succeeds in all runs.
     pub fn of(crew: C) -> Running<C>
         ensures { result.gone ≡ 0 }
     {
@@ -124,7 +104,7 @@ impl<C> Running<C> {
         }
     }
 
-    /// Lets the run after so many be answered by a fault.
+    /// Let the run after `runs` runs fail with a fault.
     pub fn fail_after(&mut self, runs: u64, fault: CrewFault)
         ensures { self.new.gone ≡ self.old.gone }
     {
@@ -132,7 +112,7 @@ impl<C> Running<C> {
         self.fault = Some(fault);
     }
 
-    // Returns the fault by which this run is answered, if it is.
+    // Return the fault with which this run fails, if it does.
     fn fault_of_run(&mut self) -> Option<CrewFault>
         ensures { self.new.gone ≡ self.old.gone }
     {
@@ -143,7 +123,7 @@ impl<C> Running<C> {
         self.fault.take()
     }
 
-    // Counts an answer `WorkersGone`.
+    // Count a result `WorkersGone`.
     fn note<T>(&mut self, answer: &Result<T, CrewFault>)
         ensures { self.new.gone ≡ gone_after answer.now self.old.gone }
     {

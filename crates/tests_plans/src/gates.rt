@@ -5,8 +5,8 @@ use std::sync::atomic::{AtomicU32, Ordering};
 use std::thread;
 use std::time::{Clock, Duration};
 
-/// Holds each of so many workers, at most 31 of them, numbered from 0, until all have arrived, or the turns are used up;
-/// and again the next time. Each hundredth turn is a millisecond of sleep, so that the others come on a busy machine too.
+/// A gate that holds each of at most 31 workers, numbered from 0, until all have arrived or the turns are used up, and
+/// again the next time. Each hundredth turn is a millisecond of sleep, so that the others arrive on a busy machine too.
 #[derive(Drop)]
 pub struct Meeting<R> {
     rt: R,
@@ -14,12 +14,13 @@ pub struct Meeting<R> {
     turns: u32,
     arrived: AtomicU32,
     missed: AtomicU32,
-    // A bit for each that has come.
+    // A bit for each worker that has come.
     came: AtomicU32,
 }
 
 impl<R: Clock> Meeting<R> {
-    /// Makes a gate for so many workers at which nobody has arrived. A worker looks for the others in so many turns.
+    /// Make a gate for `workers` workers at which no worker has arrived. A worker looks for the others in `turns`
+    /// turns.
     pub fn new(rt: R, workers: u32, turns: u32) -> Meeting<R> {
         Meeting {
             rt,
@@ -31,7 +32,7 @@ impl<R: Clock> Meeting<R> {
         }
     }
 
-    // Lets others run, in the turn of this number.
+    // Let others run, in the turn of this number.
     fn wait_a_turn(&self, turn: u32) {
         if turn % 100 == 99 {
             thread::sleep(&self.rt, Duration::from_millis(1));
@@ -40,26 +41,26 @@ impl<R: Clock> Meeting<R> {
         }
     }
 
-    // How many arrivals there are once a meeting is full in which so many came before this worker.
+    // Return the number of arrivals once the meeting is full, if `before` workers came before this one.
     fn full_after(&self, before: u32) -> u32 {
         let meeting = before.checked_div(self.workers).unwrap_or(0);
         meeting.saturating_add(1).saturating_mul(self.workers)
     }
 
-    // A bit for each of so many workers; none from 32 on.
+    // Return a bit for each of `workers` workers, or none from 32 on.
     fn bits(workers: u32) -> u32 {
         let behind = 1_u32.checked_shl(workers).unwrap_or(0);
         behind.saturating_sub(1)
     }
 
-    /// Answers whether all have met so often, and nobody has waited in vain.
+    /// Return whether all workers have met this number of times, and no worker has waited in vain.
     pub fn was_held(&self, meetings: u32) -> bool {
         self.came.load(Ordering::SeqCst) == Self::bits(self.workers)
             && self.arrived.load(Ordering::SeqCst) == self.workers.saturating_mul(meetings)
             && self.missed.load(Ordering::SeqCst) == 0
     }
 
-    /// Answers whether nobody has arrived.
+    /// Return whether no worker has arrived.
     pub fn has_none(&self) -> bool {
         self.arrived.load(Ordering::SeqCst) == 0
     }
@@ -80,21 +81,21 @@ impl<R: Clock> Gate for Meeting<R> {
     }
 }
 
-/// Counts the workers that pass.
+/// A counter of the workers that pass.
 #[derive(Drop)]
 pub struct Counter {
     passed: AtomicU32,
 }
 
 impl Counter {
-    /// Makes a gate that nobody has passed.
+    /// Make a gate that no worker has passed.
     pub fn new() -> Counter {
         Counter {
             passed: AtomicU32::new(0),
         }
     }
 
-    /// Returns how often a worker has passed.
+    /// Return how often a worker has passed.
     pub fn passed(&self) -> u32 {
         self.passed.load(Ordering::SeqCst)
     }

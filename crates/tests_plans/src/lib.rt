@@ -1,4 +1,5 @@
-//! Plans, their worked rows, random roads, cars, objects, edits, events, crews and gates that the crates of tests share.
+//! Plans, their worked rows, random roads, cars, objects, edits, events, crews and gates that the crates of tests
+//! share.
 #![tactic(auto)]
 
 ghost use Rattle.std.specs.Prelude.{◌≡◌};
@@ -8,7 +9,7 @@ mod gates;
 mod roads;
 mod rows;
 
-pub use crews::{Counting, InTurn, Leaving, Running, StepByStep};
+pub use crews::{Counting, Leaving, Running, StepByStep};
 pub use gates::{Counter, Meeting};
 use road_cells::Car;
 use road_plan::{Object, OutOfMemory, Plan, PlanFault, PlanParts, WordKind};
@@ -16,7 +17,7 @@ pub use roads::{Dice, queue, random_plan, random_road, random_settings, road_of}
 pub use rows::row_of;
 use std::alloc::Global;
 
-/// Lists pairs: what is given, and what is wanted of it.
+/// Lists pairs: an input, and the expected result.
 #[macro_export]
 macro_rules! pairs {
     ($($given:expr => $wanted:expr),* $(,)?) => {
@@ -24,7 +25,7 @@ macro_rules! pairs {
     };
 }
 
-/// Writes the parts of a plan, of which some differ from the free road's. It wants `Parts` and `FREE` in scope.
+/// Writes the parts of a plan, some of which differ from the free road's. `Parts` and `FREE` must be in scope.
 #[macro_export]
 macro_rules! parts {
     ($($field:ident: $value:expr),* $(,)?) => {
@@ -32,7 +33,7 @@ macro_rules! parts {
     };
 }
 
-/// Lists such parts, each with what is wanted of it.
+/// Lists parts like these, each with the expected result.
 #[macro_export]
 macro_rules! parts_pairs {
     ($({ $($field:ident: $value:expr),* } => $wanted:expr),* $(,)?) => {
@@ -40,7 +41,7 @@ macro_rules! parts_pairs {
     };
 }
 
-/// Lists cars, each by its number, cell and speed. It wants `Car` of `road_cells` in scope.
+/// Lists cars, each by its number, cell and speed. `Car` of `road_cells` must be in scope.
 #[macro_export]
 macro_rules! cars {
     ($(($number:expr, $cell:expr, $speed:expr)),* $(,)?) => {
@@ -48,7 +49,7 @@ macro_rules! cars {
     };
 }
 
-/// Writes the stamp of a count and a writer's number. It wants `Stamp` of `road_scenario` in scope.
+/// Writes the stamp of a count and a writer's number. `Stamp` of `road_scenario` must be in scope.
 #[macro_export]
 macro_rules! stamp {
     ($count:expr, $number:expr) => {
@@ -56,8 +57,8 @@ macro_rules! stamp {
     };
 }
 
-/// Writes the edit that puts a number from a step on, or withdraws: its object, its step, the count and the writer's
-/// number of its stamp, and what it does. It wants `Edit`, `Stamp` and `Value` of `road_scenario` in scope.
+/// Writes the edit that sets a number from a step on, or withdraws: its object, its step, the count and the writer's
+/// number of its stamp, and its effect. `Edit`, `Stamp` and `Value` of `road_scenario` must be in scope.
 #[macro_export]
 macro_rules! edit {
     ($object:expr, $step:expr, ($count:expr, $number:expr), withdrawn) => {
@@ -78,7 +79,7 @@ macro_rules! edit {
     };
 }
 
-/// Writes an event of a world: what happens, at which replica, and of what. It wants `Event` of `road_world` in scope.
+/// Writes an event of a world: its kind, its replica and its content. `Event` of `road_world` must be in scope.
 #[macro_export]
 macro_rules! event {
     (edit($at:expr, $object:expr, $step:expr, $value:expr)) => {
@@ -94,8 +95,8 @@ macro_rules! event {
     (advance($at:expr, $to:expr)) => { Event::Advance { at: $at, to: $to } };
 }
 
-/// Lists events, each written as in [`event`] with its answer: all events, and all answers. It wants `Event` of
-/// `road_world` in scope.
+/// Lists events, each written as in [`event`] with its answer: all events, and all answers. `Event` of `road_world`
+/// must be in scope.
 #[macro_export]
 macro_rules! answered_events {
     ($($kind:ident($($part:expr),*) => $answer:expr),* $(,)?) => {
@@ -103,8 +104,8 @@ macro_rules! answered_events {
     };
 }
 
-/// Writes the head of an object and a step: these, and the count and the writer's number of its stamp. It wants `Head`
-/// of `road_delta` and `Stamp` of `road_scenario` in scope.
+/// Writes the head of an object and a step: these, and the count and the writer's number of its stamp. `Head` of
+/// `road_delta` and `Stamp` of `road_scenario` must be in scope.
 #[macro_export]
 macro_rules! head {
     ($object:expr, $step:expr, ($count:expr, $number:expr)) => {
@@ -119,10 +120,10 @@ pub const INFLOW: Object = Object::Inflow(0);
 
 pub const BLOCK: Object = Object::Block(8);
 
-/// The slowing chance of standing cars there.
+/// The slowing chance of standing cars of the free road.
 pub const START: Object = Object::Start(0);
 
-/// The parts of a plan, of which most tests change one or two.
+/// The parts of a plan. Most tests change one or two of them.
 #[derive(Clone, Copy, Debug)]
 pub struct Parts {
     /// The cells of the road, of its deleted zone and of a zone.
@@ -160,24 +161,24 @@ pub const FREE_ROWS: &[Row] = &[
     (6, "0..2...2...."),
 ];
 
-/// Its cars at step 6.
+/// The cars of the free road at step 6.
 pub const CARS_AT_SIX: &[Car] = cars![(80, 0, 0), (48, 3, 2), (16, 7, 2)];
 
-/// Its rows where cell 8 is blocked from step 4 on.
+/// The rows of the free road if cell 8 is blocked from step 4 on.
 pub const BLOCKED_ROWS: &[Row] = &[
     (4, "0..2...2#..."),
     (5, ".1...2.0#..."),
     (6, "0..2..10#..."),
 ];
 
-/// Its rows where cell 7 is blocked from step 4 on, where a car stands.
+/// The rows of the free road if cell 7, where a car stands, is blocked from step 4 on.
 pub const BLOCKED_UNDER_ROWS: &[Row] = &[
     (4, "0..2...2...."),
     (5, ".1...2.#.2.."),
     (6, "0..2..1#...."),
 ];
 
-/// Its rows where the limit falls to 1 at step 3 and to 0 at step 5.
+/// The rows of the free road if the limit falls to 1 at step 3 and to 0 at step 5.
 pub const LOWERED_ROWS: &[Row] = &[
     (3, ".1...2......"),
     (4, "0.1...1....."),
@@ -186,7 +187,7 @@ pub const LOWERED_ROWS: &[Row] = &[
     (7, "00.0...0...."),
 ];
 
-/// Its rows where all cars are slowed at every step.
+/// The rows of the free road if all cars are slowed at every step.
 pub const SLOWED_ROWS: &[Row] = &[
     (1, "0..........."),
     (2, "0..........."),
@@ -196,7 +197,7 @@ pub const SLOWED_ROWS: &[Row] = &[
     (6, "0..........."),
 ];
 
-/// Its rows where all standing cars are slowed up to step 3, and no car later.
+/// The rows of the free road if all standing cars are slowed up to step 3, and no car later.
 pub const SLOW_TO_START_ROWS: &[Row] = &[
     (1, "0..........."),
     (2, "0..........."),
@@ -206,7 +207,7 @@ pub const SLOW_TO_START_ROWS: &[Row] = &[
     (6, ".1...2......"),
 ];
 
-/// Its rows where all moving cars are slowed at every step, and no standing one.
+/// The rows of the free road if all moving cars are slowed at every step, and no standing car.
 pub const QUICK_TO_START_ROWS: &[Row] = &[
     (1, ".1.........."),
     (2, "0.1........."),
@@ -232,7 +233,7 @@ pub const HALF_SLOWED_ROWS: &[&str] = &[
     ".1...1......",
 ];
 
-/// Random words that show: four zones, and places beyond the first blocks of the generator.
+/// A run that shows random words: four zones, and places beyond the first blocks of the generator.
 pub const RANDOM: Parts = Parts {
     road: (40, 2, 10),
     zones: &[(5, 20_000), (3, 30_000), (9, 10_000), (5, 20_000)],
@@ -286,7 +287,8 @@ pub const DENSE_START_ROWS: &[&str] = &[
     "00..1.00.0.00.10..00.0.10.1..1..",
 ];
 
-/// The longest road: zones of all kinds, inlets all along it, and detectors on both sides of where it may be cut.
+/// The longest road: zones of all kinds, inlets all along it, and detectors on both sides of the places where it may be
+/// divided.
 pub const LONG: Parts = Parts {
     road: (8_192, 3, 1_024),
     zones: &[
@@ -324,11 +326,11 @@ pub const LONG: Parts = Parts {
     words: WordKind::Seeded(7),
 };
 
-/// Copies these parts.
+/// Copy these parts.
 ///
 /// # Errors
 ///
-/// `OutOfMemory` where an allocation failed.
+/// `OutOfMemory` if an allocation failed.
 pub fn parts_of(alloc: Global, parts: &Parts) -> Result<PlanParts, OutOfMemory> {
     let (length, exit, width) = parts.road;
     Ok(PlanParts {
@@ -342,11 +344,11 @@ pub fn parts_of(alloc: Global, parts: &Parts) -> Result<PlanParts, OutOfMemory> 
     })
 }
 
-/// Makes the plan of these parts.
+/// Make the plan of these parts.
 ///
 /// # Errors
 ///
-/// `OutOfMemory` where an allocation failed, else the fault of the plan.
+/// `OutOfMemory` if an allocation failed, else the fault of the plan.
 pub fn plan_of(alloc: Global, parts: &Parts) -> Result<Plan, PlanFault> {
     match parts_of(alloc, parts) {
         Ok(parts) => Plan::new(parts),
@@ -354,7 +356,7 @@ pub fn plan_of(alloc: Global, parts: &Parts) -> Result<Plan, PlanFault> {
     }
 }
 
-/// Tells whether a plan reads as these parts.
+/// Return whether a plan has these parts.
 pub fn reads(plan: &Plan, parts: &Parts) -> bool {
     (plan.length(), plan.exit(), plan.width()) == parts.road
         && plan.zones() == parts.zones
@@ -363,7 +365,7 @@ pub fn reads(plan: &Plan, parts: &Parts) -> bool {
         && plan.words() == parts.words
 }
 
-/// Makes a car.
+/// Make a car.
 pub fn car(number: u64, cell: u32, speed: u8) -> Car
     ensures { result ≡ record { number = number; cell = cell; speed = speed } }
 {

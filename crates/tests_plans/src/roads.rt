@@ -1,4 +1,4 @@
-//! Random roads, by dice that look random and give the same for the same seed.
+//! Random roads, from dice that look random and give the same for the same seed.
 
 use road_cells::{Car, Road};
 use road_plan::{OutOfMemory, Plan, PlanFault, PlanParts, Settings, WordKind};
@@ -11,12 +11,12 @@ pub struct Dice {
 }
 
 impl Dice {
-    /// Makes dice of a seed.
+    /// Make dice from a seed.
     pub fn of(seed: u64) -> Dice {
         Dice { seed }
     }
 
-    /// Returns a number below this one, or zero.
+    /// Return a number below `most`, or zero.
     pub fn below(&mut self, most: u32) -> u32 {
         self.seed = self
             .seed
@@ -25,7 +25,7 @@ impl Dice {
         (self.seed >> 33) as u32 % most.max(1)
     }
 
-    // Returns a chance: never, always, or one between.
+    // Return a chance: never, always, or one between.
     fn chance(&mut self) -> u32 {
         match self.below(4) {
             0 => 0,
@@ -34,7 +34,7 @@ impl Dice {
         }
     }
 
-    // Returns so many chances.
+    // Return `count` chances.
     fn chances(&mut self, alloc: Global, count: usize) -> Result<Vec<u32>, OutOfMemory> {
         let mut chances = Vec::new(alloc);
         for _ in 0..count {
@@ -43,7 +43,7 @@ impl Dice {
         Ok(chances)
     }
 
-    // Returns rising cells below an end, about so many.
+    // Return about `count` rising cells below an end.
     fn cells(&mut self, alloc: Global, end: u32, count: u32) -> Result<Vec<u32>, OutOfMemory> {
         let mut cells = Vec::new(alloc);
         let apart = end.checked_div(count).unwrap_or(end).max(1);
@@ -58,7 +58,7 @@ impl Dice {
         Ok(cells)
     }
 
-    // Returns words of a kind.
+    // Return random words of either kind.
     fn words(&mut self) -> WordKind {
         if self.below(4) == 0 {
             WordKind::Steady
@@ -68,7 +68,7 @@ impl Dice {
     }
 }
 
-// Makes zones so wide for a road of so many cells.
+// Make zones of this width for a road of this number of cells.
 fn zones_of(
     alloc: Global,
     dice: &mut Dice,
@@ -86,7 +86,7 @@ fn zones_of(
     Ok(zones)
 }
 
-// Makes the parts of a random plan.
+// Make the parts of a random plan.
 fn random_parts(alloc: Global, dice: &mut Dice, length: u32) -> Result<PlanParts, OutOfMemory> {
     let exit = dice.below(length.min(64) / 4).saturating_add(1);
     let open = length.saturating_sub(exit);
@@ -112,11 +112,12 @@ fn random_parts(alloc: Global, dice: &mut Dice, length: u32) -> Result<PlanParts
     })
 }
 
-/// Makes a plan for a road of so many cells: up to eight zones, up to 16 inlets, 64 detectors, seeded words or steady ones.
+/// Make a plan for a road of `length` cells: up to eight zones, up to 16 inlets, 64 detectors, seeded words or steady
+/// ones.
 ///
 /// # Errors
 ///
-/// `OutOfMemory` where an allocation failed, else the fault of the plan: roads of 8 to 8,192 cells have none.
+/// `OutOfMemory` if an allocation failed, else the fault of the plan. Roads of 8 to 8,192 cells have none.
 pub fn random_plan(alloc: Global, dice: &mut Dice, length: u32) -> Result<Plan, PlanFault> {
     match random_parts(alloc, dice, length) {
         Ok(parts) => Plan::new(parts),
@@ -124,11 +125,11 @@ pub fn random_plan(alloc: Global, dice: &mut Dice, length: u32) -> Result<Plan, 
     }
 }
 
-/// Makes settings of a plan by a seed: all numbers are random, and a few cells are blocked.
+/// Make settings of a plan from a seed: all numbers are random, and a few cells are blocked.
 ///
 /// # Errors
 ///
-/// `OutOfMemory` where an allocation failed.
+/// `OutOfMemory` if an allocation failed.
 pub fn random_settings(alloc: Global, plan: &Plan, seed: u32) -> Result<Settings, OutOfMemory> {
     let mut dice = Dice::of(u64::from(seed));
     let mut settings = Settings::of_plan(alloc, plan)?;
@@ -145,12 +146,12 @@ pub fn random_settings(alloc: Global, plan: &Plan, seed: u32) -> Result<Settings
     Ok(settings)
 }
 
-/// Makes a road with about so many cars before the exit of a plan: their speeds and numbers are random, and where there is
-/// no room for as many no cell is free.
+/// Make a road with about this number of cars before the exit of a plan. Their speeds and numbers are random. If there
+/// is not enough room, no cell is free.
 ///
 /// # Errors
 ///
-/// `OutOfMemory` where an allocation failed.
+/// `OutOfMemory` if an allocation failed.
 pub fn random_road(
     alloc: Global,
     dice: &mut Dice,
@@ -169,11 +170,11 @@ pub fn random_road(
     road_of(alloc, &cars)
 }
 
-/// Makes a road whose first cells are taken by standing cars, but for each 64th.
+/// Make a road whose first cells are taken by standing cars, except each 64th.
 ///
 /// # Errors
 ///
-/// `OutOfMemory` where an allocation failed.
+/// `OutOfMemory` if an allocation failed.
 pub fn queue(alloc: Global, cells: u32) -> Result<Road, OutOfMemory> {
     let mut cars = Vec::new(alloc);
     for cell in 0..cells {
@@ -189,11 +190,11 @@ pub fn queue(alloc: Global, cells: u32) -> Result<Road, OutOfMemory> {
     road_of(alloc, &cars)
 }
 
-/// Makes the road of these cars, but for those that do not stand in front of all before them.
+/// Make the road of these cars, without those that are not in front of all cars before them.
 ///
 /// # Errors
 ///
-/// `OutOfMemory` where an allocation failed.
+/// `OutOfMemory` if an allocation failed.
 pub fn road_of(alloc: Global, cars: &[Car]) -> Result<Road, OutOfMemory> {
     let mut rising = Vec::new(alloc);
     let mut end = 0_u64;

@@ -8,18 +8,19 @@ use road_detector::row_text;
 use road_plan::OutOfMemory;
 use std::alloc::Global;
 
-// Answers whether each speed is a digit.
+// Return whether each speed is a digit.
 fn have_digits(cars: &[Car]) -> bool
     ensures { IsTrue result ↔ HaveDigits cars.now }
 {
     cars.iter().all(|car| car.speed <= 9)
 }
 
-/// Draws the row of a road with so many cells and these blocked ones; an empty text where a speed is no digit.
+/// Draw the row of a road with this number of cells and these blocked cells, or an empty text if a speed is not a
+/// digit.
 ///
 /// # Errors
 ///
-/// `OutOfMemory` where an allocation failed.
+/// `OutOfMemory` if an allocation failed.
 pub fn row_of(
     alloc: Global,
     road: &Road,

@@ -1,4 +1,4 @@
-//! Portraits: all that a sheet shows, drawn so that it can be compared with what it shows later.
+//! Portraits: everything that a sheet shows, drawn so that it can be compared with what it shows later.
 #![tactic(auto)]
 
 use road_cells::Road;
@@ -7,7 +7,7 @@ use road_sheet::Sheet;
 use road_sheet::simulation::{State, row_of};
 use std::alloc::Global;
 
-/// What was drawn, one thing after another: numbers, edits, and rows of text.
+/// The things drawn, one after another: numbers, edits, and rows of text.
 #[derive(Drop)]
 pub struct Portrait {
     numbers: Vec<u64>,
@@ -16,7 +16,7 @@ pub struct Portrait {
 }
 
 impl Portrait {
-    /// Makes a portrait of nothing.
+    /// Make a portrait of nothing.
     pub fn new(alloc: Global) -> Portrait {
         Portrait {
             numbers: Vec::new(alloc),
@@ -25,19 +25,19 @@ impl Portrait {
         }
     }
 
-    /// Answers whether the same was drawn.
+    /// Return whether the same was drawn.
     pub fn is_same(&self, other: &Portrait) -> bool {
         self.numbers.as_slice() == other.numbers.as_slice()
             && self.edits.as_slice() == other.edits.as_slice()
             && self.rows.as_str() == other.rows.as_str()
     }
 
-    /// Draws a number; none where memory was wanted for that, as in all that is drawn.
+    /// Draw a number. It returns none if there was no memory for it, and so do all other calls that draw.
     pub fn draw_number(&mut self, number: u64) -> Option<()> {
         self.numbers.push(number).ok()
     }
 
-    /// Draws edits.
+    /// Draw edits.
     pub fn draw_edits(&mut self, edits: &[Edit]) -> Option<()> {
         self.draw_number(edits.len() as u64)?;
         for edit in edits {
@@ -46,13 +46,13 @@ impl Portrait {
         Some(())
     }
 
-    /// Draws the edits that a scenario holds.
+    /// Draw the edits that a scenario holds.
     pub fn draw_scenario(&mut self, alloc: Global, scenario: &Scenario) -> Option<()> {
         let edits = scenario.edits(alloc).ok()?;
         self.draw_edits(&edits)
     }
 
-    /// Draws the number, the cell and the speed of each car.
+    /// Draw the number, the cell and the speed of each car.
     pub fn draw_cars(&mut self, road: &Road) -> Option<()> {
         self.draw_number(road.cars().len() as u64)?;
         for car in road.cars() {
@@ -63,7 +63,7 @@ impl Portrait {
         Some(())
     }
 
-    // Draws the cars and the row of a sheet at a step.
+    // Draw the cars and the row of a sheet at a step.
     fn draw_step(&mut self, alloc: Global, sheet: &Sheet, step: u32) -> Option<()> {
         let Ok(road) = sheet.state(alloc, step) else {
             return None;
@@ -74,7 +74,7 @@ impl Portrait {
         self.rows.push_str(row.as_str()).ok()
     }
 
-    // Draws what a detector counts from one step up to another.
+    // Draw the counts of a detector in the steps from one step to before another.
     fn draw_count(
         &mut self,
         alloc: Global,
@@ -88,7 +88,7 @@ impl Portrait {
         self.draw_number(u64::from(totals.speeds))
     }
 
-    // Draws what a detector counts in each step, and in all of them.
+    // Draw the counts of a detector in each step, and in all of them.
     fn draw_counts(&mut self, alloc: Global, sheet: &Sheet, detector: u32) -> Option<()> {
         for step in 0..sheet.horizon() {
             self.draw_count(alloc, sheet, detector, step, step.saturating_add(1))?;
@@ -96,8 +96,8 @@ impl Portrait {
         self.draw_count(alloc, sheet, detector, 0, sheet.horizon())
     }
 
-    /// Draws a sheet: its edits with their stamps, its horizon, the cars and the row at each step, and what each detector
-    /// counts in each step and in all of them.
+    /// Draw a sheet: its edits with their stamps, its horizon, the cars and the row at each step, and the counts of
+    /// each detector in each step and in all of them.
     pub fn draw_sheet(&mut self, alloc: Global, sheet: &Sheet) -> Option<()> {
         self.draw_scenario(alloc, sheet.scenario())?;
         for step in 0..=sheet.horizon() {

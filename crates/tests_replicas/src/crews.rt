@@ -1,162 +1,273 @@
-//! A crew that fails, and what it leaves.
+//! Crews that fail, and the result: the replica is unchanged, and the same write then succeeds as if nothing had
+//! happened.
 
-use crate::replicas::{Write, holds, opened, replica_after, shows, written};
-use road_detector::Totals;
+use crate::growing::outlives_all;
+use crate::replicas::{Write, apply_write, replica_after};
 use road_ends::Meter;
 use road_replica::{Replica, ReplicaFault, Reply};
 use road_scenario::{Edit, Stamp, Value};
+use road_sheet::Sheet;
+use road_workers::{Alone, Crew, CrewFault, Pool};
 use std::alloc::Global;
+use std::process::Abort;
 use std::test::Fail;
-use tests_plans::{BLOCK, BLOCKED_ROWS, FREE_ROWS, LIMIT, Leaving, Row, edit, stamp};
-
-/// What is put before the crew fails: the limit is 1 from step 2 on.
-const BEFORE: &[Write] = &[Write::Edit(LIMIT, 2, 1), Write::Advance(6)];
-
-const HELD: &[Edit] = &[edit!(LIMIT, 2, (1, 0), 1)];
+use tests_plans::{BLOCK, LIMIT, Leaving, Running, edit, stamp};
+use tests_portraits::Portrait;
 
 const BLOCKED: &[Edit] = &[edit!(BLOCK, 4, (1, 64), 1)];
 
-/// Each computes six steps.
-const WRITES: &[Write] = &[
-    Write::Edit(BLOCK, 4, 1),
-    Write::Withdraw(LIMIT, 2),
-    Write::Import(BLOCKED),
-    Write::Take(BLOCKED),
-    Write::Advance(12),
+/// The edits before the crew fails: the limit is 1 from step 2 on.
+const SLOWED: &[Write] = &[Write::Edit(LIMIT, 2, 1), Write::Advance(6)];
+
+/// A write after others, its reply, how many steps it computes, and in how many runs. A run ends where an edit takes
+/// effect, or an interval of 64 steps ends.
+struct Case(&'static [Write], Write, Reply, u64, u64);
+
+const CASES: &[Case] = &[
+    Case(&[], Write::Advance(6), Reply::Horizon(6), 6, 1),
+    Case(
+        &[Write::Advance(6)],
+        Write::Edit(BLOCK, 4, 1),
+        Reply::Stamped(stamp!(1, 0)),
+        6,
+        2,
+    ),
+    Case(
+        &[Write::Advance(6), Write::Edit(BLOCK, 4, 1)],
+        Write::Withdraw(BLOCK, 4),
+        Reply::Stamped(stamp!(2, 0)),
+        6,
+        2,
+    ),
+    Case(
+        SLOWED,
+        Write::Edit(BLOCK, 4, 1),
+        Reply::Stamped(stamp!(2, 0)),
+        6,
+        3,
+    ),
+    Case(
+        SLOWED,
+        Write::Withdraw(LIMIT, 2),
+        Reply::Stamped(stamp!(2, 0)),
+        6,
+        2,
+    ),
+    Case(
+        SLOWED,
+        Write::Import(BLOCKED),
+        Reply::Touched(Some(4)),
+        6,
+        3,
+    ),
+    Case(SLOWED, Write::Take(BLOCKED), Reply::Touched(Some(4)), 6, 3),
+    Case(SLOWED, Write::Advance(12), Reply::Horizon(12), 6, 1),
+    Case(
+        &[Write::Advance(6), Write::Edit(BLOCK, 4, 1)],
+        Write::Advance(70),
+        Reply::Horizon(70),
+        64,
+        2,
+    ),
 ];
 
-// Tells whether a replica is left as it was by a write whose crew fails after some calls.
-fn is_unchanged_by(
+/// Draw a sheet.
+pub(crate) fn draw(alloc: Global, sheet: &Sheet) -> Result<Portrait, Fail> {
+    let mut portrait = Portrait::new(alloc);
+    match portrait.draw_sheet(alloc, sheet) {
+        Some(()) => Ok(portrait),
+        None => Err(Fail::new("no memory for a portrait")),
+    }
+}
+
+/// Return whether a sheet shows everything that was drawn.
+pub(crate) fn is_as(alloc: Global, sheet: &Sheet, portrait: &Portrait) -> Result<bool, Fail> {
+    Ok(draw(alloc, sheet)?.is_same(portrait))
+}
+
+// Return whether a write is refused for a fault of its crew, and leaves the replica as it was drawn.
+fn is_lost_from<C: Crew>(
     alloc: Global,
     replica: &mut Replica,
-    write: Write,
-    calls: u64,
+    case: &Case,
+    crew: &mut C,
+    meter: &mut Meter,
+    fault: CrewFault,
+    before: &Portrait,
 ) -> Result<bool, Fail> {
-    let mut crew = Leaving::after(calls);
-    let mut meter = Meter::new();
-    let answer = written(alloc, replica, write, &mut crew, &mut meter);
+    if apply_write(alloc, replica, case.1, crew, meter) != Err(ReplicaFault::from(fault)) {
+        return Ok(false);
+    }
+    is_as(alloc, replica.sheet(), before)
+}
+
+// Return whether a write is refused for a fault of its crew, and leaves the replica unchanged.
+fn is_lost<C: Crew>(
+    alloc: Global,
+    replica: &mut Replica,
+    case: &Case,
+    crew: &mut C,
+    meter: &mut Meter,
+    fault: CrewFault,
+) -> Result<bool, Fail> {
+    let before = draw(alloc, replica.sheet())?;
+    is_lost_from(alloc, replica, case, crew, meter, fault, &before)
+}
+
+// Return whether a write succeeds, and the replica then shows what it must.
+fn is_done<C: Crew>(
+    alloc: Global,
+    replica: &mut Replica,
+    case: &Case,
+    crew: &mut C,
+    meter: &mut Meter,
+    last: &Portrait,
+) -> Result<bool, Fail> {
+    if apply_write(alloc, replica, case.1, crew, meter) != Ok(case.2) {
+        return Ok(false);
+    }
+    is_as(alloc, replica.sheet(), last)
+}
+
+// Return whether a replica survives a crew that fails after this number of steps.
+fn outlives_leaving(
+    alloc: Global,
+    replica: &mut Replica,
+    case: &Case,
+    calls: u64,
+    last: &Portrait,
+) -> Result<bool, Fail> {
+    let (mut crew, mut meter) = (Leaving::after(calls), Meter::new());
+    let gone = CrewFault::WorkersGone;
+    if !is_lost(alloc, replica, case, &mut crew, &mut meter, gone)? {
+        return Ok(false);
+    }
+    if (meter.ticks(), crew.gone) != (calls, 1) {
+        return Ok(false);
+    }
+    is_done(alloc, replica, case, &mut crew, &mut meter, last)
+}
+
+// Return whether a crew has counted the steps of its runs, and has failed or not.
+fn has_counted<C>(crew: &Running<C>, before: u64, ticks: u64, has_failed: bool) -> bool {
+    ticks == crew.steps.saturating_sub(before) && crew.fault.is_none() == has_failed
+}
+
+// Return whether a replica survives a crew that fails at the run after this number of runs, and counts the steps of its
+// runs.
+fn outlives_failing<C: Crew>(
+    alloc: Global,
+    replica: &mut Replica,
+    case: &Case,
+    crew: &mut Running<C>,
+    (runs, fault): (u64, CrewFault),
+    last: &Portrait,
+) -> Result<bool, Fail> {
+    crew.fail_after(runs, fault);
+    let (steps, mut meter) = (crew.steps, Meter::new());
+    let fails = runs < case.4;
+    if fails && !is_lost(alloc, replica, case, crew, &mut meter, fault)? {
+        return Ok(false);
+    }
+    let is_done = is_done(alloc, replica, case, crew, &mut meter, last)?;
+    Ok(is_done && has_counted(crew, steps, meter.ticks(), fails))
+}
+
+// Return whether a new replica survives a crew that fails after this number of steps.
+fn new_outlives_leaving(
+    alloc: Global,
+    case: &Case,
+    calls: u64,
+    last: &Portrait,
+) -> Result<bool, Fail> {
+    let mut replica = replica_after(alloc, 0, case.0)?;
+    outlives_leaving(alloc, &mut replica, case, calls, last)
+}
+
+// Return whether a new replica survives a crew that fails at the run after this number of runs.
+fn new_outlives_failing<C: Crew>(
+    alloc: Global,
+    case: &Case,
+    crew: &mut Running<C>,
+    failing: (u64, CrewFault),
+    last: &Portrait,
+) -> Result<bool, Fail> {
+    let mut replica = replica_after(alloc, 0, case.0)?;
+    outlives_failing(alloc, &mut replica, case, crew, failing, last)
+}
+
+// Return whether a write survives a crew that fails at any of its steps.
+fn outlives_any_step(alloc: Global, case: &Case, last: &Portrait) -> Result<bool, Fail> {
+    for calls in 0..case.3 {
+        if !new_outlives_leaving(alloc, case, calls, last)? {
+            return Ok(false);
+        }
+    }
+    Ok(true)
+}
+
+// Return whether a write survives a crew that fails with this fault at any of its runs, and no run comes after them.
+fn outlives_any_run<C: Crew>(
+    alloc: Global,
+    case: &Case,
+    crew: &mut Running<C>,
+    fault: CrewFault,
+    last: &Portrait,
+) -> Result<bool, Fail> {
+    for runs in 0..=case.4 {
+        if !new_outlives_failing(alloc, case, crew, (runs, fault), last)? {
+            return Ok(false);
+        }
+    }
+    Ok(true)
+}
+
+// Draw a replica once the writes of a case are made.
+fn draw_after(alloc: Global, replica: &mut Replica, case: &Case) -> Result<Portrait, Fail> {
+    apply_write(alloc, replica, case.1, &mut Alone, &mut Meter::new())?;
+    draw(alloc, replica.sheet())
+}
+
+// Draw what a replica must show after a case.
+fn last_of(alloc: Global, case: &Case) -> Result<Portrait, Fail> {
+    let mut replica = replica_after(alloc, 0, case.0)?;
+    draw_after(alloc, &mut replica, case)
+}
+
+// Return whether a write survives all that.
+fn outlives<C: Crew>(
+    alloc: Global,
+    case: &Case,
+    crew: &mut Running<C>,
+    last: &Portrait,
+) -> Result<bool, Fail> {
     Ok(
-        answer == Err(ReplicaFault::WorkersGone)
-            && (meter.ticks(), crew.gone, replica.sheet().horizon()) == (calls, 1, 6)
-            && holds(alloc, replica, HELD)?
-            && shows(alloc, replica, 6, "0.1.1..1....")?,
+        outlives_any_step(alloc, case, last)?
+            && outlives_any_run(alloc, case, crew, CrewFault::WorkersGone, last)?
+            && outlives_any_run(alloc, case, crew, CrewFault::OutOfMemory, last)?,
     )
 }
 
-// Tells whether such a write changes nothing of the replica of the free road with the lower limit.
-fn changes_nothing(alloc: Global, write: Write, calls: u64) -> Result<bool, Fail> {
-    let mut replica = replica_after(alloc, 0, BEFORE)?;
-    is_unchanged_by(alloc, &mut replica, write, calls)
+// Return whether a write survives all that, and shows what a single caller computes.
+fn case_outlives<C: Crew>(alloc: Global, case: &Case, crew: &mut Running<C>) -> Result<bool, Fail> {
+    let last = last_of(alloc, case)?;
+    outlives(alloc, case, crew, &last)
 }
 
-#[test]
-fn lost_workers_leave_the_replica(rt: HostRuntime) -> Result<(), Fail> {
-    for &write in WRITES {
-        for calls in 0..6 {
-            assert!(&rt; changes_nothing(rt.alloc(), write, calls)?);
-        }
+// Check all writes, and a sheet that is extended.
+fn all_outlive<C: Crew>(rt: &impl Abort, alloc: Global, crew: &mut Running<C>) -> Result<(), Fail> {
+    for (number, case) in CASES.iter().enumerate() {
+        assert!(rt; case_outlives(alloc, case, crew)?, "write {number}");
     }
+    assert!(rt; outlives_all(alloc, crew)?);
     Ok(())
 }
 
-/// A run to step 6, and then the late edit that closes a cell of it. Each computes six steps.
-const RUN: &[(Write, Reply)] = &[
-    (Write::Advance(6), Reply::Horizon(6)),
-    (Write::Edit(BLOCK, 4, 1), Reply::Stamped(stamp!(1, 0))),
-];
-
-/// What a replica holds and shows: its edits, its horizon, rows, and what its detector counted.
-struct Shown {
-    held: &'static [Edit],
-    horizon: u32,
-    rows: &'static [Row],
-    totals: Totals,
-}
-
-/// What it is before each write of the run.
-const STAGES: &[Shown] = &[
-    Shown {
-        held: &[],
-        horizon: 0,
-        rows: &[(0, "............")],
-        totals: Totals { cars: 0, speeds: 0 },
-    },
-    Shown {
-        held: &[],
-        horizon: 6,
-        rows: FREE_ROWS,
-        totals: Totals { cars: 2, speeds: 4 },
-    },
-];
-
-/// What it is after the last one.
-const LAST_STAGE: Shown = Shown {
-    held: &[edit!(BLOCK, 4, (1, 0), 1)],
-    horizon: 6,
-    rows: BLOCKED_ROWS,
-    totals: Totals { cars: 2, speeds: 4 },
-};
-
-// Tells whether a replica holds and shows just this.
-fn is_at(alloc: Global, replica: &Replica, stage: &Shown) -> Result<bool, Fail> {
-    let horizon = replica.sheet().horizon();
-    let mut is = horizon == stage.horizon && holds(alloc, replica, stage.held)?;
-    for (step, row) in stage.rows {
-        is = is && shows(alloc, replica, *step, row)?;
-    }
-    Ok(is && replica.totals(alloc, 0, 0, horizon)? == stage.totals)
-}
-
-// Tells whether a write is answered so in the end, where the crew may fail once before it: the replica is then as it was, and the
-// same write is answered as if the crew had not failed.
-fn is_answered_at_last(
-    alloc: Global,
-    replica: &mut Replica,
-    crew: &mut Leaving,
-    (write, wanted): (Write, Reply),
-    stage: &Shown,
-) -> Result<bool, Fail> {
-    let before = crew.gone;
-    let mut meter = Meter::new();
-    let mut answer = written(alloc, replica, write, crew, &mut meter);
-    if crew.gone != before {
-        let is_kept = answer == Err(ReplicaFault::WorkersGone) && is_at(alloc, replica, stage)?;
-        if !is_kept {
-            return Ok(false);
-        }
-        answer = written(alloc, replica, write, crew, &mut meter);
-    }
-    Ok(answer == Ok(wanted))
-}
-
-// Tells whether the run of a replica is answered as ever by a crew that fails once.
-fn outlives_a_loss_by(
-    alloc: Global,
-    replica: &mut Replica,
-    crew: &mut Leaving,
-) -> Result<bool, Fail> {
-    for (step, stage) in RUN.iter().zip(STAGES) {
-        if !is_answered_at_last(alloc, replica, crew, *step, stage)? {
-            return Ok(false);
-        }
-    }
-    Ok(crew.gone == 1 && is_at(alloc, replica, &LAST_STAGE)?)
-}
-
-// Tells whether the run of a new replica is so answered, by a crew that fails after some calls.
-fn outlives_a_loss_after(alloc: Global, calls: u64) -> Result<bool, Fail> {
-    let mut replica = opened(alloc, 0)?;
-    let mut crew = Leaving::after(calls);
-    outlives_a_loss_by(alloc, &mut replica, &mut crew)
-}
-
 #[test]
-fn a_run_and_its_late_edit_outlive_a_worker_lost_at_any_call(rt: HostRuntime) -> Result<(), Fail> {
-    for calls in 0..12 {
-        assert!(&rt;
-            outlives_a_loss_after(rt.alloc(), calls)?,
-            "after {calls} calls"
-        );
-    }
-    Ok(())
+fn a_replica_outlives_a_crew_that_fails_at_any_call(rt: HostRuntime) -> Result<(), Fail> {
+    let mut running = Running::of(Pool::start(rt.clone()?, rt.alloc(), 1)?);
+    let done = all_outlive(&rt, rt.alloc(), &mut running);
+    let Running { crew, .. } = running;
+    crew.finish();
+    done
 }

@@ -1,6 +1,6 @@
-//! Writes with their answers, and what the replica holds and shows then.
+//! Writes with their replies, and what the replica holds and shows then.
 
-use crate::replicas::{Write, holds, opened_on, shows, written};
+use crate::replicas::{Write, apply_write, holds, open_on, shows};
 use road_ends::Meter;
 use road_plan::Object;
 use road_replica::{Replica, ReplicaFault, Reply};
@@ -13,10 +13,10 @@ use tests_plans::{
     SLOW_TO_START_ROWS, SLOWED_ROWS, START, edit, pairs, parts, stamp,
 };
 
-/// A write to a replica, and its answer.
+/// A write to a replica, and its reply.
 type Answered = (Write, Result<Reply, ReplicaFault>);
 
-/// Writes to a replica before which there was none, the edits that it holds then, and rows that it shows.
+/// All writes to a new replica, the edits that it holds then, and rows that it shows.
 #[derive(Clone, Copy)]
 struct Example {
     parts: Parts,
@@ -50,7 +50,7 @@ const LATE_EDIT: Example = Example {
     ..FREE_ROAD
 };
 
-/// What was withdrawn does not come back with an older message.
+/// A withdrawn edit does not come back with an older message.
 const WITHDRAWAL: Example = Example {
     writes: pairs![
         Write::Advance(6) => Ok(Reply::Horizon(6)),
@@ -62,7 +62,7 @@ const WITHDRAWAL: Example = Example {
     ..FREE_ROAD
 };
 
-/// Standing cars never start, since a late edit from step 3 on always.
+/// Standing cars never start, because of a late edit from step 3 on.
 const SLOW_TO_START: Example = Example {
     writes: pairs![
         Write::Edit(START, 0, 65_536) => Ok(Reply::Stamped(stamp!(1, 0))),
@@ -84,7 +84,7 @@ const STARTS_LATER: Example = Example {
     ..FREE_ROAD
 };
 
-/// Moving cars are always slowed, and standing ones never; then all are slowed again.
+/// Moving cars are always slowed, and standing cars never; then all are slowed again.
 const QUICK_TO_START: Example = Example {
     parts: ALWAYS_SLOWED,
     writes: pairs![
@@ -115,7 +115,7 @@ const QUICK_START_WITHDRAWN: Example = Example {
     ..QUICK_TO_START
 };
 
-/// A chance of all cars is one of standing cars too, from its step on, and however late it comes; not where these have
+/// A chance of all cars also applies to standing cars, from its step on, and however late it comes, unless these have
 /// their own.
 const SLOWED_LATE: Example = Example {
     writes: pairs![
@@ -154,7 +154,7 @@ const SLOWED_BELOW_A_START: Example = Example {
     ..FREE_ROAD
 };
 
-/// The last step of the longest run is edited, and a step that is far from it.
+/// The last step of the longest run is edited, and a step far away from it.
 const GREATEST_HORIZON: Example = Example {
     writes: pairs![
         Write::Edit(Object::Block(0), 0, 1) => Ok(Reply::Stamped(stamp!(1, 0))),
@@ -186,7 +186,7 @@ const COUNTS_SPENT: Example = Example {
     ..FREE_ROAD
 };
 
-/// Each is refused for the first cause that stands.
+/// Each write is refused for the first cause that applies.
 const REFUSALS: Example = Example {
     writes: pairs![
         Write::Edit(Object::Limit(1), 1_048_576, 10) => Err(ReplicaFault::NoObject),
@@ -206,7 +206,7 @@ const REFUSALS: Example = Example {
     ..FREE_ROAD
 };
 
-/// The first faulty edit decides, and nothing of a refused import is taken.
+/// The first faulty edit decides, and no edit of a refused import is taken.
 const REFUSED_IMPORTS: Example = Example {
     writes: pairs![
         Write::Import(&[edit!(LIMIT, 3, (9, 70), 1), edit!(LIMIT, 0, (1, 63), 1), edit!(Object::Limit(1), 0, (0, 63), 99)]) =>
@@ -237,7 +237,7 @@ const FALLING_NUMBERS: Example = Example {
     ..RISING_NUMBERS
 };
 
-/// A replica counts on from what it took.
+/// The counts of a replica continue from those of the edits that it took.
 const NEXT_COUNT: Example = Example {
     parts: FREE,
     number: 1,
@@ -267,10 +267,10 @@ const EXAMPLES: &[Example] = &[
     NEXT_COUNT,
 ];
 
-// Tells whether a replica answers the writes of an example so.
+// Return whether a replica answers the writes of an example as expected.
 fn answers(alloc: Global, replica: &mut Replica, example: &Example) -> bool {
     for (write, answer) in example.writes {
-        let is = written(alloc, replica, *write, &mut Alone, &mut Meter::new());
+        let is = apply_write(alloc, replica, *write, &mut Alone, &mut Meter::new());
         if is != *answer {
             return false;
         }
@@ -278,7 +278,7 @@ fn answers(alloc: Global, replica: &mut Replica, example: &Example) -> bool {
     true
 }
 
-// Tells whether a replica shows the rows of an example.
+// Return whether a replica shows the rows of an example.
 fn shows_rows(alloc: Global, replica: &Replica, example: &Example) -> Result<bool, ReplicaFault> {
     for (step, row) in example.rows {
         if !shows(alloc, replica, *step, row)? {
@@ -288,8 +288,8 @@ fn shows_rows(alloc: Global, replica: &Replica, example: &Example) -> Result<boo
     Ok(true)
 }
 
-// Tells whether a replica goes as an example says.
-fn goes(alloc: Global, replica: &mut Replica, example: &Example) -> Result<bool, Fail> {
+// Return whether a replica does everything that an example says.
+fn follow_example(alloc: Global, replica: &mut Replica, example: &Example) -> Result<bool, Fail> {
     Ok(
         answers(alloc, replica, example)
             && holds(alloc, replica, example.held)?
@@ -297,22 +297,25 @@ fn goes(alloc: Global, replica: &mut Replica, example: &Example) -> Result<bool,
     )
 }
 
-// Tells whether a new replica does.
-fn opened_goes(alloc: Global, example: &Example) -> Result<bool, Fail> {
-    let mut replica = opened_on(alloc, &example.parts, example.number)?;
-    goes(alloc, &mut replica, example)
+// Return whether a new replica does.
+fn open_and_follow_example(alloc: Global, example: &Example) -> Result<bool, Fail> {
+    let mut replica = open_on(alloc, &example.parts, example.number)?;
+    follow_example(alloc, &mut replica, example)
 }
 
 #[test]
 fn writes_are_answered(rt: HostRuntime) -> Result<(), Fail> {
     for (place, example) in EXAMPLES.iter().enumerate() {
-        assert!(&rt; opened_goes(rt.alloc(), example)?, "example {place}");
+        assert!(&rt;
+            open_and_follow_example(rt.alloc(), example)?,
+            "example {place}"
+        );
     }
     Ok(())
 }
 
 #[test]
 fn writes_near_the_greatest_horizon_are_answered(rt: HostRuntime) -> Result<(), Fail> {
-    assert!(&rt; opened_goes(rt.alloc(), &GREATEST_HORIZON)?);
+    assert!(&rt; open_and_follow_example(rt.alloc(), &GREATEST_HORIZON)?);
     Ok(())
 }

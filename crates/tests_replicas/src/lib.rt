@@ -6,6 +6,10 @@ mod crews;
 #[cfg(test)]
 mod examples;
 #[cfg(test)]
+mod growing;
+#[cfg(test)]
 mod questions;
+#[cfg(test)]
+mod refused_questions;
 #[cfg(test)]
 mod replicas;

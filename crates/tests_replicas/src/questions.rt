@@ -7,7 +7,7 @@ use std::alloc::Global;
 use std::test::Fail;
 use tests_plans::BLOCK;
 
-/// The first and the last row of a diagram, and how many rows it has where the horizon is 1,024.
+/// The first and the last row of a diagram, and its number of rows if the horizon is 1,024.
 const DIAGRAMS: &[(u32, u32, Result<usize, ReplicaFault>)] = &[
     (4, 6, Ok(3)),
     (0, 1_023, Ok(1_024)),
@@ -20,7 +20,7 @@ const DIAGRAMS: &[(u32, u32, Result<usize, ReplicaFault>)] = &[
 /// The rows from 4 to 6 with the cell 8 blocked from step 4 on.
 const BLOCKED: &[&str] = &["0..2...2#...", ".1...2.0#...", "0..2..10#..."];
 
-// Tells whether the rows of a diagram are these.
+// Return whether the rows of a diagram are these.
 fn are_rows(rows: &[String], texts: &[&str]) -> bool {
     for (row, text) in rows.iter().zip(texts.iter()) {
         if row.as_str() != *text {
@@ -30,7 +30,7 @@ fn are_rows(rows: &[String], texts: &[&str]) -> bool {
     rows.len() == texts.len()
 }
 
-// Tells whether the rows of a replica are refused as a table says, and those that are given are the worked ones.
+// Return whether the rows of a replica are refused as a table says, and the returned rows are the worked ones.
 fn has_diagrams(alloc: Global, replica: &Replica) -> Result<bool, ReplicaFault> {
     for &(from, to, rows) in DIAGRAMS {
         if replica.rows(alloc, from, to).map(|rows| rows.len()) != rows {
@@ -48,7 +48,7 @@ fn a_diagram_has_at_most_1024_rows(rt: HostRuntime) -> Result<(), Fail> {
     Ok(())
 }
 
-// Tells whether a cache answers one query after another as worked, where the cell 8 is blocked from step 4 on.
+// Return whether a cache answers one query after another as worked, with the cell 8 blocked from step 4 on.
 fn answers_from_cache(alloc: Global, sheet: &Sheet) -> Result<bool, ReplicaFault> {
     let mut cache = QueryCache::new();
     let is_row = cache.row(alloc, sheet, 4)?.as_str() == "0..2...2#...";

@@ -1,4 +1,4 @@
-//! Replicas, most of them of the free road, and writes to them as tables have them.
+//! Replicas, most of them of the free road, and writes to them as in tables.
 
 use road_ends::Meter;
 use road_plan::Object;
@@ -20,19 +20,19 @@ pub(crate) enum Write {
     Advance(u32),
 }
 
-/// Makes a replica of a road before any write.
-pub(crate) fn opened_on(alloc: Global, parts: &Parts, number: u8) -> Result<Replica, Fail> {
+/// Make a replica of a road before any write.
+pub(crate) fn open_on(alloc: Global, parts: &Parts, number: u8) -> Result<Replica, Fail> {
     let plan = Arc::new(alloc, plan_of(alloc, parts)?)?;
     Ok(Replica::open(alloc, plan, (number % 64) as u32)?)
 }
 
-/// Makes a replica of the free road before any write.
-pub(crate) fn opened(alloc: Global, number: u8) -> Result<Replica, Fail> {
-    opened_on(alloc, &FREE, number)
+/// Make a replica of the free road before any write.
+pub(crate) fn open(alloc: Global, number: u8) -> Result<Replica, Fail> {
+    open_on(alloc, &FREE, number)
 }
 
-// Returns what a replica is answered that takes edits.
-fn taken<C: Crew>(
+// Return the reply of a replica that takes edits.
+fn take<C: Crew>(
     alloc: Global,
     replica: &mut Replica,
     edits: &[Edit],
@@ -43,8 +43,8 @@ fn taken<C: Crew>(
     Ok(Reply::Touched(replica.take(alloc, &scenario, crew, meter)?))
 }
 
-/// Returns what a write is answered.
-pub(crate) fn written<C: Crew>(
+/// Return the reply to a write.
+pub(crate) fn apply_write<C: Crew>(
     alloc: Global,
     replica: &mut Replica,
     write: Write,
@@ -59,27 +59,27 @@ pub(crate) fn written<C: Crew>(
             alloc, object, step, crew, meter,
         )?)),
         Write::Import(edits) => Ok(Reply::Touched(replica.import(alloc, edits, crew, meter)?)),
-        Write::Take(edits) => taken(alloc, replica, edits, crew, meter),
+        Write::Take(edits) => take(alloc, replica, edits, crew, meter),
         Write::Advance(to) => Ok(Reply::Horizon(replica.advance(alloc, to, crew, meter)?)),
     }
 }
 
-/// Makes a replica of the free road after some writes that it accepts, with a crew of one.
+/// Make a replica of the free road after some writes that it accepts, with a crew of one.
 pub(crate) fn replica_after(alloc: Global, number: u8, writes: &[Write]) -> Result<Replica, Fail> {
-    let mut replica = opened(alloc, number)?;
+    let mut replica = open(alloc, number)?;
     for write in writes {
-        written(alloc, &mut replica, *write, &mut Alone, &mut Meter::new())?;
+        apply_write(alloc, &mut replica, *write, &mut Alone, &mut Meter::new())?;
     }
     Ok(replica)
 }
 
-/// Tells whether a replica holds just these edits, by object and step.
+/// Return whether a replica holds exactly these edits, by object and step.
 pub(crate) fn holds(alloc: Global, replica: &Replica, edits: &[Edit]) -> Result<bool, OutOfMemory> {
     let held = replica.scenario().edits(alloc)?;
     Ok(held.as_slice() == edits)
 }
 
-/// Tells whether a replica shows just this row at a step.
+/// Return whether a replica shows exactly this row at a step.
 pub(crate) fn shows(
     alloc: Global,
     replica: &Replica,
@@ -87,5 +87,8 @@ pub(crate) fn shows(
     row: &str,
 ) -> Result<bool, ReplicaFault> {
     let rows = replica.rows(alloc, step, step)?;
-    Ok(rows.len() == 1 && rows.iter().all(|shown| shown.as_str() == row))
+    Ok(match rows.as_slice() {
+        [shown] => shown.as_str() == row,
+        _ => false,
+    })
 }

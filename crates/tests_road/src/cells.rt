@@ -4,9 +4,9 @@ ghost use Rattle.std.specs.Prelude.{◌≡◌, IsTrue, IfOk};
 ghost use Rattle.std.specs.List.Sorted.{IsNonDecreasing};
 ghost use Rattle.road_cells.specs.Cars.{AreRising, cars_of};
 
+use crate::holds;
 use road_cells::{Car, GREATEST_SPEED, OutOfMemory, Road, reached_blocks, reached_blocks_below};
 use std::alloc::Global;
-use std::process::Abort;
 use std::test::Fail;
 use tests_plans::{CARS_AT_SIX, cars};
 
@@ -20,25 +20,29 @@ fn road_of(alloc: Global, cars: &[Car]) -> Result<Road, OutOfMemory>
     Ok(Road::of(cars.to_vec(alloc)?))
 }
 
+// Return whether a road of these cars stores them, and gives them to a copy.
+fn keeps(alloc: Global, cars: &[Car]) -> Result<bool, OutOfMemory>
+    requires { AreRising cars.now }
+{
+    let road = road_of(alloc, cars)?;
+    let copied = road.copied()?.into_cars();
+    Ok(road.cars() == cars && copied.as_slice() == cars)
+}
+
 #[test]
 fn keeps_and_copies_the_cars(rt: HostRuntime) -> Result<(), Fail> {
-    let road = road_of(rt.alloc(), CARS)?;
-    let copied = road.copied();
-    assert!(rt; road.cars() == CARS, "copied or refused");
-    let cars = copied?.into_cars();
-    assert!(rt; cars.as_slice() == CARS);
+    holds(&rt, 0, keeps(rt.alloc(), CARS)?);
+    holds(&rt, 1, keeps(rt.alloc(), &[])?);
     Ok(())
 }
 
 #[test]
-fn an_empty_road_has_no_car(rt: HostRuntime) -> Result<(), Fail> {
+fn an_empty_road_has_no_car(rt: HostRuntime) {
     let road = Road::empty(rt.alloc());
-    assert!(rt; road.cars().is_empty() && road.car_at(0).is_none());
-    assert!(rt; road.copied()?.into_cars().is_empty());
-    Ok(())
+    holds(&rt, 0, road.cars().is_empty() && road.car_at(0).is_none());
 }
 
-/// A cell, the number of the car that stands there, and how many stand before it.
+/// A cell, the number of the car there, and the number of cars before the cell.
 const FOUND: &[(u32, Option<u64>, usize)] = &[
     (0, Some(80), 0),
     (1, None, 1),
@@ -51,20 +55,25 @@ const FOUND: &[(u32, Option<u64>, usize)] = &[
     (4_294_967_295, None, 3),
 ];
 
+// Return whether that car is found at the cell, and this number of cars before it.
+fn is_found(road: &Road, (cell, number, before): &(u32, Option<u64>, usize)) -> bool {
+    let found = match road.car_at(*cell) {
+        Some(car) => Some(car.number),
+        None => None,
+    };
+    found == *number && road.cars_before(*cell) == *before
+}
+
 #[test]
 fn finds_the_car_of_a_cell(rt: HostRuntime) -> Result<(), Fail> {
     let road = road_of(rt.alloc(), CARS)?;
-    for (cell, number, before) in FOUND {
-        let found = road.car_at(*cell).map(|car| car.number);
-        assert!(rt;
-            found == *number && road.cars_before(*cell) == *before,
-            "cell {cell}"
-        );
+    for (row, found) in FOUND.iter().enumerate() {
+        holds(&rt, row, is_found(&road, found));
     }
     Ok(())
 }
 
-/// Two cells, and which cars stand from the first to before the second: the first of them, and the one behind the last.
+/// Two cells, and which cars are from the first to before the second: the first of them, and the one after the last.
 const BETWEEN: &[((u32, u32), (usize, usize))] = &[
     ((0, 3), (0, 1)),
     ((3, 7), (1, 2)),
@@ -75,17 +84,14 @@ const BETWEEN: &[((u32, u32), (usize, usize))] = &[
 #[test]
 fn finds_the_cars_between_cells(rt: HostRuntime) -> Result<(), Fail> {
     let road = road_of(rt.alloc(), CARS)?;
-    for ((from, to), (first, end)) in BETWEEN {
+    for (row, ((from, to), (first, end))) in BETWEEN.iter().enumerate() {
         let between = road.between(*from, *to);
-        assert!(rt;
-            CARS.get(*first..*end) == Some(between),
-            "cells {from} to {to}"
-        );
+        holds(&rt, row, CARS.get(*first..*end) == Some(between));
     }
     Ok(())
 }
 
-/// Blocked cells, and the free cells in front of the last car, which stands at cell 7. The road has no end here.
+/// Blocked cells, and the free cells in front of the last car, which is at cell 7. The road has no end here.
 const TO_BLOCK: &[(&[u32], u8)] = &[
     (&[], GREATEST_SPEED),
     // in the next, ninth and tenth cell
@@ -97,7 +103,7 @@ const TO_BLOCK: &[(&[u32], u8)] = &[
     (&[3, 12, 15], 4),
 ];
 
-/// Blocked cells, and the free cells in front of the second car, which stands at cell 3.
+/// Blocked cells, and the free cells in front of the second car, which is at cell 3.
 const TO_CAR: &[(&[u32], u8)] = &[
     (&[], 3),
     // before the next car, under it and past it
@@ -106,33 +112,30 @@ const TO_CAR: &[(&[u32], u8)] = &[
     (&[9], 3),
 ];
 
-// Tells whether blocked cells rise.
+// Return whether blocked cells rise.
 fn rises(blocks: &[u32]) -> bool
     ensures { IsTrue result → IsNonDecreasing blocks.now }
 {
     blocks.is_sorted()
 }
 
-// A car of a road has so many free cells in front of it.
-fn sees(rt: &impl Abort, road: &Road, place: usize, (blocks, gap): &(&[u32], u8)) {
-    assert!(rt; place < road.cars().len() && rises(blocks));
+// Return whether a car of a road has this number of free cells in front of it.
+fn sees(road: &Road, place: usize, (blocks, gap): &(&[u32], u8)) -> bool {
+    if place >= road.cars().len() || !rises(blocks) {
+        return false;
+    }
     let reached = reached_blocks(blocks, road.cars()[place].cell);
-    let gaps = (road.gap(place, blocks), road.gap_to(place, blocks, reached));
-    assert!(rt;
-        gaps == (*gap, *gap),
-        "{} blocks before car {place}",
-        blocks.len()
-    );
+    road.gap(place, blocks) == *gap && road.gap_to(place, blocks, reached) == *gap
 }
 
 #[test]
 fn sees_the_next_car_or_block(rt: HostRuntime) -> Result<(), Fail> {
     let road = road_of(rt.alloc(), CARS)?;
-    for row in TO_BLOCK {
-        sees(&rt, &road, 2, row);
+    for (row, said) in TO_BLOCK.iter().enumerate() {
+        holds(&rt, row, sees(&road, 2, said));
     }
-    for row in TO_CAR {
-        sees(&rt, &road, 1, row);
+    for (row, said) in TO_CAR.iter().enumerate() {
+        holds(&rt, row, sees(&road, 1, said));
     }
     Ok(())
 }
@@ -140,29 +143,30 @@ fn sees_the_next_car_or_block(rt: HostRuntime) -> Result<(), Fail> {
 /// Cars with the next one in the next, ninth, tenth and eleventh cell.
 const FAR: &[Car] = cars![(1, 5, 0), (2, 6, 0), (3, 15, 0), (4, 25, 0), (5, 36, 0)];
 
-/// The gap of each of them but the last.
+/// The gap of each of them except the last.
 const GAPS: &[u8] = &[0, 8, 9, 9];
 
 #[test]
 fn sees_nine_cells_far(rt: HostRuntime) -> Result<(), Fail> {
     let road = road_of(rt.alloc(), FAR)?;
     for (place, gap) in GAPS.iter().enumerate() {
-        sees(&rt, &road, place, &(&[], *gap));
+        holds(&rt, place, sees(&road, place, &(&[], *gap)));
     }
     Ok(())
 }
 
-/// A cell, and how many of the blocked cells 3, 12 and 15 it has reached.
+/// A cell, and how many of the blocked cells 3, 12 and 15 are not in front of it.
 const REACHED: &[(u32, usize)] = &[(2, 0), (3, 1), (11, 1), (12, 2), (14, 2), (15, 3), (20, 3)];
 
 #[test]
 fn counts_the_blocks_that_a_cell_has_reached(rt: HostRuntime) {
     let blocks = [3, 12, 15];
-    for (cell, count) in REACHED {
+    for (row, (cell, count)) in REACHED.iter().enumerate() {
         let walked = reached_blocks_below(&blocks, *cell, 3);
-        assert!(rt;
+        holds(
+            &rt,
+            row,
             reached_blocks(&blocks, *cell) == *count && walked == *count,
-            "cell {cell}"
         );
     }
 }

@@ -9,3 +9,12 @@ mod plan;
 mod rules;
 #[cfg(test)]
 mod words;
+
+#[cfg(test)]
+use std::process::Abort;
+
+// Check the facts of a table's row.
+#[cfg(test)]
+fn holds(rt: &impl Abort, row: usize, holds: bool) {
+    assert!(rt; holds, "row {row}");
+}

@@ -4,14 +4,14 @@ ghost use Rattle.std.specs.Prelude.{◌≤◌, length};
 ghost use Rattle.road_cells.specs.Cars.{AreRising, array_of};
 ghost use Rattle.road_rules.specs.Motion.{MayMove};
 
-use road_cells::{Car, Road};
+use crate::holds;
+use road_cells::{Car, OutOfMemory, Road};
 use road_rules::{moved, slowed, two_rules, wanted};
 use std::alloc::Global;
-use std::process::Abort;
 use std::test::Fail;
 use tests_plans::car;
 
-/// Speed, limit, gap, and the speed wanted.
+/// Speed, limit, gap, and the wanted speed.
 const WANTED: &[(u8, u32, u8, u8)] = &[
     (0, 5, 9, 1),
     (1, 5, 9, 2),
@@ -30,12 +30,8 @@ const WANTED: &[(u8, u32, u8, u8)] = &[
 
 #[test]
 fn wants_the_least_of_three(rt: HostRuntime) {
-    for (speed, limit, gap, want) in WANTED {
-        assert_eq!(rt;
-            wanted(*speed, *limit, *gap),
-            *want,
-            "speed {speed}, limit {limit}, gap {gap}"
-        );
+    for (row, (speed, limit, gap, want)) in WANTED.iter().enumerate() {
+        holds(&rt, row, wanted(*speed, *limit, *gap) == *want);
     }
 }
 
@@ -54,13 +50,9 @@ const TWO_RULES: &[(u8, u8, u32, u8)] = &[
 
 #[test]
 fn keeps_the_rules_of_1992(rt: HostRuntime) {
-    for (speed, vmax, distance, want) in TWO_RULES {
-        assert!(rt; *distance > 0);
-        assert_eq!(rt;
-            two_rules(*speed, *vmax, *distance),
-            *want,
-            "speed {speed}, vmax {vmax}, distance {distance}"
-        );
+    for (row, (speed, vmax, distance, want)) in TWO_RULES.iter().enumerate() {
+        let keeps = *distance > 0 && two_rules(*speed, *vmax, *distance) == *want;
+        holds(&rt, row, keeps);
     }
 }
 
@@ -85,33 +77,20 @@ const SLOWED: &[(u8, u32, u32, u8)] = &[
 
 #[test]
 fn slows_below_the_chance(rt: HostRuntime) {
-    for (speed, word, chance, want) in SLOWED {
-        assert_eq!(rt;
-            slowed(*speed, *word, *chance),
-            *want,
-            "speed {speed}, word {word}, chance {chance}"
-        );
+    for (row, (speed, word, chance, want)) in SLOWED.iter().enumerate() {
+        holds(&rt, row, slowed(*speed, *word, *chance) == *want);
     }
 }
 
-// Motion takes cars at these speeds to later places.
-fn moves(
-    rt: &impl Abort,
-    alloc: Global,
-    cars: &[Car],
-    speeds: &[u8],
-    later: &[Car],
-) -> Result<(), Fail>
+// Return whether motion takes cars at these speeds to later places, and leaves the road unchanged.
+fn moves(alloc: Global, cars: &[Car], speeds: &[u8], later: &[Car]) -> Result<bool, OutOfMemory>
     requires rise { AreRising cars.now }
     requires low { length (array_of cars.now) ≤ 65536 }
     requires may { MayMove (array_of cars.now) speeds.now }
 {
     let road = Road::of(cars.to_vec(alloc)?);
-    let result = moved(alloc, &road, speeds);
-    assert!(rt; road.cars() == cars, "moved or refused");
-    let next = result?;
-    assert!(rt; next.cars() == later, "{} cars", cars.len());
-    Ok(())
+    let next = moved(alloc, &road, speeds)?;
+    Ok(road.cars() == cars && next.cars() == later)
 }
 
 /// The first four motions of a road with limit 2, where a car enters at cell 0 whenever it is empty.
@@ -119,22 +98,28 @@ fn moves(
 fn moves_each_car_by_its_speed(rt: HostRuntime) -> Result<(), Fail> {
     let alloc = rt.alloc();
     let one = [car(0, 0, 0)];
-    moves(&rt, alloc, &one, &[1], &[car(0, 1, 1)])?;
+    holds(&rt, 0, moves(alloc, &one, &[1], &[car(0, 1, 1)])?);
     let two = [car(16, 0, 0), car(0, 1, 1)];
-    moves(&rt, alloc, &two, &[0, 2], &[car(16, 0, 0), car(0, 3, 2)])?;
+    let later = [car(16, 0, 0), car(0, 3, 2)];
+    holds(&rt, 1, moves(alloc, &two, &[0, 2], &later)?);
     let two = [car(16, 0, 0), car(0, 3, 2)];
-    moves(&rt, alloc, &two, &[1, 2], &[car(16, 1, 1), car(0, 5, 2)])?;
+    let later = [car(16, 1, 1), car(0, 5, 2)];
+    holds(&rt, 2, moves(alloc, &two, &[1, 2], &later)?);
     let three = [car(48, 0, 0), car(16, 1, 1), car(0, 5, 2)];
     let later = [car(48, 0, 0), car(16, 3, 2), car(0, 7, 2)];
-    moves(&rt, alloc, &three, &[0, 2, 2], &later)
+    holds(&rt, 3, moves(alloc, &three, &[0, 2, 2], &later)?);
+    Ok(())
 }
 
-/// Nothing is lost at the greatest speed, nor behind a car that stays, nor on an empty road.
+/// No car is lost at the greatest speed, nor after a car that stays, nor on an empty road.
 #[test]
 fn moves_a_fast_car(rt: HostRuntime) -> Result<(), Fail> {
     let alloc = rt.alloc();
     let two = [car(2, 3, 4), car(1, 8, 9)];
-    moves(&rt, alloc, &two, &[4, 9], &[car(2, 7, 4), car(1, 17, 9)])?;
-    moves(&rt, alloc, &two, &[4, 0], &[car(2, 7, 4), car(1, 8, 0)])?;
-    moves(&rt, alloc, &[], &[], &[])
+    let later = [car(2, 7, 4), car(1, 17, 9)];
+    holds(&rt, 0, moves(alloc, &two, &[4, 9], &later)?);
+    let later = [car(2, 7, 4), car(1, 8, 0)];
+    holds(&rt, 1, moves(alloc, &two, &[4, 0], &later)?);
+    holds(&rt, 2, moves(alloc, &[], &[], &[])?);
+    Ok(())
 }

@@ -2,13 +2,15 @@
 
 mod chacha_words;
 
+use crate::holds;
 use chacha_words::{CHACHA_WORDS, ZERO_KEY};
-use road_plan::WordKind;
+use road_plan::{PlanFault, WordKind};
 use road_words::{ChaChaWords, PlanWords, SteadyWords, Words};
+use std::alloc::Global;
 use std::test::Fail;
 use tests_plans::{FREE, Parts, plan_of};
 
-/// Returns the word that any source of words gives.
+/// Return the word that any source of words returns.
 fn word_of<W: Words>(words: &W, stream: u64, place: u64) -> u32 {
     words.word(stream, place)
 }
@@ -23,35 +25,31 @@ const STEADY_WORDS: &[(u64, u64, u32, u32)] = &[
 
 #[test]
 fn steady_words_follow_the_line(rt: HostRuntime) {
-    for (stream, place, upper, want) in STEADY_WORDS {
+    for (row, (stream, place, upper, want)) in STEADY_WORDS.iter().enumerate() {
         let word = word_of(&SteadyWords, *stream, *place);
-        assert_eq!(rt; word, *want, "stream {stream}, place {place}");
-        assert_eq!(rt; word >> 16, *upper, "stream {stream}, place {place}");
+        holds(&rt, row, word == *want && word >> 16 == *upper);
     }
 }
 
 #[test]
 fn seed_zero_gives_the_published_keystream(rt: HostRuntime) {
     let words = ChaChaWords::new(0);
-    for (place, printed) in (0u64..).zip(ZERO_KEY) {
+    for (place, printed) in ZERO_KEY.iter().enumerate() {
         // a word is made of its four bytes with the last one first
-        assert_eq!(rt;
-            word_of(&words, 0, place),
-            printed.swap_bytes(),
-            "place {place}"
-        );
+        let word = word_of(&words, 0, place as u64);
+        holds(&rt, place, word == printed.swap_bytes());
     }
 }
 
 #[test]
 fn seeded_words_are_those_of_another_program(rt: HostRuntime) {
-    for (seed, stream, place, want) in CHACHA_WORDS {
+    for (row, (seed, stream, place, want)) in CHACHA_WORDS.iter().enumerate() {
         let word = word_of(&ChaChaWords::new(*seed), *stream, *place);
-        assert_eq!(rt; word, *want, "seed {seed}, stream {stream}, place {place}");
+        holds(&rt, row, word == *want);
     }
 }
 
-/// The words that a plan names, and the word at place 1 of stream 16.
+/// The words that a plan selects, and the word at place 1 of stream 16.
 const NAMED_WORDS: &[(WordKind, u32)] = &[
     (WordKind::Seeded(7), 2_155_941_584),
     (WordKind::Seeded(1_992), 1_000_473_906),
@@ -59,17 +57,16 @@ const NAMED_WORDS: &[(WordKind, u32)] = &[
     (WordKind::Steady, 1_487_601_664),
 ];
 
+// Return the word at place 1 of stream 16 of a plan with these words.
+fn named_word(alloc: Global, words: WordKind) -> Result<u32, PlanFault> {
+    let plan = plan_of(alloc, &Parts { words, ..FREE })?;
+    Ok(word_of(&PlanWords::of(&plan), 16, 1))
+}
+
 #[test]
 fn a_plan_names_its_words(rt: HostRuntime) -> Result<(), Fail> {
-    for (words, want) in NAMED_WORDS {
-        let plan = plan_of(
-            rt.alloc(),
-            &Parts {
-                words: *words,
-                ..FREE
-            },
-        )?;
-        assert_eq!(rt; word_of(&PlanWords::of(&plan), 16, 1), *want, "{words:?}");
+    for (row, (words, want)) in NAMED_WORDS.iter().enumerate() {
+        holds(&rt, row, named_word(rt.alloc(), *words)? == *want);
     }
     Ok(())
 }

@@ -1,10 +1,10 @@
-//! A run under way beside the plain steps of the same road.
+//! A run under way, and the plain steps of the same road for comparison.
 
 ghost use Rattle.std.specs.Prelude.{◌≡◌, IfOk};
 ghost use Rattle.std.specs.Arc.{arc_value};
 ghost use Rattle.road_plan.specs.Settings.{Fits};
 
-use crate::plain::{add, cars_on, copy_of, counted_in, counts_agree, nothing};
+use crate::plain::{add, cars_on, copy_of, counts_agree, counts_in, nothing};
 use road_cells::Road;
 use road_columns::UnderWay;
 use road_detector::Totals;
@@ -18,7 +18,7 @@ use std::sync::Arc;
 use std::test::Fail;
 use tests_plans::{Parts, plan_of, row_of};
 
-/// A run under way, and beside it the road that plain steps come to, with what the detectors have counted in them.
+/// A run under way, and the road of plain steps, with the counts of the detectors in them.
 #[derive(Drop)]
 pub(crate) struct Beside {
     plan: Arc<Plan>,
@@ -42,14 +42,14 @@ impl Model for Beside {
 }
 
 impl Beside {
-    /// Begins both at step 0 on the empty road.
-    pub(crate) fn begin(alloc: Global, plan: Plan, settings: Settings) -> Result<Beside, Fail> {
-        let plan = Arc::new(alloc, plan)?;
+    // Begin both at step 0 on the empty road.
+    fn begin(alloc: Global, plan: Arc<Plan>, settings: &Settings) -> Result<Beside, Fail> {
         let totals = nothing(alloc, &plan)?;
-        let run = run_of(alloc, &plan, &settings)?;
+        let own = copy_of(settings)?;
+        let run = run_of(alloc, &plan, settings)?;
         Ok(Beside {
             plan,
-            settings,
+            settings: own,
             run,
             step: 0,
             road: Road::empty(alloc),
@@ -57,56 +57,56 @@ impl Beside {
         })
     }
 
-    /// Begins both on the empty road of a plan, by its own settings.
+    /// Begin both on the empty road of a plan, by its own settings.
     pub(crate) fn of_plan(alloc: Global, plan: Plan) -> Result<Beside, Fail> {
+        let plan = Arc::new(alloc, plan)?;
         let settings = Settings::of_plan(alloc, &plan)?;
-        Beside::begin(alloc, plan, settings)
+        Beside::begin(alloc, plan, &settings)
     }
 
-    /// Begins both on the empty road of the plan of these parts, by its own settings.
+    /// Begin both on the empty road of the plan of these parts, by its own settings.
     pub(crate) fn of_parts(alloc: Global, parts: &Parts) -> Result<Beside, Fail> {
         let plan = plan_of(alloc, parts)?;
         Beside::of_plan(alloc, plan)
     }
 
-    /// Returns their plan.
+    /// Return their plan.
     pub(crate) fn plan(&self) -> &Plan {
         &self.plan
     }
 
-    /// Goes on from a road at a step, the run under way with those of its cars that stand on a stretch. Fails where it
-    /// cannot.
+    /// Go on from a road at a step, the run under way with the cars of the road on a stretch. Fail if it cannot.
     pub(crate) fn take_up(
         &mut self,
         alloc: Global,
-        settings: Settings,
+        settings: &Settings,
         step: u32,
         stretch: Stretch,
         road: &Road,
     ) -> Result<(), Fail> {
         let near = cars_on(alloc, road, stretch)?;
-        if !self.try_take_up(alloc, &settings, step, stretch, &near)? {
+        if !self.try_take_up(alloc, settings, step, stretch, &near)? {
             return Err(Fail::new("a road that a run cannot go on from"));
         }
-        self.begin_plainly(alloc, settings, step, road)
+        Ok(self.begin_plainly(alloc, settings, step, road)?)
     }
 
-    // Lets the plain steps alone go on from a road at a step.
+    // Let only the plain steps go on from a road at a step.
     fn begin_plainly(
         &mut self,
         alloc: Global,
-        settings: Settings,
+        settings: &Settings,
         step: u32,
         road: &Road,
-    ) -> Result<(), Fail> {
+    ) -> Result<(), OutOfMemory> {
         self.totals = nothing(alloc, &self.plan)?;
         self.road = road.copied()?;
-        self.settings = settings;
+        self.settings = copy_of(settings)?;
         self.step = step;
         Ok(())
     }
 
-    /// Lets the run under way alone go on from a road at a step, if it can.
+    /// Let only the run under way go on from a road at a step, if it can.
     pub(crate) fn try_take_up(
         &mut self,
         alloc: Global,
@@ -122,15 +122,15 @@ impl Beside {
         Ok(self.run.take_up(alloc, own, step, stretch, road)?)
     }
 
-    /// Takes other settings from the next step on.
-    pub(crate) fn change(&mut self, alloc: Global, settings: Settings) -> Result<(), Fail> {
-        let own = Arc::new(alloc, fitting(&self.plan, &settings)?)?;
+    /// Take changed settings from the next step on.
+    pub(crate) fn change(&mut self, alloc: Global, settings: &Settings) -> Result<(), Fail> {
+        let own = Arc::new(alloc, fitting(&self.plan, settings)?)?;
         self.run.change(alloc, own)?;
-        self.settings = settings;
+        self.settings = copy_of(settings)?;
         Ok(())
     }
 
-    /// Lets nobody enter in plain steps but on a stretch, and else has these settings there.
+    /// Let no car enter in plain steps except on a stretch, and have these settings there.
     pub(crate) fn close_outside(
         &mut self,
         settings: &Settings,
@@ -147,7 +147,8 @@ impl Beside {
         Ok(())
     }
 
-    /// Makes one step of both. The run under way is told of few steps ahead, so that it lacks memory again and again.
+    /// Make one step of both. The run under way is told of only a few steps ahead, so that it needs memory again and
+    /// again.
     pub(crate) fn step(&mut self, alloc: Global) -> Result<(), Fail> {
         if self.run.next_step() >= GREATEST_HORIZON {
             return Err(Fail::new("a step beyond the greatest horizon"));
@@ -156,28 +157,28 @@ impl Beside {
         self.step_plainly(alloc)
     }
 
-    // Makes a plain step alone.
+    // Make a plain step only.
     fn step_plainly(&mut self, alloc: Global) -> Result<(), Fail> {
         let settings = fitting(&self.plan, &self.settings)?;
         let mut meter = Meter::new();
         let done = step_alone(
             alloc, &self.plan, settings, self.step, &self.road, &mut meter,
         )?;
-        let counted = counted_in(alloc, &done.input, &done.speeds)?;
+        let counted = counts_in(alloc, &done.input, &done.speeds)?;
         add(&mut self.totals, &counted);
         self.road = done.road;
         self.step = self.step.saturating_add(1);
         Ok(())
     }
 
-    /// Begins all counts anew.
+    /// Begin all counts anew.
     pub(crate) fn restart_counts(&mut self, alloc: Global) -> Result<(), OutOfMemory> {
         self.totals = nothing(alloc, &self.plan)?;
         self.run.restart_counts();
         Ok(())
     }
 
-    /// Answers whether both are at the same step, on the same road, with the same row and counts.
+    /// Return whether both are at the same step, on the same road, with the same row and counts.
     pub(crate) fn are_same(&self, alloc: Global) -> Result<bool, OutOfMemory> {
         let cars_are = self.have_same_cars(alloc)?;
         let counts_are = self.have_same_counts(alloc)?;
@@ -202,7 +203,7 @@ impl Beside {
         Ok(row == plain)
     }
 
-    /// Answers whether they have the same cars on a stretch, and have counted the same there.
+    /// Return whether they have the same cars on a stretch, and have counted the same there.
     pub(crate) fn are_same_on(&self, alloc: Global, stretch: Stretch) -> Result<bool, OutOfMemory> {
         let cars_are = self.have_same_cars_on(alloc, stretch)?;
         let totals = self.run.totals(alloc)?;
@@ -216,23 +217,18 @@ impl Beside {
         Ok(cars.cars() == plain.cars())
     }
 
-    /// Returns the road that the plain steps have come to.
+    /// Return the road of the plain steps.
     pub(crate) fn road(&self) -> &Road {
         &self.road
     }
 
-    /// Returns what the run under way has counted.
+    /// Return the counts of the run under way.
     pub(crate) fn totals(&self, alloc: Global) -> Result<Vec<Totals>, OutOfMemory> {
         self.run.totals(alloc)
     }
-
-    /// Draws the row of the run under way.
-    pub(crate) fn row(&self, alloc: Global) -> Result<String, OutOfMemory> {
-        self.run.row(alloc)
-    }
 }
 
-// Begins a run of a plan.
+// Begin a run of a plan.
 fn run_of(alloc: Global, plan: &Arc<Plan>, settings: &Settings) -> Result<UnderWay, Fail>
     ensures { IfOk result (λ run. run.plan ≡ arc_value plan.now) }
 {
@@ -241,7 +237,7 @@ fn run_of(alloc: Global, plan: &Arc<Plan>, settings: &Settings) -> Result<UnderW
     Ok(UnderWay::new(alloc, plan, own)?)
 }
 
-// Copies settings that fit a plan.
+// Copy settings that fit a plan.
 fn fitting(plan: &Plan, settings: &Settings) -> Result<Settings, Fail>
     ensures { IfOk result (λ own. Fits plan.now own) }
 {
@@ -252,24 +248,24 @@ fn fitting(plan: &Plan, settings: &Settings) -> Result<Settings, Fail>
     Ok(own)
 }
 
-/// Where two runs are compared: a name and a number for the message, and the steps that have been made.
+/// Where two runs are compared: a name and a number for the message, and the number of steps so far.
 #[derive(Clone, Copy)]
 pub(crate) struct Place<'a> {
-    /// The name of what is tried.
+    /// The name of the case.
     pub(crate) name: &'a str,
-    /// Which one it is.
+    /// The number of the case.
     pub(crate) number: u32,
     /// The steps so far.
     pub(crate) done: u32,
 }
 
-/// Checks that something holds at a place.
+/// Check a fact at a place.
 pub(crate) fn holds_at(rt: &impl Abort, holds: bool, place: Place<'_>) {
     let Place { name, number, done } = place;
     assert!(rt; holds, "{name} {number}, after {done} steps");
 }
 
-/// Makes so many steps of both, and checks that they are the same before the first and after each.
+/// Make this number of steps of both, and check that they are the same before the first and after each.
 pub(crate) fn are_same_throughout(
     rt: &impl Abort,
     alloc: Global,

@@ -15,5 +15,3 @@ mod roads;
 mod stretches;
 #[cfg(test)]
 mod turns;
-#[cfg(test)]
-mod worked;

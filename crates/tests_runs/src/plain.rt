@@ -1,4 +1,4 @@
-//! What plain steps need: copies of settings, counts, and the cars on a stretch.
+//! Helpers of plain steps: copies of settings, counts, and the cars on a stretch.
 
 ghost use Rattle.std.specs.Prelude.{◌≡◌, length};
 ghost use Rattle.road_cells.specs.Cars.{cars_of};
@@ -10,7 +10,7 @@ use road_plan::{Plan, Settings};
 use std::alloc::Global;
 use tests_plans::road_of;
 
-/// Copies settings.
+/// Copy settings.
 pub(crate) fn copy_of(settings: &Settings) -> Result<Settings, OutOfMemory> {
     Ok(Settings {
         limits: settings.limits.clone()?,
@@ -22,13 +22,13 @@ pub(crate) fn copy_of(settings: &Settings) -> Result<Settings, OutOfMemory> {
     })
 }
 
-/// Lists no count for each detector.
+/// List a count of nothing for each detector.
 pub(crate) fn nothing(alloc: Global, plan: &Plan) -> Result<Vec<Totals>, OutOfMemory> {
     vec![in alloc; Totals { cars: 0, speeds: 0 }; plan.detectors().len()]
 }
 
-/// Lists what each detector counts in a plain step.
-pub(crate) fn counted_in(
+/// List the counts of each detector in a plain step.
+pub(crate) fn counts_in(
     alloc: Global,
     input: &StepInput,
     speeds: &[u8],
@@ -42,7 +42,7 @@ pub(crate) fn counted_in(
     Ok(totals)
 }
 
-/// Adds what the detectors have counted to totals.
+/// Add the counts of the detectors to totals.
 pub(crate) fn add(totals: &mut [Totals], counted: &[Totals]) {
     for (total, more) in totals.iter_mut().zip(counted) {
         total.cars = total.cars.saturating_add(more.cars);
@@ -50,7 +50,7 @@ pub(crate) fn add(totals: &mut [Totals], counted: &[Totals]) {
     }
 }
 
-/// Answers whether the totals of detectors are the same at those of the sites that lie on a stretch.
+/// Return whether the totals of the detectors with sites on a stretch are the same.
 pub(crate) fn counts_agree(
     sites: &[u32],
     stretch: Stretch,
@@ -62,7 +62,7 @@ pub(crate) fn counts_agree(
         || total == plain)
 }
 
-/// Makes the road of the cars that stand on a stretch.
+/// Make the road of the cars on a stretch.
 pub(crate) fn cars_on(alloc: Global, road: &Road, stretch: Stretch) -> Result<Road, OutOfMemory> {
     let mut cars = Vec::new(alloc);
     for car in road.cars() {
@@ -73,7 +73,7 @@ pub(crate) fn cars_on(alloc: Global, road: &Road, stretch: Stretch) -> Result<Ro
     road_of(alloc, &cars)
 }
 
-/// Counts the cars that stand on a stretch.
+/// Count the cars on a stretch.
 pub(crate) fn count_on(road: &Road, stretch: Stretch) -> usize {
     road.cars()
         .iter()

@@ -1,4 +1,4 @@
-//! Roads that a run does not go on from.
+//! Roads from which a run cannot go on.
 
 use crate::beside::{Beside, are_same_throughout};
 use road_cells::Road;
@@ -11,8 +11,8 @@ use tests_plans::{LONG, car, random_settings, road_of};
 /// A car, a stretch, and whether a run goes on from them.
 type Row = ((u64, u32, u8), (u32, u32), bool);
 
-/// The number, cell and speed of a car, the first cell of a stretch and the one behind its last, and whether a run of the
-/// longest road goes on from them: its exit begins at cell 8,189.
+/// The number, cell and speed of a car, the first cell of a stretch and the cell after its last one, and whether a run
+/// of the longest road goes on from them. Its exit begins at cell 8,189.
 const CARS: &[Row] = &[
     ((0, 0, 0), (0, 8_192), true),
     ((0, 8_188, 9), (0, 8_192), true),
@@ -32,7 +32,7 @@ const CARS: &[Row] = &[
     ((18_446_744_073_709_551_615, 50, 0), (0, 8_192), false),
 ];
 
-// Makes the road of a car between two others, where these stand on the stretch.
+// Make the road of a car between two others, if these are on the stretch.
 fn road_with(
     alloc: Global,
     (number, cell, speed): (u64, u32, u8),
@@ -49,8 +49,8 @@ fn road_with(
     road_of(alloc, &cars)
 }
 
-// Takes both to the middle of a span, and tells whether the run goes on from there from the road of a car on a stretch.
-fn goes_on(
+// Take both to the middle of a span, and return whether the run goes on from there with the road of a car on a stretch.
+fn try_go_on(
     alloc: Global,
     beside: &mut Beside,
     car: (u64, u32, u8),
@@ -64,8 +64,8 @@ fn goes_on(
     beside.try_take_up(alloc, &settings, 5, stretch, &road)
 }
 
-// Checks whether a run goes on from a row's road, and that a refusal has changed nothing, neither the road nor what comes
-// of it.
+// Check whether a run goes on from a row's road. Check that a refusal has changed nothing, neither the road nor the
+// later steps.
 fn holds(
     rt: &impl Abort,
     alloc: Global,
@@ -73,7 +73,7 @@ fn holds(
     (car, (first, end), wanted): Row,
 ) -> Result<(), Fail> {
     let mut beside = Beside::of_parts(alloc, &LONG)?;
-    let taken = goes_on(alloc, &mut beside, car, Stretch { first, end })?;
+    let taken = try_go_on(alloc, &mut beside, car, Stretch { first, end })?;
     assert!(rt; taken == wanted, "row {number}");
     if taken {
         return Ok(());

@@ -7,8 +7,8 @@ use std::process::Abort;
 use std::test::Fail;
 use tests_plans::{Dice, random_plan, random_road, random_settings};
 
-/// The seeds of settings, and for how many steps they hold: they change one step before a multiple of 64, at it, one step
-/// behind, in the middle, and so on; the last step is no multiple.
+/// The seeds of settings, and for how many steps they hold. They change one step before a multiple of 64, at it, one
+/// step after it, in the middle, and so on; the last step is not a multiple.
 const SPANS: &[(u32, u32)] = &[
     (11, 63),
     (12, 1),
@@ -24,42 +24,42 @@ const SPANS: &[(u32, u32)] = &[
 /// The shortest road, the longest, and others.
 const LENGTHS: &[u32] = &[8, 9, 23, 65, 300, 700, 2_500, 8_192];
 
-// Takes both through the spans, and compares them after each step.
-fn runs_spans(rt: &impl Abort, alloc: Global, beside: &mut Beside) -> Result<(), Fail> {
+// Take both through the spans, and compare them after each step.
+fn compare_spans(rt: &impl Abort, alloc: Global, beside: &mut Beside) -> Result<(), Fail> {
     for (seed, steps) in SPANS {
         let settings = random_settings(alloc, beside.plan(), *seed)?;
-        beside.change(alloc, settings)?;
+        beside.change(alloc, &settings)?;
         are_same_throughout(rt, alloc, beside, *steps, "settings", *seed)?;
     }
     Ok(())
 }
 
-// Takes both through the spans on a road of so many cells, from the empty road.
-fn runs_empty_road(
+// Take both through the spans on a road of this number of cells, from the empty road.
+fn compare_from_empty_road(
     rt: &impl Abort,
     alloc: Global,
     dice: &mut Dice,
     length: u32,
 ) -> Result<(), Fail> {
     let mut beside = Beside::of_plan(alloc, random_plan(alloc, dice, length)?)?;
-    runs_spans(rt, alloc, &mut beside)
+    compare_spans(rt, alloc, &mut beside)
 }
 
 #[test]
 fn a_run_from_the_empty_road_is_the_plain_steps(rt: HostRuntime) -> Result<(), Fail> {
     let mut dice = Dice::of(1);
     for length in LENGTHS {
-        runs_empty_road(&rt, rt.alloc(), &mut dice, *length)?;
+        compare_from_empty_road(&rt, rt.alloc(), &mut dice, *length)?;
     }
     Ok(())
 }
 
-/// Steps at which a run goes on from a road: at a span's first step, its second, in its middle, at its last; in the last
-/// span that the tests come to.
+/// Steps at which a run goes on from a road: at a span's first step, its second, in its middle, at its last; and in the
+/// last span that the tests reach.
 const STARTS: &[u32] = &[0, 1, 37, 63, 64, 1_048_300];
 
-// Goes on from a road with about so many cars at a step.
-fn takes_up(
+// Go on from a road with about this number of cars at a step.
+fn take_up_random(
     alloc: Global,
     dice: &mut Dice,
     beside: &mut Beside,
@@ -72,11 +72,11 @@ fn takes_up(
     };
     let road = random_road(alloc, dice, beside.plan(), cars)?;
     let settings = random_settings(alloc, beside.plan(), dice.below(1_000))?;
-    beside.take_up(alloc, settings, step, whole, &road)
+    beside.take_up(alloc, &settings, step, whole, &road)
 }
 
-// Goes on from a road with about so many cars at each of these steps.
-fn takes_up_each(
+// Go on from a road with about this number of cars at each of these steps.
+fn take_up_each(
     rt: &impl Abort,
     alloc: Global,
     dice: &mut Dice,
@@ -84,7 +84,7 @@ fn takes_up_each(
     cars: u32,
 ) -> Result<(), Fail> {
     for step in STARTS {
-        takes_up(alloc, dice, beside, cars, *step)?;
+        take_up_random(alloc, dice, beside, cars, *step)?;
         are_same_throughout(rt, alloc, beside, 70, "begun at step", *step)?;
     }
     Ok(())
@@ -93,24 +93,19 @@ fn takes_up_each(
 /// The lengths of such roads.
 const TAKEN: &[u32] = &[8, 40, 500, 3_000];
 
-// Goes on from full, thinner and thin roads of so many cells.
-fn takes_up_roads(
-    rt: &impl Abort,
-    alloc: Global,
-    dice: &mut Dice,
-    length: u32,
-) -> Result<(), Fail> {
+// Go on from full, thinner and thin roads of this number of cells.
+fn take_up_roads(rt: &impl Abort, alloc: Global, dice: &mut Dice, length: u32) -> Result<(), Fail> {
     let mut beside = Beside::of_plan(alloc, random_plan(alloc, dice, length)?)?;
-    takes_up_each(rt, alloc, dice, &mut beside, length)?;
-    takes_up_each(rt, alloc, dice, &mut beside, length / 3)?;
-    takes_up_each(rt, alloc, dice, &mut beside, length / 20)
+    take_up_each(rt, alloc, dice, &mut beside, length)?;
+    take_up_each(rt, alloc, dice, &mut beside, length / 3)?;
+    take_up_each(rt, alloc, dice, &mut beside, length / 20)
 }
 
 #[test]
 fn a_run_goes_on_from_any_road_at_any_step(rt: HostRuntime) -> Result<(), Fail> {
     let mut dice = Dice::of(2);
     for length in TAKEN {
-        takes_up_roads(&rt, rt.alloc(), &mut dice, *length)?;
+        take_up_roads(&rt, rt.alloc(), &mut dice, *length)?;
     }
     Ok(())
 }

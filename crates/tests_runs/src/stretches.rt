@@ -1,4 +1,4 @@
-//! Runs on stretches of a road, beside the stretch alone and the whole road.
+//! Runs on stretches of a road, compared with the stretch alone and with the whole road.
 
 use crate::beside::{Beside, Place, holds_at};
 use crate::plain::{cars_on, count_on};
@@ -17,9 +17,9 @@ struct Course {
     steps: u32,
 }
 
-// Returns the cells of a stretch that nothing beyond it can have reached after a step: those 9 cells more inside, but at
-// an end of the road.
-fn narrowed(stretch: Stretch, length: u32) -> Stretch {
+// Return the cells of a stretch that nothing beyond it can have reached after a step: 9 cells fewer at each end, except
+// at an end of the road.
+fn narrow(stretch: Stretch, length: u32) -> Stretch {
     let far = u32::from(GREATEST_SPEED);
     let Stretch { mut first, mut end } = stretch;
     if first > 0 {
@@ -31,9 +31,9 @@ fn narrowed(stretch: Stretch, length: u32) -> Stretch {
     Stretch { first, end }
 }
 
-// Returns the cells that the cars of a stretch can have reached after a step: it ends 9 cells later, but at the end of the
-// road.
-fn widened(stretch: Stretch, length: u32) -> Stretch {
+// Return the cells that the cars of a stretch can have reached after a step: the stretch ends 9 cells later, but not
+// after the end of the road.
+fn widen(stretch: Stretch, length: u32) -> Stretch {
     let end = stretch.end.saturating_add(u32::from(GREATEST_SPEED));
     Stretch {
         first: stretch.first,
@@ -41,7 +41,7 @@ fn widened(stretch: Stretch, length: u32) -> Stretch {
     }
 }
 
-// Goes on from the cars of a road on a stretch.
+// Go on from the cars of a road on a stretch.
 fn take_up(
     alloc: Global,
     beside: &mut Beside,
@@ -50,11 +50,11 @@ fn take_up(
     road: &Road,
 ) -> Result<(), Fail> {
     let settings = random_settings(alloc, beside.plan(), course.seed)?;
-    beside.take_up(alloc, settings, course.step, stretch, road)
+    beside.take_up(alloc, &settings, course.step, stretch, road)
 }
 
-// Compares both on a stretch, and returns how many cars stand on it.
-fn compared_on(
+// Compare both on a stretch, and return the number of cars on it.
+fn compare_on(
     rt: &impl Abort,
     alloc: Global,
     beside: &Beside,
@@ -68,7 +68,7 @@ fn compared_on(
     Ok(count_on(beside.road(), stretch))
 }
 
-// Runs a stretch, and compares after each step the cells that nothing beyond it can have reached. Returns how many cars
+// Run a stretch, and compare after each step the cells that nothing beyond it can have reached. Return how many cars
 // were compared.
 fn runs_as_the_whole_road(
     rt: &impl Abort,
@@ -84,16 +84,16 @@ fn runs_as_the_whole_road(
     let mut compared = 0_usize;
     for done in 0..course.steps {
         beside.step(alloc)?;
-        stretch = narrowed(stretch, length);
+        stretch = narrow(stretch, length);
         let name = "in the whole road, the stretch from cell";
         let place = Place { name, number, done };
-        let cars = compared_on(rt, alloc, beside, stretch, place)?;
+        let cars = compare_on(rt, alloc, beside, stretch, place)?;
         compared = compared.saturating_add(cars);
     }
     Ok(compared)
 }
 
-// Runs a stretch, and compares after each step the whole road with plain steps in which nobody enters elsewhere.
+// Run a stretch, and compare after each step the whole road with plain steps in which no car enters elsewhere.
 fn runs_as_alone(
     rt: &impl Abort,
     alloc: Global,
@@ -112,12 +112,12 @@ fn runs_as_alone(
         beside.step(alloc)?;
         let name = "alone, the stretch from cell";
         holds_at(rt, beside.are_same(alloc)?, Place { name, number, done });
-        stretch = widened(stretch, length);
+        stretch = widen(stretch, length);
     }
     Ok(())
 }
 
-// Cuts a road at a cell, and runs the stretches before the cut, behind it and round it. Returns how many cars were
+// Divide a road at a cell, and run the stretches before the cell, after it and around it. Return how many cars were
 // compared.
 fn runs_stretches(
     rt: &impl Abort,
@@ -139,7 +139,7 @@ fn runs_stretches(
     Ok(compared)
 }
 
-// Runs the stretches of a random road on both sides of a cell for so many steps.
+// Run the stretches of a random road on both sides of a cell for this number of steps.
 fn cut_at(
     rt: &impl Abort,
     alloc: Global,
@@ -158,7 +158,7 @@ fn cut_at(
     runs_stretches(rt, alloc, beside, course, cut, &road)
 }
 
-// Cuts a road at each so many cells.
+// Divide a road at every n-th cell.
 fn cut_everywhere(
     rt: &impl Abort,
     alloc: Global,
@@ -177,7 +177,7 @@ fn cut_everywhere(
     Ok(compared)
 }
 
-// Cuts a random road of so many cells at each so many of them.
+// Divide a random road of this number of cells at every n-th of them.
 fn cut_road(
     rt: &impl Abort,
     alloc: Global,

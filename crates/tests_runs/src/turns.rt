@@ -1,4 +1,4 @@
-//! Settings under which nothing is left to chance, and others, that take turns in the middle of spans.
+//! Settings that leave nothing to chance alternate with others in the middle of spans.
 
 use crate::beside::{Beside, are_same_throughout};
 use road_plan::{OutOfMemory, Plan, Settings};
@@ -7,9 +7,9 @@ use std::process::Abort;
 use std::test::Fail;
 use tests_plans::{DENSE, LONG, Parts, RANDOM};
 
-/// For how many steps settings hold, and by them the slowing chance of moving cars, that of standing ones and the inflow
-/// chance: nothing up to the middle of the first span, then each kind of chance, alone and with others, and back, within
-/// a span and over the end of one; certain chances; chances that hardly ever miss.
+/// For how many steps settings hold, and their slowing chance of moving cars, that of standing cars and the inflow
+/// chance. There is no chance up to the middle of the first span. Then comes each kind of chance, alone and with
+/// others, and back, within a span and over the end of one; certain chances; chances that are nearly certain.
 const TURNS: &[(u32, (u32, u32, u32))] = &[
     (30, (0, 0, 65_536)),
     (10, (30_000, 30_000, 65_536)),
@@ -29,7 +29,7 @@ const TURNS: &[(u32, (u32, u32, u32))] = &[
     (25, (1, 65_535, 65_536)),
 ];
 
-// Makes the plan's settings but for these chances.
+// Make the plan's settings with these chances.
 fn settings_of(
     alloc: Global,
     plan: &Plan,
@@ -42,25 +42,25 @@ fn settings_of(
     Ok(settings)
 }
 
-// Takes both through the turns, and compares them after each step.
-fn takes_turns(rt: &impl Abort, alloc: Global, beside: &mut Beside) -> Result<(), Fail> {
+// Take both through the turns, and compare them after each step.
+fn compare_turns(rt: &impl Abort, alloc: Global, beside: &mut Beside) -> Result<(), Fail> {
     for (turn, (steps, chances)) in TURNS.iter().enumerate() {
         let settings = settings_of(alloc, beside.plan(), *chances)?;
-        beside.change(alloc, settings)?;
+        beside.change(alloc, &settings)?;
         are_same_throughout(rt, alloc, beside, *steps, "turn", turn as u32)?;
     }
     Ok(())
 }
 
-// Takes both through the turns on the empty road of these parts.
-fn takes_turns_on(rt: &impl Abort, alloc: Global, parts: &Parts) -> Result<(), Fail> {
+// Take both through the turns on the empty road of these parts.
+fn compare_turns_on(rt: &impl Abort, alloc: Global, parts: &Parts) -> Result<(), Fail> {
     let mut beside = Beside::of_parts(alloc, parts)?;
-    takes_turns(rt, alloc, &mut beside)
+    compare_turns(rt, alloc, &mut beside)
 }
 
 #[test]
 fn chances_begin_and_end_in_the_middle_of_spans(rt: HostRuntime) -> Result<(), Fail> {
-    takes_turns_on(&rt, rt.alloc(), &LONG)?;
-    takes_turns_on(&rt, rt.alloc(), &RANDOM)?;
-    takes_turns_on(&rt, rt.alloc(), &DENSE)
+    compare_turns_on(&rt, rt.alloc(), &LONG)?;
+    compare_turns_on(&rt, rt.alloc(), &RANDOM)?;
+    compare_turns_on(&rt, rt.alloc(), &DENSE)
 }

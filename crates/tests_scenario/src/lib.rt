@@ -1,11 +1,18 @@
-//! Tests of joins, of maps, of scenarios and of deltas.
+//! Tests of joins, of maps and of scenarios.
 #![tactic(auto)]
 
-#[cfg(test)]
-mod deltas;
 #[cfg(test)]
 mod lattice;
 #[cfg(test)]
 mod maps;
 #[cfg(test)]
 mod scenario;
+
+#[cfg(test)]
+use std::process::Abort;
+
+// Check the facts of a table's row.
+#[cfg(test)]
+fn holds(rt: &impl Abort, row: usize, holds: bool) {
+    assert!(rt; holds, "row {row}");
+}

@@ -1,5 +1,6 @@
-//! Maps of up to a thousand keys, which lie in several pages, beside the standard library's map.
+//! Maps of up to a thousand keys, which lie in several pages, compared with the standard library's map.
 
+use crate::holds;
 use lattice_core::OutOfMemory;
 use lattice_core::entries::Entries;
 use lattice_core::greatest::Greatest;
@@ -16,7 +17,7 @@ use tests_plans::Dice;
 /// One more than the greatest key.
 const KEYS: u32 = 2_000;
 
-/// How the keys of a map follow one another.
+/// The order of the keys of a map.
 #[derive(Clone, Copy)]
 enum Order {
     Rising,
@@ -26,10 +27,24 @@ enum Order {
 
 const ORDERS: &[Order] = &[Order::Rising, Order::Falling, Order::Mixed];
 
-/// How many entries are put one by one.
-const COUNTS: &[u32] = &[0, 1, 2, 255, 256, 257, 384, 1_000];
+/// The number of entries of a map that are put one by one, and of the map that it is joined with.
+const PUTS: &[(u32, u32)] = &[
+    (0, 0),
+    (1, 0),
+    (2, 0),
+    (255, 0),
+    (256, 0),
+    (257, 0),
+    (384, 0),
+    (1_000, 0),
+    (0, 600),
+    (3, 1_000),
+    (1_000, 3),
+    (600, 1_000),
+    (1_000, 1_000),
+];
 
-// Returns the key that is put as the so-manieth.
+// Return the key that is put at this place.
 fn key(dice: &mut Dice, order: Order, place: u32) -> u32 {
     match order {
         Order::Rising => place.saturating_mul(2),
@@ -40,35 +55,30 @@ fn key(dice: &mut Dice, order: Order, place: u32) -> u32 {
 
 type Value = Greatest<u32>;
 
-/// A map, and what it must hold.
-#[derive(Drop)]
-struct Beside {
-    map: LatMap<u32, Value>,
-    held: BTreeMap<u32, u32>,
+type Map = LatMap<u32, Value>;
+
+/// The expected content of a map.
+type Held = BTreeMap<u32, u32>;
+
+// Make a map of this number of puts, and put the same into the expected content.
+fn put_many(
+    alloc: Global,
+    held: &mut Held,
+    dice: &mut Dice,
+    order: Order,
+    count: u32,
+) -> Result<Map, OutOfMemory> {
+    let mut map = LatMap::empty(alloc);
+    for place in 0..count {
+        let (key, value) = (key(dice, order, place), dice.below(9));
+        map = map.with(key, &Greatest::Of(value))?;
+        put(held, key, value)?;
+    }
+    Ok(map)
 }
 
-impl Beside {
-    fn empty(alloc: Global) -> Self {
-        Beside {
-            map: LatMap::empty(alloc),
-            held: BTreeMap::new(alloc),
-        }
-    }
-
-    // Makes a map of so many puts.
-    fn of(alloc: Global, dice: &mut Dice, order: Order, count: u32) -> Result<Self, OutOfMemory> {
-        let mut made = Beside::empty(alloc);
-        for place in 0..count {
-            let (key, value) = (key(dice, order, place), dice.below(9));
-            made.map = made.map.with(key, &Greatest::Of(value))?;
-            put(&mut made.held, key, value)?;
-        }
-        Ok(made)
-    }
-}
-
-// Puts a value where no greater one is held.
-fn put(held: &mut BTreeMap<u32, u32>, key: u32, value: u32) -> Result<(), OutOfMemory> {
+// Put a value if no greater one is held.
+fn put(held: &mut Held, key: u32, value: u32) -> Result<(), OutOfMemory> {
     let greater = match held.get(&key) {
         Some(present) => value.max(*present),
         None => value,
@@ -77,32 +87,13 @@ fn put(held: &mut BTreeMap<u32, u32>, key: u32, value: u32) -> Result<(), OutOfM
     Ok(())
 }
 
-// Tells whether an entry is the one that must come.
+// Return whether an entry is the expected next one.
 fn is_same(entry: Option<(&u32, &Value)>, held: Option<(&u32, &u32)>) -> bool {
     match (entry, held) {
         (Some((key, value)), Some((at, number))) => key == at && *value == Greatest::Of(*number),
         (None, None) => true,
         _ => false,
     }
-}
-
-// Tells whether entries are those of a range: from the front, from the back, and from both by turns.
-fn are_same(entries: Entries<'_, u32, Value>, held: Range<'_, u32, u32>, turns: Turns) -> bool {
-    let (mut entries, mut held) = (entries, held);
-    for place in 0..=KEYS {
-        let (entry, number) = if turns.is_front(place) {
-            (entries.next(), held.next())
-        } else {
-            (entries.next_back(), held.next_back())
-        };
-        if !is_same(entry, number) {
-            return false;
-        }
-        if entry.is_none() {
-            return true;
-        }
-    }
-    false
 }
 
 /// From which end the entries are taken.
@@ -125,180 +116,188 @@ impl Turns {
 
 const TURNS: &[Turns] = &[Turns::Front, Turns::Back, Turns::Both];
 
-// Checks all that a map gives.
-fn gives_what_is_held(rt: &impl Abort, beside: &Beside, dice: &mut Dice) {
-    let (map, held) = (&beside.map, &beside.held);
-    for turns in TURNS {
-        assert!(rt; are_same(map.iter(), held.range(..), *turns), "all entries");
-    }
-    assert!(rt; map.keys().eq(held.keys()), "keys");
-    assert!(rt; map.is_bottom() == held.is_empty(), "bottom");
-    for _ in 0..20 {
-        gives_at_key(rt, beside, dice.below(KEYS + 2));
-    }
-    for (key, _) in held.iter().take(3) {
-        gives_at_key(rt, beside, *key);
-    }
-}
-
-fn gives_at_key(rt: &impl Abort, beside: &Beside, key: u32) {
-    let (map, held) = (&beside.map, &beside.held);
-    let found = match held.get(&key) {
-        Some(number) => map.get(key) == Some(&Greatest::Of(*number)),
-        None => map.get(key).is_none(),
-    };
-    assert!(rt; found, "value at {key}");
-    for turns in TURNS {
-        assert!(rt;
-            are_same(map.up_to(key), held.range(..=key), *turns),
-            "up to {key}"
-        );
-        let after = held.range((Bound::Excluded(key), Bound::Unbounded));
-        assert!(rt; are_same(map.after(key), after, *turns), "after {key}");
-    }
-}
-
-#[test]
-fn maps_give_what_was_put(rt: HostRuntime) -> Result<(), Fail> {
-    let mut dice = Dice::of(1);
-    for order in ORDERS {
-        for count in COUNTS {
-            let made = Beside::of(rt.alloc(), &mut dice, *order, *count)?;
-            gives_what_is_held(&rt, &made, &mut dice);
+// Return whether entries are those of a range: from the front, from the back, and alternately from both.
+fn are_same(entries: Entries<'_, u32, Value>, held: Range<'_, u32, u32>, turns: Turns) -> bool {
+    let (mut entries, mut held) = (entries, held);
+    for place in 0..=KEYS {
+        let (entry, number) = if turns.is_front(place) {
+            (entries.next(), held.next())
+        } else {
+            (entries.next_back(), held.next_back())
+        };
+        if !is_same(entry, number) {
+            return false;
+        }
+        if entry.is_none() {
+            return true;
         }
     }
-    Ok(())
+    false
 }
 
-// Puts all that a map must hold.
-fn put_all(held: &mut BTreeMap<u32, u32>, more: &BTreeMap<u32, u32>) -> Result<(), OutOfMemory> {
+// Return whether a map has the keys that are held.
+fn has_keys(map: &Map, held: &Held) -> bool {
+    let mut keys = map.keys();
+    for (key, _) in held.iter() {
+        if keys.next() != Some(key) {
+            return false;
+        }
+    }
+    keys.next().is_none()
+}
+
+// Return whether a map has at a key what is held: its value, the entries up to it and those after it.
+fn gives_at(map: &Map, held: &Held, key: u32) -> bool {
+    let value = match held.get(&key) {
+        Some(number) => Greatest::Of(*number),
+        None => Greatest::Nothing,
+    };
+    if *map.get(key).unwrap_or(&Greatest::Nothing) != value {
+        return false;
+    }
+    for turns in TURNS {
+        let after = held.range((Bound::Excluded(key), Bound::Unbounded));
+        if !are_same(map.up_to(key), held.range(..=key), *turns)
+            || !are_same(map.after(key), after, *turns)
+        {
+            return false;
+        }
+    }
+    true
+}
+
+// Return whether a map has all entries that are held.
+fn gives_all(map: &Map, held: &Held) -> bool {
+    for turns in TURNS {
+        if !are_same(map.iter(), held.range(..), *turns) {
+            return false;
+        }
+    }
+    has_keys(map, held) && map.is_bottom() == held.is_empty()
+}
+
+// Return whether a map has what is held: everything, and at random keys and the first ones.
+fn gives(map: &Map, held: &Held, dice: &mut Dice) -> bool {
+    for _ in 0..20 {
+        if !gives_at(map, held, dice.below(KEYS + 2)) {
+            return false;
+        }
+    }
+    for (key, _) in held.iter().take(3) {
+        if !gives_at(map, held, *key) {
+            return false;
+        }
+    }
+    gives_all(map, held)
+}
+
+// Return whether each number is also held by the other, or a greater one.
+fn is_within(held: &Held, other: &Held) -> bool {
+    for (key, number) in held.iter() {
+        let is_there = match other.get(key) {
+            Some(greater) => number <= greater,
+            None => false,
+        };
+        if !is_there {
+            return false;
+        }
+    }
+    true
+}
+
+// Return whether a copy of a map has what is held.
+fn copy_gives(map: &Map, held: &Held) -> Result<bool, OutOfMemory> {
+    let copy = map.copied()?;
+    Ok(gives_all(&copy, held))
+}
+
+// Return whether two maps are ordered as their contents are.
+fn are_ordered(one: (&Map, &Held), other: (&Map, &Held)) -> bool {
+    one.0.at_most(other.0) == is_within(one.1, other.1)
+}
+
+// Put everything that a map must hold.
+fn put_all(held: &mut Held, more: &Held) -> Result<(), OutOfMemory> {
     for (key, number) in more.iter() {
         put(held, *key, *number)?;
     }
     Ok(())
 }
 
-// Makes the join of two maps.
-fn joined(alloc: Global, one: &Beside, other: &Beside) -> Result<Beside, OutOfMemory> {
-    let mut held = BTreeMap::new(alloc);
-    put_all(&mut held, &one.held)?;
-    put_all(&mut held, &other.held)?;
-    Ok(Beside {
-        map: one.map.joined(&other.map)?,
-        held,
-    })
-}
-
-// Tells whether each number is held by the other too, or a greater one.
-fn is_within(held: &BTreeMap<u32, u32>, other: &BTreeMap<u32, u32>) -> bool {
-    held.iter().all(|(key, number)| match other.get(key) {
-        Some(greater) => number <= greater,
-        None => false,
-    })
-}
-
-// Checks what two maps have joined to, and that both are as before.
-fn have_joined(rt: &impl Abort, one: &Beside, other: &Beside, both: &Beside) {
-    for before in [one, other] {
-        assert!(rt;
-            are_same(before.map.iter(), before.held.range(..), Turns::Front),
-            "before"
-        );
-    }
-    assert!(rt;
-        one.map.at_most(&both.map) && other.map.at_most(&both.map),
-        "joined"
-    );
-    for (less, more) in [(one, other), (both, one), (both, other)] {
-        let within = is_within(&less.held, &more.held);
-        assert!(rt; less.map.at_most(&more.map) == within, "at most");
-    }
-}
-
-// Checks a copy of a map.
-fn copy_gives_what_is_held(
-    rt: &impl Abort,
-    alloc: Global,
-    made: &Beside,
+// Return whether two maps join to one that has what is held by both, and stay unchanged.
+fn join(
+    one: (&Map, &Held),
+    other: (&Map, &Held),
+    held: &Held,
     dice: &mut Dice,
-) -> Result<(), Fail> {
-    let mut held = BTreeMap::new(alloc);
-    put_all(&mut held, &made.held)?;
-    let copy = Beside {
-        map: made.map.copied()?,
-        held,
-    };
-    gives_what_is_held(rt, &copy, dice);
-    Ok(())
+) -> Result<bool, OutOfMemory> {
+    let both = one.0.joined(other.0)?;
+    let is_right = gives(&both, held, dice)
+        && gives_all(one.0, one.1)
+        && gives_all(other.0, other.1)
+        && one.0.at_most(&both)
+        && other.0.at_most(&both)
+        && are_ordered((&both, held), one)
+        && are_ordered((&both, held), other)
+        && are_ordered(one, other);
+    Ok(is_right && copy_gives(&both, held)?)
 }
 
-// Checks what two maps join to.
-fn join_as_held(
-    rt: &impl Abort,
-    alloc: Global,
-    one: &Beside,
-    other: &Beside,
-    dice: &mut Dice,
-) -> Result<(), Fail> {
-    let both = joined(alloc, one, other)?;
-    gives_what_is_held(rt, &both, dice);
-    have_joined(rt, one, other, &both);
-    copy_gives_what_is_held(rt, alloc, &both, dice)
-}
-
-// Checks what a map joins to with one of so many mixed puts.
+// Return whether a map joins in this way with one of this number of mixed puts.
 fn joins_with(
-    rt: &impl Abort,
     alloc: Global,
-    one: &Beside,
+    one: (&Map, &Held),
     theirs: u32,
     dice: &mut Dice,
-) -> Result<(), Fail> {
-    let other = Beside::of(alloc, dice, Order::Mixed, theirs)?;
-    join_as_held(rt, alloc, one, &other, dice)
+) -> Result<bool, OutOfMemory> {
+    let (mut held, mut both) = (BTreeMap::new(alloc), BTreeMap::new(alloc));
+    let other = put_many(alloc, &mut held, dice, Order::Mixed, theirs)?;
+    put_all(&mut both, one.1)?;
+    put_all(&mut both, &held)?;
+    join(one, (&other, &held), &both, dice)
 }
 
-/// How many puts two maps have that are joined.
-const JOINED: &[(u32, u32)] = &[
-    (0, 0),
-    (0, 600),
-    (3, 1_000),
-    (1_000, 3),
-    (600, 1_000),
-    (1_000, 1_000),
-];
+// Return whether a map with one more put is above it.
+fn grows_apart(map: &Map, key: u32) -> Result<bool, OutOfMemory> {
+    let more = map.with(key, &Greatest::Of(10))?;
+    Ok(more.get(key) == Some(&Greatest::Of(10)) && map.at_most(&more) && !more.at_most(map))
+}
 
-#[test]
-fn maps_join_as_held(rt: HostRuntime) -> Result<(), Fail> {
-    let mut dice = Dice::of(2);
-    for order in ORDERS {
-        for (ours, theirs) in JOINED {
-            let one = Beside::of(rt.alloc(), &mut dice, *order, *ours)?;
-            joins_with(&rt, rt.alloc(), &one, *theirs, &mut dice)?;
+// Return whether a map has what is held, once others that share its pages have changed.
+fn stays(map: &Map, held: &Held, dice: &mut Dice) -> Result<bool, OutOfMemory> {
+    for _ in 0..50 {
+        if !grows_apart(map, dice.below(KEYS))? {
+            return Ok(false);
         }
     }
-    Ok(())
+    Ok(gives(map, held, dice))
 }
 
-// Checks that a map with one more put is another one.
-fn grows_apart(rt: &impl Abort, made: &Beside, key: u32) -> Result<(), OutOfMemory> {
-    let more = made.map.with(key, &Greatest::Of(10))?;
-    assert!(rt; more.get(key) == Some(&Greatest::Of(10)), "with {key}");
-    assert!(rt;
-        made.map.at_most(&more) && !more.at_most(&made.map),
-        "beside {key}"
-    );
-    Ok(())
+// Return whether a map of this number of puts has what was put, and joins with one of this number of others.
+fn is_right(
+    alloc: Global,
+    dice: &mut Dice,
+    order: Order,
+    (ours, theirs): (u32, u32),
+) -> Result<bool, OutOfMemory> {
+    let mut held = BTreeMap::new(alloc);
+    let map = put_many(alloc, &mut held, dice, order, ours)?;
+    Ok(stays(&map, &held, dice)? && joins_with(alloc, (&map, &held), theirs, dice)?)
 }
 
-// A map that shares its pages with another one changes without it.
-#[test]
-fn a_map_stays_as_it_was(rt: HostRuntime) -> Result<(), Fail> {
-    let mut dice = Dice::of(3);
-    let made = Beside::of(rt.alloc(), &mut dice, Order::Mixed, 1_000)?;
-    for _ in 0..50 {
-        grows_apart(&rt, &made, dice.below(KEYS))?;
+// Check maps whose keys are in this order.
+fn are_right(rt: &impl Abort, alloc: Global, order: Order) -> Result<(), Fail> {
+    let mut dice = Dice::of(1);
+    for (row, puts) in PUTS.iter().enumerate() {
+        holds(rt, row, is_right(alloc, &mut dice, order, *puts)?);
     }
-    gives_what_is_held(&rt, &made, &mut dice);
+    Ok(())
+}
+
+#[test]
+fn maps_give_what_was_put_and_join_as_held(rt: HostRuntime) -> Result<(), Fail> {
+    for order in ORDERS {
+        are_right(&rt, rt.alloc(), *order)?;
+    }
     Ok(())
 }

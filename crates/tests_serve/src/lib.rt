@@ -2,8 +2,6 @@
 #![tactic(auto)]
 
 #[cfg(test)]
-mod growing;
-#[cfg(test)]
 mod runs;
 #[cfg(test)]
 mod spans;

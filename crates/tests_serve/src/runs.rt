@@ -1,16 +1,14 @@
-//! Runs over memory that end at a limit or a fault, and runs over streams of std; their ends are worked out by hand.
+//! Runs over memory that end at a limit or a fault, and runs over a writer of std. Their ends are worked out by hand.
 
-use road_crowd::OnThreads;
 use road_plan::{OutOfMemory, Plan};
 use road_replica::{Crowd, Crowds};
 use road_scenario::Edit;
 use road_serve::{
-    Failing, MemorySink, MemorySource, ServeFault, Served, Sink, Source, StdSink, StdSource,
-    run_by, serve, serve_within,
+    Failing, MemorySink, MemorySource, ServeFault, Served, StdSink, serve, serve_within,
 };
-use road_workers::{Alone, Crew, CrewFault};
+use road_workers::{Alone, CrewFault};
 use std::alloc::Global;
-use std::hash::{BuildHasher, Hasher, RandomState};
+use std::hash::{BuildHasher, Hasher};
 use std::io;
 use std::sync::Arc;
 use std::test::Fail;
@@ -21,18 +19,13 @@ const FREE_ROAD: &str =
     r#"{"detectors":[5],"exit":1,"inlets":[[0,65536]],"length":12,"replicas":["A","B","C"],"words":7,"zone":12,"zones":[[2,0]]}
 "#;
 
-/// Returns a sink with room for so many bytes, so that none of its writes wants memory.
+/// Return a sink with room for this number of bytes, so that none of its writes needs memory.
 pub(crate) fn sink_for(alloc: Global, room: usize) -> Result<MemorySink, OutOfMemory> {
     let bytes = Vec::with_capacity(alloc, room)?;
     Ok(MemorySink::new(bytes, room, Failing::Never, Failing::Never))
 }
 
-/// Returns a sink with room for 1,000 bytes.
-pub(crate) fn sink(alloc: Global) -> Result<MemorySink, OutOfMemory> {
-    sink_for(alloc, 1000)
-}
-
-/// Makes one hash for all names, so that each look-up goes by comparisons.
+/// A hasher with one hash for all names, so that each look-up compares.
 #[derive(Clone, Copy, Debug)]
 pub(crate) struct AllAlike;
 
@@ -58,7 +51,7 @@ impl Hasher for AllAlike {
     }
 }
 
-/// Gathers no crowd: the thread of its first session cannot be started.
+/// A gatherer that gathers no crowd: the thread of its first session cannot be started.
 pub(crate) struct Unmanned;
 
 impl Crowds for Unmanned {
@@ -73,26 +66,6 @@ impl Crowds for Unmanned {
     }
 }
 
-/// Returns how a run ended. Out of memory ends the test in its place.
-pub(crate) fn end_of(
-    ended: Result<Served, ServeFault>,
-) -> Result<Result<Served, ServeFault>, OutOfMemory> {
-    match ended {
-        Err(ServeFault::OutOfMemory) => Err(OutOfMemory),
-        end => Ok(end),
-    }
-}
-
-/// Serves where no crowd is gathered, and returns how that ended. Out of memory ends the test in its place.
-pub(crate) fn served<R: Source, W: Sink, C: Crew>(
-    alloc: Global,
-    reader: &mut R,
-    writer: &mut W,
-    crew: &mut C,
-) -> Result<Result<Served, ServeFault>, OutOfMemory> {
-    end_of(serve(alloc, reader, writer, crew, &Unmanned, AllAlike))
-}
-
 // Three commands on the free road, in 90 bytes.
 const COMMANDS: &str = r#"{"advance":{"at":"A","to":1}}
 {"advance":{"at":"A","to":1}}
@@ -101,121 +74,107 @@ const COMMANDS: &str = r#"{"advance":{"at":"A","to":1}}
 
 const REPLIES: &str = "{\"open\":3}\n{\"horizon\":1}\n{\"horizon\":1}\n{\"horizon\":1}\n";
 
-// So many lines and bytes at most; how many bytes a read gives, and which reads fail; how many bytes the writer takes,
-// and which of its writes and flushes fail. And how the run ends, and how many bytes of the replies it has written, where
-// that is said.
+/// How a run ends.
+#[derive(Clone, Copy)]
+enum End {
+    /// Three lines are answered.
+    Whole,
+    TooMany,
+    Write,
+    Read,
+}
+
+// The most lines and bytes; how many bytes a read gives, and which reads fail; how many bytes the writer takes, and
+// which of its writes and flushes fail; how the run ends, and how many bytes of the replies it has written, if that is
+// known.
 type Run = (
     ((u32, u64), (usize, Failing), (usize, Failing, Failing)),
-    (&'static str, Option<usize>),
+    (End, Option<usize>),
 );
 
 const ALL: Failing = Failing::Never;
 
-const WHOLE: &str = "Ok(Served { lines: 3 })";
-
 // The plan line has 121 bytes, and the input 211.
 const RUNS: &[Run] = pairs![
-    ((3, 1000), (7, ALL), (1000, ALL, ALL)) => (WHOLE, Some(53)),
-    ((3, 211), (7, ALL), (1000, ALL, ALL)) => (WHOLE, Some(53)),
-    ((2, 1000), (7, ALL), (1000, ALL, ALL)) => ("Err(TooMany)", Some(39)),
-    ((3, 210), (7, ALL), (1000, ALL, ALL)) => ("Err(TooMany)", Some(39)),
-    ((3, 1000), (7, ALL), (14, ALL, ALL)) => ("Err(Write)", Some(14)),
-    ((3, 1000), (7, ALL), (1000, Failing::Once(1), ALL)) => ("Err(Write)", Some(11)),
-    ((3, 1000), (7, ALL), (1000, Failing::From(1), ALL)) => ("Err(Write)", Some(11)),
-    ((3, 1000), (7, ALL), (1000, ALL, Failing::Once(0))) => ("Err(Write)", None),
-    ((3, 1000), (7, ALL), (1000, ALL, Failing::From(0))) => ("Err(Write)", None),
-    ((3, 1000), (121, Failing::Once(1)), (1000, ALL, ALL)) => ("Err(Read)", Some(11)),
-    ((3, 1000), (121, Failing::From(1)), (1000, ALL, ALL)) => ("Err(Read)", Some(11)),
-    ((3, 1000), (7, Failing::Once(0)), (1000, ALL, ALL)) => ("Err(Read)", Some(0)),
-    // Nothing is read past a limit: that read would fail.
-    ((2, 1000), (1000, Failing::From(1)), (1000, ALL, ALL)) => ("Err(TooMany)", Some(39)),
-    ((3, 210), (1000, Failing::From(1)), (1000, ALL, ALL)) => ("Err(TooMany)", Some(39)),
-    // The read that would give the end of the input.
-    ((3, 1000), (1000, Failing::Once(1)), (1000, ALL, ALL)) => ("Err(Read)", Some(53)),
+    ((3, 1000), (7, ALL), (1000, ALL, ALL)) => (End::Whole, Some(53)),
+    ((3, 211), (7, ALL), (1000, ALL, ALL)) => (End::Whole, Some(53)),
+    ((2, 1000), (7, ALL), (1000, ALL, ALL)) => (End::TooMany, Some(39)),
+    ((3, 210), (7, ALL), (1000, ALL, ALL)) => (End::TooMany, Some(39)),
+    ((3, 1000), (7, ALL), (14, ALL, ALL)) => (End::Write, Some(14)),
+    ((3, 1000), (7, ALL), (1000, Failing::Once(1), ALL)) => (End::Write, Some(11)),
+    ((3, 1000), (7, ALL), (1000, Failing::From(1), ALL)) => (End::Write, Some(11)),
+    ((3, 1000), (7, ALL), (1000, ALL, Failing::Once(0))) => (End::Write, None),
+    ((3, 1000), (7, ALL), (1000, ALL, Failing::From(0))) => (End::Write, None),
+    ((3, 1000), (121, Failing::Once(1)), (1000, ALL, ALL)) => (End::Read, Some(11)),
+    ((3, 1000), (121, Failing::From(1)), (1000, ALL, ALL)) => (End::Read, Some(11)),
+    ((3, 1000), (7, Failing::Once(0)), (1000, ALL, ALL)) => (End::Read, Some(0)),
+    // Nothing is read past a limit, because that read would fail.
+    ((2, 1000), (1000, Failing::From(1)), (1000, ALL, ALL)) => (End::TooMany, Some(39)),
+    ((3, 210), (1000, Failing::From(1)), (1000, ALL, ALL)) => (End::TooMany, Some(39)),
+    // The read at the end of the input fails.
+    ((3, 1000), (1000, Failing::Once(1)), (1000, ALL, ALL)) => (End::Read, Some(53)),
 ];
+
+// Return whether a run has ended as expected.
+fn is_end(ended: &Result<Served, ServeFault>, end: End) -> bool {
+    match end {
+        End::Whole => matches!(ended, Ok(Served { lines: 3 })),
+        End::TooMany => matches!(ended, Err(ServeFault::TooMany)),
+        End::Write => matches!(ended, Err(ServeFault::Write)),
+        End::Read => matches!(ended, Err(ServeFault::Read)),
+    }
+}
+
+// Return whether a run over an input ends as expected, and writes this number of bytes of the replies.
+fn ends(alloc: Global, input: &str, run: &Run) -> Result<bool, Fail> {
+    let &(((lines, bytes), (piece, reads), (room, writes, flushes)), (end, written)) = run;
+    if piece == 0 {
+        return Ok(false);
+    }
+    let taken = Vec::with_capacity(alloc, 1000)?;
+    let mut writer = MemorySink::new(taken, room, writes, flushes);
+    let mut reader = MemorySource::new(input.as_bytes(), piece, reads);
+    let ended = serve_within(
+        alloc,
+        &mut reader,
+        &mut writer,
+        &mut Alone,
+        &Unmanned,
+        AllAlike,
+        lines,
+        bytes,
+    );
+    Ok(
+        is_end(&ended, end)
+            && REPLIES.as_bytes().starts_with(writer.bytes())
+            && (written.is_none() || written == Some(writer.bytes().len())),
+    )
+}
 
 #[test]
 fn limits_and_faults(rt: HostRuntime) -> Result<(), Fail> {
     let input = format!(in rt.alloc(); "{FREE_ROAD}{COMMANDS}")?;
-    for &(((lines, bytes), (piece, reads), (room, writes, flushes)), (end, written)) in RUNS {
-        assert!(rt; piece > 0);
-        let mut reader = MemorySource::new(input.as_bytes(), piece, reads);
-        let taken = Vec::with_capacity(rt.alloc(), 1000)?;
-        let mut writer = MemorySink::new(taken, room, writes, flushes);
-        let result = end_of(serve_within(
-            rt.alloc(),
-            &mut reader,
-            &mut writer,
-            &mut Alone,
-            &Unmanned,
-            AllAlike,
-            lines,
-            bytes,
-        ))?;
-        let said = format!(in rt.alloc(); "{result:?}")?;
-        assert!(rt;
-            said.as_str() == end
-                && REPLIES.as_bytes().starts_with(writer.bytes())
-                && (written.is_none() || written == Some(writer.bytes().len())),
-            "{lines} lines, {bytes} bytes, {room} bytes of room: {said}"
-        );
+    for (number, run) in RUNS.iter().enumerate() {
+        assert!(rt; ends(rt.alloc(), &input, run)?, "run {number}");
     }
     Ok(())
 }
 
-// Nothing is read behind a plan line that is refused: that read would fail.
+// Nothing is read after a plan line that is refused, because that read would fail.
 #[test]
 fn a_refused_plan_is_the_end(rt: HostRuntime) -> Result<(), Fail> {
-    let mut writer = sink(rt.alloc())?;
+    let mut writer = sink_for(rt.alloc(), 1000)?;
     let mut reader = MemorySource::new(b"{}\n", 3, Failing::From(1));
-    let result = served(rt.alloc(), &mut reader, &mut writer, &mut Alone)?;
-    assert!(rt; matches!(result, Err(ServeFault::BadPlan)));
-    Ok(())
-}
-
-// Six steps, an edit for which they are all taken again, and six steps of another replica.
-const STEPS: &str = r#"{"advance":{"at":"A","to":6}}
-{"edit":{"at":"A","object":["block",8],"step":4,"value":1}}
-{"advance":{"at":"B","to":6}}
-"#;
-
-// How many calls of the crew succeed, the status, and how many bytes of the replies are written.
-const WORKERS: &[(u64, u8, usize)] = &[
-    (0, 7, 11),
-    (5, 7, 11),
-    (6, 7, 25),
-    (11, 7, 25),
-    (12, 7, 41),
-    (18, 0, 55),
-];
-
-#[test]
-fn workers_that_leave(rt: HostRuntime) -> Result<(), Fail> {
-    let alloc = rt.alloc();
-    let input = format!(in alloc; "{FREE_ROAD}{STEPS}")?;
-    let replies = "{\"open\":3}\n{\"horizon\":6}\n{\"stamp\":[1,0]}\n{\"horizon\":6}\n";
-    for &(calls_left, status, written) in WORKERS {
-        let mut writer = sink(alloc)?;
-        let mut crew = Leaving::after(calls_left);
-        // Each reply is written before the next line is read.
-        let mut reader = MemorySource::new(input.as_bytes(), 1, ALL);
-        let ended = run_by(
-            alloc,
-            &mut reader,
-            &mut writer,
-            &mut crew,
-            &Unmanned,
-            AllAlike,
-        );
-        if ended.status == 3 {
-            return Err(OutOfMemory.into());
-        }
-        assert!(rt; ended.status == status && (status == 0 || ended.line == Some("workers gone")));
-        assert!(rt; crew.gone == u64::from(status == 7));
-        assert!(rt;
-            writer.bytes().len() == written && replies.as_bytes().starts_with(writer.bytes())
-        );
-    }
+    let crew = &mut Alone;
+    let ended = serve(
+        rt.alloc(),
+        &mut reader,
+        &mut writer,
+        crew,
+        &Unmanned,
+        AllAlike,
+    );
+    assert!(rt; matches!(ended, Err(ServeFault::BadPlan)));
     Ok(())
 }
 
@@ -225,41 +184,30 @@ const CROWDS: &str = r#"{"crowd":{"form":2,"shares":[[["limit",0,0,1,3,1]]],"to"
 {"advance":{"at":"A","to":1}}
 "#;
 
-// What cannot be gathered ends the run, and the crew, which was not asked, has not answered so. A refused crowd asks nobody.
+// A crowd that cannot be gathered ends the run. The crew was not used, and has not failed. A refused crowd starts
+// nothing.
 #[test]
 fn a_crowd_without_threads(rt: HostRuntime) -> Result<(), Fail> {
-    let alloc = rt.alloc();
-    let input = format!(in alloc; "{FREE_ROAD}{CROWDS}")?;
+    let input = format!(in rt.alloc(); "{FREE_ROAD}{CROWDS}")?;
+    let mut writer = sink_for(rt.alloc(), 1000)?;
     let mut reader = MemorySource::new(input.as_bytes(), 1, ALL);
-    let mut writer = sink(alloc)?;
     let mut crew = Leaving::after(0);
-    let result = served(alloc, &mut reader, &mut writer, &mut crew)?;
-    assert!(rt; matches!(result, Err(ServeFault::WorkersGone)) && crew.gone == 0);
+    let ended = serve(
+        rt.alloc(),
+        &mut reader,
+        &mut writer,
+        &mut crew,
+        &Unmanned,
+        AllAlike,
+    );
+    assert!(rt; matches!(ended, Err(ServeFault::WorkersGone)) && crew.gone == 0);
     let replies = "{\"open\":3}\n{\"refused\":\"Insider\"}\n";
     assert!(rt; writer.bytes() == replies.as_bytes());
     Ok(())
 }
 
-#[test]
-fn a_crowd_on_threads(rt: HostRuntime) -> Result<(), Fail> {
-    let alloc = rt.alloc();
-    let input = format!(in alloc; "{FREE_ROAD}{CROWDS}")?;
-    let mut reader = MemorySource::new(input.as_bytes(), usize::MAX, ALL);
-    let mut writer = sink(alloc)?;
-    let crowds = OnThreads::new(&rt);
-    let Ok(hasher) = RandomState::new(&rt) else {
-        return Err(Fail::new("no random bytes"));
-    };
-    let result = end_of(serve(alloc, &mut reader, &mut writer, &mut Alone, &crowds, hasher))?;
-    assert!(rt; matches!(result, Ok(Served { lines: 3 })));
-    let replies =
-        "{\"open\":3}\n{\"refused\":\"Insider\"}\n{\"edits\":[[\"block\",8,4,2,64,null]],\"form\":2,\"journal\":4,\"row\":\"0..2...2....\"}\n{\"horizon\":1}\n";
-    assert!(rt; writer.bytes() == replies.as_bytes());
-    Ok(())
-}
-
 // A writer that holds what it took until it is flushed, counts its flushes and fails one of them.
-#[derive(Drop)]
+#[derive(Clone, Copy)]
 struct Holding {
     held: usize,
     passed_on: usize,
@@ -285,102 +233,37 @@ impl io::Write for Holding {
     }
 }
 
-// A writer whose first write fails, or takes no byte. It counts its writes.
-#[derive(Drop)]
-struct Refusing {
-    is_empty: bool,
-    writes: u32,
-}
-
-impl io::Write for Refusing {
-    fn write(&mut self, bytes: &[u8]) -> io::Result<usize> {
-        let write = self.writes;
-        self.writes = write.saturating_add(1);
-        if write > 0 {
-            return Ok(bytes.len());
-        }
-        if self.is_empty {
-            return Ok(0);
-        }
-        Err(io::Error::from(io::ErrorKind::BrokenPipe))
-    }
-
-    fn flush(&mut self) -> io::Result<()> {
-        Ok(())
+// Return whether a run ends well over a writer, which then holds nothing back, or at the flush that fails, which is not
+// retried.
+fn flushes(alloc: Global, mut holding: Holding) -> bool {
+    let mut writer = StdSink::new(&mut holding);
+    let mut reader = MemorySource::new(FREE_ROAD.as_bytes(), usize::MAX, ALL);
+    let ended = serve(
+        alloc,
+        &mut reader,
+        &mut writer,
+        &mut Alone,
+        &Unmanned,
+        AllAlike,
+    );
+    drop(writer);
+    match ended {
+        Ok(_) => holding.fails_at == u32::MAX && (holding.passed_on, holding.held) == (11, 0),
+        Err(ServeFault::Write) => holding.flushes == holding.fails_at.saturating_add(1),
+        Err(_) => false,
     }
 }
 
-// A reader of three bytes whose second call fails.
-#[derive(Drop)]
-struct Faltering {
-    calls: u32,
-}
-
-impl io::Read for Faltering {
-    fn read(&mut self, buffer: &mut [u8]) -> io::Result<usize> {
-        let call = self.calls;
-        self.calls = call.saturating_add(1);
-        if call == 1 {
-            return Err(io::Error::from(io::ErrorKind::Interrupted));
-        }
-        if call > 2 {
-            return Ok(0);
-        }
-        buffer.fill(b'x');
-        Ok(buffer.len())
-    }
-}
-
-// A run over a writer of std: all its replies are passed on, or the flush that fails ends it, and no flush is tried again.
+// Over a writer of std all replies of a run are passed on, or the flush that fails ends it.
 #[test]
-fn writers_of_std(rt: HostRuntime) -> Result<(), Fail> {
-    for (fails_at, whole) in [(u32::MAX, true), (0, false), (1, false)] {
-        let mut holding = Holding {
+fn writers_of_std(rt: HostRuntime) {
+    for fails_at in [u32::MAX, 0, 1] {
+        let holding = Holding {
             held: 0,
             passed_on: 0,
             flushes: 0,
             fails_at,
         };
-        let mut writer = StdSink::new(&mut holding);
-        let mut reader = MemorySource::new(FREE_ROAD.as_bytes(), usize::MAX, ALL);
-        let result = served(rt.alloc(), &mut reader, &mut writer, &mut Alone)?;
-        drop(writer);
-        if whole {
-            assert!(rt; result.is_ok() && holding.passed_on == 11 && holding.held == 0);
-        } else {
-            assert!(rt;
-                matches!(result, Err(ServeFault::Write))
-                    && holding.flushes == fails_at.saturating_add(1)
-            );
-        }
+        assert!(rt; flushes(rt.alloc(), holding), "flush {fails_at}");
     }
-    Ok(())
-}
-
-// A write that fails, or takes no byte, is not tried again, though the next one would succeed.
-#[test]
-fn a_failed_write_of_std(rt: HostRuntime) -> Result<(), Fail> {
-    for is_empty in [false, true] {
-        let mut refusing = Refusing {
-            is_empty,
-            writes: 0,
-        };
-        let mut writer = StdSink::new(&mut refusing);
-        let mut reader = MemorySource::new(FREE_ROAD.as_bytes(), usize::MAX, ALL);
-        let result = served(rt.alloc(), &mut reader, &mut writer, &mut Alone)?;
-        drop(writer);
-        assert!(rt; matches!(result, Err(ServeFault::Write)) && refusing.writes == 1);
-    }
-    Ok(())
-}
-
-// A reader of std: its error is a fault and no end of input, and its next bytes come with the next call.
-#[test]
-fn readers_of_std(rt: HostRuntime) {
-    let mut reader = StdSource::new(Faltering { calls: 0 });
-    let mut piece = [0u8; 2];
-    assert!(rt; matches!(reader.read(&mut piece), Ok(2)) && piece == *b"xx");
-    assert!(rt; reader.read(&mut piece).is_err());
-    assert!(rt; matches!(reader.read(&mut piece), Ok(2)));
-    assert!(rt; matches!(reader.read(&mut piece), Ok(0)));
 }

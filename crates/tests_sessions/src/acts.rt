@@ -2,40 +2,40 @@
 
 ghost use Rattle.std.specs.Prelude.{◌≡◌};
 
-use crate::closings::{Closing, closed};
+use crate::closings::{Closing, close_as_scripted};
 use crate::journals::{Line, is_journal};
 use crate::questions::{
     Cars, Count, Run, looks, looks_run, shows, shows_all_cars, shows_counts, shows_run,
 };
-use crate::writes::{Answer, Write, parts, written};
+use crate::writes::{Answer, Write, parts, write_alone};
 use road_sessions::{Closed, Naming, Prepared, Receipt, Session, Shared, open};
 use road_sheet::Sheet;
 use std::alloc::Global;
 use std::sync::{Arc, Wait};
 use tests_plans::Row;
 
-/// What a session does, and what it is answered.
+/// The act of a session, and the expected result.
 #[derive(Clone, Copy)]
 pub(crate) enum Act {
     /// It writes.
     Write(Write, Answer),
-    /// It is told the last write.
+    /// It is told of the last write.
     Hear,
     /// It looks, and is shown a horizon and some rows.
     Look(u32, &'static [Row]),
     /// It looks, and keeps the sheet.
     Keep,
-    /// The sheet that is kept shows a run.
+    /// The kept sheet shows a run.
     KeptRun(Run),
     /// It looks, and is shown a run.
     LookRun(Run),
-    /// It asks for the cars of some steps.
+    /// It queries the cars of some steps.
     Cars(&'static [Cars]),
-    /// It asks for some counts.
+    /// It queries some counts.
     Counts(&'static [Count]),
 }
 
-/// A store of a replica on the free road: what its sessions do; its closing; what is done where a session is missing
+/// A store of a replica on the free road: the acts of its sessions; its closing; the acts if a session is missing
 /// first, by those that are handed back, and then by all together; the journal, and the rows of the last sheet.
 #[derive(Clone, Copy)]
 pub(crate) struct Script {
@@ -50,14 +50,14 @@ pub(crate) struct Script {
     pub(crate) rows: &'static [Row],
 }
 
-/// What was told and kept so far.
+/// The receipt and the sheet so far.
 #[derive(Drop)]
 struct Memory<J: Naming> {
     told: Option<Receipt<J>>,
     kept: Option<Arc<Sheet>>,
 }
 
-// Tells whether a session is shown what a table says.
+// Return whether a session is shown what a table says.
 fn is_shown<J: Naming, R: Wait + Drop>(
     alloc: Global,
     shared: &Shared<J, R>,
@@ -69,11 +69,12 @@ fn is_shown<J: Naming, R: Wait + Drop>(
         Act::LookRun(run) => looks_run(alloc, shared, session, *run),
         Act::Cars(asked) => shows_all_cars(alloc, shared, session, asked),
         Act::Counts(asked) => shows_counts(alloc, shared, session, asked),
-        _ => true,
+        // No other act checks what is shown.
+        _ => false,
     }
 }
 
-// Tells whether a kept sheet shows a run.
+// Return whether a kept sheet shows a run.
 fn kept_shows(alloc: Global, kept: &Option<Arc<Sheet>>, run: Run) -> bool {
     match kept {
         Some(sheet) => shows_run(alloc, sheet, run),
@@ -81,8 +82,8 @@ fn kept_shows(alloc: Global, kept: &Option<Arc<Sheet>>, run: Run) -> bool {
     }
 }
 
-// Tells whether a session is told of the last write.
-fn hears<J: Naming>(session: &mut Session<J>, told: Option<Receipt<J>>) -> bool {
+// Return whether a session hears of the last write.
+fn hear<J: Naming>(session: &mut Session<J>, told: Option<Receipt<J>>) -> bool {
     match told {
         Some(receipt) => {
             session.hear(receipt);
@@ -92,8 +93,8 @@ fn hears<J: Naming>(session: &mut Session<J>, told: Option<Receipt<J>>) -> bool 
     }
 }
 
-// Tells whether a session that acts is answered so.
-fn acts<J: Naming, R: Wait + Drop, W: Wait>(
+// Return whether the act of a session has the expected result.
+fn try_act<J: Naming, R: Wait + Drop, W: Wait>(
     rt: &W,
     alloc: Global,
     shared: &Shared<J, R>,
@@ -103,11 +104,11 @@ fn acts<J: Naming, R: Wait + Drop, W: Wait>(
 ) -> bool {
     match act {
         Act::Write(write, wanted) => {
-            let (answer, receipt) = parts(written(rt, alloc, shared, session, write));
+            let (answer, receipt) = parts(write_alone(rt, alloc, shared, session, write));
             memory.told = receipt;
             answer == *wanted
         }
-        Act::Hear => hears(session, memory.told.take()),
+        Act::Hear => hear(session, memory.told.take()),
         Act::Keep => {
             memory.kept = session.look(shared).ok();
             memory.kept.is_some()
@@ -117,8 +118,8 @@ fn acts<J: Naming, R: Wait + Drop, W: Wait>(
     }
 }
 
-// Tells whether the session of a number that acts is answered so.
-fn one_acts<J: Naming, R: Wait + Drop, W: Wait>(
+// Return whether the act of the session with this number has the expected result.
+fn try_act_of_one<J: Naming, R: Wait + Drop, W: Wait>(
     rt: &W,
     alloc: Global,
     shared: &Shared<J, R>,
@@ -127,13 +128,13 @@ fn one_acts<J: Naming, R: Wait + Drop, W: Wait>(
     act: &(usize, Act),
 ) -> bool {
     match sessions.get_mut(act.0) {
-        Some(session) => acts(rt, alloc, shared, session, memory, &act.1),
+        Some(session) => try_act(rt, alloc, shared, session, memory, &act.1),
         None => false,
     }
 }
 
-/// Tells whether all sessions that act are answered so.
-pub(crate) fn all_act<J: Naming, R: Wait + Drop, W: Wait>(
+/// Return whether the acts of all sessions have the expected results.
+pub(crate) fn try_acts<J: Naming, R: Wait + Drop, W: Wait>(
     rt: &W,
     alloc: Global,
     shared: &Shared<J, R>,
@@ -146,12 +147,12 @@ pub(crate) fn all_act<J: Naming, R: Wait + Drop, W: Wait>(
     };
     let mut well = true;
     for act in all {
-        well = well && one_acts(rt, alloc, shared, sessions, &mut memory, act);
+        well = well && try_act_of_one(rt, alloc, shared, sessions, &mut memory, act);
     }
     well
 }
 
-// Tells whether what is left has this journal and these rows.
+// Return whether the result of closing has this journal and these rows.
 fn is_closed_as_scripted(alloc: Global, closed: &Option<Closed>, script: &Script) -> bool {
     match closed {
         Some(closed) => {
@@ -162,8 +163,8 @@ fn is_closed_as_scripted(alloc: Global, closed: &Option<Closed>, script: &Script
     }
 }
 
-/// Tells whether a store that was just prepared goes as its script says.
-pub(crate) fn goes<J: Naming, R: Wait + Drop, W: Wait>(
+/// Return whether a store that was just prepared does what its script says.
+pub(crate) fn run_script<J: Naming, R: Wait + Drop, W: Wait>(
     rt: &W,
     alloc: Global,
     prepared: Prepared<R>,
@@ -177,7 +178,7 @@ pub(crate) fn goes<J: Naming, R: Wait + Drop, W: Wait>(
     let Ok((shared, mut sessions)) = open::<J, R>(prepared) else {
         return false;
     };
-    let well = all_act(rt, alloc, &shared, sessions.as_mut_slice(), script.acts);
-    let closed = closed(rt, alloc, shared, sessions, script);
+    let well = try_acts(rt, alloc, &shared, sessions.as_mut_slice(), script.acts);
+    let closed = close_as_scripted(rt, alloc, shared, sessions, script);
     well && is_closed_as_scripted(alloc, &closed, script)
 }

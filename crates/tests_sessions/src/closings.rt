@@ -1,11 +1,11 @@
-//! The closing of a store, and what is left.
+//! The closing of a store, and its result.
 
-use crate::acts::{Script, all_act};
+use crate::acts::{Script, try_acts};
 use road_sessions::{CloseCause, CloseFault, Closed, Naming, Session, Shared, close};
 use std::alloc::Global;
 use std::sync::Wait;
 
-/// How the sessions of a store are given to be closed.
+/// How the sessions of a store are handed over to be closed.
 #[derive(Clone, Copy, PartialEq)]
 pub(crate) enum Closing {
     /// In their order.
@@ -14,12 +14,12 @@ pub(crate) enum Closing {
     LastFirst,
     /// First without the last one, then all.
     WithoutLast,
-    /// First without the first one, then all, which is then the last.
+    /// First without the first one, then all, with the first one as the last.
     WithoutFirst,
 }
 
-// Returns what is left of a store whose sessions are all given.
-fn left<J: Naming, R: Wait + Drop>(
+/// Return the result for a store whose sessions are all handed over.
+pub(crate) fn close_all<J: Naming, R: Wait + Drop>(
     shared: Shared<J, R>,
     sessions: Vec<Session<J>>,
 ) -> Option<Closed> {
@@ -29,8 +29,9 @@ fn left<J: Naming, R: Wait + Drop>(
     }
 }
 
-// Returns what is left, where all sessions are given once one was missing. What was handed back goes on as before.
-fn left_late<J: Naming, R: Wait + Drop, W: Wait>(
+// Return the result if all sessions are handed over after one was missing. The sessions that were handed back go on as
+// before.
+fn close_late<J: Naming, R: Wait + Drop, W: Wait>(
     rt: &W,
     alloc: Global,
     fault: CloseFault<J, R>,
@@ -43,20 +44,20 @@ fn left_late<J: Naming, R: Wait + Drop, W: Wait>(
         mut sessions,
     } = fault;
     let others = sessions.as_mut_slice();
-    if cause != CloseCause::Missing || !all_act(rt, alloc, &shared, others, script.handed_back) {
+    if cause != CloseCause::Missing || !try_acts(rt, alloc, &shared, others, script.handed_back) {
         return None;
     }
     if sessions.push(late).is_err() {
         return None;
     }
-    if !all_act(rt, alloc, &shared, sessions.as_mut_slice(), script.together) {
+    if !try_acts(rt, alloc, &shared, sessions.as_mut_slice(), script.together) {
         return None;
     }
-    left(shared, sessions)
+    close_all(shared, sessions)
 }
 
-/// Returns what is left of a store that is closed as its script says.
-pub(crate) fn closed<J: Naming, R: Wait + Drop, W: Wait>(
+/// Return the result of a store that is closed as its script says.
+pub(crate) fn close_as_scripted<J: Naming, R: Wait + Drop, W: Wait>(
     rt: &W,
     alloc: Global,
     shared: Shared<J, R>,
@@ -68,11 +69,11 @@ pub(crate) fn closed<J: Naming, R: Wait + Drop, W: Wait>(
         sessions.reverse();
     }
     if closing == Closing::InOrder || closing == Closing::LastFirst {
-        return left(shared, sessions);
+        return close_all(shared, sessions);
     }
     let late = sessions.pop()?;
     match close(shared, sessions) {
         Ok(_closed) => None,
-        Err(fault) => left_late(rt, alloc, fault, late, script),
+        Err(fault) => close_late(rt, alloc, fault, late, script),
     }
 }

@@ -1,13 +1,14 @@
-//! Writes of a session by a crew that counts its calls: each is simulated once only, beside the meter.
+//! Writes of a session with a crew that counts its calls: each is simulated only once, compared with the meter.
 
 ghost use Rattle.std.specs.Prelude.{◌≡◌};
 
-use crate::worked::opened_for;
-use crate::writes::{Write, wrote_by};
+use crate::worked::prepare_free_road;
+use crate::writes::{Write, write_by};
 use road_ends::Meter;
 use road_plan::Object;
+use road_replica::ReplicaFault;
 use road_scenario::{Edit, Stamp, Value};
-use road_sessions::{Naming, Prepared, Session, Shared, open};
+use road_sessions::{Naming, Prepared, Session, Shared, WriteFault, open};
 use std::alloc::Global;
 use std::marker::Brand;
 use std::sync::Wait;
@@ -16,54 +17,65 @@ use tests_plans::{BLOCK, Counting, LIMIT, edit};
 /// The limit is 1 from step 99 on, by a replica elsewhere.
 const SLOW: Edit = edit!(LIMIT, 99, (9, 1), 1);
 
-/// Writes of one session, whether they are accepted, and the steps that all up to each compute. An edit computes those
-/// from the multiple of 64 before it. The journal takes six.
-const COUNTED: &[(Write, bool, u64)] = &[
-    (Write::Advance(100), true, 100),
-    (Write::Edit(BLOCK, 70, 1), true, 136),
-    (Write::Withdraw(BLOCK, 70), true, 172),
-    (Write::Take(&[SLOW]), true, 208),
-    // What is held already, and a horizon that is reached.
-    (Write::Take(&[SLOW]), true, 208),
-    (Write::Advance(90), true, 208),
-    (Write::Edit(LIMIT, 10, 1), false, 208),
+/// A write of a session, the cause for which it is refused, if it is, and the steps that all writes up to it compute.
+type Counted = (Write, Option<WriteFault>, u64);
+
+const NO_OBJECT: Option<WriteFault> = Some(WriteFault::Replica(ReplicaFault::NoObject));
+
+const OUT_OF_RANGE: Option<WriteFault> = Some(WriteFault::Replica(ReplicaFault::ValueOutOfRange));
+
+const HORIZON: Option<WriteFault> = Some(WriteFault::Replica(ReplicaFault::Horizon));
+
+/// An edit computes the steps from the multiple of 64 before it. The journal takes six writes.
+const COUNTED: &[Counted] = &[
+    (Write::Advance(100), None, 100),
+    (Write::Edit(BLOCK, 70, 1), None, 136),
+    (Write::Withdraw(BLOCK, 70), None, 172),
+    (Write::Take(&[SLOW]), None, 208),
+    // Edits that are held already, and a horizon that is already reached.
+    (Write::Take(&[SLOW]), None, 208),
+    (Write::Advance(90), None, 208),
+    (
+        Write::Edit(LIMIT, 10, 1),
+        Some(WriteFault::JournalFull),
+        208,
+    ),
 ];
 
-/// Writes that are refused for a named cause.
-const REFUSED: &[(Write, bool, u64)] = &[
-    (Write::Advance(100), true, 100),
-    (Write::Edit(Object::Block(4_000), 0, 1), false, 100),
-    (Write::Withdraw(Object::Block(4_000), 0), false, 100),
-    (Write::Edit(LIMIT, 0, 4_000_000_000), false, 100),
-    (Write::Advance(4_000_000_000), false, 100),
-    (Write::Advance(101), true, 101),
+const REFUSED: &[Counted] = &[
+    (Write::Advance(100), None, 100),
+    (Write::Edit(Object::Block(4_000), 0, 1), NO_OBJECT, 100),
+    (Write::Withdraw(Object::Block(4_000), 0), NO_OBJECT, 100),
+    (Write::Edit(LIMIT, 0, 4_000_000_000), OUT_OF_RANGE, 100),
+    (Write::Advance(4_000_000_000), HORIZON, 100),
+    (Write::Advance(101), None, 101),
 ];
 
-// Says whether the writes of a session are simulated as the table says.
+// Return whether the writes of a session are simulated as the table says.
 fn are_counted<J: Naming, R: Wait + Drop, W: Wait>(
     rt: &W,
     alloc: Global,
     shared: &Shared<J, R>,
     session: &mut Session<J>,
-    writes: &[(Write, bool, u64)],
+    writes: &[Counted],
 ) -> bool {
     let mut crew = Counting { calls: 0 };
     let mut meter = Meter::new();
-    for (write, accepted, steps) in writes {
-        let wrote = wrote_by(rt, alloc, shared, session, write, &mut crew, &mut meter);
-        if wrote.is_ok() != *accepted || crew.calls != *steps || meter.ticks() != *steps {
+    for (write, refused, steps) in writes {
+        let fault = write_by(rt, alloc, shared, session, write, &mut crew, &mut meter).err();
+        if fault != *refused || crew.calls != *steps || meter.ticks() != *steps {
             return false;
         }
     }
     true
 }
 
-// Says whether those of the first session of a store are.
+// Return whether those of the first session of a store are.
 fn counts<J: Naming, R: Wait + Drop, W: Wait>(
     rt: &W,
     alloc: Global,
     prepared: Prepared<R>,
-    writes: &[(Write, bool, u64)],
+    writes: &[Counted],
 ) -> bool
     requires book { prepared.book ≡ J.book }
     requires replica { prepared.replica ≡ J.replica }
@@ -79,9 +91,9 @@ fn counts<J: Naming, R: Wait + Drop, W: Wait>(
     }
 }
 
-// Opens a store for it.
-fn runs<R: Wait + Drop + Copy>(rt: R, alloc: Global, writes: &[(Write, bool, u64)]) -> bool {
-    match opened_for(rt, alloc, 0, 1, 6) {
+// Open a store for it.
+fn runs<R: Wait + Drop + Copy>(rt: R, alloc: Global, writes: &[Counted]) -> bool {
+    match prepare_free_road(rt, alloc, 0, 1, 6) {
         Ok(prepared) => counts::<Brand, R, R>(&rt, alloc, prepared, writes),
         Err(_) => false,
     }

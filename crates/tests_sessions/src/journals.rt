@@ -1,17 +1,17 @@
-//! Journals, as tables have them.
+//! Journals, as in tables.
 
 use road_scenario::{Edit, Scenario};
 use road_sessions::{Entry, SheetCommand};
 use std::alloc::Global;
 
-/// A session, and what it did: it took these edits, or simulated up to this step.
+/// A session and its write: it took these edits, or simulated up to this step.
 #[derive(Clone, Copy)]
 pub(crate) enum Line {
     Took(u32, &'static [Edit]),
     Advanced(u32, u32),
 }
 
-// Tells whether a scenario has just these edits.
+// Return whether a scenario has exactly these edits.
 fn has_edits(alloc: Global, scenario: &Scenario, edits: &[Edit]) -> bool {
     match scenario.edits(alloc) {
         Ok(held) => held.as_slice() == edits,
@@ -19,7 +19,7 @@ fn has_edits(alloc: Global, scenario: &Scenario, edits: &[Edit]) -> bool {
     }
 }
 
-// Tells whether an entry of a journal is this.
+// Return whether an entry of a journal is this.
 fn is_line(alloc: Global, entry: &Entry, line: Line) -> bool {
     match (line, &entry.command) {
         (Line::Took(session, edits), SheetCommand::Take(taken)) => {
@@ -32,7 +32,7 @@ fn is_line(alloc: Global, entry: &Entry, line: Line) -> bool {
     }
 }
 
-/// Tells whether a journal has just these entries.
+/// Return whether a journal has exactly these entries.
 pub(crate) fn is_journal(alloc: Global, journal: &[Entry], lines: &[Line]) -> bool {
     let mut well = journal.len() == lines.len();
     for (entry, line) in journal.iter().zip(lines.iter()) {

@@ -8,7 +8,11 @@ mod closings;
 #[cfg(test)]
 mod counted;
 #[cfg(test)]
+mod dashboard;
+#[cfg(test)]
 mod journals;
+#[cfg(test)]
+mod looking;
 #[cfg(test)]
 mod questions;
 #[cfg(test)]

@@ -10,28 +10,28 @@ use std::alloc::Global;
 use std::sync::{Arc, Wait};
 use tests_plans::{FREE_ROWS, Row};
 
-/// A detector and two steps, and the cars and speeds that it counts from one up to the other.
+/// A detector and two steps, and the cars and speeds that it counts from the first step to before the second.
 pub(crate) type Count = ((u32, u32, u32), Result<(u32, u32), LookFault>);
 
 /// A step, and the cars that are there.
 pub(crate) type Cars = (u32, Result<&'static [Car], LookFault>);
 
-// Returns the row of a sheet at a step.
+// Return the row of a sheet at a step.
 fn row(alloc: Global, sheet: &Sheet, step: u32) -> Result<String, SheetFault> {
     let road = sheet.state(alloc, step)?;
     let state = State { step, road };
     Ok(row_of(alloc, sheet.plan(), sheet.scenario(), &state)?)
 }
 
-/// Rows of the free road from step 0 up to a step, where the limit is 1 from another step on.
+/// Rows of the free road from step 0 up to a step, with the limit 1 from another step on.
 #[derive(Clone, Copy)]
 pub(crate) struct Run {
     pub(crate) slow_from: u32,
     pub(crate) to: u32,
 }
 
-/// The rows after so many steps behind an even one, from which on the limit is 1. As of the free road's, the last two go
-/// on by turns.
+/// The rows after each number of steps from an even one, from which on the limit is 1. As on the free road, the last
+/// two alternate from then on.
 const SLOW_ROWS: &[Row] = &[
     (0, "0..2...2...."),
     (1, ".1..1...1..."),
@@ -46,7 +46,7 @@ const SLOW_ROWS: &[Row] = &[
     (10, "0.1.1.1.1.1."),
 ];
 
-// Returns the row of this number, where the last two go on by turns.
+// Return the row of this number. The last two alternate.
 fn by_turns(rows: &[Row], number: usize) -> &'static str {
     let behind = number.saturating_sub(rows.len());
     let last = rows.len().saturating_sub(2);
@@ -61,7 +61,7 @@ fn by_turns(rows: &[Row], number: usize) -> &'static str {
     }
 }
 
-// Returns the row of a run at a step.
+// Return the row of a run at a step.
 fn row_of_run(run: Run, step: u32) -> &'static str {
     if step <= run.slow_from {
         by_turns(FREE_ROWS, step as usize)
@@ -70,7 +70,7 @@ fn row_of_run(run: Run, step: u32) -> &'static str {
     }
 }
 
-// Returns the road of a run after a step, which one caller computes.
+// Return the road of a run after a step, which a single caller computes.
 fn road_after(alloc: Global, plan: &Arc<Plan>, run: Run, step: u32, road: &Road) -> Option<Road> {
     let mut settings = Settings::of_plan(alloc, plan).ok()?;
     if step >= run.slow_from {
@@ -83,7 +83,7 @@ fn road_after(alloc: Global, plan: &Arc<Plan>, run: Run, step: u32, road: &Road)
     Some(done.ok()?.road)
 }
 
-// Tells whether a sheet has the cars of a run, with their numbers, which goes from step zero.
+// Return whether a sheet has the cars of a run from step zero, with their numbers.
 fn has_cars_of_run(alloc: Global, sheet: &Sheet, run: Run) -> Option<bool> {
     let mut road = Road::empty(alloc);
     for step in 0..=run.to {
@@ -95,7 +95,7 @@ fn has_cars_of_run(alloc: Global, sheet: &Sheet, run: Run) -> Option<bool> {
     Some(true)
 }
 
-/// Tells whether a sheet shows all rows of a run, and its cars.
+/// Return whether a sheet shows all rows of a run, and its cars.
 pub(crate) fn shows_run(alloc: Global, sheet: &Sheet, run: Run) -> bool {
     for step in 0..=run.to {
         if !shows(alloc, sheet, &[(step, row_of_run(run, step))]) {
@@ -105,7 +105,7 @@ pub(crate) fn shows_run(alloc: Global, sheet: &Sheet, run: Run) -> bool {
     sheet.horizon() == run.to && has_cars_of_run(alloc, sheet, run) == Some(true)
 }
 
-/// Tells whether a sheet shows these rows.
+/// Return whether a sheet shows these rows.
 pub(crate) fn shows(alloc: Global, sheet: &Sheet, rows: &[Row]) -> bool {
     for (step, wanted) in rows {
         let agrees = match row(alloc, sheet, *step) {
@@ -119,7 +119,7 @@ pub(crate) fn shows(alloc: Global, sheet: &Sheet, rows: &[Row]) -> bool {
     true
 }
 
-/// Tells whether a session that looks is shown this horizon and these rows.
+/// Return whether a session that looks is shown this horizon and these rows.
 pub(crate) fn looks<J: Naming, R: Wait + Drop>(
     alloc: Global,
     shared: &Shared<J, R>,
@@ -133,7 +133,7 @@ pub(crate) fn looks<J: Naming, R: Wait + Drop>(
     }
 }
 
-/// Tells whether a session that looks is shown a run.
+/// Return whether a session that looks is shown a run.
 pub(crate) fn looks_run<J: Naming, R: Wait + Drop>(
     alloc: Global,
     shared: &Shared<J, R>,
@@ -146,7 +146,7 @@ pub(crate) fn looks_run<J: Naming, R: Wait + Drop>(
     }
 }
 
-// Tells whether a session that asks for the cars of a step is shown these.
+// Return whether a session that queries the cars of a step is shown these.
 fn has_cars<J: Naming, R: Wait + Drop>(
     alloc: Global,
     shared: &Shared<J, R>,
@@ -158,7 +158,7 @@ fn has_cars<J: Naming, R: Wait + Drop>(
     Ok(road.cars() == wanted)
 }
 
-// Tells whether a session that asks for cars is answered so.
+// Return whether a session that queries cars gets the expected answer.
 fn shows_cars<J: Naming, R: Wait + Drop>(
     alloc: Global,
     shared: &Shared<J, R>,
@@ -172,8 +172,8 @@ fn shows_cars<J: Naming, R: Wait + Drop>(
     has_cars(alloc, shared, session, cars.0, wanted) == told
 }
 
-// Returns what a session is answered that asks for a count.
-fn counted<J: Naming, R: Wait + Drop>(
+// Return the answer to a session that queries a count.
+fn count_passing<J: Naming, R: Wait + Drop>(
     alloc: Global,
     shared: &Shared<J, R>,
     session: &mut Session<J>,
@@ -184,7 +184,7 @@ fn counted<J: Naming, R: Wait + Drop>(
     Ok((totals.cars, totals.speeds))
 }
 
-// Tells whether a session that asks for a count is answered so.
+// Return whether a session that queries a count gets the expected answer.
 fn shows_count<J: Naming, R: Wait + Drop>(
     alloc: Global,
     shared: &Shared<J, R>,
@@ -192,10 +192,10 @@ fn shows_count<J: Naming, R: Wait + Drop>(
     count: Count,
 ) -> bool {
     let (asked, wanted) = count;
-    counted(alloc, shared, session, asked) == wanted
+    count_passing(alloc, shared, session, asked) == wanted
 }
 
-/// Tells whether a session that asks for the cars of some steps is answered so.
+/// Return whether a session that queries the cars of some steps gets the expected answers.
 pub(crate) fn shows_all_cars<J: Naming, R: Wait + Drop>(
     alloc: Global,
     shared: &Shared<J, R>,
@@ -210,7 +210,7 @@ pub(crate) fn shows_all_cars<J: Naming, R: Wait + Drop>(
     true
 }
 
-/// Tells whether a session that asks for some counts is answered so.
+/// Return whether a session that queries some counts gets the expected answers.
 pub(crate) fn shows_counts<J: Naming, R: Wait + Drop>(
     alloc: Global,
     shared: &Shared<J, R>,

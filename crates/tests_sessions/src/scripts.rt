@@ -12,7 +12,7 @@ use road_sheet::SheetFault;
 use tests_plans::{BLOCK, BLOCKED_ROWS, CARS_AT_SIX, FREE_ROWS, LIMIT, edit, pairs, stamp};
 
 /// The cell 8 is blocked from step 4 on; that is withdrawn; the limit is 1 from step 64 on.
-const BLOCKED: Edit = edit!(BLOCK, 4, (1, 0), 1);
+pub(crate) const BLOCKED: Edit = edit!(BLOCK, 4, (1, 0), 1);
 
 const OPENED: Edit = edit!(BLOCK, 4, (2, 0), withdrawn);
 
@@ -27,7 +27,7 @@ const BLOCKS: Act = Act::Write(
 
 const FULL: Act = Act::Write(Write::Advance(7), Err(WriteFault::JournalFull));
 
-/// One session advances and blocks a cell, and tells the other one. The journal is full then.
+/// One session advances and blocks a cell, and tells the other one. The journal is then full.
 pub(crate) const TOLD: Script = Script {
     number: 0,
     sessions: 2,
@@ -85,7 +85,7 @@ pub(crate) const LAST_MISSING: Script = Script {
     ..TOLD
 };
 
-/// The first one is missing at first, and the last one stands in its place.
+/// The first session is missing at first, and the last one takes its place.
 pub(crate) const FIRST_MISSING: Script = Script {
     closing: Closing::WithoutFirst,
     journal: &[
@@ -130,7 +130,7 @@ const COUNTS: &[Count] = &[
     ((1, 0, 6), Err(NO_DETECTOR)),
 ];
 
-/// What is blocked and withdrawn does not come back with an older message; a refused write leaves no line.
+/// An edit that is blocked and withdrawn does not come back with an older message. A refused write leaves no entry.
 pub(crate) const WITHDRAWN: Script = Script {
     sessions: 1,
     limit: 10,
@@ -158,7 +158,7 @@ pub(crate) const WITHDRAWN: Script = Script {
     ..TOLD
 };
 
-/// Three sessions of replica 3 write: each line stands under its session, and the stamps are the replica's.
+/// Three sessions of replica 3 write. Each entry has its session, and the stamps are the replica's.
 pub(crate) const THREE: Script = Script {
     number: 3,
     sessions: 3,
@@ -191,7 +191,7 @@ const SLOW_RUN: Run = Run {
     to: 130,
 };
 
-/// A session keeps a sheet, which stays as it was while the other one changes its past.
+/// A session keeps a sheet, which stays unchanged while the other one changes its past.
 pub(crate) const KEPT: Script = Script {
     limit: 10,
     acts: pairs![

@@ -1,6 +1,6 @@
 //! Worked runs of sessions, one after another in one thread.
 
-use crate::acts::{Script, goes};
+use crate::acts::{Script, run_script};
 use crate::scripts::{
     ALONE, CLOSINGS, EIGHT, FIRST_MISSING, KEPT, LAST_MISSING, THREE, TOLD, WITHDRAWN,
 };
@@ -10,8 +10,8 @@ use std::marker::Brand;
 use std::sync::{Arc, Wait};
 use tests_plans::{FREE, plan_of};
 
-/// Makes a replica of the free road, of this number, for so many sessions and writes.
-pub(crate) fn opened_for<R: Wait + Drop>(
+/// Make a replica of the free road, with this number, for `sessions` sessions and at most `limit` writes.
+pub(crate) fn prepare_free_road<R: Wait + Drop>(
     rt: R,
     alloc: Global,
     number: u32,
@@ -29,10 +29,10 @@ pub(crate) fn opened_for<R: Wait + Drop>(
     prepare(rt, alloc, plan, number % 64, sessions, limit)
 }
 
-// Tells whether a store goes as its script says.
-fn runs<R: Wait + Drop + Copy>(rt: R, alloc: Global, script: &Script) -> bool {
-    match opened_for(rt, alloc, script.number, script.sessions, script.limit) {
-        Ok(prepared) => goes::<Brand, R, R>(&rt, alloc, prepared, script),
+// Return whether a store does what its script says.
+fn open_and_run_script<R: Wait + Drop + Copy>(rt: R, alloc: Global, script: &Script) -> bool {
+    match prepare_free_road(rt, alloc, script.number, script.sessions, script.limit) {
+        Ok(prepared) => run_script::<Brand, R, R>(&rt, alloc, prepared, script),
         Err(_) => false,
     }
 }
@@ -41,25 +41,25 @@ fn runs<R: Wait + Drop + Copy>(rt: R, alloc: Global, script: &Script) -> bool {
 fn a_receipt_is_heard(rt: HostRuntime) {
     for closing in CLOSINGS {
         let script = Script { closing, ..TOLD };
-        assert!(rt; runs(&rt, rt.alloc(), &script));
+        assert!(rt; open_and_run_script(&rt, rt.alloc(), &script));
     }
 }
 
 #[test]
 fn worked_scripts(rt: HostRuntime) {
     for script in [ALONE, WITHDRAWN, THREE, EIGHT] {
-        assert!(rt; runs(&rt, rt.alloc(), &script));
+        assert!(rt; open_and_run_script(&rt, rt.alloc(), &script));
     }
 }
 
 #[test]
 fn what_a_refused_closing_hands_back_goes_on(rt: HostRuntime) {
     for script in [LAST_MISSING, FIRST_MISSING] {
-        assert!(rt; runs(&rt, rt.alloc(), &script));
+        assert!(rt; open_and_run_script(&rt, rt.alloc(), &script));
     }
 }
 
 #[test]
 fn a_kept_sheet_stays(rt: HostRuntime) {
-    assert!(rt; runs(&rt, rt.alloc(), &KEPT));
+    assert!(rt; open_and_run_script(&rt, rt.alloc(), &KEPT));
 }

@@ -1,4 +1,4 @@
-//! Writes of sessions, as tables have them.
+//! Writes of sessions, as in tables.
 
 use road_ends::Meter;
 use road_plan::Object;
@@ -18,11 +18,11 @@ pub(crate) enum Write {
     Advance(u32),
 }
 
-/// What a write is answered: its place in the journal and the reply.
+/// The answer to a write: its place in the journal and the reply.
 pub(crate) type Answer = Result<(u64, Reply), WriteFault>;
 
-// Takes edits by a session.
-fn took<J: Naming, R: Wait + Drop, W: Wait, C: Crew>(
+// Take edits by a session.
+fn take<J: Naming, R: Wait + Drop, W: Wait, C: Crew>(
     rt: &W,
     alloc: Global,
     shared: &Shared<J, R>,
@@ -37,8 +37,8 @@ fn took<J: Naming, R: Wait + Drop, W: Wait, C: Crew>(
     }
 }
 
-/// Writes by a session, a crew and a meter.
-pub(crate) fn wrote_by<J: Naming, R: Wait + Drop, W: Wait, C: Crew>(
+/// Write by a session, with a crew and a meter.
+pub(crate) fn write_by<J: Naming, R: Wait + Drop, W: Wait, C: Crew>(
     rt: &W,
     alloc: Global,
     shared: &Shared<J, R>,
@@ -55,19 +55,19 @@ pub(crate) fn wrote_by<J: Naming, R: Wait + Drop, W: Wait, C: Crew>(
             session.withdraw(rt, shared, *object, *step, crew, meter)
         }
         Write::Advance(to) => session.advance(rt, shared, *to, crew, meter),
-        Write::Take(edits) => took(rt, alloc, shared, session, edits, crew, meter),
+        Write::Take(edits) => take(rt, alloc, shared, session, edits, crew, meter),
     }
 }
 
-/// Writes by a session alone.
-pub(crate) fn written<J: Naming, R: Wait + Drop, W: Wait>(
+/// Write by a session alone.
+pub(crate) fn write_alone<J: Naming, R: Wait + Drop, W: Wait>(
     rt: &W,
     alloc: Global,
     shared: &Shared<J, R>,
     session: &mut Session<J>,
     write: &Write,
 ) -> Result<Wrote<J>, WriteFault> {
-    wrote_by(
+    write_by(
         rt,
         alloc,
         shared,
@@ -78,7 +78,7 @@ pub(crate) fn written<J: Naming, R: Wait + Drop, W: Wait>(
     )
 }
 
-/// Returns what a write was answered, and its receipt.
+/// Return the answer to a write, and its receipt.
 pub(crate) fn parts<J: Naming>(
     wrote: Result<Wrote<J>, WriteFault>,
 ) -> (Answer, Option<Receipt<J>>) {

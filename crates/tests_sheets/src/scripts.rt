@@ -1,22 +1,21 @@
-//! Scripts of edits and advances at steps round the ends of intervals, the first ones and the last ones: each state and each
-//! total against a run from step zero. One script in two has steady words, each other one seeded words of its own.
+//! Scripts of edits and advances at steps around the ends of intervals, the first ones and the last ones. Each state
+//! and each total, from a cache and from the sheet, is compared with a sheet that is run from step zero with all edits
+//! at once. Every second script has steady words, and each of the others seeded words of its own. The program shows the
+//! same edits and advances, and each step from a cache that is kept, compared with a simulator
+//! (`tests/scripts/intervals_steady.jsonl` and similar scripts).
 
-ghost use Rattle.std.specs.Prelude.{◌<◌, length};
 ghost use Rattle.road_sheet.specs.QueryCaches.{IsCacheOf};
 
-use crate::sheets::{grow, opening};
-use road_cells::Road;
-use road_detector::{Totals, passes};
-use road_ends::{Meter, OutOfMemory, step_alone};
+use crate::sheets::{Way, extend, opening};
+use road_cells::Car;
 use road_plan::{Object, WordKind};
 use road_scenario::{Edit, Stamp, Value};
-use road_sheet::simulation::{State, row_of};
 use road_sheet::{QueryCache, Sheet, SheetFault};
 use std::alloc::Global;
 use std::test::Fail;
 use tests_plans::{Parts, edit};
 
-/// How many scripts are run.
+/// The number of scripts that are run.
 const SCRIPTS: u64 = 20;
 
 /// Two zones, two inlets and two detectors, with chances between never and always. The words are another script's.
@@ -28,21 +27,21 @@ const MIXED: Parts = Parts {
     words: WordKind::Seeded(11),
 };
 
-/// The same road where nobody enters by the plan, so that a run from step zero to the last steps is short.
+/// The same road where no car enters by the plan, so that a run from step zero to the last steps is short.
 const CLOSED: Parts = Parts {
     inlets: &[(0, 0), (7, 0)],
     ..MIXED
 };
 
-/// How many scripts are about the last steps.
+/// The number of scripts about the last steps.
 const LATE_SCRIPTS: u64 = 2;
 
-/// Steps round the ends of the first intervals.
+/// Steps around the ends of the first intervals.
 const STEPS: &[u32] = &[
     0, 1, 5, 62, 63, 64, 65, 66, 126, 127, 128, 129, 130, 191, 192, 193,
 ];
 
-/// Steps round the ends of the last intervals, up to the greatest horizon.
+/// Steps around the ends of the last intervals, up to the greatest horizon.
 const LATE_STEPS: &[u32] = &[
     1_048_384, 1_048_385, 1_048_389, 1_048_446, 1_048_447, 1_048_448, 1_048_449, 1_048_450,
     1_048_510, 1_048_511, 1_048_512, 1_048_513, 1_048_514, 1_048_574, 1_048_575, 1_048_576,
@@ -54,7 +53,7 @@ const OPENED: &[Edit] = &[
     edit!(Object::Inflow(1), 1_048_384, (1, 1), 30_000),
 ];
 
-/// Numbers that look random, and the steps that a script is about.
+/// Numbers that look random, and the steps of a script.
 #[derive(Clone, Copy)]
 struct Dice {
     seed: u64,
@@ -70,13 +69,13 @@ impl Dice {
         (self.seed >> 40) as u32 % most.max(1)
     }
 
-    // One of the steps.
+    // Return one of the steps.
     fn step(&mut self) -> u32 {
         let place = self.below(16) as usize;
         self.steps.get(place).copied().unwrap_or(0)
     }
 
-    // Makes an edit of any object of the plan, one in seven a withdrawal.
+    // Make an edit of any object of the plan, one in seven a withdrawal.
     fn edit(&mut self, count: u64) -> Edit {
         let (object, number) = match self.below(6) {
             0 => (Object::Limit(self.below(2)), self.below(10)),
@@ -98,110 +97,53 @@ impl Dice {
     }
 }
 
-// Takes a state to the next step of a sheet's run, by a step that one caller computes, and returns what a detector counts
-// in it.
-fn step_on(alloc: Global, sheet: &Sheet, state: &mut State, detector: u32) -> Result<Totals, Fail>
-    requires { detector < length sheet.now.plan.detectors }
-{
-    let (plan, step) = (sheet.plan(), state.step);
-    let mut meter = Meter::new();
-    let settings = sheet.scenario().settings_at(alloc, plan, step)?;
-    let done = step_alone(alloc, plan, settings, step, &state.road, &mut meter)?;
-    let passed = passes(&done.input, &done.speeds, detector);
-    state.road = done.road;
-    state.step = step.saturating_add(1);
-    Ok(passed)
+// Return whether a sheet has these cars at a step.
+fn has_cars(alloc: Global, sheet: &Sheet, step: u32, cars: &[Car]) -> Result<bool, SheetFault> {
+    Ok(sheet.state(alloc, step)?.cars() == cars)
 }
 
-// Takes a state to a later step of a sheet's run, by steps that one caller computes, and returns what a detector counts
-// in them.
-fn go_on(
+// Return whether a cache of a sheet, the sheet, and the sheet that was run from step zero show the same road at a step.
+fn states_agree(
     alloc: Global,
     sheet: &Sheet,
-    state: &mut State,
-    detector: u32,
-    to: u32,
-) -> Result<Totals, Fail> {
-    if sheet.plan().detectors().len() <= detector as usize {
-        return Err(Fail::new("no such detector"));
-    }
-    let mut totals = Totals { cars: 0, speeds: 0 };
-    for _ in state.step..to {
-        let passed = step_on(alloc, sheet, state, detector)?;
-        totals.cars = totals.cars.saturating_add(passed.cars);
-        totals.speeds = totals.speeds.saturating_add(passed.speeds);
-    }
-    Ok(totals)
-}
-
-// Returns the empty road of step 0.
-fn first_state(alloc: Global) -> State {
-    State {
-        step: 0,
-        road: Road::empty(alloc),
-    }
-}
-
-// Copies a state.
-fn copied(state: &State) -> Result<State, OutOfMemory> {
-    Ok(State {
-        step: state.step,
-        road: state.road.copied()?,
-    })
-}
-
-// Tells whether a sheet shows the road of a state: by a cache, and by none.
-fn state_agrees(
-    alloc: Global,
-    sheet: &Sheet,
+    straight: &Sheet,
     cache: &mut QueryCache,
-    state: &State,
+    step: u32,
 ) -> Result<bool, SheetFault>
     requires { IsCacheOf sheet.now cache.old }
     ensures { IsCacheOf sheet.now cache.new }
 {
-    let cached = cache.state(alloc, sheet, state.step)?;
-    let fresh = sheet.state(alloc, state.step)?;
-    Ok(cached.cars() == state.road.cars() && fresh.cars() == state.road.cars())
+    let road = cache.state(alloc, sheet, step)?;
+    Ok(has_cars(alloc, sheet, step, road.cars())? && has_cars(alloc, straight, step, road.cars())?)
 }
 
-// Tells whether a sheet shows the states that the run has at some steps, which goes on from this state to each of them: by
-// one cache for all, and by none.
-fn states_agree_from(
+// Return whether they do at the steps of a script, with one cache for all.
+fn all_states_agree(
     alloc: Global,
     sheet: &Sheet,
+    straight: &Sheet,
     cache: &mut QueryCache,
-    state: &mut State,
     steps: &[u32],
-) -> Result<bool, Fail>
+) -> Result<bool, SheetFault>
     requires { IsCacheOf sheet.now cache.old }
-    ensures { IsCacheOf sheet.now cache.new }
 {
     for place in steps {
-        let _ = go_on(alloc, sheet, state, 0, (*place).min(sheet.horizon()))?;
-        if !state_agrees(alloc, sheet, cache, state)? {
+        let step = (*place).min(sheet.horizon());
+        if !states_agree(alloc, sheet, straight, cache, step)? {
             return Ok(false);
         }
     }
     Ok(true)
 }
 
-// Tells whether a sheet shows the states that the run has at some steps, which goes on from its first state to each of
-// them.
-fn states_agree(alloc: Global, sheet: &Sheet, first: &State, steps: &[u32]) -> Result<bool, Fail> {
-    let mut last = copied(first)?;
-    let mut cache = QueryCache::new();
-    states_agree_from(alloc, sheet, &mut cache, &mut last, steps)
-}
-
-// Tells whether a cache that is asked twice, and a sheet without one, give what a detector counted in some steps.
-fn cache_counts(
+// Return whether a cache that is asked twice and both sheets return the same count.
+fn totals_agree(
     alloc: Global,
     sheet: &Sheet,
+    straight: &Sheet,
     cache: &mut QueryCache,
     detector: u32,
     steps: (u32, u32),
-    counted: Totals,
 ) -> Result<bool, SheetFault>
     requires { IsCacheOf sheet.now cache.old }
 {
@@ -209,92 +151,107 @@ fn cache_counts(
     let cached = cache.totals(alloc, sheet, detector, from, to)?;
     let again = cache.totals(alloc, sheet, detector, from, to)?;
     let fresh = sheet.totals(alloc, detector, from, to)?;
-    Ok(cached == counted && again == counted && fresh == counted)
+    let wanted = straight.totals(alloc, detector, from, to)?;
+    Ok(cached == wanted && again == wanted && fresh == wanted)
 }
 
-// Tells whether a new cache, and a sheet without one, give what a detector counted in some steps.
-fn detector_counts(
+// Return whether the states agree with a new cache. The owner of a cache or a sheet has one way out.
+fn states_agree_anew(
     alloc: Global,
     sheet: &Sheet,
-    detector: u32,
-    steps: (u32, u32),
-    counted: Totals,
+    straight: &Sheet,
+    steps: &[u32],
 ) -> Result<bool, SheetFault> {
     let mut cache = QueryCache::new();
-    cache_counts(alloc, sheet, &mut cache, detector, steps, counted)
+    all_states_agree(alloc, sheet, straight, &mut cache, steps)
 }
 
-// Tells whether what a detector counts in some steps is what it counts in them in the run that goes on from its first
-// state.
-fn totals_agree(
+// Return whether the totals agree with a new cache.
+fn totals_agree_anew(
     alloc: Global,
     sheet: &Sheet,
-    first: &State,
+    straight: &Sheet,
     detector: u32,
-    (from, to): (u32, u32),
-) -> Result<bool, Fail> {
-    let mut state = copied(first)?;
-    let _ = go_on(alloc, sheet, &mut state, detector, from)?;
-    let counted = go_on(alloc, sheet, &mut state, detector, to)?;
-    Ok(detector_counts(alloc, sheet, detector, (from, to), counted)?)
+    steps: (u32, u32),
+) -> Result<bool, SheetFault> {
+    let mut cache = QueryCache::new();
+    totals_agree(alloc, sheet, straight, &mut cache, detector, steps)
 }
 
-// Tells whether a sheet agrees with the run from its first state: its states, and what a detector counts from a random
+// Return whether a sheet agrees with the run from step zero: its states, and the counts of a detector from a random
 // step to another.
-fn sheet_agrees(
+fn sheets_agree(
     alloc: Global,
     sheet: &Sheet,
-    first: &State,
+    straight: &Sheet,
     dice: &mut Dice,
 ) -> Result<bool, Fail> {
-    if !states_agree(alloc, sheet, first, dice.steps)? {
-        return Ok(false);
-    }
     let to = dice.step().min(sheet.horizon());
     let from = dice.step().min(to);
-    totals_agree(alloc, sheet, first, dice.below(2), (from, to))
+    let detector = dice.below(2);
+    Ok(
+        states_agree_anew(alloc, sheet, straight, dice.steps)?
+            && totals_agree_anew(alloc, sheet, straight, detector, (from, to))?,
+    )
 }
 
-// Makes a sheet with none, one or two more edits, simulated up to a random step.
-fn grown_at_random(
+// Return whether a sheet agrees with the run of all these edits from step zero.
+fn agrees(
     alloc: Global,
+    opening: &Sheet,
+    edits: &[Edit],
     sheet: &Sheet,
     dice: &mut Dice,
-    count: u64,
-) -> Result<Sheet, Fail> {
-    let edits = [dice.edit(count), dice.edit(count)];
-    let some = edits.get(dice.below(3) as usize..).unwrap_or(&[]);
-    Ok(grow(alloc, sheet, some, dice.step())?.sheet)
+) -> Result<bool, Fail> {
+    let straight = extend(alloc, opening, Way::ByRuns, edits, sheet.horizon())?;
+    sheets_agree(alloc, sheet, &straight.sheet, dice)
 }
 
-// Lets a sheet grow at random. Tells whether it agrees with the run then.
-fn goes_on(
+// Extend a sheet by none, one or two more edits, and to a random step.
+fn extend_at_random(
     alloc: Global,
     sheet: &mut Sheet,
-    first: &State,
+    edits: &mut Vec<Edit>,
     dice: &mut Dice,
     count: u64,
-) -> Result<bool, Fail> {
-    *sheet = grown_at_random(alloc, sheet, dice, count)?;
-    sheet_agrees(alloc, sheet, first, dice)
+) -> Result<(), Fail> {
+    let two = [dice.edit(count), dice.edit(count)];
+    let some = two.get(dice.below(3) as usize..).unwrap_or(&[]);
+    edits.extend_from_slice(some)?;
+    *sheet = extend(alloc, sheet, Way::StepByStep, some, dice.step())?.sheet;
+    Ok(())
 }
 
-// Tells whether it agrees each time.
+// Return whether a sheet agrees after each extension.
 fn all_agree(
     alloc: Global,
+    opening: &Sheet,
     sheet: &mut Sheet,
-    first: &State,
-    mut dice: Dice,
+    edits: &mut Vec<Edit>,
+    dice: &mut Dice,
 ) -> Result<bool, Fail> {
     for count in 1..6 {
-        if !goes_on(alloc, sheet, first, &mut dice, count)? {
+        extend_at_random(alloc, sheet, edits, dice, count)?;
+        if !agrees(alloc, opening, edits, sheet, dice)? {
             return Ok(false);
         }
     }
     Ok(true)
 }
 
-// Returns the words of a script.
+// Return whether all sheets of a script agree, which begins with these edits and a run up to a step.
+fn agree_from(
+    alloc: Global,
+    opening: &Sheet,
+    (first, to): (&[Edit], u32),
+    dice: &mut Dice,
+) -> Result<bool, Fail> {
+    let mut edits = first.to_vec(alloc)?;
+    let mut begun = extend(alloc, opening, Way::ByRuns, first, to)?;
+    all_agree(alloc, opening, &mut begun.sheet, &mut edits, dice)
+}
+
+// Return the words of a script.
 fn words_of(seed: u64) -> WordKind {
     match seed % 2 {
         0 => WordKind::Steady,
@@ -302,172 +259,39 @@ fn words_of(seed: u64) -> WordKind {
     }
 }
 
-// Tells whether all sheets of a script agree with the run from step zero.
-fn script_agrees(alloc: Global, seed: u64) -> Result<bool, Fail> {
-    let words = words_of(seed);
-    let mut sheet = opening(alloc, &Parts { words, ..MIXED })?;
-    let dice = Dice { seed, steps: STEPS };
-    all_agree(alloc, &mut sheet, &first_state(alloc), dice)
+// Return whether all sheets of a script agree, on a road with its words.
+fn script_agrees(
+    alloc: Global,
+    road: &Parts,
+    begin: (&[Edit], u32),
+    mut dice: Dice,
+) -> Result<bool, Fail> {
+    let words = words_of(dice.seed);
+    let opening = opening(alloc, &Parts { words, ..*road })?;
+    agree_from(alloc, &opening, begin, &mut dice)
 }
 
 #[test]
 fn short_scripts_agree_with_runs_from_zero(rt: HostRuntime) -> Result<(), Fail> {
     for seed in 0..SCRIPTS {
-        assert!(rt; script_agrees(rt.alloc(), seed)?, "{seed}");
+        let dice = Dice { seed, steps: STEPS };
+        assert!(rt;
+            script_agrees(rt.alloc(), &MIXED, (&[], 0), dice)?,
+            "{seed}"
+        );
     }
     Ok(())
-}
-
-// Returns the sheet of the closed road that is opened at the first of the last steps, and simulated up to it.
-fn opened_late(alloc: Global, seed: u64) -> Result<Sheet, Fail> {
-    let words = words_of(seed);
-    let sheet = opening(alloc, &Parts { words, ..CLOSED })?;
-    Ok(grow(alloc, &sheet, OPENED, 1_048_384)?.sheet)
-}
-
-// Tells whether all sheets of a script about the last steps agree with the run from step zero. No edit is dated before the
-// first of these steps, so all of them have one run up to there.
-fn late_script_agrees(alloc: Global, seed: u64) -> Result<bool, Fail> {
-    let mut sheet = opened_late(alloc, seed)?;
-    let mut first = first_state(alloc);
-    let _ = go_on(alloc, &sheet, &mut first, 0, 1_048_384)?;
-    let dice = Dice {
-        seed,
-        steps: LATE_STEPS,
-    };
-    all_agree(alloc, &mut sheet, &first, dice)
 }
 
 #[test]
 fn scripts_of_the_last_steps_agree_with_runs_from_zero(rt: HostRuntime) -> Result<(), Fail> {
     for seed in 0..LATE_SCRIPTS {
-        assert!(rt; late_script_agrees(rt.alloc(), seed)?, "{seed}");
+        let dice = Dice {
+            seed,
+            steps: LATE_STEPS,
+        };
+        let begin = (OPENED, 1_048_384);
+        assert!(rt; script_agrees(rt.alloc(), &CLOSED, begin, dice)?, "{seed}");
     }
-    Ok(())
-}
-
-/// Edits dated at, before and after the ends of intervals, and at steps that follow each other.
-const DATED: &[Edit] = &[
-    edit!(Object::Limit(0), 5, (1, 1), 1),
-    edit!(Object::Slow(1), 6, (1, 1), 50_000),
-    edit!(Object::Block(9), 63, (1, 1), 1),
-    edit!(Object::Inflow(1), 64, (1, 1), 65_536),
-    edit!(Object::Watch(0), 65, (1, 1), 0),
-    edit!(Object::Block(9), 80, (2, 1), 0),
-    edit!(Object::Start(0), 127, (1, 1), 40_000),
-    edit!(Object::Watch(0), 129, (2, 1), 1),
-];
-
-/// Edits that come later, and act from the middle of an interval on.
-const LATER: &[Edit] = &[
-    edit!(Object::Limit(1), 30, (3, 1), 0),
-    edit!(Object::Limit(1), 31, (3, 1), 5),
-    edit!(Object::Block(3), 100, (3, 1), 1),
-];
-
-// Tells whether a cache and a sheet show the same row at a step.
-fn row_agrees(
-    alloc: Global,
-    sheet: &Sheet,
-    cache: &mut QueryCache,
-    step: u32,
-) -> Result<bool, SheetFault>
-    requires { IsCacheOf sheet.now cache.old }
-    ensures { IsCacheOf sheet.now cache.new }
-{
-    let cached = cache.row(alloc, sheet, step)?;
-    let road = sheet.state(alloc, step)?;
-    let fresh = row_of(alloc, sheet.plan(), sheet.scenario(), &State { step, road })?;
-    Ok(cached == fresh)
-}
-
-// Takes a state to the next step of a run, if there is one up to the horizon, and tells whether a cache shows what a
-// detector counts in it.
-fn totals_of_step_agree(
-    alloc: Global,
-    sheet: &Sheet,
-    cache: &mut QueryCache,
-    state: &mut State,
-) -> Result<bool, Fail>
-    requires { IsCacheOf sheet.now cache.old }
-    ensures { IsCacheOf sheet.now cache.new }
-{
-    let step = state.step;
-    let next = step.saturating_add(1).min(sheet.horizon());
-    let totals = cache.totals(alloc, sheet, step % 2, step, next)?;
-    let counted = go_on(alloc, sheet, state, step % 2, next)?;
-    Ok(totals == counted)
-}
-
-// Tells whether a cache shows a state of a run, its row and what a detector counts in the step after it, and takes the
-// state to that step.
-fn step_agrees(
-    alloc: Global,
-    sheet: &Sheet,
-    cache: &mut QueryCache,
-    state: &mut State,
-) -> Result<bool, Fail>
-    requires { IsCacheOf sheet.now cache.old }
-    ensures { IsCacheOf sheet.now cache.new }
-{
-    let state_is = state_agrees(alloc, sheet, cache, state)?;
-    let row_is = row_agrees(alloc, sheet, cache, state.step)?;
-    let totals_are = totals_of_step_agree(alloc, sheet, cache, state)?;
-    Ok(state_is && row_is && totals_are)
-}
-
-// Tells whether a cache shows all steps of a sheet, one after another.
-fn steps_agree(alloc: Global, sheet: &Sheet, cache: &mut QueryCache) -> Result<bool, Fail>
-    requires { IsCacheOf sheet.now cache.old }
-    ensures { IsCacheOf sheet.now cache.new }
-{
-    let mut state = first_state(alloc);
-    for step in 0..sheet.horizon() {
-        if !step_agrees(alloc, sheet, cache, &mut state)? {
-            return Ok(false);
-        }
-    }
-    Ok(true)
-}
-
-// Tells whether a cache shows all steps of a sheet twice, as it goes back to step 0.
-fn steps_agree_twice(alloc: Global, sheet: &Sheet, cache: &mut QueryCache) -> Result<bool, Fail>
-    requires { IsCacheOf sheet.now cache.old }
-    ensures { IsCacheOf sheet.now cache.new }
-{
-    let once = steps_agree(alloc, sheet, cache)?;
-    let twice = steps_agree(alloc, sheet, cache)?;
-    Ok(once && twice)
-}
-
-// Tells whether a cache that is kept shows the steps of a sheet under other edits.
-fn shows_later_edits(alloc: Global, sheet: &Sheet, cache: &mut QueryCache) -> Result<bool, Fail>
-    requires { IsCacheOf sheet.now cache.old }
-{
-    let other = grow(alloc, sheet, LATER, 200)?.sheet;
-    cache.restart();
-    steps_agree(alloc, &other, cache)
-}
-
-// Tells whether a cache that is kept shows the steps of a sheet, and then under other edits.
-fn shows_both(alloc: Global, sheet: &Sheet, cache: &mut QueryCache) -> Result<bool, Fail>
-    requires { IsCacheOf sheet.now cache.old }
-{
-    let agrees = steps_agree_twice(alloc, sheet, cache)?;
-    Ok(shows_later_edits(alloc, sheet, cache)? && agrees)
-}
-
-// Tells whether a cache that is kept shows the steps of a road of some words, and then under other edits.
-fn cache_agrees(alloc: Global, words: WordKind) -> Result<bool, Fail> {
-    let opening = opening(alloc, &Parts { words, ..MIXED })?;
-    let sheet = grow(alloc, &opening, DATED, 200)?.sheet;
-    let mut cache = QueryCache::new();
-    shows_both(alloc, &sheet, &mut cache)
-}
-
-#[test]
-fn a_kept_cache_shows_each_step(rt: HostRuntime) -> Result<(), Fail> {
-    assert!(rt; cache_agrees(rt.alloc(), WordKind::Steady)?);
-    assert!(rt; cache_agrees(rt.alloc(), WordKind::Seeded(7))?);
     Ok(())
 }

@@ -1,109 +1,34 @@
-//! Counts and rows of worked roads.
+//! Counts at any speeds, and rows. The program shows the counts of the free road (`tests/scripts/counts.jsonl`).
 
+use crate::holds;
 use road_cells::{Car, Road};
 use road_detector::{Totals, passes};
-use road_ends::{OutOfMemory, StepInput, enter, finish};
+use road_ends::{OutOfMemory, StepInput, enter};
 use road_plan::{Plan, Settings, WordKind};
 use std::alloc::Global;
 use std::process::Abort;
 use std::sync::Arc;
 use std::test::Fail;
-use tests_plans::{FREE, Parts, cars, pairs, plan_of, row_of};
+use tests_plans::{Parts, cars, plan_of, row_of};
 
-// Makes the input of a step on a road, where the first detector is on or off.
-fn input_of(
-    rt: &impl Abort,
-    alloc: Global,
-    plan: &Arc<Plan>,
-    step: u32,
-    road: &Road,
-    on: bool,
-) -> Result<Arc<StepInput>, OutOfMemory> {
-    let mut settings = Settings::of_plan(alloc, plan)?;
-    if let Some(first) = settings.watched.first_mut() {
-        *first = on;
+// Make the input of step 1 on a road.
+fn input_of(alloc: Global, plan: &Arc<Plan>, road: &Road) -> Result<Arc<StepInput>, OutOfMemory> {
+    let settings = Settings::of_plan(alloc, plan)?;
+    enter(alloc, plan, settings, 1, road)
+}
+
+// Return the counts of a detector, if the plan has it and there is a speed for each car.
+fn count_passing(input: &StepInput, speeds: &[u8], detector: u32) -> Option<Totals> {
+    if speeds.len() == input.road().cars().len()
+        && (detector as usize) < input.plan().detectors().len()
+    {
+        Some(passes(input, speeds, detector))
+    } else {
+        None
     }
-    assert!(rt; settings.fits(plan));
-    enter(alloc, plan, settings, step, road)
 }
 
-// Counts what a detector of the plan counts.
-fn counted(rt: &impl Abort, input: &StepInput, speeds: &[u8], detector: u32) -> Totals {
-    assert!(rt; speeds.len() == input.road().cars().len());
-    assert!(rt; (detector as usize) < input.plan().detectors().len());
-    passes(input, speeds, detector)
-}
-
-/// The steps of the free road between which the detector is off, the steps that are counted, from the first to before the
-/// last, and the cars and speeds.
-type Count = (((u32, u32), (u32, u32)), (u32, u32));
-
-/// The first car drives from cell 3 to 5 in step 2, the second one in step 4.
-const COUNTS: &[Count] = pairs![
-    ((9, 9), (0, 3)) => (1, 2),
-    ((9, 9), (0, 6)) => (2, 4),
-    ((9, 9), (2, 2)) => (0, 0),
-    ((9, 9), (3, 4)) => (0, 0),
-    ((2, 9), (0, 6)) => (0, 0),
-    ((2, 4), (0, 6)) => (1, 2),
-];
-
-// Returns what the first detector counts in a step, and the road after it.
-fn step_counted(
-    rt: &impl Abort,
-    alloc: Global,
-    plan: &Arc<Plan>,
-    step: u32,
-    road: &Road,
-    on: bool,
-) -> Result<(Totals, Road), OutOfMemory> {
-    let input = input_of(rt, alloc, plan, step, road, on)?;
-    let speeds = input.speeds(alloc)?;
-    let counts = counted(rt, &input, &speeds, 0);
-    let later = finish(alloc, &input, &speeds)?;
-    Ok((counts, later))
-}
-
-// Returns what the detector of the free road counts.
-fn total(
-    rt: &impl Abort,
-    alloc: Global,
-    plan: &Arc<Plan>,
-    (off, steps): ((u32, u32), (u32, u32)),
-) -> Result<Totals, OutOfMemory> {
-    let mut road = Road::empty(alloc);
-    let mut totals = Totals { cars: 0, speeds: 0 };
-    for step in 0..steps.1 {
-        let on = step < off.0 || off.1 <= step;
-        let (counts, later) = step_counted(rt, alloc, plan, step, &road, on)?;
-        if steps.0 <= step {
-            totals.cars = totals.cars.saturating_add(counts.cars);
-            totals.speeds = totals.speeds.saturating_add(counts.speeds);
-        }
-        road = later;
-    }
-    Ok(totals)
-}
-
-// Checks that the detector of the free road counts as each row says.
-fn totals_are_counted(rt: &impl Abort, alloc: Global, plan: &Arc<Plan>) -> Result<(), Fail> {
-    for (row, (count, (cars, speeds))) in COUNTS.iter().enumerate() {
-        let totals = total(rt, alloc, plan, *count)?;
-        assert!(rt;
-            totals.cars == *cars && totals.speeds == *speeds,
-            "row {row}"
-        );
-    }
-    Ok(())
-}
-
-#[test]
-fn counts_the_cars_of_the_worked_road(rt: HostRuntime) -> Result<(), Fail> {
-    let plan = Arc::new(rt.alloc(), plan_of(rt.alloc(), &FREE)?)?;
-    totals_are_counted(&rt, rt.alloc(), &plan)
-}
-
-/// A road of 400 cells where nobody enters.
+/// A road of 400 cells where no car enters.
 const LONG: Parts = Parts {
     road: (400, 1, 400),
     zones: &[(9, 0)],
@@ -122,7 +47,7 @@ const CARS: &[Car] = cars![
     (6, 397, 0)
 ];
 
-/// The speeds of the six cars, and what a detector counts of them.
+/// The speeds of the six cars, and the counts of a detector.
 const PASSES: &[(&[u8], u32, u32, u32)] = &[
     (&[0, 0, 0, 0, 0, 0], 0, 0, 0),
     (&[0, 55, 54, 9, 0, 0], 0, 0, 0),
@@ -138,36 +63,33 @@ const PASSES: &[(&[u8], u32, u32, u32)] = &[
     (&[0, 0, 0, 0, 98, 0], 3, 0, 0),
 ];
 
-// Checks that the detectors count as each row says.
+// Check that the detectors count as each row says.
 fn passes_are_counted(rt: &impl Abort, input: &StepInput) {
     for (row, (speeds, detector, cars, sum)) in PASSES.iter().enumerate() {
-        let counts = counted(rt, input, speeds, *detector);
-        assert!(rt; counts.cars == *cars && counts.speeds == *sum, "row {row}");
+        let wanted = Totals {
+            cars: *cars,
+            speeds: *sum,
+        };
+        holds(
+            rt,
+            row,
+            count_passing(input, speeds, *detector) == Some(wanted),
+        );
     }
 }
 
-// Checks them on a road of the plan.
-fn count_on_road(
-    rt: &impl Abort,
-    alloc: Global,
-    plan: &Arc<Plan>,
-    road: &Road,
-) -> Result<(), Fail> {
-    let input = input_of(rt, alloc, plan, 1, road, true)?;
-    passes_are_counted(rt, &input);
-    Ok(())
-}
-
-// Checks them on the road of the six cars.
-fn count_six_cars(rt: &impl Abort, alloc: Global, plan: &Arc<Plan>) -> Result<(), Fail> {
+// Make the input of a step on the road of the six cars.
+fn input_of_six_cars(alloc: Global, plan: &Arc<Plan>) -> Result<Arc<StepInput>, OutOfMemory> {
     let road = Road::of(CARS.to_vec(alloc)?);
-    count_on_road(rt, alloc, plan, &road)
+    input_of(alloc, plan, &road)
 }
 
 #[test]
 fn counts_by_any_speeds(rt: HostRuntime) -> Result<(), Fail> {
     let plan = Arc::new(rt.alloc(), plan_of(rt.alloc(), &LONG)?)?;
-    count_six_cars(&rt, rt.alloc(), &plan)
+    let input = input_of_six_cars(rt.alloc(), &plan)?;
+    passes_are_counted(&rt, &input);
+    Ok(())
 }
 
 /// Cars on and past a row of 12 cells.
@@ -181,11 +103,11 @@ const ROWS: &[(&[u32], &str)] = &[
     (&[4_294_967_295], "9..0.......1"),
 ];
 
-// Checks that the cars of a road are drawn as each row says.
+// Check that the cars of a road are drawn as each row says.
 fn rows_are_drawn(rt: &impl Abort, alloc: Global, road: &Road) -> Result<(), Fail> {
     for (row, (blocks, text)) in ROWS.iter().enumerate() {
         let drawn = row_of(alloc, road, blocks, 12)?;
-        assert_eq!(rt; drawn.as_str(), *text, "row {row}");
+        holds(rt, row, drawn.as_str() == *text);
     }
     Ok(())
 }

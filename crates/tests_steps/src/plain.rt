@@ -1,4 +1,4 @@
-//! The plain program of the definitions: it goes over the road cell by cell, looks for what is in front of each car,
+//! The plain program of the definitions. It visits the road cell by cell, searches for what is in front of each car,
 //! and draws every word. It is slow; worked runs are compared with it.
 
 ghost use Rattle.std.specs.Prelude.{◌≡◌, ◌≤◌, ◌<◌, length, nat_eq, IfOk};
@@ -26,18 +26,18 @@ use road_rules::{moved, slowed, wanted};
 use road_words::{PlanWords, Words};
 use std::alloc::Global;
 
-/// The stream of the first inlet's words; the others follow it.
+/// The stream of the first inlet's words. The streams of the other inlets follow it.
 const FIRST_INLET_STREAM: u64 = 1 << 63;
 
-// Finds the index of the inlet at a cell.
+// Find the index of the inlet at a cell.
 fn inlet_at(inlets: &[(u32, u32)], cell: u32) -> Option<usize>
     ensures { result ≡ position (λ inlet. nat_eq cell inlet.0) inlets.now }
 {
     inlets.iter().position(|inlet| cell == inlet.0)
 }
 
-// Lets a car enter at a cell, where that is an inlet's.
-fn entering(plan: &Plan, settings: &Settings, step: u32, cell: u32) -> Option<Car>
+// Let a car enter at a cell, if the cell is an inlet's.
+fn entry_at(plan: &Plan, settings: &Settings, step: u32, cell: u32) -> Option<Car>
     requires { Fits plan.now settings.now }
     ensures { result ≡ option_map (car_of cell) (entry_at plan.now settings.now step cell) }
 {
@@ -57,8 +57,8 @@ fn entering(plan: &Plan, settings: &Settings, step: u32, cell: u32) -> Option<Ca
     })
 }
 
-// Finds the car that stands at a cell, or else lets one enter there.
-fn standing_or_entering(
+// Find the car at a cell, or else let a car enter there.
+fn car_or_entry_at(
     plan: &Plan,
     settings: &Settings,
     step: u32,
@@ -71,12 +71,12 @@ fn standing_or_entering(
 {
     match road.car_at(cell) {
         Some(car) => Some(car),
-        None => entering(plan, settings, step, cell),
+        None => entry_at(plan, settings, step, cell),
     }
 }
 
-// Makes the road with the cars that enter at a step, cell by cell.
-fn entered(
+// Make the road with the cars that enter at a step, cell by cell.
+fn road_with_entries(
     alloc: Global,
     plan: &Plan,
     settings: &Settings,
@@ -90,7 +90,7 @@ fn entered(
 {
     let mut cars = Vec::new(alloc);
     for cell in 0..plan.length() {
-        match standing_or_entering(plan, settings, step, road, cell) {
+        match car_or_entry_at(plan, settings, step, road, cell) {
             Some(car) => cars.push(car)?,
             None => {}
         }
@@ -98,7 +98,7 @@ fn entered(
     Ok(Road::of(cars))
 }
 
-// Computes the new speed of the car at a place of the list, by the limit and the slowing chance of the zone where it
+// Compute the new speed of the car at a place of the list, by the limit and the slowing chance of the zone where it
 // stands.
 fn speed(plan: &Plan, settings: &Settings, step: u32, road: &Road, place: usize) -> u8
     requires fits { Fits plan.now settings.now }
@@ -123,7 +123,7 @@ fn speed(plan: &Plan, settings: &Settings, step: u32, road: &Road, place: usize)
     slowed(wished, word, chance)
 }
 
-// Computes the new speeds of all cars, in the order of the cars, car by car.
+// Compute the new speeds of all cars, in the order of the cars, car by car.
 fn speeds(
     alloc: Global,
     plan: &Plan,
@@ -142,8 +142,8 @@ fn speeds(
     Ok(new)
 }
 
-/// Computes the road after a step: entries, speeds, motion, deletion.
-pub(crate) fn stepped(
+/// Compute the road after a step: entries, speeds, motion, deletion.
+pub(crate) fn road_after_step(
     alloc: Global,
     plan: &Plan,
     settings: &Settings,
@@ -153,24 +153,24 @@ pub(crate) fn stepped(
     requires { Fits plan.now settings.now }
     ensures { IfOk result (λ later. later ≡ road_after_step plan.now settings.now step road.now) }
 {
-    let moving = entered(alloc, plan, settings, step, road)?;
+    let moving = road_with_entries(alloc, plan, settings, step, road)?;
     let speeds = speeds(alloc, plan, settings, step, &moving)?;
     Ok(leave(plan, moved(alloc, &moving, &speeds)?))
 }
 
-/// Runs a plan that nobody edits from the empty road of step 0 to a step.
+/// Run a plan without edits from the empty road of step 0 to a step.
 pub(crate) fn run(alloc: Global, plan: &Plan, step: u32) -> Result<Road, OutOfMemory>
     ensures { IfOk result (λ road. road ≡ run plan.now (λ _. defaults plan.now) step) }
 {
     let settings = Settings::of_plan(alloc, plan)?;
     let mut road = Road::empty(alloc);
     for now in 0..step {
-        road = stepped(alloc, plan, &settings, now, &road)?;
+        road = road_after_step(alloc, plan, &settings, now, &road)?;
     }
     Ok(road)
 }
 
-// Returns the letter of a cell.
+// Return the letter of a cell.
 fn letter(blocks: &[u32], road: &Road, cell: u32) -> u8
     requires rising { IsNonDecreasing blocks.now }
     requires digits { HasDigits road.now }
@@ -184,7 +184,7 @@ fn letter(blocks: &[u32], road: &Road, cell: u32) -> u8
     }
 }
 
-// Draws the road as a row of text, letter by letter.
+// Draw the road as a row of text, letter by letter.
 fn row_text(alloc: Global, length: u32, blocks: &[u32], road: &Road) -> Result<String, OutOfMemory>
     requires rising { IsNonDecreasing blocks.now }
     requires digits { HasDigits road.now }
@@ -197,7 +197,7 @@ fn row_text(alloc: Global, length: u32, blocks: &[u32], road: &Road) -> Result<S
     Ok(text)
 }
 
-/// Draws the row of text of a step of a plan that nobody edits.
+/// Draw the row of text of a step of a plan without edits.
 pub(crate) fn row(alloc: Global, plan: &Plan, step: u32) -> Result<String, OutOfMemory>
     ensures { IfOk result (λ text. string_bytes text ≡ row plan.now (λ _. defaults plan.now) step) }
 {

@@ -1,6 +1,9 @@
-//! Runs worked out by hand or by a program of another author, stepped alone and by the plain program.
+//! Runs worked out by hand or by a program of another author, computed by a single caller and by the plain program.
 
-use crate::plain;
+ghost use Rattle.std.specs.Prelude.{IfOk};
+ghost use Rattle.road_plan.specs.Settings.{Fits};
+
+use crate::{holds, plain};
 use road_cells::{Car, Road};
 use road_ends::{Meter, OutOfMemory, StepInput, enter, finish, step_alone};
 use road_plan::{Plan, Settings, WordKind};
@@ -12,11 +15,11 @@ use std::test::Fail;
 use tests_plans::{
     BLOCKED_ROWS, BLOCKED_UNDER_ROWS, CARS_AT_SIX, DENSE, DENSE_START, FREE, FREE_ROWS,
     HALF_SLOWED, LOWERED_ROWS, Parts, QUICK_TO_START_ROWS, RANDOM, RANDOM_ROWS, SLOW_TO_START_ROWS,
-    SLOWED_ROWS, cars, pairs, parts, parts_of, plan_of, row_of,
+    SLOWED_ROWS, cars, pairs, parts, parts_of, plan_of, road_of, row_of,
 };
 
-/// A road and its rows at rising steps. From a step on the only zone has another limit, from a step on a cell is
-/// blocked, from a step on standing cars have other slowing chances, one for each zone.
+/// A road and its rows at rising steps. From given steps on the only zone has another limit, a cell is blocked, and
+/// standing cars have other slowing chances, one for each zone.
 #[derive(Clone, Copy)]
 struct Example {
     parts: Parts,
@@ -56,7 +59,7 @@ const SLOWED: Example = Example {
     ..FREE_ROAD
 };
 
-/// The inlet's steady word at step 1 is 30,011 above its lower bits: not below an inflow of as much, below one more.
+/// The inlet's steady word at step 1 is 30,011 in its upper bits: not below an inflow of 30,011, but below 30,012.
 const NOT_LET_IN: Example = Example {
     parts: parts!(inlets: &[(0, 30_011)], words: WordKind::Steady),
     rows: &[(2, "...2........")],
@@ -76,7 +79,7 @@ const TWO_ZONES: Example = Example {
     ..FREE_ROAD
 };
 
-/// Random words that show.
+/// A run that shows random words.
 const RANDOM_ROAD: Example = Example {
     parts: RANDOM,
     rows: RANDOM_ROWS,
@@ -107,7 +110,7 @@ const BLOCKED_AHEAD: Example = Example {
     ..FREE_ROAD
 };
 
-/// Cell 7 is blocked from step 4 on, where a car stands.
+/// Cell 7, where a car stands, is blocked from step 4 on.
 const BLOCKED_UNDER_CAR: Example = Example {
     blocked: &[(4, 7)],
     rows: BLOCKED_UNDER_ROWS,
@@ -125,21 +128,21 @@ const BLOCKED_INLET: Example = Example {
     ..FREE_ROAD
 };
 
-/// Up to step 3 no standing car starts; moving cars are not slowed.
+/// Up to step 3 no standing car starts. Moving cars are not slowed.
 const SLOW_TO_START: Example = Example {
     starts: &[(0, &[65_536]), (3, &[0])],
     rows: SLOW_TO_START_ROWS,
     ..FREE_ROAD
 };
 
-/// Every moving car is slowed at every step, and no standing one.
+/// Every moving car is slowed at every step, and no standing car.
 const QUICK_TO_START: Example = Example {
     starts: &[(0, &[0])],
     rows: QUICK_TO_START_ROWS,
     ..ALWAYS_SLOWED
 };
 
-/// Chances between, by the steady words: at step 1 the sixth car (35,918) stands on where a moving one would go.
+/// Chances between, with the steady words: at step 1 the sixth car (35,918) stays where a moving one would go.
 const DENSE_AND_SLOW: Example = Example {
     starts: &[(0, &[DENSE_START])],
     rows: &[
@@ -151,7 +154,7 @@ const DENSE_AND_SLOW: Example = Example {
     ..DENSE_ROAD
 };
 
-/// Random words, four zones with chances of their own, and others from step 40 on.
+/// Random words, four zones with their own chances, and changed chances from step 40 on.
 const RANDOM_STARTS: Example = Example {
     starts: &[
         (0, &[10_000, 62_000, 40_000, 0]),
@@ -171,7 +174,7 @@ const RANDOM_STARTS: Example = Example {
     ..RANDOM_ROAD
 };
 
-// Finds what is set at a step: the last number from a step up to it.
+// Find the number set at a step: the last one set from a step up to it.
 fn latest(set: &[(u32, u32)], step: u32) -> Option<u32> {
     let mut last = None;
     for (from, number) in set {
@@ -182,7 +185,7 @@ fn latest(set: &[(u32, u32)], step: u32) -> Option<u32> {
     last
 }
 
-// Finds the chances of standing cars that are set at a step: the last ones from a step up to it.
+// Find the chances of standing cars set at a step: the last ones set from a step up to it.
 fn latest_starts(set: &[(u32, &'static [u32])], step: u32) -> Option<&'static [u32]> {
     let mut last = None;
     for (from, chances) in set {
@@ -193,7 +196,7 @@ fn latest_starts(set: &[(u32, &'static [u32])], step: u32) -> Option<&'static [u
     last
 }
 
-// Makes the settings of an example at a step.
+// Make the settings of an example at a step.
 fn settings_of(
     alloc: Global,
     plan: &Plan,
@@ -213,64 +216,63 @@ fn settings_of(
     Ok(settings)
 }
 
-// Computes the road of an example after a step.
-fn stepped(
-    rt: &impl Abort,
-    alloc: Global,
-    plan: &Arc<Plan>,
-    example: &Example,
-    step: u32,
-    road: &Road,
-    meter: &mut Meter,
-) -> Result<Road, OutOfMemory> {
+// Make them, if they fit the plan.
+fn fitting(alloc: Global, plan: &Plan, example: &Example, step: u32) -> Result<Settings, Fail>
+    ensures { IfOk result (λ settings. Fits plan.now settings) }
+{
     let settings = settings_of(alloc, plan, example, step)?;
-    assert!(rt; settings.fits(plan));
-    Ok(step_alone(alloc, plan, settings, step, road, meter)?.road)
+    if settings.fits(plan) {
+        Ok(settings)
+    } else {
+        Err(Fail::new("settings that do not fit the plan"))
+    }
 }
 
-// Draws the row of an example's road at a step.
-fn drawn(
-    alloc: Global,
-    plan: &Plan,
-    example: &Example,
-    step: u32,
-    road: &Road,
-) -> Result<String, OutOfMemory> {
-    let settings = settings_of(alloc, plan, example, step)?;
-    row_of(alloc, road, settings.blocks(), plan.length())
-}
-
-// Steps the road of an example from one step to another.
-fn stepped_on(
-    rt: &impl Abort,
+// Take an example's road from one step to another, with a single caller.
+fn step_on(
     alloc: Global,
     plan: &Arc<Plan>,
     example: &Example,
     (from, until): (u32, u32),
-    mut road: Road,
+    road: &mut Road,
     meter: &mut Meter,
-) -> Result<Road, OutOfMemory> {
+) -> Result<(), Fail> {
     for step in from..until {
-        road = stepped(rt, alloc, plan, example, step, &road, meter)?;
+        let settings = fitting(alloc, plan, example, step)?;
+        *road = step_alone(alloc, plan, settings, step, road, meter)?.road;
     }
-    Ok(road)
+    Ok(())
 }
 
-// Checks that an example's road is drawn so at a step.
+// Take it on with the plain program.
+fn step_on_plainly(
+    alloc: Global,
+    plan: &Plan,
+    example: &Example,
+    (from, until): (u32, u32),
+    road: &mut Road,
+) -> Result<(), Fail> {
+    for step in from..until {
+        let settings = fitting(alloc, plan, example, step)?;
+        *road = plain::road_after_step(alloc, plan, &settings, step, road)?;
+    }
+    Ok(())
+}
+
+// Return whether an example's road is drawn like this at a step.
 fn is_drawn(
-    rt: &impl Abort,
     alloc: Global,
     plan: &Plan,
     example: &Example,
     (step, text): (u32, &str),
     road: &Road,
-) -> Result<(), OutOfMemory> {
-    let row = drawn(alloc, plan, example, step, road)?;
-    assert!(rt; row.as_str() == text, "step {step}");
-    Ok(())
+) -> Result<bool, OutOfMemory> {
+    let settings = settings_of(alloc, plan, example, step)?;
+    let row = row_of(alloc, road, settings.blocks(), plan.length())?;
+    Ok(row.as_str() == text)
 }
 
-// Compares an example's rows on its plan, stepped alone, with the steps counted.
+// Compare an example's rows on its plan, with a single caller, and count the steps.
 fn steps_rows(
     rt: &impl Abort,
     alloc: Global,
@@ -281,86 +283,19 @@ fn steps_rows(
     let mut road = Road::empty(alloc);
     let mut step = 0;
     for (until, text) in example.rows {
-        road = stepped_on(rt, alloc, plan, example, (step, *until), road, &mut meter)?;
+        step_on(alloc, plan, example, (step, *until), &mut road, &mut meter)?;
         step = *until;
-        is_drawn(rt, alloc, plan, example, (step, text), &road)?;
-    }
-    assert!(rt; meter.ticks() == u64::from(step));
-    Ok(())
-}
-
-// Compares an example's rows, stepped alone.
-fn steps_alone(rt: &impl Abort, alloc: Global, example: &Example) -> Result<(), Fail> {
-    let plan = Arc::new(alloc, plan_of(alloc, &example.parts)?)?;
-    steps_rows(rt, alloc, &plan, example)
-}
-
-/// Examples that nobody edits.
-const UNEDITED: &[Example] = &[FREE_ROAD, SLOWED, TWO_ZONES, RANDOM_ROAD, DENSE_ROAD];
-
-/// Examples with edits, or where all or none are slowed or let in.
-const EDITED: &[Example] = &[
-    ALWAYS_SLOWED,
-    NOT_LET_IN,
-    LET_IN,
-    LOWERED,
-    BLOCKED_AHEAD,
-    BLOCKED_UNDER_CAR,
-    SLOW_TO_START,
-    QUICK_TO_START,
-    DENSE_AND_SLOW,
-    RANDOM_STARTS,
-];
-
-// Compares the rows of examples, stepped alone.
-fn step_alone_all(rt: &impl Abort, alloc: Global, examples: &[Example]) -> Result<(), Fail> {
-    for example in examples {
-        steps_alone(rt, alloc, example)?;
+        let is_drawn = is_drawn(alloc, plan, example, (step, text), &road)?;
+        holds(
+            rt,
+            step as usize,
+            is_drawn && meter.ticks() == u64::from(step),
+        );
     }
     Ok(())
 }
 
-#[test]
-fn steps_the_examples_alone(rt: HostRuntime) -> Result<(), Fail> {
-    step_alone_all(&rt, rt.alloc(), UNEDITED)?;
-    step_alone_all(&rt, rt.alloc(), EDITED)
-}
-
-#[test]
-fn steps_to_the_greatest_horizon(rt: HostRuntime) -> Result<(), Fail> {
-    steps_alone(&rt, rt.alloc(), &BLOCKED_INLET)
-}
-
-// Computes the road of an example after a step, by the plain program.
-fn stepped_plainly(
-    rt: &impl Abort,
-    alloc: Global,
-    plan: &Plan,
-    example: &Example,
-    step: u32,
-    road: &Road,
-) -> Result<Road, OutOfMemory> {
-    let settings = settings_of(alloc, plan, example, step)?;
-    assert!(rt; settings.fits(plan));
-    plain::stepped(alloc, plan, &settings, step, road)
-}
-
-// Steps the road of an example from one step to another by the plain program.
-fn stepped_on_plainly(
-    rt: &impl Abort,
-    alloc: Global,
-    plan: &Plan,
-    example: &Example,
-    (from, until): (u32, u32),
-    mut road: Road,
-) -> Result<Road, OutOfMemory> {
-    for step in from..until {
-        road = stepped_plainly(rt, alloc, plan, example, step, &road)?;
-    }
-    Ok(road)
-}
-
-// Compares an example's rows on its plan, stepped by the plain program.
+// Compare an example's rows on its plan, with the plain program.
 fn steps_rows_plainly(
     rt: &impl Abort,
     alloc: Global,
@@ -370,58 +305,118 @@ fn steps_rows_plainly(
     let mut road = Road::empty(alloc);
     let mut step = 0;
     for (until, text) in example.rows {
-        road = stepped_on_plainly(rt, alloc, plan, example, (step, *until), road)?;
+        step_on_plainly(alloc, plan, example, (step, *until), &mut road)?;
         step = *until;
-        is_drawn(rt, alloc, plan, example, (step, text), &road)?;
+        holds(
+            rt,
+            step as usize,
+            is_drawn(alloc, plan, example, (step, text), &road)?,
+        );
     }
     Ok(())
 }
 
-// Compares an example's rows, stepped by the plain program.
-fn steps_plainly(rt: &impl Abort, alloc: Global, example: &Example) -> Result<(), Fail> {
-    let plan = plan_of(alloc, &example.parts)?;
-    steps_rows_plainly(rt, alloc, &plan, example)
+// Return whether the plain program draws this row of a plan without edits, from step zero.
+fn is_drawn_plainly(
+    alloc: Global,
+    plan: &Plan,
+    (step, text): (u32, &str),
+) -> Result<bool, OutOfMemory> {
+    let row = plain::row(alloc, plan, step)?;
+    Ok(row.as_str() == text)
 }
 
-#[test]
-fn steps_the_edited_examples_plainly(rt: HostRuntime) -> Result<(), Fail> {
-    for example in EDITED {
-        steps_plainly(&rt, rt.alloc(), example)?;
-    }
-    Ok(())
-}
-
-// Compares an example's rows, by the plain program.
-fn runs_plainly(rt: &impl Abort, alloc: Global, example: &Example) -> Result<(), Fail> {
-    let plan = plan_of(alloc, &example.parts)?;
+// Compare the rows of an example without edits.
+fn runs_plainly(
+    rt: &impl Abort,
+    alloc: Global,
+    plan: &Plan,
+    example: &Example,
+) -> Result<(), Fail> {
     for (step, text) in example.rows {
-        let row = plain::row(alloc, &plan, *step)?;
-        assert!(rt; row.as_str() == *text, "step {step}");
+        holds(
+            rt,
+            *step as usize,
+            is_drawn_plainly(alloc, plan, (*step, text))?,
+        );
     }
     Ok(())
+}
+
+impl Example {
+    // Return whether its settings are the plan's own at each step.
+    fn is_unedited(&self) -> bool {
+        self.lowered.is_empty() && self.blocked.is_empty() && self.starts.is_empty()
+    }
+}
+
+// Compare an example's rows, with a single caller and with the plain program.
+fn steps(rt: &impl Abort, alloc: Global, example: &Example) -> Result<(), Fail> {
+    let plan = Arc::new(alloc, plan_of(alloc, &example.parts)?)?;
+    steps_rows(rt, alloc, &plan, example)?;
+    steps_rows_plainly(rt, alloc, &plan, example)?;
+    if example.is_unedited() {
+        runs_plainly(rt, alloc, &plan, example)?;
+    }
+    Ok(())
+}
+
+const EXAMPLES: &[Example] = &[
+    FREE_ROAD,
+    ALWAYS_SLOWED,
+    SLOWED,
+    NOT_LET_IN,
+    LET_IN,
+    TWO_ZONES,
+    RANDOM_ROAD,
+    DENSE_ROAD,
+    LOWERED,
+    BLOCKED_AHEAD,
+    BLOCKED_UNDER_CAR,
+    SLOW_TO_START,
+    QUICK_TO_START,
+    DENSE_AND_SLOW,
+    RANDOM_STARTS,
+];
+
+#[test]
+fn steps_the_examples_alone_and_plainly(rt: HostRuntime) -> Result<(), Fail> {
+    for example in EXAMPLES {
+        steps(&rt, rt.alloc(), example)?;
+    }
+    Ok(())
+}
+
+// Compare an example's rows, with a single caller.
+fn steps_alone(rt: &impl Abort, alloc: Global, example: &Example) -> Result<(), Fail> {
+    let plan = Arc::new(alloc, plan_of(alloc, &example.parts)?)?;
+    steps_rows(rt, alloc, &plan, example)
 }
 
 #[test]
-fn runs_the_examples_plainly(rt: HostRuntime) -> Result<(), Fail> {
-    for example in UNEDITED {
-        runs_plainly(&rt, rt.alloc(), example)?;
-    }
-    Ok(())
+fn steps_to_the_greatest_horizon(rt: HostRuntime) -> Result<(), Fail> {
+    steps_alone(&rt, rt.alloc(), &BLOCKED_INLET)
 }
 
-// They are numbered so.
-fn are_numbered(rt: &impl Abort, alloc: Global, plan: &Arc<Plan>) -> Result<(), Fail> {
-    let empty = Road::empty(alloc);
-    let mut meter = Meter::new();
-    let road = stepped_on(rt, alloc, plan, &FREE_ROAD, (0, 6), empty, &mut meter)?;
-    assert!(rt; road.cars() == CARS_AT_SIX);
-    Ok(())
+// Return whether the cars of the free road have these numbers.
+fn are_numbered(alloc: Global, plan: &Arc<Plan>) -> Result<bool, Fail> {
+    let mut road = Road::empty(alloc);
+    step_on(
+        alloc,
+        plan,
+        &FREE_ROAD,
+        (0, 6),
+        &mut road,
+        &mut Meter::new(),
+    )?;
+    Ok(road.cars() == CARS_AT_SIX)
 }
 
 #[test]
 fn numbers_cars_by_step_and_inlet(rt: HostRuntime) -> Result<(), Fail> {
     let plan = Arc::new(rt.alloc(), plan_of(rt.alloc(), &FREE)?)?;
-    are_numbered(&rt, rt.alloc(), &plan)
+    holds(&rt, 6, are_numbered(rt.alloc(), &plan)?);
+    Ok(())
 }
 
 /// A steady road of 40 cells with limit 2 and no slowing.
@@ -433,7 +428,7 @@ const STEADY: Parts = Parts {
     words: WordKind::Steady,
 };
 
-// Makes the input of step 1 on a road.
+// Make the input of step 1 on a road.
 fn input_of_step_one(
     alloc: Global,
     plan: &Arc<Plan>,
@@ -443,47 +438,55 @@ fn input_of_step_one(
     enter(alloc, plan, settings, 1, road)
 }
 
-// Computes the cars after a step with this input.
+// Compute the cars after a step with this input.
 fn cars_after(alloc: Global, input: &Arc<StepInput>) -> Result<Vec<Car>, OutOfMemory> {
     let speeds = input.speeds(alloc)?;
     Ok(finish(alloc, input, &speeds)?.into_cars())
 }
 
-// Computes the cars after step 1 of the steady road with these inlets and zones, and one car or none.
-fn after_step_one(
+// Make the plan of the steady road with these inlets and zones.
+fn steady_plan(
     alloc: Global,
     inlets: &[(u32, u32)],
     zones: &[(u32, u32)],
-    car: Option<Car>,
-) -> Result<Vec<Car>, Fail> {
+) -> Result<Arc<Plan>, Fail> {
     let mut parts = parts_of(alloc, &STEADY)?;
     parts.inlets = inlets.to_vec(alloc)?;
     parts.zones = zones.to_vec(alloc)?;
-    let plan = Arc::new(alloc, Plan::new(parts)?)?;
-    let road = match car {
-        None => Road::empty(alloc),
-        Some(car) => Road::of(vec![in alloc; car]?),
-    };
-    let input = input_of_step_one(alloc, &plan, &road)?;
-    Ok(cars_after(alloc, &input)?)
+    Ok(Arc::new(alloc, Plan::new(parts)?)?)
+}
+
+// Return whether these cars are on the road after step 1.
+fn come(alloc: Global, plan: &Arc<Plan>, before: &[Car], after: &[Car]) -> Result<bool, Fail> {
+    let input = input_of_step_one(alloc, plan, &road_of(alloc, before)?)?;
+    Ok(cars_after(alloc, &input)?.as_slice() == after)
+}
+
+// Return whether a car enters by inlet 3 with this chance, or not.
+fn enters(alloc: Global, (chance, after): &(u32, &[Car])) -> Result<bool, Fail> {
+    let inlets = [(20, 0), (5, 0), (10, 0), (0, *chance)];
+    let plan = steady_plan(alloc, &inlets, &[(2, 0)])?;
+    come(alloc, &plan, &[], after)
+}
+
+// Return whether the driver is slowed with this chance, or not.
+fn is_slowed(alloc: Global, (chance, after): &(u32, &[Car])) -> Result<bool, Fail> {
+    let plan = steady_plan(alloc, &[(0, 0)], &[(5, *chance)])?;
+    come(alloc, &plan, DRIVER, after)
 }
 
 /// The car that enters at inlet 3 in step 1.
 const ENTERED: &[Car] = cars![(19, 1, 1)];
 
-/// A car, and where it is after step 1, once it is not slowed and once it is.
-const DRIVER: Car = Car {
-    number: 16,
-    cell: 7,
-    speed: 3,
-};
+/// A car, and its place after step 1, once if it is not slowed and once if it is.
+const DRIVER: &[Car] = cars![(16, 7, 3)];
 
 const NOT_SLOWED: &[Car] = cars![(16, 11, 4)];
 
 const ONCE_SLOWED: &[Car] = cars![(16, 10, 3)];
 
-/// An inlet's chance, and the cars after step 1 of the empty road. Inlet 3, at step 1: (3 * 40,503 + 30,011) mod 65,536 is
-/// 20,448, not below a chance of as much.
+/// An inlet's chance, and the cars after step 1 of the empty road. Inlet 3, at step 1: (3 * 40,503 + 30,011) mod 65,536
+/// is 20,448, not below a chance of 20,448.
 const ENTRIES: &[(u32, &[Car])] =
     pairs![0 => &[], 20_448 => &[], 20_449 => ENTERED, 65_536 => ENTERED];
 
@@ -494,14 +497,11 @@ const SLOWINGS: &[(u32, &[Car])] =
 
 #[test]
 fn goes_by_the_words_of_each_inlet_and_car(rt: HostRuntime) -> Result<(), Fail> {
-    for (chance, want) in ENTRIES {
-        let inlets = [(20, 0), (5, 0), (10, 0), (0, *chance)];
-        let cars = after_step_one(rt.alloc(), &inlets, &[(2, 0)], None)?;
-        assert!(rt; cars.as_slice() == *want, "inflow {chance}");
+    for (row, entry) in ENTRIES.iter().enumerate() {
+        holds(&rt, row, enters(rt.alloc(), entry)?);
     }
-    for (chance, want) in SLOWINGS {
-        let cars = after_step_one(rt.alloc(), &[(0, 0)], &[(5, *chance)], Some(DRIVER))?;
-        assert!(rt; cars.as_slice() == *want, "slowing {chance}");
+    for (row, slowing) in SLOWINGS.iter().enumerate() {
+        holds(&rt, row, is_slowed(rt.alloc(), slowing)?);
     }
     Ok(())
 }

@@ -1,5 +1,5 @@
-//! Serves standard input within fewer lines than the program does, so that a run which ends at a limit is tried with
-//! each of its allocations failing: `tools/fail-in-turn` does that. It ends as the program does.
+//! Serves standard input within fewer lines than the program does, so that `tools/fail-in-turn` can try a run that ends
+//! at a limit with each of its allocations failing. It ends as the program does.
 #![tactic(auto)]
 
 use road_crowd::OnThreads;
@@ -8,13 +8,13 @@ use road_workers::Alone;
 use std::hash::RandomState;
 use std::process::ExitCode;
 
-/// How many lines may come after the plan line.
+/// The most lines after the plan line.
 const LINES: u32 = 9;
 
-/// How many bytes may come.
+/// The most bytes.
 const BYTES: u64 = 1_000_000;
 
-// Returns the exit status of a run that failed.
+// Return the exit status of a run that failed.
 fn status_of(fault: &ServeFault) -> u8 {
     match fault {
         ServeFault::BadPlan => 2,

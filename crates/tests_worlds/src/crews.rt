@@ -1,6 +1,6 @@
 //! A crew that fails in one event.
 
-use crate::worlds::{Answer, all_show, answers};
+use crate::worlds::{Answer, check_all_rows, check_answers};
 use road_ends::Meter;
 use road_replica::{ReplicaFault, Reply};
 use road_world::{Event, Played, WorldFault, play};
@@ -16,8 +16,8 @@ const EVENTS: ([Event; 4], [Answer; 4]) = answered_events![
     advance(1, 6) => Ok(Reply::Horizon(6)),
 ];
 
-// Returns the world of two replicas after the events, by a crew that fails once.
-fn played(alloc: Global, crew: &mut Leaving) -> Result<Played, Fail> {
+// Return the world of two replicas after the events, with a crew that fails once.
+fn play_events(alloc: Global, crew: &mut Leaving) -> Result<Played, Fail> {
     let plan = Arc::new(alloc, plan_of(alloc, &FREE)?)?;
     Ok(play(alloc, plan, 2, &EVENTS.0, crew, &mut Meter::new())?)
 }
@@ -25,10 +25,10 @@ fn played(alloc: Global, crew: &mut Leaving) -> Result<Played, Fail> {
 #[test]
 fn lost_workers_cost_one_event(rt: HostRuntime) -> Result<(), Fail> {
     let mut crew = Leaving::after(8);
-    let played = played(rt.alloc(), &mut crew)?;
-    answers(&rt, &played, &EVENTS.1);
+    let played = play_events(rt.alloc(), &mut crew)?;
+    check_answers(&rt, &played, &EVENTS.1);
     assert!(&rt; crew.gone == 1);
-    all_show(
+    check_all_rows(
         &rt,
         rt.alloc(),
         &played.world,

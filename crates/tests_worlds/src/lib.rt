@@ -6,8 +6,6 @@ mod crews;
 #[cfg(test)]
 mod lists;
 #[cfg(test)]
-mod merges;
-#[cfg(test)]
 mod meters;
 #[cfg(test)]
 mod posts;
@@ -15,5 +13,7 @@ mod posts;
 mod refusals;
 #[cfg(test)]
 mod texts;
+#[cfg(test)]
+mod travelling;
 #[cfg(test)]
 mod worlds;

@@ -1,37 +1,13 @@
-//! Worked lists of events.
+//! A worked list of events.
 
-use crate::worlds::{A1, A2, A3, Answer, B3, all_hold, all_show, answered};
+use crate::worlds::{A1, A2, A3, Answer, B3, check_all_edits, play_and_check};
 use road_delta::Head;
 use road_replica::Reply;
 use road_scenario::{Edit, Stamp, Value};
-use road_world::{Event, Message, World, WorldFault};
+use road_world::{Event, Message, World};
 use std::process::Abort;
 use std::test::Fail;
 use tests_plans::{BLOCK, LIMIT, answered_events, edit, head};
-
-const TURNS: ([Event; 6], [Answer; 6]) = answered_events![
-    advance(0, 6) => Ok(Reply::Horizon(6)),
-    advance(7, 1) => Err(WorldFault::NoReplica),
-    take(1, 0) => Err(WorldFault::NoMessage),
-    send(0) => Ok(Reply::Message(0)),
-    take(1, 0) => Ok(Reply::Touched(None)),
-    advance(1, 3) => Ok(Reply::Horizon(3)),
-];
-
-#[test]
-fn refused_events_are_skipped(rt: HostRuntime) -> Result<(), Fail> {
-    let played = answered(&rt, rt.alloc(), &TURNS.0, &TURNS.1)?;
-    all_show(
-        &rt,
-        rt.alloc(),
-        &played.world,
-        &[
-            (0, &[(6, "0..2...2....")]),
-            (1, &[(3, ".1...2......")]),
-            (2, &[(0, "............")]),
-        ],
-    )
-}
 
 const ASKED: ([Event; 11], [Answer; 11]) = answered_events![
     edit(0, LIMIT, 3, 1) => Ok(Reply::Stamped(A1)),
@@ -53,10 +29,10 @@ const CLOSED_LATER: Edit = edit!(LIMIT, 5, (3, 0), 0);
 
 const BLOCKED: Edit = edit!(BLOCK, 4, (2, 0), 1);
 
-/// What the second replica holds when it asks.
+/// The heads of the second replica when it asks.
 const HEADS: &[Head] = &[head!(LIMIT, 3, (3, 1)), head!(BLOCK, 4, (2, 0))];
 
-// Checks that a message of a world asks with these heads.
+// Check that a message of a world has these heads.
 fn asks(rt: &impl Abort, world: &World, number: u64, heads: &[Head]) {
     let Some(Message::Asked(asked)) = world.message(number) else {
         panic!(rt; "no heads");
@@ -66,9 +42,9 @@ fn asks(rt: &impl Abort, world: &World, number: u64, heads: &[Head]) {
 
 #[test]
 fn a_replica_is_sent_what_it_lacks(rt: HostRuntime) -> Result<(), Fail> {
-    let played = answered(&rt, rt.alloc(), &ASKED.0, &ASKED.1)?;
+    let played = play_and_check(&rt, rt.alloc(), &ASKED.0, &ASKED.1)?;
     asks(&rt, &played.world, 1, HEADS);
-    all_hold(
+    check_all_edits(
         &rt,
         rt.alloc(),
         &played.world,

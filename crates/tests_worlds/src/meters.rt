@@ -1,6 +1,6 @@
-//! How many steps a meter counts for events, and what a world shows of its replicas by their numbers.
+//! The number of steps that a meter counts for events, and what a world shows of its replicas by their numbers.
 
-use crate::worlds::{Answer, B1, answers};
+use crate::worlds::{Answer, B1, check_answers};
 use road_ends::Meter;
 use road_plan::Object;
 use road_replica::{ReplicaFault, Reply};
@@ -22,8 +22,8 @@ const EVENTS: ([Event; 8], [Answer; 8]) = answered_events![
     take(0, 0) => Ok(Reply::Touched(None)),
 ];
 
-// Returns the world of two replicas after the events.
-fn played(alloc: Global, meter: &mut Meter) -> Result<Played, Fail> {
+// Return the world of two replicas after the events.
+fn play_events(alloc: Global, meter: &mut Meter) -> Result<Played, Fail> {
     let plan = Arc::new(alloc, plan_of(alloc, &FREE)?)?;
     Ok(play(alloc, plan, 2, &EVENTS.0, &mut Alone, meter)?)
 }
@@ -31,9 +31,9 @@ fn played(alloc: Global, meter: &mut Meter) -> Result<Played, Fail> {
 #[test]
 fn refused_events_and_messages_compute_nothing(rt: HostRuntime) -> Result<(), Fail> {
     let mut meter = Meter::new();
-    let played = played(rt.alloc(), &mut meter)?;
-    answers(&rt, &played, &EVENTS.1);
-    // Six steps of the first advance, and as many again once the block comes.
+    let played = play_events(rt.alloc(), &mut meter)?;
+    check_answers(&rt, &played, &EVENTS.1);
+    // Six steps of the first advance, and six more once the block comes.
     assert!(&rt; meter.ticks() == 12);
     Ok(())
 }
@@ -51,7 +51,7 @@ fn replicas_are_shown_by_their_numbers(rt: HostRuntime) -> Result<(), Fail> {
     let road = world.state(alloc, 1, 6)?;
     assert!(&rt; road.car_at(0).is_some());
     assert!(&rt; road.car_at(1).is_none());
-    // Cars come to cell 5 at steps 3 and 5, each by two cells.
+    // Cars arrive at cell 5 at steps 3 and 5, each by two cells.
     let counted = world.totals(alloc, 1, 0, 0, 6)?;
     assert!(&rt; counted.cars == 2);
     assert!(&rt; counted.speeds == 4);

@@ -1,6 +1,6 @@
-//! Messages that are made already: posted for their event, they are what the event would have made.
+//! Messages that are already made: posted for their event, they are what the event would have made.
 
-use crate::worlds::{Answer, holds};
+use crate::worlds::{Answer, check_edits};
 use road_ends::Meter;
 use road_replica::Reply;
 use road_scenario::{Edit, Stamp, Value};
@@ -13,8 +13,8 @@ use tests_plans::{BLOCK, FREE, edit, event, plan_of};
 
 const CLOSED: Edit = edit!(BLOCK, 4, (1, 0), 1);
 
-// Returns the world of three replicas of the free road, of which replica 0 has closed a cell, and 2 has run to step 6.
-fn opened(alloc: Global) -> Result<World, Fail> {
+// Return the world of three replicas of the free road. Replica 0 has closed a cell, and 2 has run to step 6.
+fn open_world(alloc: Global) -> Result<World, Fail> {
     let plan = Arc::new(alloc, plan_of(alloc, &FREE)?)?;
     let mut world = World::open(alloc, plan, 3)?;
     let mut meter = Meter::new();
@@ -24,7 +24,7 @@ fn opened(alloc: Global) -> Result<World, Fail> {
     Ok(world)
 }
 
-// Makes a message of a replica, looks whether it has edits, and posts it; its number.
+// Make a message of a replica, check whether it has edits, and post it. Return its number.
 fn post(alloc: Global, world: &mut World, at: u32, sending: Sending) -> Result<u64, Fail> {
     let message = world.message_by(alloc, at, sending)?;
     if matches!(sending, Sending::Asked) != matches!(&message, Message::Asked(_)) {
@@ -33,7 +33,7 @@ fn post(alloc: Global, world: &mut World, at: u32, sending: Sending) -> Result<u
     Ok(world.post(&sending.event(at), message)?)
 }
 
-/// Replicas that take these messages, and what that is answered: the first are heads.
+/// Replicas that take these messages, and the answers: the first messages are heads.
 const TAKEN: &[(u32, u64, Answer)] = &[
     (1, 0, Err(WorldFault::NoMessage)),
     (1, 1, Ok(Reply::Touched(Some(4)))),
@@ -43,7 +43,7 @@ const TAKEN: &[(u32, u64, Answer)] = &[
 #[test]
 fn a_posted_message_is_that_of_its_event(rt: HostRuntime) -> Result<(), Fail> {
     let alloc = rt.alloc();
-    let mut world = opened(alloc)?;
+    let mut world = open_world(alloc)?;
     let mut meter = Meter::new();
     assert!(&rt; post(alloc, &mut world, 1, Sending::Asked)? == 0);
     assert!(&rt; post(alloc, &mut world, 0, Sending::Answer { asked: 0 })? == 1);
@@ -57,6 +57,6 @@ fn a_posted_message_is_that_of_its_event(rt: HostRuntime) -> Result<(), Fail> {
         let reply = world.apply(alloc, &event, &mut Alone, &mut meter);
         assert!(&rt; reply == *answer);
     }
-    holds(&rt, alloc, &world, 1, &[CLOSED])?;
-    holds(&rt, alloc, &world, 2, &[CLOSED])
+    check_edits(&rt, alloc, &world, 1, &[CLOSED])?;
+    check_edits(&rt, alloc, &world, 2, &[CLOSED])
 }

@@ -1,6 +1,6 @@
-//! Refused events: each leaves the world as it was.
+//! Refused events: each leaves the world unchanged.
 
-use crate::worlds::{Answer, all_hold, answered, shows};
+use crate::worlds::{Answer, check_all_edits, check_rows, play_and_check};
 use road_plan::Object;
 use road_replica::{ReplicaFault, Reply};
 use road_scenario::{Edit, Stamp, Value};
@@ -9,7 +9,7 @@ use std::alloc::Global;
 use std::test::Fail;
 use tests_plans::{LIMIT, answered_events, edit, pairs};
 
-/// Of each kind one, at a replica that the world has not.
+/// One event of each kind, at a replica that the world does not have.
 const NOWHERE: ([Event; 7], [Answer; 7]) = answered_events![
     edit(3, Object::Limit(1), 1_048_576, 10) => Err(WorldFault::NoReplica),
     withdraw(3, Object::Limit(1), 1_048_576) => Err(WorldFault::NoReplica),
@@ -22,7 +22,7 @@ const NOWHERE: ([Event; 7], [Answer; 7]) = answered_events![
 
 #[test]
 fn a_replica_that_is_not_there_is_asked_for_first(rt: HostRuntime) -> Result<(), Fail> {
-    let played = answered(&rt, rt.alloc(), &NOWHERE.0, &NOWHERE.1)?;
+    let played = play_and_check(&rt, rt.alloc(), &NOWHERE.0, &NOWHERE.1)?;
     assert!(&rt; played.world.replica(2).is_some());
     assert!(&rt; played.world.replica(3).is_none());
     assert!(&rt; played.world.message(0).is_none());
@@ -42,7 +42,7 @@ const WRONG: ([Event; 8], [Answer; 8]) = answered_events![
 
 #[test]
 fn messages_are_of_the_kind_that_is_wanted(rt: HostRuntime) -> Result<(), Fail> {
-    let played = answered(&rt, rt.alloc(), &WRONG.0, &WRONG.1)?;
+    let played = play_and_check(&rt, rt.alloc(), &WRONG.0, &WRONG.1)?;
     assert!(&rt; matches!(played.world.message(0), Some(Message::Asked(_))));
     assert!(&rt; matches!(played.world.message(1), Some(Message::Whole(_))));
     assert!(&rt; matches!(played.world.message(2), Some(Message::Answer(_))));
@@ -56,7 +56,7 @@ const THREE: Edit = edit!(LIMIT, 0, (7, 64), 3);
 
 const INSIDER: Edit = edit!(LIMIT, 0, (9, 63), 2);
 
-/// Replicas, the edits that reach them from outside, and what that is answered.
+/// Replicas, the edits that reach them from outside, and the answers.
 const IMPORTS: &[((u32, &[Edit]), Answer)] = pairs![
     (0, &[TWO]) => Ok(Reply::Touched(Some(0))),
     (0, &[THREE]) => Ok(Reply::Touched(Some(0))),
@@ -65,7 +65,7 @@ const IMPORTS: &[((u32, &[Edit]), Answer)] = pairs![
     (2, &[TWO, INSIDER]) => Err(WorldFault::Replica(ReplicaFault::Insider)),
 ];
 
-// These imports, one after another, and their answers.
+// Return these imports, one after another, and their answers.
 fn imports(alloc: Global) -> Result<(Vec<Event>, Vec<Answer>), Fail> {
     let (mut events, mut answers) = (Vec::new(alloc), Vec::new(alloc));
     for ((at, edits), answer) in IMPORTS {
@@ -79,9 +79,9 @@ fn imports(alloc: Global) -> Result<(Vec<Event>, Vec<Answer>), Fail> {
 #[test]
 fn imports_come_in_any_order_and_all_or_none(rt: HostRuntime) -> Result<(), Fail> {
     let (events, answers) = imports(rt.alloc())?;
-    let played = answered(&rt, rt.alloc(), &events, &answers)?;
-    shows(&rt, rt.alloc(), &played.world, 2, &[(0, "............")])?;
-    all_hold(
+    let played = play_and_check(&rt, rt.alloc(), &events, &answers)?;
+    check_rows(&rt, rt.alloc(), &played.world, 2, &[(0, "............")])?;
+    check_all_edits(
         &rt,
         rt.alloc(),
         &played.world,

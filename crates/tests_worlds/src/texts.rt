@@ -23,7 +23,7 @@ const TEXTS: &[(WorldFault, &str)] = pairs![
     WorldFault::Replica(ReplicaFault::OutOfMemory) => "no memory",
 ];
 
-// Returns the text of a world's error.
+// Return the text of a world's error.
 fn text_of(alloc: Global, fault: WorldFault) -> Result<String, OutOfMemory> {
     format!(in alloc; "{fault}")
 }

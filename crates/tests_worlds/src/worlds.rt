@@ -1,4 +1,4 @@
-//! Lists of events on the free road, what they are answered, and what the world then shows.
+//! Lists of events on the free road, their answers, and what the world then shows.
 
 use road_ends::Meter;
 use road_replica::Reply;
@@ -11,7 +11,7 @@ use std::sync::Arc;
 use std::test::Fail;
 use tests_plans::{FREE, plan_of, stamp};
 
-/// What an event is answered.
+/// The answer to an event.
 pub(crate) type Answer = Result<Reply, WorldFault>;
 
 /// The stamps of a replica's edits.
@@ -25,31 +25,31 @@ pub(crate) const B1: Stamp = stamp!(1, 1);
 
 pub(crate) const B3: Stamp = stamp!(3, 1);
 
-/// Returns the world of three replicas of the free road after some events.
-pub(crate) fn played(alloc: Global, events: &[Event]) -> Result<Played, Fail> {
+/// Return the world of three replicas of the free road after some events.
+pub(crate) fn play_events(alloc: Global, events: &[Event]) -> Result<Played, Fail> {
     let plan = Arc::new(alloc, plan_of(alloc, &FREE)?)?;
     Ok(play(alloc, plan, 3, events, &mut Alone, &mut Meter::new())?)
 }
 
-/// Checks that some events are answered so.
-pub(crate) fn answers(rt: &impl Abort, played: &Played, expected: &[Answer]) {
+/// Check that some events have these answers.
+pub(crate) fn check_answers(rt: &impl Abort, played: &Played, expected: &[Answer]) {
     assert!(rt; played.replies.as_slice() == expected);
 }
 
-/// Returns that world, where the events are answered so.
-pub(crate) fn answered(
+/// Return that world, if the events have these answers.
+pub(crate) fn play_and_check(
     rt: &impl Abort,
     alloc: Global,
     events: &[Event],
     expected: &[Answer],
 ) -> Result<Played, Fail> {
-    let played = played(alloc, events)?;
-    answers(rt, &played, expected);
+    let played = play_events(alloc, events)?;
+    check_answers(rt, &played, expected);
     Ok(played)
 }
 
-/// Checks that a replica of a world shows these rows at these steps.
-pub(crate) fn shows(
+/// Check that a replica of a world shows these rows at these steps.
+pub(crate) fn check_rows(
     rt: &impl Abort,
     alloc: Global,
     world: &World,
@@ -63,8 +63,8 @@ pub(crate) fn shows(
     Ok(())
 }
 
-/// Checks that the edits that won at a replica of a world are these.
-pub(crate) fn holds(
+/// Check that the winning edits at a replica of a world are these.
+pub(crate) fn check_edits(
     rt: &impl Abort,
     alloc: Global,
     world: &World,
@@ -81,28 +81,28 @@ pub(crate) fn holds(
 /// Steps, and the rows that a replica shows there.
 pub(crate) type Rows<'a> = &'a [(u32, &'a str)];
 
-/// Checks that replicas of a world show these rows.
-pub(crate) fn all_show(
+/// Check that replicas of a world show these rows.
+pub(crate) fn check_all_rows(
     rt: &impl Abort,
     alloc: Global,
     world: &World,
     shown: &[(u32, Rows<'_>)],
 ) -> Result<(), Fail> {
     for (number, rows) in shown {
-        shows(rt, alloc, world, *number, rows)?;
+        check_rows(rt, alloc, world, *number, rows)?;
     }
     Ok(())
 }
 
-/// Checks that the edits that won at replicas of a world are these.
-pub(crate) fn all_hold(
+/// Check that the winning edits at replicas of a world are these.
+pub(crate) fn check_all_edits(
     rt: &impl Abort,
     alloc: Global,
     world: &World,
     held: &[(u32, &[Edit])],
 ) -> Result<(), Fail> {
     for (number, edits) in held {
-        holds(rt, alloc, world, *number, edits)?;
+        check_edits(rt, alloc, world, *number, edits)?;
     }
     Ok(())
 }

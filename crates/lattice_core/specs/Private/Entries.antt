@@ -8,7 +8,7 @@ use Rattle.std.specs.declared.option.Option.TheVariants.{None, Some}
 use Rattle.std.specs.FinMap.Entries.{find, put}
 use Rattle.lattice_core.specs.Map.{IsProperMap, join_option}
 
--- the entries with v joined in at a key, also where v is a bottom
+-- the entries with v joined in at a key, even if v is a bottom
 abbrev pub put_joined : {K V : Type 0} → (K → K → Ordering) → (V → V → V) → List (K × V) → K → V → List (K × V)
 put_joined cmp join es k v = put cmp k (join_option join (find cmp k es) v) es
 
@@ -17,31 +17,31 @@ abbrev pub IsAtMostOption : {V : Type 0} → (V → V → V) → V → Option V 
 IsAtMostOption join v None = ⊥
 IsAtMostOption join v (Some w) = join v w ≡ w
 
--- the number of pairs up to a key, where the keys rise
+-- the number of pairs up to and including a key, if the keys rise
 abbrev pub count_up_to : {K X : Type 0} → (K → K → Ordering) → K → List (K × X) → ℕ
 count_up_to cmp k [] = 0
 count_up_to cmp k (p ∷ ps) = cond (is_lt (cmp k p.0)) 0 (suc (count_up_to cmp k ps))
 
--- the entries of all pages, each of which stands with its first key
+-- the entries of all pages, each of which comes with its first key
 abbrev pub all_entries : {K V : Type 0} → List (K × List (K × V)) → List (K × V)
 all_entries [] = []
 all_entries (p ∷ ps) = p.1 ++ all_entries ps
 
--- the first entry has this key, so there is one
+-- there is a first entry, and it has this key
 abbrev pub BeginsWith : {K V : Type 0} → K → List (K × V) → Type 0
 BeginsWith k [] = ⊥
 BeginsWith k (e ∷ es) = e.0 ≡ k
 
--- each page stands with its first key
+-- each page comes with its first key
 abbrev pub ArePages : {K V : Type 0} → List (K × List (K × V)) → Type 0
 ArePages ps = AllByRecursion (λ p. BeginsWith p.0 p.1) ps
 
--- the items of what there is, none where there is nothing
+-- the items of the value, or no items if there is no value
 abbrev pub items_if_any : {A X : Type 0} → Option A → (A → List X) → List X
 items_if_any None items = []
 items_if_any (Some a) items = items a
 
--- the pages of a map: each stands with its first key, and their entries are a proper map
+-- the pages of a map: each comes with its first key, and their entries are a proper map
 pub record IsPaged {K V : Type 0} (cmp : K → K → Ordering) (IsProper : V → Type 0) (is_least : V → Bool)
     (ps : List (K × List (K × V))) : Type 0 where
   pub pages : ArePages ps

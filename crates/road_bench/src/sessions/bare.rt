@@ -30,8 +30,8 @@ impl Absorb<u64> for Greatest {
     }
 }
 
-// Looks so often, and says when it has ended. The looks that were let in are counted.
-fn looks<C: Clock>(
+// Look this number of times, and report the end. The looks that were let in are counted.
+fn look<C: Clock>(
     rt: &C,
     reader: &mut ReadHandle<Greatest>,
     count: u32,
@@ -49,8 +49,8 @@ fn looks<C: Clock>(
     Some(Done { times, nanoseconds })
 }
 
-// Publishes at most so often, until the reader has ended.
-fn publishes<C: Clock, R: Wait + Drop>(
+// Publish at most this number of times, until the reader has ended.
+fn publish<C: Clock, R: Wait + Drop>(
     rt: &C,
     writer: &mut WriteHandle<Greatest, u64, R>,
     count: u32,
@@ -71,9 +71,9 @@ fn publishes<C: Clock, R: Wait + Drop>(
     Some(Done { times, nanoseconds })
 }
 
-/// Returns what a writer of a number and one reader have done, each on a thread of its own, the writer first; none
-/// where the clock could not be read.
-pub(crate) fn timed<W: Threads + Wait + Clock + Clone + Drop + Sync>(
+/// Return the results of a writer of a number and one reader, each on its own thread, the writer first, or none if the
+/// clock could not be read.
+pub(crate) fn time<W: Threads + Wait + Clock + Clone + Drop + Sync>(
     rt: &W,
     alloc: Global,
     count: u32,
@@ -83,8 +83,8 @@ pub(crate) fn timed<W: Threads + Wait + Clock + Clone + Drop + Sync>(
     let has_ended = AtomicBool::new(false);
     let (looked, published) = join(
         rt,
-        || looks(rt, &mut reader, count, &has_ended),
-        || publishes(rt, &mut writer, writes, &has_ended),
+        || look(rt, &mut reader, count, &has_ended),
+        || publish(rt, &mut writer, writes, &has_ended),
     );
     Ok([published, looked])
 }

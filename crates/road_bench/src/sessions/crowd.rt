@@ -1,4 +1,4 @@
-//! Sessions that write and look, each on a thread of its own.
+//! Sessions that write and look, each on its own thread.
 
 ghost use Rattle.std.specs.Prelude.{◌≡◌};
 
@@ -15,11 +15,11 @@ use std::sync::atomic::{AtomicBool, Ordering};
 use std::sync::{Arc, Wait};
 use std::thread::{Threads, for_each_mut};
 
-/// How many sessions write.
+/// The number of sessions that write.
 pub(crate) const SESSIONS: u32 = 8;
 
-// Writes for a session: an edit or an advance by turns.
-fn writes<J: Naming, R: Wait + Drop, W: Wait>(
+// Write for a session, alternately an edit and an advance.
+fn write_once<J: Naming, R: Wait + Drop, W: Wait>(
     rt: &W,
     alloc: Global,
     shared: &Shared<J, R>,
@@ -41,7 +41,7 @@ fn writes<J: Naming, R: Wait + Drop, W: Wait>(
     }
 }
 
-// Answers whether a session that looks is shown its write.
+// Return whether a session that looks is shown its write.
 fn finds<J: Naming, R: Wait + Drop>(
     shared: &Shared<J, R>,
     session: &mut Session<J>,
@@ -53,8 +53,8 @@ fn finds<J: Naming, R: Wait + Drop>(
     }
 }
 
-// Answers whether all is as it should be with a session that writes and looks.
-fn works<J: Naming, R: Wait + Drop, W: Wait>(
+// Return whether a session that writes and looks gets right results.
+fn write_and_look<J: Naming, R: Wait + Drop, W: Wait>(
     rt: &W,
     alloc: Global,
     shared: &Shared<J, R>,
@@ -63,12 +63,14 @@ fn works<J: Naming, R: Wait + Drop, W: Wait>(
 ) -> bool {
     let mut well = true;
     for write in 0..count {
-        well = well && writes(rt, alloc, shared, session, write) && finds(shared, session, write);
+        well = well
+            && write_once(rt, alloc, shared, session, write)
+            && finds(shared, session, write);
     }
     well
 }
 
-// Answers whether all is as it should be with sessions at work, each on a thread of its own.
+// Return whether all sessions get right results, each on its own thread.
 fn all_work<J: Naming + Send + Sync, R: Wait + Drop + Send, W: Threads + Wait + Sync>(
     rt: &W,
     alloc: Global,
@@ -82,7 +84,7 @@ fn all_work<J: Naming + Send + Sync, R: Wait + Drop + Send, W: Threads + Wait + 
         sessions,
         SESSIONS as usize,
         &|_, session| {
-            if !works(rt, alloc, shared, session, count) {
+            if !write_and_look(rt, alloc, shared, session, count) {
                 well.store(false, Ordering::SeqCst);
             }
         },
@@ -90,8 +92,8 @@ fn all_work<J: Naming + Send + Sync, R: Wait + Drop + Send, W: Threads + Wait + 
     well.load(Ordering::SeqCst)
 }
 
-// Returns what a store leaves; nothing where it could not be closed.
-fn left<J: Naming, R: Wait + Drop>(
+// Return the result of a store, or nothing if it could not be closed.
+fn close_store<J: Naming, R: Wait + Drop>(
     shared: Shared<J, R>,
     sessions: Vec<Session<J>>,
 ) -> Option<Closed> {
@@ -101,7 +103,7 @@ fn left<J: Naming, R: Wait + Drop>(
     }
 }
 
-// Answers whether what is left has the merge of all writes as its journal.
+// Return whether the result has the merge of all writes as its journal.
 fn has_merge(alloc: Global, closed: &Option<Closed>, count: u32) -> Result<bool, OutOfMemory> {
     match closed {
         Some(closed) => is_merge(alloc, &closed.journal, count),
@@ -109,18 +111,18 @@ fn has_merge(alloc: Global, closed: &Option<Closed>, count: u32) -> Result<bool,
     }
 }
 
-// Answers whether a store leaves the merge of all writes.
+// Return whether the result of a store is the merge of all writes.
 fn leaves_merge<J: Naming, R: Wait + Drop>(
     alloc: Global,
     shared: Shared<J, R>,
     sessions: Vec<Session<J>>,
     count: u32,
 ) -> Result<bool, OutOfMemory> {
-    let closed = left(shared, sessions);
+    let closed = close_store(shared, sessions);
     has_merge(alloc, &closed, count)
 }
 
-// Answers whether the journal is the merge of all writes, once all sessions have worked.
+// Return whether the journal is the merge of all writes, once all sessions have worked.
 fn is_merged<J: Naming + Send + Sync, R: Wait + Drop + Send, W: Threads + Wait + Sync>(
     rt: &W,
     alloc: Global,
@@ -138,7 +140,7 @@ fn is_merged<J: Naming + Send + Sync, R: Wait + Drop + Send, W: Threads + Wait +
     Ok(well && is_merged?)
 }
 
-/// Answers whether the journal of eight sessions, each on a thread of its own, is the merge of their writes.
+/// Return whether the journal of eight sessions, each on its own thread, is the merge of their writes.
 pub(crate) fn merges<W: Threads + Wait + Sync>(
     rt: &W,
     alloc: Global,

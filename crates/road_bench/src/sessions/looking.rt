@@ -1,4 +1,4 @@
-//! Looks and publishings, each session on a thread of its own.
+//! Looks and publishings, each session on its own thread.
 
 ghost use Rattle.std.specs.Prelude.{◌≡◌};
 
@@ -14,14 +14,14 @@ use std::sync::{Arc, Wait};
 use std::thread::{Threads, map_vec};
 use std::time::{Clock, Instant};
 
-/// How often a session did what it was to do, and how long that took.
+/// How often a session did its work, and how long that took.
 #[derive(Clone, Copy)]
 pub(crate) struct Done {
     pub(crate) times: u64,
     pub(crate) nanoseconds: u128,
 }
 
-/// How often readers look, how often the writer publishes at most, and how many steps more it has simulated each time.
+/// How often readers look, how often the writer publishes at most, and how many more steps it has simulated each time.
 #[derive(Clone, Copy)]
 pub(crate) struct Work {
     pub(crate) looks: u32,
@@ -29,15 +29,15 @@ pub(crate) struct Work {
     pub(crate) steps: u32,
 }
 
-/// What the sessions are to do, and how many that look have not ended.
+/// The work of the sessions, and the number of looking sessions that have not ended.
 #[derive(Drop)]
 struct Task {
     work: Work,
     looking: AtomicU64,
 }
 
-// Looks for a session.
-fn looks<J: Naming, R: Wait + Drop>(
+// Look for a session.
+fn look<J: Naming, R: Wait + Drop>(
     shared: &Shared<J, R>,
     session: &mut Session<J>,
     task: &Task,
@@ -52,8 +52,8 @@ fn looks<J: Naming, R: Wait + Drop>(
     times
 }
 
-// Publishes for a session as long as others look.
-fn publishes<J: Naming, R: Wait + Drop, W: Wait>(
+// Publish for a session while others look.
+fn publish<J: Naming, R: Wait + Drop, W: Wait>(
     rt: &W,
     shared: &Shared<J, R>,
     session: &mut Session<J>,
@@ -76,8 +76,8 @@ fn publishes<J: Naming, R: Wait + Drop, W: Wait>(
     times
 }
 
-// Publishes for the first session, and looks for each other one; returns how long that took.
-fn does<J: Naming, R: Wait + Drop, W: Wait + Clock>(
+// Publish for the first session, or look for another one. Return how long that took.
+fn do_task<J: Naming, R: Wait + Drop, W: Wait + Clock>(
     rt: &W,
     shared: &Shared<J, R>,
     session: &mut Session<J>,
@@ -85,16 +85,16 @@ fn does<J: Naming, R: Wait + Drop, W: Wait + Clock>(
 ) -> Option<Done> {
     let start = Instant::now(rt).ok()?;
     let times = if session.number() == 0 {
-        publishes(rt, shared, session, task)
+        publish(rt, shared, session, task)
     } else {
-        looks(shared, session, task)
+        look(shared, session, task)
     };
     let nanoseconds = start.elapsed(rt).ok()?.as_nanos();
     Some(Done { times, nanoseconds })
 }
 
-// Returns what sessions do, each on a thread of its own.
-fn all_do<J: Naming + Send + Sync, R: Wait + Drop + Send, W: Threads + Wait + Clock + Sync>(
+// Return the results of sessions, each on its own thread.
+fn do_all<J: Naming + Send + Sync, R: Wait + Drop + Send, W: Threads + Wait + Clock + Sync>(
     rt: &W,
     shared: &Shared<J, R>,
     sessions: Vec<Session<J>>,
@@ -103,28 +103,28 @@ fn all_do<J: Naming + Send + Sync, R: Wait + Drop + Send, W: Threads + Wait + Cl
     Ok(map_vec(
         rt,
         sessions,
-        &|mut session| does(rt, shared, &mut session, task),
+        &|mut session| do_task(rt, shared, &mut session, task),
     )?)
 }
 
-// Returns what each session has done.
-fn all_done<J: Naming + Send + Sync, R: Wait + Drop + Send, W: Threads + Wait + Clock + Sync>(
-    rt: &W,
-    prepared: Prepared<R>,
-    task: &Task,
-) -> Result<Vec<Option<Done>>>
+// Return the result of each session.
+fn open_and_do_all<
+    J: Naming + Send + Sync,
+    R: Wait + Drop + Send,
+    W: Threads + Wait + Clock + Sync,
+>(rt: &W, prepared: Prepared<R>, task: &Task) -> Result<Vec<Option<Done>>>
     requires book { prepared.book ≡ J.book }
     requires replica { prepared.replica ≡ J.replica }
     requires ledger { (prepared.ledger.name ≡ J.name) × (prepared.ledger.parts ≡ J.parts) }
     requires limit { prepared.limit ≡ J.limit }
 {
     let (shared, sessions) = open::<J, R>(prepared)?;
-    all_do(rt, &shared, sessions, task)
+    do_all(rt, &shared, sessions, task)
 }
 
-/// Returns what the writer and each of so many readers have done, the writer first; none where the clock could not be
+/// Return the results of the writer and each of `readers` readers, the writer first, or none if the clock could not be
 /// read.
-pub(crate) fn timed<W: Threads + Wait + Clock + Sync>(
+pub(crate) fn time<W: Threads + Wait + Clock + Sync>(
     rt: &W,
     alloc: Global,
     plan: &Arc<Plan>,
@@ -137,5 +137,5 @@ pub(crate) fn timed<W: Threads + Wait + Clock + Sync>(
         work,
         looking: AtomicU64::new(u64::from(readers)),
     };
-    all_done::<Brand, _, _>(rt, prepared, &task)
+    open_and_do_all::<Brand, _, _>(rt, prepared, &task)
 }

@@ -9,12 +9,12 @@ use std::alloc::Global;
 
 const LIMIT: Object = Object::Limit(0);
 
-// Returns what a write puts.
+// Return the number that a write sets.
 fn value_of(write: u32) -> u32 {
     write % 10
 }
 
-/// Returns the edit of a session's write: the first zone's limit from the step of the write's number on.
+/// Return the edit of a session's write: the first zone's limit from the step of the write's number on.
 pub(crate) fn edit_of(session: u32, write: u32) -> Edit {
     Edit {
         object: LIMIT,
@@ -27,7 +27,7 @@ pub(crate) fn edit_of(session: u32, write: u32) -> Edit {
     }
 }
 
-/// Answers whether a sheet has a session's write, or that of another session in its place.
+/// Return whether a sheet has a session's write, or that of another session instead.
 pub(crate) fn is_shown(sheet: &Sheet, write: u32) -> bool {
     if write % 2 == 1 {
         return sheet.horizon() >= write;
@@ -36,7 +36,7 @@ pub(crate) fn is_shown(sheet: &Sheet, write: u32) -> bool {
         && sheet.scenario().setting(sheet.plan(), LIMIT, write) == value_of(write)
 }
 
-// Answers whether an entry of a journal is this write of its session.
+// Return whether an entry of a journal is this write of its session.
 fn is_write(alloc: Global, entry: &Entry, write: u32) -> Result<bool, OutOfMemory> {
     match &entry.command {
         SheetCommand::Advance(to) => Ok(write % 2 == 1 && *to == write),
@@ -47,7 +47,7 @@ fn is_write(alloc: Global, entry: &Entry, write: u32) -> Result<bool, OutOfMemor
     }
 }
 
-// Answers whether the entries of a session are all its writes, in order.
+// Return whether the entries of a session are all its writes, in order.
 fn are_writes(
     alloc: Global,
     journal: &[Entry],
@@ -66,7 +66,7 @@ fn are_writes(
     Ok(write == count)
 }
 
-/// Answers whether a journal is the merge of so many writes of each session.
+/// Return whether a journal is the merge of `count` writes of each session.
 pub(crate) fn is_merge(alloc: Global, journal: &[Entry], count: u32) -> Result<bool, OutOfMemory> {
     for session in 0..SESSIONS {
         if !are_writes(alloc, journal, session, count)? {

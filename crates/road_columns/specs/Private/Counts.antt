@@ -1,11 +1,12 @@
--- What the detectors have counted, before the interval of a step and in it.
+-- The counts of the detectors, before the interval of a step and in it.
 use Rattle.std.specs.Prelude.{◌≡◌, ℕ, ◌*◌, ◌/◌, ◌%◌, ◌<◌, ◌≤◌, List, length, map, slice_index}
 use Rattle.std.specs.List.{range_with_len, slice_index_or}
 use Rattle.road_detector.specs.Passes.{no_totals, plus}
 use Rattle.road_detector.specs.declared.counts.Totals.{Totals}
 use Rattle.road_columns.specs.Private.Sites.{IsOfSteps, unpacked}
 
--- before step t each of n detectors' counts is of the steps of its interval, and its total of those before
+-- before step t the count of each of n detectors is of the steps of its interval, and its totals are of the steps
+-- before
 pub record AreCounts (n t : ℕ) (passes : List ℕ) (totals : List Totals) : Type 0 where
   pub passes_each : length passes ≡ n
   pub totals_each : length totals ≡ n
@@ -13,10 +14,10 @@ pub record AreCounts (n t : ℕ) (passes : List ℕ) (totals : List Totals) : Ty
   pub cars_before : (d : ℕ) → d < n → (slice_index_or totals d no_totals).cars ≤ 64 * (t / 64)
   pub speeds_before : (d : ℕ) → d < n → (slice_index_or totals d no_totals).speeds ≤ 576 * (t / 64)
 
--- what a detector has counted: its total, and its count in the interval
+-- the totals of a detector, with its count in the interval
 abbrev pub total_in : List ℕ → List Totals → ℕ → Totals
 total_in passes totals d = plus (slice_index_or totals d no_totals) (unpacked (slice_index passes d))
 
--- what all detectors have counted
+-- the totals of all detectors
 abbrev pub totals_in : List ℕ → List Totals → List Totals
 totals_in passes totals = map (total_in passes totals) (range_with_len 0 (length totals))

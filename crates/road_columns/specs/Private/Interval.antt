@@ -1,4 +1,4 @@
--- The words of an interval, values of the program's type.
+-- The words of an interval, as values of the program's type.
 use Rattle.std.specs.Prelude.{◌≡◌, ℕ, true, ◌+◌, ◌-◌, ◌*◌, ◌/◌, ◌<◌, ◌≤◌, List, length, slice_index}
 use Rattle.road_plan.specs.Plan.{Plan}
 use Rattle.road_words.specs.Words.{word}
@@ -14,13 +14,13 @@ use Rattle.road_columns.specs.declared.interval.IntervalWords.{IntervalWords}
 abbrev pub entered_of_words : IntervalWords → List EnteredCar
 entered_of_words words = entered_in words.entered words.beside.items words.batches.items
 
--- they stand before tail, and their places rise
+-- these cars stand before tail, and their places rise
 pub record AreEntered (words : IntervalWords) (tail : ℕ) : Type 0 where
   pub few : words.entered ≤ tail
   pub rising : ArePlacesRising words.entered words.beside.items
   pub in_order : AreInOrder (entered_of_words words) tail
 
--- all but the words of the cars stays, with as much memory for these
+-- everything but the words of the cars stays, with as much room for these words
 pub record KeepsRest (old new : IntervalWords) : Type 0 where
   pub source : new.source ≡ old.source
   pub drawn : new.drawn ≡ old.drawn
@@ -28,18 +28,31 @@ pub record KeepsRest (old new : IntervalWords) : Type 0 where
   pub inlets : new.inlets.items ≡ old.inlets.items
   pub rows_each : length new.rows.items ≡ length old.rows.items
   pub beside_each : length new.beside.items ≡ length old.beside.items
-  pub batches_each : length new.batches.items ≡ length old.batches.items
 
--- columns, and lists of words, that are as long as each other
-pub record AreEven (p : Plan) (cars : CarColumns) (words : IntervalWords) : Type 0 where
-  pub short : length cars.cells.items < 65520
-  pub speeds_each : length cars.speeds.items ≡ length cars.cells.items
-  pub numbers_each : length cars.numbers.items ≡ length cars.cells.items
-  pub batches_each : length words.batches.items ≡ length words.beside.items
-  pub inlets_each : length words.inlets.items ≡ length p.inlets
+-- there is room for the words of a car that enters at a place of columns that end before `tail`; a row has `width`
+-- words
+pub record CanKeep (words : IntervalWords) (place tail width : ℕ) : Type 0 where
+  pub rows_each : length words.rows.items ≡ 64 * width
+  pub short : width < 65536
+  pub order : place ≤ tail
+  pub within : tail < width
+  pub room : words.entered < length words.beside.items
+  pub entered : AreEntered words tail
 
--- memory for so many cars that enter: where the words are drawn there is as much behind the cars that stand, else once
--- they are moved back to the first places
+-- the words of a car are kept: at most one more car has entered between others, and the columns end a place further
+pub record KeepsCar (old new : IntervalWords) (tail : ℕ) : Type 0 where
+  pub rest : KeepsRest old new
+  pub bound : new.entered ≤ old.entered + 1
+  pub entered : AreEntered new (tail + 1)
+
+-- only the rows and the lists of words change
+pub record MakesRows (old new : IntervalWords) : Type 0 where
+  pub source : new.source ≡ old.source
+  pub drawn : new.drawn ≡ old.drawn
+  pub inlets : new.inlets.items ≡ old.inlets.items
+
+-- there is room for this many cars to enter: behind the cars where they stand if the words are drawn, else once the
+-- cars are moved back to the first places
 pub record HaveRoom (entries : ℕ) (cars : CarColumns) (words : IntervalWords) : Type 0 where
   pub rows_each : length words.rows.items ≡ 64 * (length cars.cells.items + 8)
   pub room : cars.tail - cars.head + entries + 9 ≤ length cars.cells.items
@@ -47,17 +60,15 @@ pub record HaveRoom (entries : ℕ) (cars : CarColumns) (words : IntervalWords) 
   pub room_behind : words.drawn ≡ true → cars.tail + entries + 1 ≤ length cars.cells.items
   pub beside_behind : words.drawn ≡ true → words.entered + entries ≤ length words.beside.items
 
--- more memory is made for cars and their words: all is as it was, or the words are to be drawn
+-- more room is made for cars and their words: nothing changes, or the words are still to be drawn
 pub record MakesRoom (cars cars' : CarColumns) (words words' : IntervalWords) : Type 0 where
   pub longer : AreLonger cars cars'
-  pub short : length cars'.cells.items < 65520
   pub source : words'.source ≡ words.source
   pub inlets : words'.inlets.items ≡ words.inlets.items
-  pub batches_each : length words'.batches.items ≡ length words'.beside.items
   pub drawn : words'.drawn ≡ true → (cars' ≡ cars) × (words' ≡ words)
 
--- at step k of the interval from step `first` on the words are there for the inlets and, where `worded`, for all cars
--- that may move
+-- at step k of the interval that starts at step `first`, the words of the inlets are there and, if `worded`, those of
+-- all cars that may move
 pub record HaveIntervalWords (p : Plan) (first k : ℕ) (cars : CarColumns) (words : IntervalWords) : Type 0 where
   pub rows_each : length words.rows.items ≡ 64 * (length cars.cells.items + 8)
   pub entered : AreEntered words cars.tail

@@ -1,4 +1,4 @@
--- A run under way by its parts.
+-- A run under way, by its parts.
 use Rattle.std.specs.Prelude.{◌≡◌, ℕ, ◌+◌, ◌*◌, ◌/◌, ◌%◌, ◌≤◌, List, true, false, length}
 use Rattle.std.specs.Arc.{arc_value}
 use Rattle.road_plan.specs.Plan.{IsWithinLimits, Plan}
@@ -11,7 +11,7 @@ use Rattle.road_columns.specs.Private.Counts.{AreCounts, totals_in}
 use Rattle.road_columns.specs.Private.Drawn.{drawn_word}
 use Rattle.road_columns.specs.Private.Entering.{ArePlacesFrom}
 use Rattle.road_columns.specs.Private.Held.{StandOn}
-use Rattle.road_columns.specs.Private.Interval.{AreEven, HaveIntervalWords}
+use Rattle.road_columns.specs.Private.Interval.{HaveIntervalWords}
 use Rattle.road_columns.specs.Private.Regions.{AreFree}
 use Rattle.road_columns.specs.Private.Step.{AreCarsInColumn, AreRegionsOf, AreSitesOf}
 use Rattle.road_columns.specs.declared.cars.CarColumns.{CarColumns}
@@ -20,7 +20,7 @@ use Rattle.road_columns.specs.declared.interval.IntervalWords.{IntervalWords}
 use Rattle.road_columns.specs.declared.layout.Layout.{Layout}
 use Rattle.road_columns.specs.declared.under_way.UnderWay.TheInside.{Inside}
 
--- what it is
+-- the run that callers see
 abbrev pub run_of : Inside → UnderWay
 run_of x = record {
   plan = arc_value x.plan;
@@ -32,7 +32,7 @@ run_of x = record {
   totals = totals_in x.counts.passes.items x.counts.totals.items;
 }
 
--- a layout's regions and sites are those of its plan under its settings
+-- a layout has the regions and sites of its plan under its settings
 pub record IsLayout (g : Layout) : Type 0 where
   pub within : IsWithinLimits g.plan.now
   pub fits : Fits g.plan.now g.settings.now
@@ -43,13 +43,12 @@ pub record IsLayout (g : Layout) : Type 0 where
 -- cars stand in columns, and the kept places of sites are right
 pub record AreStanding (p : Plan) (sites : List ℕ) (cars : CarColumns) (words : IntervalWords) : Type 0 where
   pub source_is : (stream place : ℕ) → drawn_word words.source stream place ≡ word p.words stream place
-  pub even : AreEven p cars words
-  pub from : 8 ≤ cars.head
+  pub inlets_each : length words.inlets.items ≡ length p.inlets
   pub cars_are : AreCarsInColumn p cars.head cars.tail cars.cells.items
   pub places_are : ArePlacesFrom cars.cells.items cars.head cars.tail sites cars.places.items
 
--- they are ready at step k of the interval from step `first` on, once n inlets have had their turn: the words are
--- there, those of the cars where any is slowed, and memory for the cars of the other inlets
+-- cars and words are ready at step k of the interval that starts at step `first`, once n inlets have had their turn:
+-- the words are there, also those of the cars if any is slowed, and there is room for the cars of the other inlets
 pub record AreReady (g : Layout) (first k n : ℕ) (cars : CarColumns) (words : IntervalWords) : Type 0 where
   pub layout : IsLayout g
   pub standing : AreStanding g.plan.now g.sites.now cars words
@@ -68,7 +67,7 @@ pub record AreRunning (p : Plan) (sites : List ℕ) (t lo hi : ℕ) (cars : CarC
   pub counts_are : AreCounts (length p.detectors) t counts.passes.items counts.totals.items
   pub words_are : words.drawn ≡ true → HaveIntervalWords p (64 * (t / 64)) (t % 64) cars words
 
--- the parts of this one
+-- the parts of this run agree
 pub record IsRunning (x : Inside) : Type 0 where
   pub within : IsWithinLimits (arc_value x.plan)
   pub fits : Fits (arc_value x.plan) (arc_value x.settings)

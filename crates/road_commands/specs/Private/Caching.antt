@@ -1,4 +1,4 @@
--- What holds of a laboratory, and of the caches of its replicas' queries.
+-- Facts about a laboratory, and about the caches of its replicas' queries.
 use Rattle.std.specs.Prelude.{◌≡◌, ◌≤◌, ℕ, List, length}
 use Rattle.std.specs.List.{slice_get}
 use Rattle.std.specs.declared.option.Option.TheVariants.{Some}
@@ -12,7 +12,7 @@ use Rattle.road_world.specs.Events.{World, world_of_winners}
 abbrev pub AreCachesOf : World → List QueryCache → Type 0
 AreCachesOf w caches = (r : ℕ) (cache : QueryCache) → slice_get caches r ≡ Some cache → IsCacheOf (sheet_at w r) cache
 
--- each name has a replica, and each replica a cache; replicas and messages have winners alone
+-- each name has a replica, and each replica a cache; replicas and messages have only winners
 pub record IsCached (names : List (List ℕ)) (w : World) (caches : List QueryCache) : Type 0 where
   pub few : length names ≤ MOST_REPLICAS
   pub replicas : length w.replicas ≡ length names

@@ -22,7 +22,7 @@ use Rattle.road_format.specs.declared.refusal.Refusal.TheVariants as refusals
 use Rattle.road_workers.specs.declared.faults.CrewFault.{CrewFault}
 use Rattle.road_commands.specs.Laboratory.{edits_held}
 
--- whether an event leaves the edits of its replica as they were
+-- whether an event leaves the edits of its replica unchanged
 abbrev pub keeps_edits : Event → Bool
 keeps_edits (events.Edit r object step number) = false
 keeps_edits (events.Withdraw r object step) = false
@@ -40,20 +40,20 @@ names_message (replies.Touched step) = false
 names_message (replies.Message number) = true
 names_message (replies.Horizon to) = false
 
--- a world's reply to a change; none is the number of a message
+-- a world's reply to a change; the number of a message is not such a reply
 abbrev pub reply_answer : Reply → Answer
 reply_answer (replies.Stamped stamp) = Stamped stamp
 reply_answer (replies.Touched step) = Touched step
 reply_answer (replies.Message number) = Refused refusals.NoMessage
 reply_answer (replies.Horizon to) = Horizon to
 
--- the answer to the making of a message, by what it carries
+-- the answer to the making of a message, from what it carries
 abbrev pub message_answer : List ℕ → Message → Answer
 message_answer name (messages.Whole edits) = Sent name (length (items edits))
 message_answer name (messages.Asked heads) = Heads name heads
 message_answer name (messages.Answer edits) = Delta name (items edits)
 
--- the answer to an event that makes a message of this name; none to another event
+-- the answer to an event that makes a message of this name; none for another event
 abbrev pub made_answer : World → Event → List ℕ → Answer
 made_answer w (events.Send r) name = Sent name (length (items (edits_held w r)))
 made_answer w (events.Heads r) name = Heads name (heads (edits_held w r))
@@ -61,7 +61,7 @@ made_answer w (events.Beyond r message) name =
     Delta name (items (beyond (edits_held w r) (asked_heads (slice_get w.messages message))))
 made_answer w event name = Refused refusals.NoMessage
 
--- a refusal is told, where it has an answer; else a crew's fault is handed on
+-- a refusal is answered, if it has an answer; else a crew's fault is passed on
 abbrev pub IsTold : Option Refusal → Result replies_declared.Answer CrewFault → Type 0
 IsTold refusal (Ok answer) = option_map Refused refusal ≡ Some (answer_view answer)
 IsTold refusal (Err lost) = refusal ≡ None

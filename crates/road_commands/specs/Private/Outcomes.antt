@@ -1,4 +1,4 @@
--- What the call comes to that answers a command.
+-- The result of the call that answers a command.
 use Rattle.std.specs.Prelude.{◌≡◌, ℕ, Bool, IfOk, OnErr, OnOk, Result}
 use Rattle.road_workers.specs.Crews.{gone_after}
 use Rattle.road_workers.specs.declared.faults.CrewFault.{CrewFault}
@@ -6,26 +6,26 @@ use Rattle.road_format.specs.Views.{answer_view}
 use Rattle.road_format.specs.declared.answer.Answer.{Answer}
 use Rattle.road_commands.specs.Laboratory.{Laboratory, Outcome, gone_after_command, laboratory_of_winners}
 
--- a command is answered, be it a crowd that is gathered or not
+-- a command is answered, whether it is a crowd that is gathered or not
 pub record IsAnswered (gathered : Bool) (outcome : Outcome) (result : Result Answer CrewFault) (old new : Laboratory)
     (count later : ℕ) : Type 0 where
   -- the answer is that of the outcome
   pub answer : IfOk result (λ answer. answer_view answer ≡ outcome.answer)
-  -- answered, the laboratory is that of the outcome, of edits the winners
+  -- if answered, the laboratory is that of the outcome (of edits, only the winners)
   pub after : OnOk result (new ≡ laboratory_of_winners outcome.after)
-  -- not answered, it is as it was
+  -- if not answered, it is unchanged
   pub unchanged : OnErr result (new ≡ old)
-  -- the crew has gone once more where that is why there is no answer, and no crowd was gathered
+  -- the crew has gone once more if that is why there is no answer, and no crowd was gathered
   pub gone : later ≡ gone_after_command result gathered count
 
--- a command that is no crowd is answered, and counted how often the crew has gone
+-- a command that is not a crowd is answered, and the count of how often the crew has gone is updated
 pub record IsOutcome (outcome : Outcome) (result : Result Answer CrewFault) (old new : Laboratory)
     (count later : ℕ) : Type 0 where
   -- the answer is that of the outcome
   pub answer : IfOk result (λ answer. answer_view answer ≡ outcome.answer)
-  -- answered, the laboratory is that of the outcome, of edits the winners
+  -- if answered, the laboratory is that of the outcome (of edits, only the winners)
   pub after : OnOk result (new ≡ laboratory_of_winners outcome.after)
-  -- not answered, it is as it was
+  -- if not answered, it is unchanged
   pub unchanged : OnErr result (new ≡ old)
-  -- the crew has gone once more where that is why there is no answer
+  -- the crew has gone once more if that is why there is no answer
   pub gone : later ≡ gone_after result count

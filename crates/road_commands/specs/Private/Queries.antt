@@ -11,7 +11,7 @@ use Rattle.road_commands.specs.Laboratory.{cars_of_state, query_answer, totals_a
 use Rattle.road_commands.specs.declared.queries.Query.{Query}
 use Rattle.road_commands.specs.declared.queries.Query.TheVariants as queries
 
--- why a sheet refuses a query, if so
+-- why a sheet refuses a query, if it does
 abbrev pub query_fault : Sheet → Query → Option ReplicaFault
 query_fault sheet (queries.Cells step) = state_fault sheet step
 query_fault sheet (queries.Cars step) = state_fault sheet step
@@ -19,7 +19,7 @@ query_fault sheet (queries.Count detector from to) = totals_fault sheet detector
 query_fault sheet (queries.Diagram from to) = rows_fault sheet from to
 query_fault sheet queries.Scenario = None
 
--- what a sheet says to a query that it does not refuse
+-- the answer of a sheet to a query that it does not refuse
 abbrev pub sheet_answer : Sheet → Query → Answer
 sheet_answer sheet (queries.Cells step) = replies.Cells (sheet_row sheet step)
 sheet_answer sheet (queries.Cars step) = replies.Cars (cars_of_state (state_of sheet step))
@@ -27,6 +27,6 @@ sheet_answer sheet (queries.Count detector from to) = totals_answer (total_of sh
 sheet_answer sheet (queries.Diagram from to) = replies.Rows (rows_of sheet from to)
 sheet_answer sheet queries.Scenario = replies.Edits (items (winners sheet.edits))
 
--- what a query is answered, by the replica's sheet
+-- the answer to a query, by the replica's sheet
 abbrev pub answer_to_query : Sheet → Query → Answer
 answer_to_query sheet query = query_answer (query_fault sheet query) (sheet_answer sheet query)

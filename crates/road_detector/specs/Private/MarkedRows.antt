@@ -1,4 +1,4 @@
--- The letters that are written over those of a row.
+-- The letters that overwrite those of a row.
 use Rattle.std.specs.Prelude.{ℕ, ◌+◌, Bool, if◌then◌else◌}
 use Rattle.std.specs.declared.option.Option.{Option}
 use Rattle.std.specs.declared.option.Option.TheVariants.{None, Some}
@@ -9,7 +9,7 @@ use Rattle.road_ends.specs.declared.letters.TheConstants.{STANDING, BLOCKED}
 abbrev pub blocked_letter : Bool → ℕ → ℕ
 blocked_letter blocked letter = if blocked then BLOCKED else letter
 
--- a cell where a car stands gets its digit
+-- a cell with a car gets the car's digit
 abbrev pub car_letter : Option Vehicle → ℕ → ℕ
 car_letter (Some v) letter = STANDING + v.speed
 car_letter None letter = letter

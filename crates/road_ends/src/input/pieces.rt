@@ -1,4 +1,4 @@
-//! The speeds of a piece of the cars: the part of one worker of many.
+//! The speeds of a piece of the cars: the share of one worker of many.
 
 ghost use Rattle.std.specs.Prelude.{◌≡◌, ◌≤◌, length, IfOk};
 ghost use Rattle.road_cells.specs.Cars.{cars_of};
@@ -10,13 +10,13 @@ use crate::pass::speeds_between;
 use std::alloc::Global;
 
 impl StepInput {
-    /// Computes the new speeds of the cars at the places from `first` to before `end`, in their order, where `first` is
-    /// at most `end`, and `end` at most the number of cars. It is one pass over these cars alone, which reads the whole
+    /// Compute the new speeds of the cars at the places from `first` to before `end`, in their order. `first` must be
+    /// at most `end`, and `end` at most the number of cars. It is one pass over these cars only, and it reads the whole
     /// road.
     ///
     /// # Errors
     ///
-    /// `OutOfMemory` where the allocation of their list failed.
+    /// `OutOfMemory` if the allocation of their list failed.
     pub fn speeds_between(
         &self,
         alloc: Global,

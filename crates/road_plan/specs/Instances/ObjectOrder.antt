@@ -1,4 +1,4 @@
--- The order of objects, as it is derived, is that by kind and index, and it tells objects apart.
+-- The derived order of objects is the order by kind and index, and it distinguishes objects.
 use Rattle.std.specs.Prelude.{◌≡◌, ℕ, zero, suc, refl}
 use Rattle.std.specs.Ordering.{nat_cmp}
 use Rattle.std.proofs.Common.{sym, ap, ◌∙◌, rules}
@@ -10,7 +10,7 @@ use Rattle.road_plan.specs.declared.object.Object.{Object}
 use Rattle.road_plan.specs.declared.object.Object.TheVariants.{Limit, Slow, Block, Inflow, Watch, Start}
 use Rattle.road_plan.specs.contracts.object.ObjectOrd.TheImpl as derived
 
--- the derived order of objects is that of their keys
+-- the derived order of objects is the order of their keys
 pub ordered : (x y : Object) → derived.ghosts.cmp x y ≡ object_order x y
 ordered x y = search (comparing, rules)
 
@@ -23,7 +23,7 @@ object_of (suc (suc (suc zero)), i) = Inflow i
 object_of (suc (suc (suc (suc zero))), i) = Watch i
 object_of (suc (suc (suc (suc (suc k)))), i) = Start i
 
--- an object is that of its key
+-- an object is the object of its key
 pub object_back : (x : Object) → object_of (order_key x) ≡ x
 object_back (Limit i) = refl
 object_back (Slow i) = refl
@@ -36,7 +36,7 @@ object_back (Start i) = refl
 pub same_object : (x y : Object) → order_key x ≡ order_key y → x ≡ y
 same_object x y e = sym (object_back x) ∙ ap object_of e ∙ object_back y
 
--- the order of objects tells them apart
+-- the order of objects distinguishes them
 pub object_exact : IsExact derived.ghosts.cmp
 object_exact =
     exact_by order_key derived.ghosts.cmp (pair_cmp nat_cmp nat_cmp) ordered same_object

@@ -1,4 +1,4 @@
--- What is kept of a laboratory after one line, and whether the line that is held would be a crowd of it.
+-- The laboratory that is kept after one line, and whether the held line would be a crowd for it.
 use Rattle.std.specs.Prelude.{Option, Some, None, Result, Ok, Err, Bool, false}
 use Rattle.road_format.specs.CommandGrammar.{Command, command_of}
 use Rattle.road_format.specs.PlanGrammar.{PlanLine}
@@ -8,21 +8,21 @@ use Rattle.road_serve.specs.Answers.{gathers}
 use Rattle.road_serve.specs.Dialogue.{Dialogue}
 use Rattle.road_serve.specs.Private.Readings.{read_held}
 
--- the laboratory after the plan line, where it is accepted
+-- the laboratory after the plan line, if it is accepted
 abbrev pub opened_laboratory : Result PlanLine Refusal → Option Laboratory
 opened_laboratory (Err refusal) = None
 opened_laboratory (Ok plan) = Some (opening_laboratory plan)
 
--- what is kept after a later line is the laboratory of winners; a refused line changes nothing
+-- the laboratory kept after a later line is that of winners; a refused line changes nothing
 abbrev pub kept_after_line : Laboratory → Result Command Refusal → Laboratory
 kept_after_line kept (Err refusal) = kept
 kept_after_line kept (Ok command) = laboratory_of_winners (laboratory_after kept command)
 
--- whether a line, as read, is a crowd that nothing refuses, where there is a laboratory
+-- whether a line, as read, is a crowd that nothing refuses, if there is a laboratory
 abbrev pub gathers_at : Option Laboratory → Result Command Refusal → Bool
 gathers_at None reading = false
 gathers_at (Some kept) reading = gathers kept.world.plan reading
 
--- whether what is held, were it a line, is a crowd that nothing refuses
+-- whether the held bytes, if they were a line, are a crowd that nothing refuses
 abbrev pub holds_crowd : Dialogue → Bool
 holds_crowd d = gathers_at d.laboratory (read_held command_of d.line)

@@ -1,11 +1,11 @@
--- What the code reads, beside what the definitions read.
+-- The readings of the code, compared with those of the definitions.
 use Rattle.std.specs.Prelude.{◌≡◌, ℕ, List, Option, Some, None, Result, Ok, Err}
 use Rattle.road_format.specs.declared.refusal.Refusal.{Refusal}
 use Rattle.road_format.specs.declared.refusal.Refusal.TheVariants as refusals
 use Rattle.road_serve.specs.declared.dialogue.LineRead.{LineRead}
 use Rattle.road_serve.specs.declared.dialogue.LineRead.TheVariants.{Accepted, Refused}
 
--- what a held line is read as: one that is too long is refused unread
+-- the reading of a held line: one that is too long is refused unread
 abbrev pub read_held : {A : Type 0} → (List ℕ → Result A Refusal) → Option (List ℕ) → Result A Refusal
 read_held reading None = Err refusals.LineTooLong
 read_held reading (Some line) = reading line
@@ -15,7 +15,7 @@ abbrev pub IsRead : {X Y : Type 0} → (X → Y) → LineRead X → Result Y Ref
 IsRead view (Accepted x) reading = reading ≡ Ok (view x)
 IsRead view (Refused refusal) reading = reading ≡ Err refusal
 
--- what holds of what an accepted line says
+-- a fact about the content of an accepted line
 abbrev pub IfAccepted : {X : Type 0} → LineRead X → (X → Type 0) → Type 0
 IfAccepted (Accepted x) P = P x
 IfAccepted (Refused refusal) P = Unit {0}

@@ -18,7 +18,7 @@ abbrev pub reply_to_command : SheetCommand → Replica → Reply
 reply_to_command (Take edits) r = Touched (touched_step r.sheet edits)
 reply_to_command (Advance to) r = Horizon (max r.sheet.horizon to)
 
--- the reply to a session: the stamp of the edit that was made, where one was, else the answer
+-- the reply to a session: the stamp of the edit that was made, if one was, else the answer
 abbrev pub reply_with : Option Stamp → Reply → Reply
 reply_with (Some stamp) answer = Stamped stamp
 reply_with None answer = answer

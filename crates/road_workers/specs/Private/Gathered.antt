@@ -1,8 +1,9 @@
 -- Results that have come from the workers of a pool.
-use Rattle.std.specs.Prelude.{◌≡◌, ℕ, ◌+◌, ◌<◌, List, length, slice_index_or, slice_set, Vec, Result}
+use Rattle.std.specs.Prelude.{◌≡◌, ℕ, zero, suc, ◌+◌, ◌<◌, List, length, slice_index_or, slice_set, Vec, Result}
 use Rattle.std.specs.Prelude.{IfOk, IfSome, IsSome}
 use Rattle.std.specs.declared.option.Option.{Option}
 use Rattle.std.specs.declared.option.Option.TheVariants.{Some, None}
+use Rattle.std.specs.declared.result.Result.TheVariants.{Ok, Err}
 use Rattle.std.specs.declared.alloc.Global.{Global}
 use Rattle.std.specs.declared.alloc.AllocError.{AllocError}
 use Rattle.road_cells.specs.Array.{Array}
@@ -11,7 +12,7 @@ use Rattle.road_ends.specs.Input.{StepInput}
 use Rattle.road_ends.specs.Span.{Span}
 use Rattle.road_detector.specs.declared.ran.Ran.{Ran}
 use Rattle.road_workers.specs.Private.Pieces.{speeds_of_worker}
-use Rattle.road_workers.specs.Private.Stretches.{IsRunOf, cut}
+use Rattle.road_workers.specs.Private.Stretches.{IsRunOf, cars_between, cut}
 
 -- no worker has answered yet
 abbrev pub AreMissing : {A : Type 0} → List (Option A) → Type 0
@@ -37,11 +38,11 @@ TakesOne before answer after = (w : ℕ) × IsMissing before w × (after ≡ sli
 abbrev pub PieceAnswer : Type 0
 PieceAnswer = Result (Vec ℕ Global) AllocError
 
--- the speeds, where there are some, are those of the piece of worker w, of n workers
+-- the speeds, if there are some, are those of the piece of worker w, of n workers
 abbrev pub IsAnswerOf : StepInput → ℕ → ℕ → PieceAnswer → Type 0
 IsAnswerOf input n w answer = IfOk answer (λ new. new.items ≡ speeds_of_worker input n w)
 
--- one place for each worker, with its answer where that has come
+-- one place for each worker, with its answer if that has come
 abbrev pub AreGathered : StepInput → List (Option PieceAnswer) → Type 0
 AreGathered input places = AreRight (IsAnswerOf input (length places)) places
 
@@ -49,11 +50,24 @@ AreGathered input places = AreRight (IsAnswerOf input (length places)) places
 abbrev pub StretchAnswer : Type 0
 StretchAnswer = Result Ran AllocError
 
--- it is what the stretch at place w of n comes to, where there is something
+-- it is what the stretch at place w of n comes to, if there is something
 abbrev pub IsRunAt : Span → Array → ℕ → ℕ → StretchAnswer → Type 0
 IsRunAt span a n w answer = IfOk answer
     (IsRunOf (cut span.plan.cells (cars_of a) n w) (cut span.plan.cells (cars_of a) n (w + 1)) span a)
 
--- one place for each worker, with its answer where that has come; so many stretches before theirs are the caller's own
+-- one place for each worker, with its answer if that has come; so many stretches before theirs are the caller's own
 abbrev pub AreRun : Span → Array → ℕ → List (Option StretchAnswer) → Type 0
 AreRun span a own places = AreRight (λ w. IsRunAt span a (own + length places) (own + w)) places
+
+-- how many cars stand on a stretch from lo to before hi, if a worker has run it
+abbrev pub cars_on : ℕ → ℕ → Option StretchAnswer → ℕ
+cars_on lo hi None = 0
+cars_on lo hi (Some (Err fault)) = 0
+cars_on lo hi (Some (Ok ran)) = length (cars_between lo hi ran.road)
+
+-- how many cars stand on the stretches of the first k workers. The stretch of worker w goes from one beginning to the
+-- next, behind the caller's own
+abbrev pub cars_on_first : ℕ → (ℕ → ℕ) → ℕ → List (Option StretchAnswer) → ℕ
+cars_on_first zero begin own places = 0
+cars_on_first (suc k) begin own places = cars_on_first k begin own places
+    + cars_on (begin (own + k)) (begin (own + k + 1)) (slice_index_or places k None)

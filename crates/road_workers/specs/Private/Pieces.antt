@@ -3,7 +3,7 @@ use Rattle.std.specs.Prelude.{ℕ, ◌+◌, ◌*◌, ◌/◌, List, length}
 use Rattle.road_cells.specs.Cars.{cars_of}
 use Rattle.road_ends.specs.Input.{StepInput, input_speeds_between}
 
--- where the piece of worker w begins, where n workers share m cars: by whole division, so that a piece may be empty
+-- where the piece of worker w begins, if n workers share m cars: by whole division, so that a piece may be empty
 abbrev pub piece_start : ℕ → ℕ → ℕ → ℕ
 piece_start n m w = w * m / n
 

@@ -1,4 +1,4 @@
--- Stretches of road, each of which somebody runs alone.
+-- Stretches of road, each run alone by somebody.
 use Rattle.std.specs.Prelude.{◌≡◌, ℕ, ◌+◌, ◌-◌, ◌*◌, ◌/◌, ◌<◌, ◌&&◌, Bool, List, length, map, min}
 use Rattle.std.specs.Prelude.{nat_eq, nat_le, nat_lt}
 use Rattle.std.specs.Prelude.{slice_index, slice_index_or, if◌then◌else◌}
@@ -29,11 +29,11 @@ road_after span k a = road_after_steps span.plan (λ _. span.settings) span.step
 abbrev pub has_site : ℕ → ℕ → Plan → ℕ → Bool
 has_site lo hi p d = nat_le lo (slice_index p.detectors d) && nat_lt (slice_index p.detectors d) hi
 
--- what a detector counts in a step at these speeds, where its site is one of these cells; else nothing
+-- what a detector counts in a step at these speeds, if its site is one of these cells; else nothing
 abbrev pub passes_on : ℕ → ℕ → StepInput → List ℕ → ℕ → Totals
 passes_on lo hi input speeds d = if has_site lo hi input.plan d then passes_at input speeds d else no_totals
 
--- what a detector counts in so many steps of a span, where its site is one of these cells; else nothing
+-- what a detector counts in so many steps of a span, if its site is one of these cells; else nothing
 abbrev pub total_on : ℕ → ℕ → Span → ℕ → Array → ℕ → Totals
 total_on lo hi span k a d =
     if has_site lo hi span.plan d then total_from span.plan (λ _. span.settings) span.step k a d else no_totals

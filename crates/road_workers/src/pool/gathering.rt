@@ -11,9 +11,9 @@ use crate::piece::{Piece, PieceAnswer, appended};
 use crate::pool::job::PieceDone;
 use road_ends::StepInput;
 
-// Takes a result where its input is the one asked and its piece is still missing: it drops doubles and strangers.
-// Answers whether it took it; all other places stay as they were.
-pub(super) fn is_taken(
+// Take a result if its input is the one asked and its piece is still missing: it drops doubles and strangers.
+// Return whether it took it; all other places stay as they were.
+pub(super) fn accept(
     places: &mut Vec<Option<PieceAnswer>>,
     done: PieceDone,
     input: &StepInput,
@@ -39,7 +39,7 @@ pub(super) fn is_taken(
     true
 }
 
-// Finds the first worker whose piece it is and which has not answered yet.
+// Find the first worker whose piece it is and which has not answered yet.
 fn missing_place(places: &[Option<PieceAnswer>], piece: Piece, cars: usize) -> Option<usize>
     requires few { length places.now ≤ MOST_WORKERS }
     requires short { cars ≤ GREATEST_LENGTH }
@@ -56,7 +56,7 @@ fn missing_place(places: &[Option<PieceAnswer>], piece: Piece, cars: usize) -> O
     None
 }
 
-// Puts the speeds of all workers one behind the other into the list `whole`.
+// Put the speeds of all workers one behind the other into the list `whole`.
 pub(super) fn put_together(
     whole: Vec<u8>,
     places: Vec<Option<PieceAnswer>>,

@@ -84,18 +84,8 @@ pub(crate) struct StretchDone {
     ghost right: { IfOk answer (λ ran. IsRunOf stretch.first stretch.end span near ran) } by { Prim.hlevel props },
 }
 
-impl Job {
-    // Does the job. The worker keeps a run.
-    pub fn done(self, alloc: Global, kept: &mut KeptRun) -> Done {
-        match self {
-            Job::Piece(job) => Done::Piece(job.done(alloc)),
-            Job::Stretch(job) => Done::Stretch(job.done(alloc, kept)),
-        }
-    }
-}
-
 impl PieceJob {
-    // Makes the job of a piece.
+    // Make the job of a piece.
     pub fn new(input: Arc<StepInput>, piece: Piece) -> PieceJob
         requires order { piece.first ≤ piece.end }
         requires within { piece.end ≤ length (cars_of (arc_value input).road) }
@@ -103,8 +93,11 @@ impl PieceJob {
         PieceJob { input, piece }
     }
 
-    // Computes the piece.
-    fn done(self, alloc: Global) -> PieceDone {
+    // Compute the piece.
+    pub fn done(self, alloc: Global) -> PieceDone
+        ensures input { result.input ≡ self.input }
+        ensures piece { result.piece ≡ self.piece }
+    {
         let PieceJob { input, piece } = self;
         let answer = input.speeds_between(alloc, piece.first, piece.end);
         PieceDone {
@@ -116,7 +109,7 @@ impl PieceJob {
 }
 
 impl StretchJob {
-    // Makes the job of a stretch.
+    // Make the job of a stretch.
     pub fn new(span: Span, near: Road, stretch: Stretch) -> StretchJob
         requires order { stretch.first ≤ stretch.end }
         requires short { stretch.end ≤ GREATEST_LENGTH }
@@ -129,8 +122,12 @@ impl StretchJob {
         }
     }
 
-    // Runs the stretch, in the run that the worker keeps.
-    fn done(self, alloc: Global, kept: &mut KeptRun) -> StretchDone {
+    // Run the stretch, in the run that the worker keeps.
+    pub fn done(self, alloc: Global, kept: &mut KeptRun) -> StretchDone
+        ensures span { result.span ≡ self.span }
+        ensures near { result.near ≡ self.near }
+        ensures stretch { result.stretch ≡ self.stretch }
+    {
         let StretchJob {
             span,
             near,

@@ -1,6 +1,6 @@
 //! What comes of sending to the workers of a pool, and of waiting for them.
 
-ghost use Rattle.std.specs.Prelude.{◌≡◌, Ok, Err, IfErr};
+ghost use Rattle.std.specs.Prelude.{◌≡◌, ◌<◌, ◌≤◌, ℕ, Ok, Err, IfErr, IsOk};
 ghost use Rattle.crossbeam_channel.specs.declared.err.SendError.TheVariants as Send;
 ghost use Rattle.crossbeam_channel.specs.declared.err.RecvError.{RecvError};
 ghost use Rattle.road_workers.specs.declared.faults.CrewFault.TheVariants as Fault;
@@ -14,7 +14,7 @@ use crate::pool::spin::Lookout;
 use crossbeam_channel::{Receiver, RecvError, SendError};
 use std::sync::Wait;
 
-// Where the caller of a pool waits for its workers: its end of the channel of replies, and how it looks for a reply
+// If the caller of a pool waits for its workers: its end of the channel of replies, and how it looks for a reply
 // before it sleeps.
 #[derive(Drop)]
 pub(super) struct Inbox {
@@ -22,7 +22,7 @@ pub(super) struct Inbox {
     pub lookout: Lookout,
 }
 
-// Returns why a job was not sent, where it was not: its worker has gone, or there was no memory for it.
+// Return why a job was not sent, if it was not: its worker has gone, or there was no memory for it.
 pub(super) fn sent(given: Result<(), SendError<Job>>) -> Result<(), CrewFault>
     ensures sent { given ≡ Ok tt → result ≡ Ok tt }
     ensures gone { (job : Job) → given ≡ Err (Send.Disconnected job) → result ≡ Err Fault.WorkersGone }
@@ -35,7 +35,27 @@ pub(super) fn sent(given: Result<(), SendError<Job>>) -> Result<(), CrewFault>
     }
 }
 
-// Waits until a worker says what its job came to. Where one says in its place that it has gone, or all have gone, that is
+// Send so many workers a job each by this send, in their order, up to the first that is refused. Return how many were
+// sent, and why the next one was not. So the caller waits for no answer that nobody was asked for.
+pub(super) fn send_each<F: Fn(u32) -> Result<(), CrewFault>>(
+    workers: u32,
+    send: F,
+) -> (u32, Result<(), CrewFault>)
+    requires { (worker : ℕ) → worker < workers → F.pre send worker }
+    ensures few { result.0 ≤ workers }
+    ensures sent { (worker : ℕ) → worker < result.0 → F.post send worker (Ok tt) }
+    ensures refused { IfErr result.1 (λ fault. F.post send result.0 (Err fault)) }
+    ensures all { IsOk result.1 → result.0 ≡ workers }
+{
+    for worker in 0..workers {
+        if let Err(fault) = send(worker) {
+            return (worker, Err(fault));
+        }
+    }
+    (workers, Ok(()))
+}
+
+// Wait until a worker says what its job came to. If one says in its place that it has gone, or all have gone, that is
 // the answer.
 pub(super) fn next_done<R: Wait>(rt: &R, inbox: &mut Inbox) -> Result<Done, CrewFault>
     ensures { IfErr result (λ fault. fault ≡ Fault.WorkersGone) }
@@ -44,7 +64,7 @@ pub(super) fn next_done<R: Wait>(rt: &R, inbox: &mut Inbox) -> Result<Done, Crew
     told(inbox.replies.recv(rt))
 }
 
-// Returns what was said, where something was.
+// Return what was said, if anything was.
 fn told(heard: Result<Reply, RecvError>) -> Result<Done, CrewFault>
     ensures done { (done : Done) → heard ≡ Ok (Said.Done done) → result ≡ Ok done }
     ensures one_gone { heard ≡ Ok Said.Gone → result ≡ Err Fault.WorkersGone }

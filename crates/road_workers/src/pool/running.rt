@@ -1,6 +1,6 @@
-//! A span, run by the workers of a pool, a stretch of road each; the caller runs one more where it has a processor.
+//! A span, run by the workers of a pool, a stretch of road each; the caller runs one more if it has a processor.
 
-ghost use Rattle.std.specs.Prelude.{◌≡◌, ◌+◌, ◌<◌, ◌≤◌, length, vec_len, IfOk, IfSome, IsOk, IsSome, OnOk};
+ghost use Rattle.std.specs.Prelude.{◌≡◌, ◌+◌, ◌<◌, ◌≤◌, length, vec_len, IfErr, IfOk, IfSome, IsOk, IsSome, OnOk, Ok, Err};
 ghost use Rattle.road_plan.specs.declared.limits.TheConstants.{GREATEST_LENGTH, MOST_WORKERS};
 ghost use Rattle.road_cells.specs.Cars.{cars_of};
 ghost use Rattle.road_ends.specs.Span.{span_road};
@@ -9,19 +9,19 @@ ghost use Rattle.road_columns.specs.UnderWay.{IsRunnable};
 ghost use Rattle.road_workers.specs.Crews.{CanBeRun};
 ghost use Rattle.road_workers.specs.Private.Gathered.{AreRun, AreThere};
 ghost use Rattle.road_workers.specs.Private.Stretches.{IsJoined, cut};
+ghost use Rattle.road_workers.specs.declared.faults.CrewFault.TheVariants as Fault;
 
 use crate::faults::CrewFault;
 use crate::kept_run::KeptRun;
 use crate::pool::job::{Done, Job, StretchAnswer, StretchJob};
-use crate::pool::messages::{Inbox, next_done, sent};
+use crate::pool::messages::{Inbox, next_done, send_each, sent};
 use crate::pool::places::{are_there, places_for};
 use crate::pool::sharing::{Shares, is_shared};
-use crate::pool::side_by_side::{is_run_taken, put_side_by_side};
+use crate::pool::side_by_side::{accept_run, put_side_by_side};
 use crate::pool::{Pool, Worker};
 use crate::stretch::joining::{Joined, first_joined, nothing_joined, ran_of};
 use crate::stretch::{road_near, run_stretch, stretch_at};
 use crate::whole::run_alone;
-use crossbeam_channel::Sender;
 use road_cells::Road;
 use road_columns::is_runnable;
 use road_detector::Ran;
@@ -30,7 +30,7 @@ use std::alloc::Global;
 use std::sync::Wait;
 
 impl<R: Wait> Pool<R> {
-    // Runs a span, where it has steps: by the caller alone where nobody would gain by workers.
+    // Run a span, if it has steps: by the caller alone if workers would gain nothing.
     pub(super) fn run_spans(
         &mut self,
         alloc: Global,
@@ -64,7 +64,7 @@ impl<R: Wait> Pool<R> {
         Ok(Some(ran_of(span, road, cells, joined)))
     }
 
-    // Runs a span by the stretches of all workers, and the caller's own.
+    // Run a span by the stretches of all workers, and the caller's own.
     #[tactic(auto, using(crate::proofs::OneMore::missing_right))]
     fn run_side_by_side(
         &mut self,
@@ -80,56 +80,56 @@ impl<R: Wait> Pool<R> {
     {
         let workers = self.workers.as_slice();
         let mut places = places_for(alloc, workers.len() as u32)?;
-        let (jobs, all) = send_stretches(&self.rt, alloc, shares, workers);
-        let front = own_run(alloc, shares, workers.len() as u32, kept);
-        take_stretches(&self.rt, &mut self.inbox, &mut places, jobs, shares)?;
-        all?;
-        Ok(put_side_by_side(shares, front?, places)?)
+        let rt = &self.rt;
+        let count = workers.len() as u32;
+        let (jobs, sent) = send_each(count, |worker| {
+            send_stretch(rt, alloc, shares, workers, worker)
+        });
+        let front = own_run(alloc, shares, count, kept);
+        let taken = take_stretches(rt, &mut self.inbox, &mut places, jobs, shares);
+        let front = all_ran(taken, sent, front)?;
+        Ok(put_side_by_side(shares, front, places)?)
     }
 }
 
-// Sends each worker its stretch, up to the first that is refused. Returns how many were sent, and whether it was all.
-fn send_stretches<R: Wait>(
+// Return what the caller's stretch came to, if each worker was sent its own and has answered. A lost worker is named
+// before all else, and why a job was not sent before a want of memory of the caller.
+fn all_ran(
+    taken: Result<(), CrewFault>,
+    sent: Result<(), CrewFault>,
+    front: Result<Joined, OutOfMemory>,
+) -> Result<Joined, CrewFault>
+    ensures lost { IfErr taken (λ fault. result ≡ Err fault) }
+    ensures unsent { IsOk taken → IfErr sent (λ fault. result ≡ Err fault) }
+    ensures ran { IfOk result (λ joined. (taken ≡ Ok tt) × (sent ≡ Ok tt) × (front ≡ Ok joined)) }
+{
+    taken?;
+    sent?;
+    Ok(front?)
+}
+
+// Send a worker its stretch.
+fn send_stretch<R: Wait>(
     rt: &R,
     alloc: Global,
     shares: Shares,
     workers: &[Worker],
-) -> (u32, Result<(), CrewFault>)
+    worker: u32,
+) -> Result<(), CrewFault>
     requires own { shares.own ≤ 1 }
     requires few { length workers.now ≤ MOST_WORKERS }
     requires runnable { IsRunnable 0 shares.span.now.plan.cells shares.span.now.plan shares.road.now }
-    ensures sent { result.0 ≤ length workers.now }
-    ensures all { IsOk result.1 → result.0 ≡ length workers.now }
+    requires there { worker < length workers.now }
 {
-    let count = workers.len() as u32;
-    for worker in 0..count {
-        let stretch = shares.stretch_of(count, worker);
-        let jobs = &workers[worker as usize].jobs;
-        if let Err(fault) = send_stretch(rt, alloc, shares.span, shares.road, stretch, jobs) {
-            return (worker, Err(fault));
-        }
-    }
-    (count, Ok(()))
-}
-
-fn send_stretch<R: Wait>(
-    rt: &R,
-    alloc: Global,
-    span: &Span,
-    road: &Road,
-    stretch: Stretch,
-    jobs: &Sender<Job>,
-) -> Result<(), CrewFault>
-    requires order { stretch.first ≤ stretch.end }
-    requires short { stretch.end ≤ GREATEST_LENGTH }
-    requires runnable { IsRunnable 0 span.now.plan.cells span.now.plan road.now }
-{
+    let Shares { span, road, .. } = shares;
+    let stretch = shares.stretch_of(workers.len() as u32, worker);
     let near = road_near(alloc, span, road, stretch)?;
     let job = StretchJob::new(span.copied()?, near, stretch);
+    let jobs = &workers[worker as usize].jobs;
     sent(jobs.send(rt, Job::Stretch(job)))
 }
 
-// Runs the caller's stretch, in front of those of so many workers, in the run that is lent to it. Where it has none, that
+// Run the caller's stretch, in front of those of so many workers, in the run that is lent to it. If it has none, that
 // is nothing.
 fn own_run(
     alloc: Global,
@@ -153,7 +153,7 @@ fn own_run(
     Ok(first_joined(ran, first.end))
 }
 
-// Takes what so many workers, from the first on, answer for this span. What comes twice or from elsewhere is dropped.
+// Take what so many workers, from the first on, answer for this span. What comes twice or from elsewhere is dropped.
 fn take_stretches<R: Wait>(
     rt: &R,
     inbox: &mut Inbox,
@@ -166,6 +166,7 @@ fn take_stretches<R: Wait>(
     requires own { shares.own ≤ 1 }
     requires gathered { AreRun shares.span.now shares.road.now shares.own places.old.items }
     ensures there { OnOk result (AreThere workers places.new.items) }
+    ensures lost { IfErr result (λ fault. fault ≡ Fault.WorkersGone) }
     ensures count { vec_len places.new ≡ vec_len places.old }
     ensures gathered { AreRun shares.entry.span.now shares.entry.road.now shares.entry.own places.new.items }
 {
@@ -174,7 +175,7 @@ fn take_stretches<R: Wait>(
             return Ok(());
         }
         if let Done::Stretch(done) = next_done(rt, inbox)? {
-            is_run_taken(places, done, shares);
+            accept_run(places, done, shares);
         }
     }
     unreachable!()

@@ -15,7 +15,7 @@ const HAND_OVER: u64 = 40_000;
 // How many cells behind a stretch and ahead of it are run with it, for each step of the span.
 const MARGINS: u64 = 18;
 
-// Answers whether a span of a road of so many cars is run by so many stretches, for which there are processors: where each
+// Return whether a span of a road of so many cars is run by so many stretches, for which there are processors: if each
 // takes four fifths at most of what one thread takes alone, with what is near it and its way to a worker.
 // `bench/time-workers` measures it.
 pub(super) fn is_shared(cars: usize, cells: u32, steps: u32, stretches: u32) -> bool {
@@ -33,12 +33,12 @@ pub(super) fn is_shared(cars: usize, cells: u32, steps: u32, stretches: u32) -> 
 pub(super) struct Shares<'a> {
     pub span: &'a Span,
     pub road: &'a Road,
-    // How many of them the caller runs: one where it has a processor, else none.
+    // How many of them the caller runs: one if it has a processor, else none.
     pub own: u32,
 }
 
 impl<'a> Shares<'a> {
-    // Returns the stretch of a worker, of so many.
+    // Return the stretch of a worker, of so many.
     pub(super) fn stretch_of(self, workers: u32, worker: u32) -> Stretch
         requires own { self.own ≤ 1 }
         requires few { workers ≤ MOST_WORKERS }

@@ -3,7 +3,7 @@
 ghost use Rattle.std.specs.Prelude.{◌≡◌, ◌+◌, ◌<◌, ◌≤◌, length, vec_len, IfOk, IfSome, IsFalse, IsTrue};
 ghost use Rattle.road_plan.specs.declared.limits.TheConstants.{GREATEST_LENGTH, MOST_WORKERS};
 ghost use Rattle.road_cells.specs.Cars.{cars_of};
-ghost use Rattle.road_workers.specs.Private.Gathered.{AreRun, AreThere, IsMissing, TakesOne};
+ghost use Rattle.road_workers.specs.Private.Gathered.{AreRun, AreThere, IsMissing, TakesOne, cars_on_first};
 ghost use Rattle.road_workers.specs.Private.Stretches.{IsJoined, IsRunOf, cut};
 
 use crate::pool::job::{StretchAnswer, StretchDone};
@@ -14,9 +14,9 @@ use road_cells::Road;
 use road_ends::{OutOfMemory, Span, Stretch};
 use road_plan::limits::GREATEST_HORIZON;
 
-// Takes what a stretch of this span comes to where it is still missing: it drops doubles and strangers. Answers whether it
+// Take what a stretch of this span comes to, if it is still missing: it drops doubles and strangers. Return whether it
 // took it; all other places stay as they were.
-pub(super) fn is_run_taken(
+pub(super) fn accept_run(
     places: &mut Vec<Option<StretchAnswer>>,
     done: StretchDone,
     shares: Shares,
@@ -40,7 +40,7 @@ pub(super) fn is_run_taken(
     true
 }
 
-// Finds the first worker whose stretch it is and which has not answered yet.
+// Find the first worker whose stretch it is and which has not answered yet.
 fn missing_stretch(
     places: &[Option<StretchAnswer>],
     stretch: Stretch,
@@ -67,7 +67,7 @@ fn missing_stretch(
     None
 }
 
-// Answers whether a stretch was run for this span of this road.
+// Return whether a stretch was run for this span of this road.
 fn is_asked(done: &StretchDone, span: &Span, road: &Road) -> bool
     requires order { done.now.stretch.first ≤ done.now.stretch.end }
     requires short { done.now.stretch.end ≤ GREATEST_LENGTH }
@@ -80,7 +80,7 @@ fn is_asked(done: &StretchDone, span: &Span, road: &Road) -> bool
     is_near(&done.near, span, road, done.stretch)
 }
 
-// Puts what the stretches come to one behind the other, the caller's own in front.
+// Put what the stretches come to one behind the other, the caller's own in front.
 pub(super) fn put_side_by_side(
     shares: Shares,
     front: Joined,
@@ -108,10 +108,14 @@ pub(super) fn put_side_by_side(
     whole
 }
 
-// Counts the cars that stand on the stretches of all workers after the span.
+// Count the cars that stand on the stretches of all workers after the span. It is no more than that: room for more cars
+// might be refused though there is room for these.
 fn cars_behind(places: &[Option<StretchAnswer>], shares: Shares) -> usize
     requires few { length places.now ≤ MOST_WORKERS }
     requires own { shares.own ≤ 1 }
+    ensures { result ≤ cars_on_first (length places.now)
+        (cut shares.entry.span.now.plan.cells (cars_of shares.entry.road.now) (shares.entry.own + length places.now))
+        shares.entry.own places.now }
 {
     let workers = places.len() as u32;
     let mut cars = 0usize;
@@ -124,7 +128,7 @@ fn cars_behind(places: &[Option<StretchAnswer>], shares: Shares) -> usize
     cars
 }
 
-// Puts what a stretch comes to behind what all before it come to.
+// Put what a stretch comes to behind what all before it come to.
 fn put_behind(
     span: &Span,
     road: &Road,

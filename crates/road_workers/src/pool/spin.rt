@@ -12,20 +12,20 @@ const LOOKS: u32 = 100_000;
 // In how many waits at most a thread sleeps at once after it has looked in vain.
 const MOST_PAUSE: u32 = 63;
 
-// How a thread of a crew looks for messages before it sleeps. Where it has looked in vain it sleeps at once in the next
-// wait, and where it has done so again in the next 3, and so on, until a message comes while it looks. So it sleeps
-// beside busy processes, where messages come late.
+// How a thread of a crew looks for messages before it sleeps. If it has looked in vain it sleeps at once in the next
+// wait, and if it has done so again in the next 3, and so on, until a message comes while it looks. So it sleeps
+// beside busy processes, when messages come late.
 #[derive(Clone, Copy)]
 pub(crate) struct Lookout {
     // How often it looks in a wait.
     looks: u32,
-    // In how many waits it was to sleep at once after it had last looked in vain; in none where a message came since.
+    // In how many waits it was to sleep at once after it had last looked in vain; in none if a message came since.
     pause: u32,
     // In how many of them it still is.
     left: u32,
 }
 
-// Returns how many processors there are; where that is not known, one.
+// Return how many processors there are; if that is not known, one.
 pub(super) fn processors_of<R: Threads>(rt: &R) -> u32 {
     match available_parallelism(rt) {
         Ok(processors) => u32::try_from(processors.get()).unwrap_or(u32::MAX),
@@ -34,7 +34,7 @@ pub(super) fn processors_of<R: Threads>(rt: &R) -> u32 {
 }
 
 impl Lookout {
-    // Returns how each of so many threads looks on so many processors: not at all where they have none each, for a
+    // Return how each of so many threads looks on so many processors: not at all if they have none each, for a
     // spinning thread would keep another one from its work.
     pub fn of(threads: u32, processors: u32) -> Lookout {
         let has_own = threads <= processors;
@@ -45,7 +45,7 @@ impl Lookout {
         }
     }
 
-    // Spins until a message is there, or it has looked in vain: a thread that spins need not be woken. It does not yield
+    // Spin until a message is there, or it has looked in vain: a thread that spins need not be woken. It does not yield
     // the processor.
     pub fn spin_for_message<T: Drop>(&mut self, messages: &Receiver<T>) {
         if self.left > 0 {

@@ -1,25 +1,25 @@
 //! A step, computed by the workers of a pool, a piece of its cars each.
 
-ghost use Rattle.std.specs.Prelude.{◌≡◌, ◌<◌, ◌≤◌, length, vec_len, IfOk, IsOk, OnOk};
+ghost use Rattle.std.specs.Prelude.{◌≡◌, ◌<◌, ◌≤◌, length, vec_len, IfErr, IfOk, OnOk};
 ghost use Rattle.std.specs.Arc.{arc_value};
 ghost use Rattle.road_plan.specs.declared.limits.TheConstants.{MOST_WORKERS, GREATEST_LENGTH};
 ghost use Rattle.road_cells.specs.Cars.{cars_of};
 ghost use Rattle.road_ends.specs.Input.{input_speeds};
 ghost use Rattle.road_workers.specs.Private.Gathered.{AreGathered, AreThere};
+ghost use Rattle.road_workers.specs.declared.faults.CrewFault.TheVariants as Fault;
 
 use crate::faults::CrewFault;
 use crate::piece::{Piece, PieceAnswer, cars_in, list_for};
 use crate::pool::Worker;
-use crate::pool::gathering::{is_taken, put_together};
+use crate::pool::gathering::{accept, put_together};
 use crate::pool::job::{Done, Job, PieceJob};
-use crate::pool::messages::{Inbox, next_done, sent};
+use crate::pool::messages::{Inbox, next_done, send_each, sent};
 use crate::pool::places::{are_there, places_for};
-use crossbeam_channel::Sender;
 use road_ends::StepInput;
 use std::alloc::Global;
 use std::sync::{Arc, Wait};
 
-// Computes the speeds of a step: a job for each worker, and a result for each job.
+// Compute the speeds of a step: a job for each worker, and a result for each job.
 #[tactic(auto, using(crate::proofs::OneMore::missing_right))]
 pub(super) fn speeds_by<R: Wait>(
     rt: &R,
@@ -36,49 +36,32 @@ pub(super) fn speeds_by<R: Wait>(
     let cars = cars_in(input);
     let whole = list_for(alloc, count, cars)?;
     let mut places = places_for(alloc, count)?;
-    let (jobs, all) = send_jobs(rt, input, workers, cars);
+    let (jobs, all) = send_each(count, |worker| send_job(rt, input, workers, cars, worker));
     take_pieces(rt, inbox, &mut places, jobs, input, cars)?;
     all?;
     Ok(put_together(whole, places, input)?)
 }
 
-// Sends each worker its piece, up to the first that is refused. Returns how many were sent, and whether it was all.
-fn send_jobs<R: Wait>(
+// Send a worker its piece.
+fn send_job<R: Wait>(
     rt: &R,
     input: &Arc<StepInput>,
     workers: &[Worker],
     cars: usize,
-) -> (u32, Result<(), CrewFault>)
+    worker: u32,
+) -> Result<(), CrewFault>
     requires few { length workers.now ≤ MOST_WORKERS }
     requires cars { cars ≡ length (cars_of (arc_value input.now).road) }
     requires short { cars ≤ GREATEST_LENGTH }
-    ensures sent { result.0 ≤ length workers.now }
-    ensures all { IsOk result.1 → result.0 ≡ length workers.now }
+    requires there { worker < length workers.now }
 {
-    let count = workers.len() as u32;
-    for worker in 0..count {
-        let piece = Piece::of(worker, count, cars);
-        if let Err(fault) = send_job(rt, input, piece, &workers[worker as usize].jobs) {
-            return (worker, Err(fault));
-        }
-    }
-    (count, Ok(()))
-}
-
-fn send_job<R: Wait>(
-    rt: &R,
-    input: &Arc<StepInput>,
-    piece: Piece,
-    jobs: &Sender<Job>,
-) -> Result<(), CrewFault>
-    requires order { piece.first ≤ piece.end }
-    requires within { piece.end ≤ length (cars_of (arc_value input.now).road) }
-{
+    let piece = Piece::of(worker, workers.len() as u32, cars);
     let job = PieceJob::new(Arc::try_clone(input)?, piece);
+    let jobs = &workers[worker as usize].jobs;
     sent(jobs.send(rt, Job::Piece(job)))
 }
 
-// Takes what so many workers, from the first on, answer for this step. What comes twice or from elsewhere is dropped.
+// Take what so many workers, from the first on, answer for this step. What comes twice or from elsewhere is dropped.
 fn take_pieces<R: Wait>(
     rt: &R,
     inbox: &mut Inbox,
@@ -93,6 +76,7 @@ fn take_pieces<R: Wait>(
     requires short { cars ≤ GREATEST_LENGTH }
     requires gathered { AreGathered input.now places.old.items }
     ensures there { OnOk result (AreThere workers places.new.items) }
+    ensures lost { IfErr result (λ fault. fault ≡ Fault.WorkersGone) }
     ensures count { vec_len places.new ≡ vec_len places.old }
     ensures gathered { AreGathered input.now places.new.items }
 {
@@ -101,7 +85,7 @@ fn take_pieces<R: Wait>(
             return Ok(());
         }
         if let Done::Piece(done) = next_done(rt, inbox)? {
-            is_taken(places, done, input, cars);
+            accept(places, done, input, cars);
         }
     }
     unreachable!()

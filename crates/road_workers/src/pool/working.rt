@@ -4,11 +4,14 @@ ghost use Rattle.std.specs.Prelude.{◌≡◌, Ok, Err, IfErr, IsFalse, IsTrue};
 ghost use Rattle.crossbeam_channel.specs.Err.{send_message};
 ghost use Rattle.crossbeam_channel.specs.declared.err.SendError.{SendError};
 ghost use Rattle.crossbeam_channel.specs.declared.err.SendError.TheVariants.{Disconnected};
+ghost use Rattle.road_workers.specs.Private.Jobs.{IsAnswerTo};
+ghost use Rattle.road_workers.specs.declared.pool.job.Done.{Done};
 ghost use Rattle.road_workers.specs.declared.pool.job.Reply.{Reply};
+ghost use Rattle.road_workers.specs.declared.pool.job.Reply.TheVariants as Said;
 
 use crate::gate::Gate;
 use crate::kept_run::KeptRun;
-use crate::pool::job::{Job, Reply};
+use crate::pool::job::{Done, Job, Reply};
 use crate::pool::spin::Lookout;
 use crossbeam_channel::{Receiver, SendError, Sender};
 use std::alloc::Global;
@@ -22,18 +25,18 @@ pub(crate) struct Ends {
     pub lookout: Lookout,
 }
 
-// Does a worker's jobs. Its last word is that it has gone, however it comes to that: so nobody waits for it in vain.
+// Do a worker's jobs. Its last word is that it has gone, however it comes to that: so nobody waits for it in vain.
 pub(crate) fn work<R: Wait, G: Gate>(rt: &R, alloc: Global, worker: u32, gate: &G, ends: &Ends) {
     do_jobs(rt, alloc, worker, gate, ends);
     say_gone(rt, &ends.replies);
 }
 
-// Says that a worker has gone.
+// Say that a worker has gone.
 pub(crate) fn say_gone<R: Wait>(rt: &R, replies: &Sender<Reply>) {
-    is_given(rt, Reply::Gone, |reply: Reply| replies.send(rt, reply));
+    deliver(rt, Reply::Gone, |reply: Reply| replies.send(rt, reply));
 }
 
-// Does a worker's jobs until its channel of jobs is closed, or nobody takes replies. It looks for a job before it sleeps,
+// Do a worker's jobs until its channel of jobs is closed, or nobody takes replies. It looks for a job before it sleeps,
 // and passes the gate before each, which may be an empty piece or stretch.
 fn do_jobs<R: Wait, G: Gate>(rt: &R, alloc: Global, worker: u32, gate: &G, ends: &Ends) {
     let mut lookout = ends.lookout;
@@ -44,11 +47,12 @@ fn do_jobs<R: Wait, G: Gate>(rt: &R, alloc: Global, worker: u32, gate: &G, ends:
             return;
         };
         gate.arrive(worker);
-        let done = job.done(alloc, &mut kept);
         let replies = &ends.replies;
-        if !is_given(
+        if !answer_job(
             rt,
-            Reply::Done(done),
+            alloc,
+            job,
+            &mut kept,
             |reply: Reply| replies.send(rt, reply),
         ) {
             return;
@@ -56,9 +60,39 @@ fn do_jobs<R: Wait, G: Gate>(rt: &R, alloc: Global, worker: u32, gate: &G, ends:
     }
 }
 
-// Gives a reply by this send, and again where there was no memory to give it. Answers whether it was taken; else nobody
+// Do a job, and give what it came to by this send: if it found no memory, that too, since somebody waits for it.
+// Return whether that was taken; else nobody takes replies.
+fn answer_job<R: Wait, F: Fn(Reply) -> Result<(), SendError<Reply>>>(
+    rt: &R,
+    alloc: Global,
+    job: Job,
+    kept: &mut KeptRun,
+    send: F,
+) -> bool
+    requires may_send { F.IsAlwaysCallable send }
+    requires handed_back { (given : Reply) → (fault : SendError Reply) → F.post send given (Err fault)
+        → send_message fault ≡ given }
+    ensures taken { IsTrue result → (done : Done) × IsAnswerTo job done × F.post send (Said.Done done) (Ok tt) }
+    ensures nobody { IsFalse result → (done : Done) × IsAnswerTo job done
+        × F.post send (Said.Done done) (Err (Disconnected (Said.Done done))) }
+{
+    let done = result_of(job, alloc, kept);
+    deliver(rt, Reply::Done(done), send)
+}
+
+// Do a job. The worker keeps a run.
+fn result_of(job: Job, alloc: Global, kept: &mut KeptRun) -> Done
+    ensures { IsAnswerTo job result }
+{
+    match job {
+        Job::Piece(job) => Done::Piece(job.done(alloc)),
+        Job::Stretch(job) => Done::Stretch(job.done(alloc, kept)),
+    }
+}
+
+// Give a reply by this send, and again if there was no memory to give it. Return whether it was taken; else nobody
 // takes replies.
-fn is_given<R: Wait, F: Fn(Reply) -> Result<(), SendError<Reply>>>(
+fn deliver<R: Wait, F: Fn(Reply) -> Result<(), SendError<Reply>>>(
     rt: &R,
     reply: Reply,
     send: F,

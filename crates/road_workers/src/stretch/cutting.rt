@@ -13,7 +13,7 @@ use road_ends::{OutOfMemory, Span, Stretch};
 use road_plan::Plan;
 use std::alloc::Global;
 
-// Takes the road, and what the detectors of a stretch have counted, out of a run that has made the steps of a span.
+// Take the road, and what the detectors of a stretch have counted, out of a run that has made the steps of a span.
 pub(crate) fn cut_out(
     alloc: Global,
     span: &Span,
@@ -31,7 +31,7 @@ pub(crate) fn cut_out(
     Ok(Ran { road, totals })
 }
 
-// Forgets what detectors have counted whose sites are not on a stretch.
+// Forget what detectors have counted whose sites are not on a stretch.
 fn forget_outside(totals: &mut Vec<Totals>, plan: &Plan, stretch: Stretch)
     requires { length totals.old.items ≡ length plan.now.detectors }
     ensures each { length totals.new.items ≡ length totals.old.items }

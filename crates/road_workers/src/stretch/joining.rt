@@ -21,7 +21,7 @@ pub(crate) struct Joined {
     pub totals: Vec<Totals>,
 }
 
-// Makes what no stretch at all comes to, before the first cell.
+// Make what no stretch at all comes to, before the first cell.
 pub(crate) fn nothing_joined(alloc: Global, span: &Span) -> Result<Joined, OutOfMemory>
     ensures { IfOk result (λ joined. (a : Array) → IsJoined 0 span.now a joined) }
 {
@@ -32,7 +32,7 @@ pub(crate) fn nothing_joined(alloc: Global, span: &Span) -> Result<Joined, OutOf
     })
 }
 
-// Begins with what the first stretch comes to, which ends before a cell: its list of cars is kept, without those that
+// Begin with what the first stretch comes to, which ends before a cell: its list of cars is kept, without those that
 // stand farther on.
 pub(crate) fn first_joined(ran: Ran, end: u32) -> Joined
     ensures { (span : Span) (a : Array) → IsRunOf 0 end span a ran → IsJoined end span a result }
@@ -44,7 +44,7 @@ pub(crate) fn first_joined(ran: Ran, end: u32) -> Joined
     Joined { cars, totals }
 }
 
-// Makes room for so many more cars.
+// Make room for so many more cars.
 pub(crate) fn with_room(joined: Joined, more: usize) -> Result<Joined, OutOfMemory>
     ensures { (end : ℕ) (span : Span) (a : Array) → IsJoined end span a joined → IfOk result (IsJoined end span a) }
 {
@@ -53,7 +53,7 @@ pub(crate) fn with_room(joined: Joined, more: usize) -> Result<Joined, OutOfMemo
     Ok(Joined { cars, totals })
 }
 
-// Puts what a stretch comes to behind what those before it come to: of each of its cars a copy.
+// Put what a stretch comes to behind what those before it come to: of each of its cars a copy.
 pub(crate) fn beside(
     span: &Span,
     road: &Road,
@@ -76,7 +76,7 @@ pub(crate) fn beside(
     Ok(Joined { cars, totals })
 }
 
-// Adds what each detector has counted elsewhere.
+// Add what each detector has counted elsewhere.
 fn add(totals: &mut Vec<Totals>, others: &[Totals])
     requires each { length others.now ≡ length totals.old.items }
     requires cars { (d : ℕ) → d < length totals.old.items →
@@ -92,7 +92,7 @@ fn add(totals: &mut Vec<Totals>, others: &[Totals])
     }
 }
 
-// Makes the road of what all its stretches come to, after a step at least.
+// Make the road of what all its stretches come to, after a step at least.
 pub(crate) fn ran_of(span: &Span, road: &Road, cells: u32, joined: Joined) -> Ran
     requires some { 0 < span.now.steps }
     requires cells { cells ≡ span.now.plan.cells }

@@ -1,4 +1,4 @@
--- What holds of the replicas and the messages that a world keeps.
+-- Facts about the replicas and the messages that a world stores.
 use Rattle.std.specs.Prelude.{◌≡◌, ◌≤◌, ℕ, List, length}
 use Rattle.std.specs.List.{All, slice_get}
 use Rattle.std.specs.declared.option.Option.TheVariants.{Some}
@@ -28,13 +28,13 @@ pub record AreSendable (plan : Plan) (edits : Edits) : Type 0 where
   pub winners : AreWinners edits
   pub in_range : AreInRange plan edits
 
--- a message carries such edits; of heads nothing is asked
+-- a message carries edits that may be sent; heads have no condition
 abbrev pub IsSendable : Plan → Message → Type 0
 IsSendable plan (Whole edits) = AreSendable plan edits
 IsSendable plan (Answer edits) = AreSendable plan edits
 IsSendable plan (Asked hs) = Unit {0}
 
--- each replica has its place as its number, they are few enough, and each message may be sent
+-- each replica has its place as its number, they are at most as many as allowed, and each message may be sent
 pub record IsWorldKept (plan : Plan) (replicas : List Replica) (messages : List Message) : Type 0 where
   pub few : length replicas ≤ MOST_REPLICAS
   pub each : (number : ℕ) (replica : Replica) → slice_get replicas number ≡ Some replica →

@@ -8,7 +8,7 @@ pub const ZERO_KEY: &[u32] = &[
     0x5032ec38, 0xbbc5da98, 0xee0c6f56, 0x8b872a65, 0xa08abf25, 0x1deb21bb, 0x4b56e5d8, 0x821e68aa,
 ];
 
-/// Seed, stream, place and word, computed by a program that shares nothing with this crate.
+/// Seed, stream, place and word, computed by a program that shares no code with this crate.
 pub const CHACHA_WORDS: &[(u64, u64, u64, u32)] = &[
     (7, 0, 0, 1846740233),
     (7, 0, 1, 1274199344),

@@ -1,21 +1,45 @@
-//! The definitions of settings and of touched steps as a plain, slow program over a list of edits, beside worked
+//! The definitions of settings and of touched steps as a plain, slow program over a list of edits, compared with
 //! scenarios.
 
-use super::{BLOCK, LIMIT, MERGES, Merge, SLOW, START, scenario};
+use super::{
+    BLOCKED, EARLY, FREED, LATE, Look, NEXT, NO_LIMIT, NO_SLOW, NO_START, ONE, SLOWED,
+    SLOWED_LATER, STARTED, STARTED_LATER, THREE, TWO, Way, looks_right, setting_at,
+};
+use crate::holds;
+use lattice_core::lattice::Lattice;
 use road_plan::{Object, Plan};
 use road_scenario::{Edit, OutOfMemory, Scenario, Value};
 use std::alloc::Global;
 use std::process::Abort;
 use std::test::Fail;
-use tests_plans::{FREE, plan_of};
+use tests_plans::{BLOCK, FREE, LIMIT, START, plan_of};
 
-/// The objects that are looked at.
-const OBJECTS: &[Object] = &[LIMIT, SLOW, BLOCK, START];
+/// The objects that are compared.
+const OBJECTS: &[Object] = &[LIMIT, Object::Slow(0), BLOCK, START];
 
-/// The greatest step that is looked at.
+/// The greatest step that is compared.
 const LAST: u32 = 6;
 
-// Tells whether another edit of the same object and step exceeds an edit in stamp and value.
+/// Lists of edits. Each is merged with each.
+const LISTS: &[&[Edit]] = &[
+    &[],
+    &[TWO],
+    &[THREE],
+    &[TWO, THREE],
+    &[THREE, TWO],
+    &[ONE],
+    &[NEXT],
+    &[ONE, LATE, ONE],
+    &[BLOCKED],
+    &[FREED],
+    &[BLOCKED, LATE, ONE],
+    &[NO_LIMIT, NO_SLOW, EARLY],
+    &[SLOWED, SLOWED_LATER],
+    &[STARTED, BLOCKED, SLOWED],
+    &[STARTED_LATER, NO_START, STARTED],
+];
+
+// Return whether another edit of the same object and step exceeds an edit in stamp and value.
 fn exceeds(edit: &Edit, other: &Edit) -> bool {
     edit.object == other.object
         && edit.step == other.step
@@ -33,7 +57,7 @@ fn number(value: Value) -> Option<u32> {
     }
 }
 
-// Returns the number that the winner of an object and step puts, if there is one.
+// Return the number that the winner of an object and step sets, if there is one.
 fn put_at(edits: &[Edit], object: Object, step: u32) -> Option<u32> {
     for edit in edits {
         if edit.object == object && edit.step == step && is_winner(edits, edit) {
@@ -43,7 +67,7 @@ fn put_at(edits: &[Edit], object: Object, step: u32) -> Option<u32> {
     None
 }
 
-// Returns the number put at the latest step up to this one at which one is put.
+// Return the number set at the latest step up to this one at which one is set.
 fn put_up_to(edits: &[Edit], object: Object, step: u32) -> Option<u32> {
     for earlier in (0..=step).rev() {
         if let Some(number) = put_at(edits, object, earlier) {
@@ -53,7 +77,7 @@ fn put_up_to(edits: &[Edit], object: Object, step: u32) -> Option<u32> {
     None
 }
 
-// Returns that number, else the default; of standing cars the slowing chance of the zone.
+// Return that number, else the default; for standing cars the slowing chance of the zone.
 fn setting(plan: &Plan, edits: &[Edit], object: Object, step: u32) -> u32 {
     let own = match object {
         Object::Start(zone) => Object::Slow(zone),
@@ -70,7 +94,7 @@ fn setting(plan: &Plan, edits: &[Edit], object: Object, step: u32) -> u32 {
     }
 }
 
-// Returns the least step of an object and step whose numbers put differ.
+// Return the least step at which the numbers set for some object differ.
 fn touched(edits: &[Edit], others: &[Edit]) -> Option<u32> {
     for step in 0..=LAST {
         for object in OBJECTS {
@@ -82,51 +106,104 @@ fn touched(edits: &[Edit], others: &[Edit]) -> Option<u32> {
     None
 }
 
-// The settings of a scenario against those of the edits that it came of.
-fn compare(rt: &impl Abort, plan: &Plan, row: usize, edits: &[Edit], made: &Scenario) {
+// Return the greatest count of edits.
+fn greatest_count(edits: &[Edit]) -> u64 {
+    let mut greatest = 0;
+    for edit in edits {
+        greatest = edit.stamp.count.max(greatest);
+    }
+    greatest
+}
+
+// Return whether the settings of a scenario are those of these edits.
+fn settings_are(plan: &Plan, edits: &[Edit], made: &Scenario) -> bool {
     for step in 0..=LAST {
         for object in OBJECTS {
-            assert!(rt; object.in_plan(plan));
-            assert!(rt;
-                made.setting(plan, *object, step) == setting(plan, edits, *object, step),
-                "{object:?} at step {step}, row {row}"
-            );
+            if setting_at(made, plan, *object, step) != Some(setting(plan, edits, *object, step)) {
+                return false;
+            }
         }
+    }
+    true
+}
+
+/// A scenario that is merged into another one.
+#[derive(Clone, Copy)]
+struct Come<'a> {
+    plan: &'a Plan,
+    before: &'a Scenario,
+    /// The edits of the other one, and those of both.
+    held: &'a [Edit],
+    all: &'a [Edit],
+}
+
+impl Come<'_> {
+    // Return whether both have merged as expected, from this step on.
+    fn have_merged(&self, come: &Scenario, after: &Scenario, first: Option<u32>) -> bool {
+        first == touched(self.held, self.all)
+            && self.before.touched(after) == first
+            && self.before.at_most(after)
+            && come.at_most(after)
+            && after.greatest_count() == greatest_count(self.all)
+            && settings_are(self.plan, self.all, after)
     }
 }
 
-// Returns the settings of the edits of a row, as they are once they came, and which step they touch.
-fn looks_at(
+impl Look for Come<'_> {
+    fn is_right(&self, _alloc: Global, come: &Scenario) -> Result<bool, OutOfMemory> {
+        let after = self.before.joined(come)?;
+        let first = self.before.touched_by(come, &after);
+        Ok(self.have_merged(come, &after, first))
+    }
+}
+
+/// A scenario of these edits, into which others are merged.
+#[derive(Clone, Copy)]
+struct Held<'a> {
+    plan: &'a Plan,
+    held: &'a [Edit],
+    come: &'a [Edit],
+}
+
+impl Look for Held<'_> {
+    fn is_right(&self, alloc: Global, before: &Scenario) -> Result<bool, OutOfMemory> {
+        let mut all = self.held.to_vec(alloc)?;
+        all.extend_from_slice(self.come)?;
+        let look = Come {
+            plan: self.plan,
+            before,
+            held: self.held,
+            all: &all,
+        };
+        looks_right(alloc, Way::AtOnce, self.come, &look)
+    }
+}
+
+// Merge a list with each, and compare the results with the plain program.
+fn merge_with_each(
     rt: &impl Abort,
     alloc: Global,
     plan: &Plan,
-    (row, merge): (usize, &Merge),
-    after: &[Edit],
-) -> Result<(), OutOfMemory> {
-    let ((held, _), (listed, first_touched, _)) = *merge;
-    let made = scenario(alloc, listed)?;
-    compare(rt, plan, row, after, &made);
-    assert!(rt; touched(held, after) == first_touched, "row {row}");
+    held: &[Edit],
+    lists: &[&[Edit]],
+) -> Result<(), Fail> {
+    for (row, come) in lists.iter().enumerate() {
+        let look = Held { plan, held, come };
+        holds(rt, row, looks_right(alloc, Way::OneByOne, held, &look)?);
+    }
     Ok(())
 }
 
-// Compares with the plain program what the edits of a row make of those that were held.
-fn compare_row(
-    rt: &impl Abort,
-    alloc: Global,
-    plan: &Plan,
-    (row, merge): (usize, &Merge),
-) -> Result<(), OutOfMemory> {
-    let mut after = merge.0.0.to_vec(alloc)?;
-    after.extend_from_slice(merge.0.1)?;
-    looks_at(rt, alloc, plan, (row, merge), &after)
+// Merge each list with each.
+fn merge_each(rt: &impl Abort, alloc: Global, plan: &Plan, lists: &[&[Edit]]) -> Result<(), Fail> {
+    for held in lists {
+        merge_with_each(rt, alloc, plan, held, lists)?;
+    }
+    Ok(())
 }
 
 #[test]
-fn the_plain_program_agrees(rt: HostRuntime) -> Result<(), Fail> {
+fn merges_are_those_of_the_plain_program(rt: HostRuntime) -> Result<(), Fail> {
     let plan = plan_of(rt.alloc(), &FREE)?;
-    for row in MERGES.iter().enumerate() {
-        compare_row(&rt, rt.alloc(), &plan, row)?;
-    }
-    Ok(())
+    merge_each(&rt, rt.alloc(), &plan, LISTS)
 }

@@ -1,4 +1,4 @@
--- What is joined in at the key's page, is joined in.
+-- Joining in at the key's page joins in at the key.
 use Rattle.std.proofs.Common.{arith, ℕ, zero, suc, ◌≡◌, ◌<◌, false, T, length, ap, sym, subst, ◌∙◌}
 use Rattle.std.proofs.lemmas.Bool.{true≢false}
 use Rattle.std.proofs.lemmas.Result.{IfOk-weaker}

@@ -1,4 +1,4 @@
--- The two parts are the page.
+-- The two parts together are the page.
 use Rattle.std.proofs.Common.{◌≡◌, ◌+◌, ◌++◌, suc, T, take, drop, arith, ap, sym, subst, ◌∙◌, take-append-drop}
 use Rattle.std.specs.FinMap.Entries.{is_sorted}
 use Rattle.std.specs.List.{insert, slice_index_or, slice_set}

@@ -1,4 +1,4 @@
--- What stands at a key, stands in its page.
+-- The value at a key is found in the key's page.
 use Rattle.std.proofs.Common.{◌-◌, ap, sym, ◌∙◌}
 use Rattle.std.specs.FinMap.Entries.{find}
 use Rattle.lattice_core.proofs.KeyPages.{find-no_page, find-page, firsts-rise, page-of-count}

@@ -1,4 +1,4 @@
--- A binary search parts the blocks at the cell.
+-- A binary search divides the blocks at the cell.
 use Rattle.std.proofs.Common.{rules, of_calls, nat_le}
 use Rattle.std.proofs.lemmas.Fn.{always_returns_same}
 use Rattle.road_cells.proofs.CellsAhead.{parted, parted_at}

@@ -1,4 +1,4 @@
--- No block behind those that were passed is reached.
+-- No block after those that were passed is reached.
 use Rattle.std.proofs.Common.{rules}
 use Rattle.road_cells.proofs.blocks.reached_blocks_below.Goals as goal
 

@@ -1,4 +1,4 @@
--- One total more.
+-- One more total.
 use Rattle.std.proofs.Common.{◌∙◌, ◌++◌, [], ◌∷◌, sym, arith}
 use Rattle.std.proofs.lemmas.List.FromFn.{map-range_with_len_more}
 use Rattle.road_columns.specs.Private.Counts.{total_in}

@@ -1,27 +1,16 @@
--- One region more, up to the exit.
+-- One more region, up to the exit.
 use Rattle.std.proofs.Common.{◌<◌, ◌≤◌, sym, subst, arith}
 use Rattle.road_plan.specs.Plan.{exit_start}
-use Rattle.road_columns.specs.declared.regions.Region.{Region}
-use Rattle.road_columns.proofs.RegionsCut.{AreRegionsUpTo, IsRegionTo, all_regions, one_more}
+use Rattle.road_columns.proofs.RegionsCut.{AreRegionsUpTo, all_regions, one_more}
 use Rattle.road_columns.proofs.cutting.regions_of.Goals as goal
 
 pub loop-first-preserved : goal.loop-first-preserved
 loop-first-preserved c =
     let cut = c.cut_at-cut.ensures in
-    let region : Region = c.cut_at-cut.result.region in
     let on_road : c.loop-first.first < exit_start c.args.plan.now = let a = c.length.ensures.cells in let b = c.exit.ensures in let test = c.loop-first-test.true in omega arith in
-    let is : IsRegionTo c.args.plan.now c.args.settings.now c.cut_at-cut.result.region c.cut_at-cut.result.end = record {
-      reached = c.cut_at-cut.result.reached;
-      some = let first = cut.first in let some = cut.some in omega arith;
-      limit_allowed = cut.limit;
-      alike = λ cell from before on_road. cut.alike cell (let first = cut.first in omega arith) before on_road;
-      parted = λ cell from before. cut.parted cell (let first = cut.first in omega arith) before;
-      block_is = cut.block;
-      none_is = cut.none;
-    } in
     record {
       cut = subst (λ xs. AreRegionsUpTo c.args.plan.now c.args.settings.now xs c.cut_at-cut.result.end) (sym c.in_ok-push.ensures.items)
-          (one_more c.args.plan.now c.args.settings.now c.loop-first.regions.items c.cut_at-cut.result.region c.loop-first.first c.cut_at-cut.result.end cut.first on_road c.loop-first.invariant.cut is);
+          (one_more c.args.plan.now c.args.settings.now c.loop-first.regions.items c.cut_at-cut.result.region c.loop-first.first c.cut_at-cut.result.end cut.first on_road c.loop-first.invariant.cut cut.region);
     }
 
 pub returns : goal.returns

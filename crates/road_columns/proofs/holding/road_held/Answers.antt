@@ -1,4 +1,4 @@
--- One car more is taken out, and at last all.
+-- One more car is taken out, and at last all.
 use Rattle.std.proofs.Common.{◌≡◌, ◌∙◌, ◌+◌, ◌-◌, ◌++◌, suc, sym, ap, subst, slice_index, arith}
 use Rattle.std.proofs.lemmas.List.{append-nil}
 use Rattle.road_cells.specs.Cars.{AreRising, array_of}

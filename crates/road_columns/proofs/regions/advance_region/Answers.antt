@@ -1,4 +1,4 @@
--- A region is a piece in front of which the next car stands, or a blocked cell.
+-- A region is a piece behind the next car or a blocked cell.
 use Rattle.std.proofs.Common.{◌∙◌, ◌<◌, ◌≤◌, ◌-◌, slice_index, subst, arith, inl, inr}
 use Rattle.std.proofs.lemmas.Bool.{cases_lt}
 use Rattle.road_rules.specs.Speeds.{comes_about, slowed_speed}
@@ -22,8 +22,8 @@ returns-clause-speeds c q low below word right =
 pub advance_between-requires-clause-earlier : goal.advance_between-requires-clause-earlier
 advance_between-requires-clause-earlier c = elim (cases_lt 0 c.args.piece.first) as (λ _. c.args.piece.first ≤ c.args.piece.from) [
   | inl some ↦
-      let cars = c.requires.cars in
-      let before = c.requires.before (c.args.piece.first - 1) (omega arith) in
-      let at = c.requires.places (c.args.piece.first - 1) (omega arith) in omega arith
+      let cars = c.args.piece.cars in
+      let before = c.requires.begins.before (c.args.piece.first - 1) (omega arith) in
+      let at = c.requires.words.places (c.args.piece.first - 1) (omega arith) in omega arith
   | inr none ↦ omega arith
 ]

@@ -1,4 +1,4 @@
--- One region more, between the cars before it and those of the regions behind.
+-- One more region, between the cars before it and those of the regions behind.
 use Rattle.std.proofs.Common.{◌≡◌, ◌∙◌, ◌<◌, ◌≤◌, ◌+◌, ◌-◌, ◌/◌, ℕ, List, length, slice_index, sym, ap, subst, arith, inl, inr}
 use Rattle.std.proofs.lemmas.Bool.{cases_lt, cases_eq}
 use Rattle.road_rules.specs.Speeds.{comes_about, slowed_speed}
@@ -43,11 +43,32 @@ pub advance_region-requires-clause-block : goal.advance_region-requires-clause-b
 advance_region-requires-clause-block c q above below =
     let inv = c.loop-place.invariant in
     let inside = c.loop-place-test.true in
-    let long = c.requires.ends in
+    let long = c.requires.ends.as_many in
     let low = c.region_from-from.ensures.low in
     let to = inv.to_is (omega arith) in
     let block = c.requires.blocks c.loop-place.place q (of_place (length c.args.regions.now) c.loop-place.place c.region_from-from.result c.args.piece.from q c.args.ends.now long (omega arith) (omega arith) above c.region_from-from.ensures.next) (omega arith) in
     let here = inv.cells_rest q (inl below) in omega arith
+
+pub advance_region-requires-clause-words : goal.advance_region-requires-clause-words
+advance_region-requires-clause-words c =
+    let inv = c.loop-place.invariant in
+    let last = inv.last in
+    let high = inv.high in
+    let row = c.requires.words.row in
+    let beside = c.requires.words.beside in
+    record {
+      row = omega arith;
+      beside = omega arith;
+      rising = record { rising = λ i j less below. c.requires.words.rising.rising i j less (omega arith) };
+      high = inv.before;
+      places = λ i below. c.requires.words.places i (omega arith);
+    }
+
+pub advance_region-requires-clause-begins : goal.advance_region-requires-clause-begins
+advance_region-requires-clause-begins c = record {
+  before = c.first_from-first.ensures.before;
+  after = c.first_from-first.ensures.after;
+}
 
 pub loop-place-preserved : goal.loop-place-preserved
 loop-place-preserved c =
@@ -57,7 +78,7 @@ loop-place-preserved c =
     let ran = c.advance_region.ensures in
     let first = c.first_from-first.ensures in
     let inside = c.loop-place-test.true in
-    let long = c.requires.ends in
+    let long = c.requires.ends.as_many in
     let at = c.region_from-from.ensures in
     let low_from = at.low in
     let to = inv.to_is (omega arith) in
@@ -71,26 +92,26 @@ loop-place-preserved c =
       high = omega arith;
       to_is = λ some. at.next (omega arith);
       to_end = λ none. at.last (omega arith);
-      as_many_cells = ran.as_many_cells ∙ inv.as_many_cells;
-      as_many_speeds = ran.as_many_speeds ∙ inv.as_many_speeds;
+      as_many_cells = ran.moves.cells_each ∙ inv.as_many_cells;
+      as_many_speeds = ran.moves.speeds_each ∙ inv.as_many_speeds;
       before = first.before;
       after = λ i more less. elim (cases_lt i c.loop-place.last) as (λ _. c.region_from-from.result ≤ slice_index c.args.words.now.beside.now i) [
         | inl one ↦ first.after i more one
         | inr other ↦ let later = inv.after i other less in omega arith
       ];
       cells_rest = λ q away. elim away as (λ _. slice_index c.advance_region.new.cells q ≡ slice_index c.args.cells.now q) [
-        | inl less ↦ ran.other_cells q (inl less) ∙ inv.cells_rest q (inl (omega arith))
-        | inr past ↦ ran.other_cells q (inr (omega arith)) ∙ inv.cells_rest q (inr past)
+        | inl less ↦ ran.moves.other_cells q (inl less) ∙ inv.cells_rest q (inl (omega arith))
+        | inr past ↦ ran.moves.other_cells q (inr (omega arith)) ∙ inv.cells_rest q (inr past)
       ];
       speeds_rest = λ q away. elim away as (λ _. slice_index c.advance_region.new.speeds q ≡ slice_index c.args.speeds.now q) [
-        | inl less ↦ ran.other_speeds q (inl less) ∙ inv.speeds_rest q (inl (omega arith))
-        | inr past ↦ ran.other_speeds q (inr (omega arith)) ∙ inv.speeds_rest q (inr past)
+        | inl less ↦ ran.moves.other_speeds q (inl less) ∙ inv.speeds_rest q (inl (omega arith))
+        | inr past ↦ ran.moves.other_speeds q (inr (omega arith)) ∙ inv.speeds_rest q (inr past)
       ];
       cells_done = λ q above below. elim (cases_lt q c.loop-place.to) as (λ _. slice_index c.advance_region.new.cells q ≡ slice_index c.args.cells.now q + slice_index c.advance_region.new.speeds q) [
-        | inl here ↦ let moved = ran.cells q above here in let old = inv.cells_rest q (inl here) in omega arith
+        | inl here ↦ let moved = ran.moves.moved q above here in let old = inv.cells_rest q (inl here) in omega arith
         | inr done ↦
-            let a = ran.other_cells q (inr done) in
-            let b = ran.other_speeds q (inr done) in
+            let a = ran.moves.other_cells q (inr done) in
+            let b = ran.moves.other_speeds q (inr done) in
             let d = inv.cells_done q done below in omega arith
       ];
       done_from = λ r q less is low. elim (cases_eq r c.loop-place.place) as (λ _. c.region_from-from.result ≤ q) [
@@ -104,13 +125,13 @@ loop-place-preserved c =
             subst (λ k. SpeedIn c.args.regions.now c.args.cells.now c.args.speeds.now c.advance_region.new.speeds c.args.words.now.row.now c.args.words.now.index c.args.piece.last c.args.words.now.beside.now c.args.words.now.batches.now k q word) (sym same) (speed_here q (from_place_on r q same is low) (omega arith) word)
         | inr other ↦ λ right.
             let done = inv.done_from r q (omega arith) is low in
-            ran.other_speeds q (inr done) ∙ inv.speeds_done r q (omega arith) is low word right
+            ran.moves.other_speeds q (inr done) ∙ inv.speeds_done r q (omega arith) is low word right
       ];
     }
   where
     from_place_on : (r q : ℕ) → r ≡ c.loop-place.place → IsOfRegion (length c.args.regions.now) c.args.ends.now r q → c.args.piece.from ≤ q → c.region_from-from.result ≤ q
     from_place_on r q same is low =
-        let long = c.requires.ends in
+        let long = c.requires.ends.as_many in
         let at = c.region_from-from.ensures in
         elim (cases_lt (c.loop-place.place + 1) (length c.args.ends.now)) as (λ _. c.region_from-from.result ≤ q) [
           | inl some ↦

@@ -4,11 +4,18 @@ use Rattle.road_columns.proofs.Refilled.{refilled}
 use Rattle.road_columns.proofs.ShiftedColumns.{cars_shifted, closed, closed-behind, closed-front, closed-kept, closed-long, columns_shifted, places_shifted}
 use Rattle.road_columns.proofs.shifting.shift_back.Goals as goal
 
+pub returns-clause-shifts : goal.returns-clause-shifts
+returns-clause-shifts c = record {
+  head = refl;
+  tail = refl;
+  cells_each = closed-long c.move_back.new.column.items (8 + (c.args.cars.now.tail - c.args.cars.now.head)) ∙ c.move_back.ensures.long;
+}
+
 pub returns-clause-cars : goal.returns-clause-cars
 returns-clause-cars c p few cars =
-    let from = c.requires.from in
-    let order = c.requires.order in
-    let inside = c.requires.inside in
+    let from = c.args.cars.now.from in
+    let order = c.args.cars.now.order in
+    let inside = c.args.cars.now.inside in
     let each = c.move_back.ensures.long in
     let size = closed-long c.move_back.new.column.items (8 + (c.args.cars.now.tail - c.args.cars.now.head)) in
     let first = closed-front c.move_back.new.column.items (8 + (c.args.cars.now.tail - c.args.cars.now.head)) (omega arith) (omega arith) in
@@ -18,9 +25,9 @@ returns-clause-cars c p few cars =
 
 pub returns-clause-places : goal.returns-clause-places
 returns-clause-places c sites are =
-    let from = c.requires.from in
-    let order = c.requires.order in
-    let inside = c.requires.inside in
+    let from = c.args.cars.now.from in
+    let order = c.args.cars.now.order in
+    let inside = c.args.cars.now.inside in
     let each = c.move_back.ensures.long in
     let is = refilled c.args.cars.now.places c.deref_mut.result.now c.places_back.new.places c.deref_mut.ensures.value c.places_back.ensures.long in
     let long : length c.deref_mut.result.now ≡ length c.args.cars.now.places.items = ap length c.deref_mut.ensures.value in
@@ -31,9 +38,9 @@ returns-clause-places c sites are =
 
 pub returns-clause-road : goal.returns-clause-road
 returns-clause-road c a columns =
-    let from = c.requires.from in
-    let order = c.requires.order in
-    let inside = c.requires.inside in
+    let from = c.args.cars.now.from in
+    let order = c.args.cars.now.order in
+    let inside = c.args.cars.now.inside in
     let each = c.move_back.ensures.long in
     let size = closed-long c.move_back.new.column.items (8 + (c.args.cars.now.tail - c.args.cars.now.head)) in
     columns_shifted c.args.cars.now.cells.items (closed c.move_back.new.column.items (8 + (c.args.cars.now.tail - c.args.cars.now.head))) c.args.cars.now.head c.args.cars.now.tail 8 (8 + (c.args.cars.now.tail - c.args.cars.now.head)) order refl (omega arith)

@@ -13,14 +13,14 @@ pub returns-clause-ready : goal.returns-clause-ready
 returns-clause-ready c =
     let p = c.args.layout.now.plan.now in
     let st = c.requires.standing in
-    let even = c.requires.standing.even in
-    let short_columns = c.requires.standing.even.short in
+    let short_columns = c.args.cars.now.short in
+    let from = c.args.cars.now.from in
     let room = c.requires.room.room in
     let beside = c.requires.room.beside in
     let sb = c.shift_back.ensures in
-    let head = c.shift_back.ensures.head in
-    let tail = c.shift_back.ensures.tail in
-    let cells_each = c.shift_back.ensures.cells_each in
+    let head = c.shift_back.ensures.shifts.head in
+    let tail = c.shift_back.ensures.shifts.tail in
+    let cells_each = c.shift_back.ensures.shifts.cells_each in
     let short : c.args.layout.now.plan.now.cells ≤ 65525 = let most = c.requires.layout.within.short_enough in omega arith in
     let value = c.deref_mut.ensures.value in
     let is = refilled c.args.words.now.inlets c.deref_mut.result.now c.draw_inlets.new.batches c.deref_mut.ensures.value c.draw_inlets.ensures.long in
@@ -29,19 +29,12 @@ returns-clause-ready c =
       layout = c.requires.layout;
       standing = record {
         source_is = st.source_is;
-        even = record {
-          short = omega arith;
-          speeds_each = sb.speeds_each ∙ even.speeds_each ∙ sym sb.cells_each;
-          numbers_each = sb.numbers_each ∙ even.numbers_each ∙ sym sb.cells_each;
-          batches_each = even.batches_each;
-          inlets_each = ap length is ∙ c.draw_inlets.ensures.long ∙ ap length value ∙ even.inlets_each;
-        };
-        from = omega arith;
+        inlets_each = ap length is ∙ c.draw_inlets.ensures.long ∙ ap length value ∙ st.inlets_each;
         cars_are = sb.cars p short st.cars_are;
         places_are = sb.places c.args.layout.now.sites.now st.places_are;
       };
       words_are = record {
-        rows_each = c.draw_where.ensures.long ∙ c.requires.room.rows_each ∙ ap (λ n. 64 * (n + 8)) (sym sb.cells_each);
+        rows_each = c.draw_where.ensures.long ∙ c.requires.room.rows_each ∙ ap (λ n. 64 * (n + 8)) (sym sb.shifts.cells_each);
         entered = record {
           few = omega arith;
           rising = record { rising = λ i j less below. absurd (omega arith) };

@@ -7,7 +7,8 @@ use Rattle.road_plan.specs.Plan.{exit_start}
 use Rattle.road_columns.specs.Private.Entering.{place_on}
 use Rattle.road_columns.specs.Private.Sites.{IsOfSteps, passes_of, unpacked}
 use Rattle.road_columns.specs.declared.cars.CarColumns.{CarColumns}
-use Rattle.road_columns.proofs.CarsAdvanced.{LetsLeave, counted_is, counted_more, left_ready, left_road, one_goes}
+use Rattle.road_columns.specs.Private.Step.{LetsLeave}
+use Rattle.road_columns.proofs.CarsAdvanced.{counted_is, counted_more, left_ready, left_road, one_goes}
 use Rattle.road_columns.proofs.ColumnPlaces.{range_at, range_long}
 use Rattle.road_columns.proofs.Refilled.{refilled}
 use Rattle.road_columns.proofs.StepSites.{detector_site}
@@ -24,31 +25,12 @@ pub returns-clause-ready : goal.returns-clause-ready
 returns-clause-ready c =
     let g = c.args.layout.now in
     let moved = c.advance_cars.new.cars in
-    let cars : CarColumns = record {
-      cells = with_items c.advance_cars.new.cars.cells c.leave-cars.new.cells;
-      speeds = c.advance_cars.new.cars.speeds;
-      numbers = c.advance_cars.new.cars.numbers;
-      head = c.leave-cars.result;
-      tail = c.advance_cars.new.cars.tail;
-      places = with_items c.advance_cars.new.cars.places c.move_on.new.places;
-    } in
     let exit : c.length.result - c.exit.result ≡ exit_start c.args.layout.now.plan.now = let a = c.length.ensures.cells in let b = c.exit.ensures in omega arith in
     let cells_is = refilled c.advance_cars.new.cars.cells c.deref_mut-3.result.now c.leave-cars.new.cells c.deref_mut-3.ensures.value c.leave-cars.ensures.long in
     let places_is = refilled c.advance_cars.new.cars.places c.deref_mut-2.result.now c.move_on.new.places c.deref_mut-2.ensures.value c.move_on.ensures.long in
-    let left = c.leave-cars.ensures in
-    left_ready g c.args.step c.args.cars.now moved cars c.args.words.now c.requires.ready c.advance_cars.ensures
+    left_ready g c.args.step c.args.cars.now moved _ c.args.words.now c.requires.ready c.advance_cars.ensures
     (transport (λ j. LetsLeave (exit j) (c.deref_mut-3.ensures.value j) (sym cells_is j) moved.head c.leave-cars.result moved.tail)
-    (record {
-      from = left.from;
-      to = left.to;
-      order = left.order;
-      long = left.long;
-      kept = left.kept;
-      rest = left.rest;
-      front = left.front;
-      left = left.left;
-      stay = left.stay;
-    }))
+    c.leave-cars.ensures)
     refl refl refl (ap length places_is ∙ c.move_on.ensures.long ∙ ap length c.deref_mut-2.ensures.value)
     (λ d below. ap (λ xs. slice_index xs d) places_is ∙ c.move_on.ensures.places d below ∙ (λ j. place_on (c.deref-4.ensures.value j) (slice_index g.sites.now d) (slice_index (c.deref_mut-2.ensures.value j) d)))
 
@@ -56,6 +38,14 @@ pub returns-clause-road : goal.returns-clause-road
 returns-clause-road c b on_road columns =
     let g = c.args.layout.now in
     let moved = c.advance_cars.new.cars in
+    let exit : c.length.result - c.exit.result ≡ exit_start c.args.layout.now.plan.now = let a = c.length.ensures.cells in let b = c.exit.ensures in omega arith in
+    let cells_is = refilled c.advance_cars.new.cars.cells c.deref_mut-3.result.now c.leave-cars.new.cells c.deref_mut-3.ensures.value c.leave-cars.ensures.long in
+    let places_is = refilled c.advance_cars.new.cars.places c.deref_mut-2.result.now c.move_on.new.places c.deref_mut-2.ensures.value c.move_on.ensures.long in
+    let size : length (with_items c.advance_cars.new.cars.cells c.leave-cars.new.cells).items ≡ length c.advance_cars.new.cars.cells.items = ap length cells_is ∙ c.leave-cars.ensures.long ∙ ap length c.deref_mut-3.ensures.value in
+    let short = c.advance_cars.new.cars.short in
+    let from = c.advance_cars.new.cars.from in
+    let inside = c.advance_cars.new.cars.inside in
+    let gone = c.leave-cars.ensures.from in
     let cars : CarColumns = record {
       cells = with_items c.advance_cars.new.cars.cells c.leave-cars.new.cells;
       speeds = c.advance_cars.new.cars.speeds;
@@ -63,24 +53,16 @@ returns-clause-road c b on_road columns =
       head = c.leave-cars.result;
       tail = c.advance_cars.new.cars.tail;
       places = with_items c.advance_cars.new.cars.places c.move_on.new.places;
+      short = omega arith;
+      speeds_each = c.advance_cars.new.cars.speeds_each ∙ sym size;
+      numbers_each = c.advance_cars.new.cars.numbers_each ∙ sym size;
+      from = omega arith;
+      order = c.leave-cars.ensures.order;
+      inside = omega arith;
     } in
-    let exit : c.length.result - c.exit.result ≡ exit_start c.args.layout.now.plan.now = let a = c.length.ensures.cells in let b = c.exit.ensures in omega arith in
-    let cells_is = refilled c.advance_cars.new.cars.cells c.deref_mut-3.result.now c.leave-cars.new.cells c.deref_mut-3.ensures.value c.leave-cars.ensures.long in
-    let places_is = refilled c.advance_cars.new.cars.places c.deref_mut-2.result.now c.move_on.new.places c.deref_mut-2.ensures.value c.move_on.ensures.long in
-    let left = c.leave-cars.ensures in
     left_road g c.args.step c.args.cars.now moved cars c.args.words.now c.requires.ready c.advance_cars.ensures
     (transport (λ j. LetsLeave (exit j) (c.deref_mut-3.ensures.value j) (sym cells_is j) moved.head c.leave-cars.result moved.tail)
-    (record {
-      from = left.from;
-      to = left.to;
-      order = left.order;
-      long = left.long;
-      kept = left.kept;
-      rest = left.rest;
-      front = left.front;
-      left = left.left;
-      stay = left.stay;
-    }))
+    c.leave-cars.ensures)
     refl refl refl (ap length places_is ∙ c.move_on.ensures.long ∙ ap length c.deref_mut-2.ensures.value)
     (λ d below. ap (λ xs. slice_index xs d) places_is ∙ c.move_on.ensures.places d below ∙ (λ j. place_on (c.deref-4.ensures.value j) (slice_index g.sites.now d) (slice_index (c.deref_mut-2.ensures.value j) d)))
     b on_road columns

@@ -1,4 +1,4 @@
--- Words are made ready, the cars enter and move, and the step ends.
+-- Words are drawn, the cars enter and move, and the step ends.
 use Rattle.std.proofs.Common.{◌∙◌, ◌+◌, subst, arith}
 use Rattle.road_ends.specs.Input.{input_speeds}
 use Rattle.road_ends.specs.EntriesBetween.{entries_between, input_between, with_entry}
@@ -6,7 +6,6 @@ use Rattle.road_ends.proofs.EntriesBetween.{between-ends}
 use Rattle.road_detector.specs.Passes.{passes_at}
 use Rattle.road_columns.specs.Private.Cars.{road_of}
 use Rattle.road_columns.specs.Private.Counts.{AreCounts, totals_in}
-use Rattle.road_columns.specs.declared.interval.IntervalWords.{IntervalWords}
 use Rattle.road_columns.proofs.IntervalStarts.{words_on}
 use Rattle.road_columns.proofs.RunSteps.{nobody_else, ready_cars, road_run, stand_run}
 use Rattle.road_columns.proofs.TotalsKept.{totals_more}
@@ -21,22 +20,13 @@ returns-clause-running c =
     let done = c.move_cars.new.cars in
     let ready = c.move_cars.ensures.ready in
     let st = c.move_cars.ensures.ready.standing in
-    let even = c.move_cars.ensures.ready.standing.even in
     let w = c.move_cars.ensures.ready.words_are in
-    let words : IntervalWords = record c.enter.new.words { drawn = c.end_step-words.result } in
     record {
       up_to = omega arith;
       on_road = omega arith;
       standing = record {
         source_is = st.source_is;
-        even = record {
-          short = even.short;
-          speeds_each = even.speeds_each;
-          numbers_each = even.numbers_each;
-          batches_each = even.batches_each;
-          inlets_each = even.inlets_each;
-        };
-        from = st.from;
+        inlets_each = st.inlets_each;
         cars_are = st.cars_are;
         places_are = st.places_are;
       };
@@ -45,7 +35,7 @@ returns-clause-running c =
           c.requires.running.on_road;
       counts_are = subst (λ n. AreCounts n (c.args.step + 1) c.end_step-words.new.self.passes.items c.end_step-words.new.self.totals.items)
           (c.move_cars.ensures.passes_each ∙ c.requires.running.counts_are.passes_each) c.end_step-words.ensures.counts;
-      words_are = λ goes. words_on p c.args.step done words (c.end_step-words.ensures.goes_on goes) (record {
+      words_are = λ goes. words_on p c.args.step done _ (c.end_step-words.ensures.goes_on goes) (record {
         rows_each = w.rows_each;
         entered = record { few = w.entered.few; rising = w.entered.rising; in_order = w.entered.in_order };
         of_cars = w.of_cars;

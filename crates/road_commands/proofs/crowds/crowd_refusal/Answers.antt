@@ -1,4 +1,4 @@
--- Where a crowd is not refused, no cause stands against it.
+-- If a crowd is not refused, no cause applies to it.
 use Rattle.std.proofs.Common.{◌∙◌, sym}
 use Rattle.road_replica.specs.Crowds.{shares_of}
 use Rattle.road_commands.proofs.CrowdRefusals.{fault_unanswered}

@@ -1,4 +1,4 @@
--- One cache more, of which nothing is computed.
+-- One more cache, in which nothing is computed yet.
 use Rattle.std.proofs.Common.{◌+◌, ◌∙◌, length, List, ap, sym, subst}
 use Rattle.std.specs.List.{All}
 use Rattle.std.proofs.lemmas.List.{length-append}

@@ -6,9 +6,20 @@ use Rattle.lattice_core.specs.Sets.{items}
 use Rattle.road_sheet.specs.Sheets.{Sheet}
 use Rattle.road_sheet.specs.Shown.{row_at}
 use Rattle.road_replica.specs.Crowds.{shares_of}
+use Rattle.road_plan.specs.Plan.{Plan}
+use Rattle.road_replica.specs.Replicas.{Replica}
+use Rattle.road_crowd.specs.Private.Works.{AreAccepted}
 use Rattle.road_crowd.proofs.CrowdJournals.{closed_sheet, length_of_crowd}
+use Rattle.road_crowd.proofs.CrowdRefusals.{all_accepted}
 use Rattle.road_crowd.proofs.CrowdSessions.{all_given}
 use Rattle.road_crowd.proofs.gathering.left.Goals as goal
+
+pub in_threads-requires-clause-accepted : goal.in_threads-requires-clause-accepted
+in_threads-requires-clause-accepted g c κs within =
+    let plan : arc_value c.args.plan.now ≡ g.J.Naming.replica.sheet.plan =
+    ap (λ (r : Replica). r.sheet.plan) (sym c.requires.opening ∙ c.requires.named.1) in
+    subst (λ (p : Plan). AreAccepted p c.args.task.now.to (shares_of c.args.shares.now)) plan
+    (all_accepted (arc_value c.args.plan.now) (shares_of c.args.shares.now) c.args.task.now.to c.requires.accepted)
 
 pub shown-requires-clause-simulated : goal.shown-requires-clause-simulated
 shown-requires-clause-simulated g c =

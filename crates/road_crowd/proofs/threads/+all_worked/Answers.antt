@@ -4,14 +4,31 @@ use Rattle.std.proofs.lemmas.List.{length-map, map-append}
 use Rattle.road_scenario.specs.declared.edit.Edit.{Edit}
 use Rattle.road_replica.specs.Crowds.{shares_of}
 use Rattle.road_sessions.specs.Sessions.{AreNewSessions, Session}
-use Rattle.road_crowd.specs.Private.Works.{share_entries, work_of, works_from}
+use Rattle.road_crowd.specs.Private.Works.{AreAccepted, share_entries, work_of, works_from}
+use Rattle.road_crowd.proofs.CrowdRefusals.{accepted_last}
 use Rattle.road_crowd.proofs.CrowdSessions.{all_with_last, new_last}
 use Rattle.road_crowd.proofs.threads.+all_worked.Goals as goal
 
-pub start-requires-after_bounds : goal.start-requires-after_bounds
-start-requires-after_bounds g t c κs within =
+pub start-requires-clause-new : goal.start-requires-clause-new
+start-requires-clause-new g t c κs within =
     let fresh = new_last 0 c.pop.new.self.items c.in-Some-pop.session (subst (λ (ss : List Session). AreNewSessions 0 ss) c.in-Some-pop.ensures.items c.requires.new) in
     ap (λ (s : Session). s.view.own) fresh.1
+
+pub start-requires-clause-accepted : goal.start-requires-clause-accepted
+start-requires-clause-accepted g t c κs within =
+    let plan = g.J.Naming.replica.sheet.plan in
+    let shares : shares_of c.args.shares.now ≡ shares_of c.in-Some.others.now ++ c.in-Some.share.now.items ∷ [] =
+    ap shares_of c.in-Some.ensures.cases.0 ∙ map-append (λ v. v.items) c.in-Some.others.now (c.in-Some.share.now ∷ []) in
+    (accepted_last plan c.args.task.now.to (shares_of c.in-Some.others.now) c.in-Some.share.now.items
+    (subst (λ (l : List (List Edit)). AreAccepted plan c.args.task.now.to l) shares c.requires.accepted)).1
+
+pub all_worked-requires-clause-accepted : goal.all_worked-requires-clause-accepted
+all_worked-requires-clause-accepted g t c κs within =
+    let plan = g.J.Naming.replica.sheet.plan in
+    let shares : shares_of c.args.shares.now ≡ shares_of c.in-Some.others.now ++ c.in-Some.share.now.items ∷ [] =
+    ap shares_of c.in-Some.ensures.cases.0 ∙ map-append (λ v. v.items) c.in-Some.others.now (c.in-Some.share.now ∷ []) in
+    (accepted_last plan c.args.task.now.to (shares_of c.in-Some.others.now) c.in-Some.share.now.items
+    (subst (λ (l : List (List Edit)). AreAccepted plan c.args.task.now.to l) shares c.requires.accepted)).0
 
 pub all_worked-requires-clause-new : goal.all_worked-requires-clause-new
 all_worked-requires-clause-new g t c κs within =

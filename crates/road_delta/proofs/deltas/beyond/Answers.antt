@@ -1,4 +1,4 @@
--- The edits that pass the test against the heads are the delta, which fits where its scenario does.
+-- The edits that pass the test against the heads are the delta, which fits if its scenario does.
 use Rattle.std.proofs.Common.{rules, sym, ap, subst, ◌∙◌}
 use Rattle.std.specs.List.{filter}
 use Rattle.std.proofs.lemmas.Fn.{filter_same}

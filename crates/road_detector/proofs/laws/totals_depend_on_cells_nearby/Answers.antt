@@ -1,4 +1,4 @@
--- What a detector counts in some steps depends on the cells nearby.
+-- The counts of a detector in several steps depend only on the cells nearby.
 use Rattle.road_detector.proofs.TotalsFrom.{total-nearby}
 use Rattle.road_detector.proofs.laws.totals_depend_on_cells_nearby.Goals as goal
 

@@ -1,4 +1,4 @@
--- A row with its blocks and cars marked is a text, and that of the road.
+-- A row with its blocks and cars marked is a text, and it is the row of the road.
 use Rattle.std.proofs.Common.{◌≡◌, ℕ, Vec, Global, Result, Ok, ◌<◌, ◌∙◌, sym, ap, subst}
 use Rattle.std.specs.Prelude.{IfOk}
 use Rattle.std.specs.List.{All}
@@ -10,7 +10,7 @@ use Rattle.road_detector.specs.Rows.{HaveDigits}
 use Rattle.road_detector.proofs.MarkedRow.{made, from_cars, row_small}
 use Rattle.road_detector.proofs.rows.row_text.Goals as goal
 
--- what is said of an accepted text is said of that text
+-- a fact about an accepted text is a fact about its bytes
 told : {E : Type 0} (r : Result (String Global) E) (text : String Global) (bytes : Vec ℕ Global) → r ≡ Ok text → IfOk r (λ t. string_vec t ≡ bytes) → string_vec text ≡ bytes
 told r text bytes is ok = subst (λ r. IfOk r (λ t. string_vec t ≡ bytes)) is ok
 

@@ -1,4 +1,4 @@
--- One car more is marked.
+-- One more car is marked.
 use Rattle.std.proofs.Common.{◌≡◌, ℕ, Vec, Global, ◌+◌, ◌<◌, ◌≤◌, ◌∙◌, ap, arith, length, drop}
 use Rattle.std.specs.Prelude.{slice_index}
 use Rattle.std.specs.List.{slice_index_or}

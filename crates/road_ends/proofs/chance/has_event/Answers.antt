@@ -1,4 +1,4 @@
--- A certain chance comes whatever the word.
+-- The event of a certain chance happens whatever the word.
 use Rattle.road_words.proofs.WordSizes.{word-small}
 use Rattle.road_words.specs.Words.{word}
 use Rattle.road_ends.proofs.ChanceEvents.{certain}

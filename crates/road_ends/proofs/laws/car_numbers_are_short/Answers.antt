@@ -1,4 +1,4 @@
--- A number is that of a step before the greatest horizon.
+-- A car is numbered by a step before the greatest horizon.
 use Rattle.std.proofs.Common.{arith}
 use Rattle.road_ends.proofs.laws.car_numbers_are_short.Goals as goal
 

@@ -1,4 +1,4 @@
--- At most one car comes to a cell.
+-- At most one car arrives at a cell.
 use Rattle.road_ends.proofs.NoCollision.{arrive_alone}
 use Rattle.road_ends.proofs.laws.cars_arrive_alone.Goals as goal
 

@@ -1,4 +1,4 @@
--- The blocks of settings that fit rise, and the gap on the road is that of the cells.
+-- The blocks of settings that fit rise, and the gap on the road is the gap of the cells.
 use Rattle.std.proofs.Common.{◌∙◌, ap}
 use Rattle.road_cells.specs.Cars.{cars_of, cell_at}
 use Rattle.road_cells.specs.Gap.{free_cells}

@@ -1,4 +1,4 @@
--- What happens on a stretch depends on the cells nearby.
+-- A stretch depends only on the cells nearby.
 use Rattle.road_ends.proofs.CellsNearby.{depend_on_cells_nearby}
 use Rattle.road_ends.proofs.laws.roads_depend_on_cells_nearby.Goals as goal
 

@@ -1,4 +1,4 @@
--- What is read of a car gives its speed.
+-- The values that are read for a car determine its speed.
 use Rattle.std.proofs.Common.{◌≡◌, ◌∙◌, ◌/◌, ap, arith}
 use Rattle.road_plan.specs.Plan.{zone_of}
 use Rattle.road_cells.specs.Cars.{cars_of, cell_at}

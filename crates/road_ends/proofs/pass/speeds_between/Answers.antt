@@ -1,4 +1,4 @@
--- One car after another has its speed, and the blocked cells in front of it are found behind those of the last one.
+-- One car after another has its speed, and the blocked cells in front of it are found from those of the last one.
 use Rattle.std.proofs.Common.{◌≡◌, ◌∙◌, ◌<◌, ◌-◌, ℕ, inl, inr, sym, ap, subst, arith, length, slice_set, List}
 use Rattle.std.specs.Prelude.{slice_index}
 use Rattle.std.proofs.lemmas.Bool.{cases_lt}

@@ -5,7 +5,8 @@ use Rattle.road_cells.specs.Cars.{cars_of, cell_at}
 use Rattle.road_ends.specs.Speed.{speeds}
 use Rattle.road_ends.proofs.pass.speeds_between.Given as goal
 
--- the cars behind have their speeds, and the blocked cells that are not counted are in front of all cars that are left
+-- the cars that were visited have their speeds, and the blocked cells that are not counted are in front of all cars
+-- that are left
 abbrev pub invariant-loop-place : goal.invariant-loop-place
 invariant-loop-place l = record {
   one_each : length l.new.items ≡ l.end - l.first;

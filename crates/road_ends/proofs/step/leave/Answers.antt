@@ -1,4 +1,4 @@
--- The cars before the deleted zone make the road without those in it.
+-- The cars before the deleted zone make the road without the cars in it.
 use Rattle.std.proofs.Common.{rules, of_calls, ◌≡◌, ◌∙◌, true, false, sym, ap, subst, nat_lt}
 use Rattle.std.specs.List.Sorted.{IsPartitionPoint, IsPartitionedBy}
 use Rattle.std.proofs.lemmas.Fn.{always_returns_same}

@@ -1,4 +1,4 @@
--- What the line says makes no more writes than the line has bytes.
+-- The command makes no more writes than the line has bytes.
 use Rattle.std.proofs.Common.{◌∙◌, ap, option_map, sym}
 use Rattle.serde_json.specs.View.{view}
 use Rattle.road_format.proofs.FewWrites.{line_few}

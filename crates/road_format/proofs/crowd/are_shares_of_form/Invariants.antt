@@ -1,4 +1,4 @@
--- What the loop keeps that asks of each share whether a form has its edits.
+-- The invariant of the loop that checks each share against a form.
 use Rattle.std.proofs.Common.{◌≡◌, drop}
 use Rattle.std.specs.List.{list_all}
 use Rattle.road_format.specs.Forms.{are_of_form}

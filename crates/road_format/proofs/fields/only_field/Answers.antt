@@ -1,4 +1,4 @@
--- An object has an only field where the code finds just one entry.
+-- An object has an only field if the code finds exactly one entry.
 use Rattle.std.proofs.Common.{ℕ, List, Option, Some, sym, ap, ◌∙◌, arith}
 use Rattle.serde_json.specs.Data.{Members}
 use Rattle.serde_json.specs.View.{view}

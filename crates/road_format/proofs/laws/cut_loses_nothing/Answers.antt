@@ -1,4 +1,4 @@
--- Lines and what is left of an input make the input again.
+-- The lines and the rest of an input make the input again.
 use Rattle.road_format.proofs.CutLines.{cut_loses_nothing}
 use Rattle.road_format.proofs.laws.cut_loses_nothing.Goals as goal
 

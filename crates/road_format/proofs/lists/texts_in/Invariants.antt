@@ -1,4 +1,4 @@
--- What the loop keeps that reads the items of a list as texts.
+-- The invariant of the loop that reads the items of a list as texts.
 use Rattle.std.proofs.Common.{◌≡◌, drop}
 use Rattle.serde_json.specs.View.{items_view}
 use Rattle.serde_json.specs.Find.{as_str}
@@ -7,6 +7,6 @@ use Rattle.road_format.specs.Views.{texts}
 use Rattle.road_format.proofs.JsonParts.{with_front}
 use Rattle.road_format.proofs.lists.texts_in.Given as goal
 
--- what was found, and then the texts of the items that are left, are all the texts
+-- the texts found, followed by those of the items that are left, are all the texts
 abbrev pub invariant-loop-item : goal.invariant-loop-item
 invariant-loop-item l = with_front (texts l.found.items) (values_of_items as_str (items_view (drop l.item-index l.items))) ≡ values_of_items as_str (items_view l.items)

@@ -1,4 +1,4 @@
--- A list of more or fewer than two items is no pair.
+-- A list of more or fewer than two items is not a pair.
 use Rattle.std.proofs.Common.{sym, arith}
 use Rattle.road_format.proofs.JsonParts.{two_items-other}
 use Rattle.road_format.proofs.lists.two_items.Goals as goal

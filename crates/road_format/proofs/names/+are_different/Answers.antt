@@ -1,4 +1,4 @@
--- Names of which the first stands again among the others are not all different.
+-- Names whose first is repeated among the others are not all different.
 use Rattle.std.proofs.Common.{◌≡◌, ◌==◌, ◌&&◌, not, ap, sym, ◌∙◌, Bool, true, length, string_bytes, ℕ, List}
 use Rattle.std.specs.List.{list_any}
 use Rattle.std.specs.Set.{distinct_count}

@@ -1,4 +1,4 @@
--- Each call has one name less.
+-- Each call has one name fewer.
 use Rattle.std.proofs.Common.{length}
 use Rattle.road_format.proofs.names.+are_different.Given as goal
 

@@ -1,4 +1,4 @@
--- What the loop keeps that asks of each text whether it is a name.
+-- The invariant of the loop that checks whether each text is a name.
 use Rattle.std.proofs.Common.{◌≡◌, drop}
 use Rattle.std.specs.List.{list_all}
 use Rattle.road_format.specs.Fields.{is_name}

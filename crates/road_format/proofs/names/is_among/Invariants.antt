@@ -1,4 +1,4 @@
--- What the loop keeps that looks for a text among names.
+-- The invariant of the loop that searches for a text among names.
 use Rattle.std.proofs.Common.{◌≡◌, drop}
 use Rattle.std.specs.List.{list_any}
 use Rattle.std.specs.Str.{bytes_eq}

@@ -1,4 +1,5 @@
--- The parser's value is that of the line, and the line has none where the parser refuses it for no out of memory.
+-- The parser's value is that of the line. The line has none if the parser refuses it for a cause other than out of
+-- memory.
 use Rattle.std.proofs.Common.{sym}
 use Rattle.road_format.proofs.LineValues.{value_of-read, value_of-unread}
 use Rattle.road_format.proofs.reading.value_in.Goals as goal

@@ -1,4 +1,4 @@
--- A list of cars is written as the list of what the cars say.
+-- A list of cars is written as the list of the cars' content.
 use Rattle.std.proofs.Common.{rules}
 use Rattle.std.proofs.lemmas.Simd.{map-map}
 use Rattle.road_format.proofs.reply.cars_value.Goals as goal

@@ -1,4 +1,4 @@
--- Edits are asked for a cause, one after another.
+-- Edits are checked for a cause, one after another.
 use Rattle.std.proofs.Common.{◌≡◌, drop}
 use Rattle.road_replica.specs.Refusals.{import_fault}
 use Rattle.road_replica.proofs.replica.import_fault.Given as goal

@@ -1,4 +1,4 @@
--- Of the shares that are left, the first is asked first.
+-- Of the shares that are left, the first is checked first.
 use Rattle.std.proofs.Common.{◌≡◌, ◌∙◌, ◌+◌, ap, arith, drop, sym, Option, None, Some}
 use Rattle.std.specs.Option.{option_or}
 use Rattle.road_replica.specs.Crowds.{edits_of, shares_of}

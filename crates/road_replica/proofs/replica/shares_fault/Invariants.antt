@@ -1,4 +1,4 @@
--- Shares are asked for a cause, one after another.
+-- Shares are checked for a cause, one after another.
 use Rattle.std.proofs.Common.{◌≡◌, drop}
 use Rattle.road_replica.specs.Crowds.{edits_of, shares_of}
 use Rattle.road_replica.specs.Refusals.{import_fault}

@@ -1,4 +1,4 @@
--- The cars advance one after the other, and the array moves as they do.
+-- The cars advance one after the other, and the array changes as they do.
 use Rattle.std.proofs.Common.{◌≡◌, ◌<◌, ◌∙◌, sym, ap, subst, arith, length, slice_set, slice_index, add-one}
 use Rattle.std.specs.List.{slice_index_or}
 use Rattle.road_cells.specs.Cars.{AreRising, cars_of, cell_at, array_of}

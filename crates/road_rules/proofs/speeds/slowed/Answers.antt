@@ -1,4 +1,4 @@
--- A word below the chance takes one from the speed.
+-- A word below the chance subtracts one from the speed.
 use Rattle.std.proofs.Common.{rules}
 use Rattle.road_rules.proofs.speeds.slowed.Goals as goal
 

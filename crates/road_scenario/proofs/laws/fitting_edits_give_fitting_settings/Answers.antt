@@ -1,4 +1,4 @@
--- The winners are within the ranges, and so are the numbers that they put.
+-- The winners are within the ranges, and so are the numbers that they set.
 use Rattle.road_scenario.proofs.FittingSettings.{Fits-settings_of}
 use Rattle.road_scenario.proofs.laws.fitting_edits_give_fitting_settings.Goals as goal
 

@@ -1,4 +1,4 @@
--- Settings are made of those of the plan's objects.
+-- Settings are made of the settings of the plan's objects.
 use Rattle.road_scenario.proofs.SettingsOfObjects.{settings-objects}
 use Rattle.road_scenario.proofs.laws.settings_are_those_of_objects.Goals as goal
 

@@ -1,4 +1,4 @@
--- What is counted and what is left are at most all edits.
+-- The edits counted and those left are at most all edits.
 use Rattle.std.proofs.Common.{◌≡◌, ◌<◌, ◌+◌, ◌^◌, ℕ, arith, length, ap, ◌∙◌}
 use Rattle.road_scenario.specs.Registers.{edit_list}
 use Rattle.road_scenario.proofs.EditCounts.{counted_turn}

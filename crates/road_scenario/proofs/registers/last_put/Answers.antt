@@ -1,4 +1,4 @@
--- The last register that puts a number puts the last number.
+-- The last register that sets a number sets the last number.
 use Rattle.std.proofs.Common.{ap, sym, ◌∙◌}
 use Rattle.road_scenario.specs.Private.RegisterWalks.{last_number}
 use Rattle.road_scenario.proofs.LastNumbers.{last_found, last_further, last_number_of}
@@ -10,10 +10,10 @@ loop-won-init c = ap last_number_of c.up_to-earlier.ensures ∙ last_number-up_t
 
 pub loop-won-preserved : goal.loop-won-preserved
 loop-won-preserved c =
-    last_further c.loop-won.earlier c.next_back.new.self (c.in-Some.field-0-0.now, c.in-Some.won.now) c.number_put.result (last_number c.args.step c.args.registers.now)
-    c.in-Some.ensures.steps c.number_put.ensures (sym c.in-None.is) c.loop-won.invariant
+    last_further c.loop-won.earlier c.next_back.new.self (c.in-Some.field-0-0.now, c.in-Some.won.now) c.winning_number.result (last_number c.args.step c.args.registers.now)
+    c.in-Some.ensures.steps c.winning_number.ensures (sym c.in-None.is) c.loop-won.invariant
 
-pub returns-in-Some-number_put : goal.returns-in-Some-number_put
-returns-in-Some-number_put c =
-    last_found c.loop-won.earlier c.next_back.new.self (c.in-Some.field-0-0.now, c.in-Some.won.now) c.number_put.result (last_number c.args.step c.args.registers.now) c.in-Some-number_put.number
-    c.in-Some.ensures.steps c.number_put.ensures (sym c.in-Some-number_put.is) c.loop-won.invariant
+pub returns-in-Some-winning_number : goal.returns-in-Some-winning_number
+returns-in-Some-winning_number c =
+    last_found c.loop-won.earlier c.next_back.new.self (c.in-Some.field-0-0.now, c.in-Some.won.now) c.winning_number.result (last_number c.args.step c.args.registers.now) c.in-Some-winning_number.number
+    c.in-Some.ensures.steps c.winning_number.ensures (sym c.in-Some-winning_number.is) c.loop-won.invariant

@@ -1,4 +1,4 @@
--- What the words ask for, by what `clap` finds in them.
+-- The content of the arguments, from what `clap` finds in them.
 use Rattle.std.proofs.Common.{Some, None, sym, ◌∙◌}
 use Rattle.std.proofs.lemmas.Result.{err_from_is_err_and}
 use Rattle.clap.specs.Words.{found_of, rows_of}
@@ -13,7 +13,7 @@ returns-in_err-matches-clause-refused c is =
     let same = p.2 in
     refused_words (texts c.args.words.now) (c.in_err-matches.ensures.refused cc)
 
--- the words have no `--workers`
+-- the arguments have no `--workers`
 
 pub returns-in-None-clause-accepted : goal.returns-in-None-clause-accepted
 returns-in-None-clause-accepted c =

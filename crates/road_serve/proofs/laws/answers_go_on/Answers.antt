@@ -1,4 +1,4 @@
--- What was answered stays, as more bytes come.
+-- The answers so far stay, as more bytes come.
 use Rattle.road_serve.proofs.AnswersGrow as grow
 use Rattle.road_serve.proofs.laws.answers_go_on.Goals as goal
 

@@ -1,4 +1,4 @@
--- A reply waits behind the others, or is written after them, or the run stops there.
+-- A reply waits after the others, or is written after them, or the run stops there.
 use Rattle.std.proofs.Common.{ℕ, ◌+◌, ◌-◌, ◌^◌, min, refl, ◌∙◌, ◌++◌, [], ap, sym}
 use Rattle.std.proofs.lemmas.Result.{err_from_is_err_and}
 use Rattle.road_serve.specs.StreamViews.{sink_view}

@@ -1,4 +1,4 @@
--- Each write takes the next bytes, and one that fails leaves a front of them.
+-- Each write takes the next bytes, and after a failed one a prefix of them was taken.
 use Rattle.std.proofs.Common.{arith, ◌∙◌, length-drop}
 use Rattle.std.proofs.Math.Seq.{take-add}
 use Rattle.std.proofs.KnownBytes.{Appends-kept, Appends-trans}

@@ -1,4 +1,4 @@
--- What the loop keeps that writes bytes until all are taken.
+-- The invariant of the loop that writes bytes until all are taken.
 use Rattle.std.proofs.Common.{◌≡◌, ◌≤◌, ◌-◌, take, length}
 use Rattle.std.specs.Io.KnownBytes.{Appends}
 use Rattle.road_serve.proofs.reply_buffer.write_all.Given as goal

@@ -15,7 +15,7 @@ returns-in-Err g c =
       Err c.from.result,
       none.0,
       record {
-        status = c.after_fault.ensures;
+        status = c.end_after_fault.ensures;
         answers = subst (λ (f : ServeFault). AnswersInput (program_serving source source sink sink 0 none.0 (Err f))) (sym c.from.ensures) none.1;
       },
     )

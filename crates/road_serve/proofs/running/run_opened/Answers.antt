@@ -1,4 +1,4 @@
--- A script is read from its first byte. One that was not opened is as a source of which the first read fails.
+-- A script is read from its first byte. One that was not opened is like a source whose first read fails.
 use Rattle.std.proofs.Common.{Err, inl, refl}
 use Rattle.road_plan.specs.declared.limits.TheConstants.{MOST_LINES, MOST_BYTES}
 use Rattle.road_serve.specs.StreamViews.{sink_view}
@@ -20,5 +20,5 @@ returns-in-None-clause-script g c = rw (c.in-None.is) (
   λ alone. refl,
   unopened_source 0,
   unopened_source 1,
-  (record { status = c.after_fault.ensures; answers = unopened MOST_LINES MOST_BYTES (sink_view g.W.Sink c.args.writer.now) }, (inl refl, refl)),
+  (record { status = c.end_after_fault.ensures; answers = unopened MOST_LINES MOST_BYTES (sink_view g.W.Sink c.args.writer.now) }, (inl refl, refl)),
 )

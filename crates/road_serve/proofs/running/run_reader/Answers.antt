@@ -1,4 +1,4 @@
--- The reader is read; or there were no random bytes, as if its first read had failed.
+-- The reader is read. If there was no entropy, it is as if its first read had failed.
 use Rattle.std.proofs.Common.{Err, inl, inr, refl}
 use Rattle.road_plan.specs.declared.limits.TheConstants.{MOST_LINES, MOST_BYTES}
 use Rattle.road_serve.specs.Statuses.{after_failed_read}
@@ -19,7 +19,7 @@ returns-in-Err g c =
       λ alone. refl,
       after_failed_read source,
       record {
-        ends = record { status = c.after_fault.ensures; answers = first_read_failed MOST_LINES MOST_BYTES source (sink_view g.W.Sink c.args.writer.now) };
+        ends = record { status = c.end_after_fault.ensures; answers = first_read_failed MOST_LINES MOST_BYTES source (sink_view g.W.Sink c.args.writer.now) };
         reads = inr (record { result = refl; counted = refl; unread = refl; unwritten = refl });
       },
     )

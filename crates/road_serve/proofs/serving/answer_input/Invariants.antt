@@ -1,4 +1,4 @@
--- What the loop keeps that reads an input piece by piece.
+-- The invariant of the loop that reads an input piece by piece.
 use Rattle.std.proofs.Common.{◌≡◌}
 use Rattle.road_serve.specs.StreamViews.{source_view, sink_view}
 use Rattle.road_serve.proofs.RunEnds.{SoFar}

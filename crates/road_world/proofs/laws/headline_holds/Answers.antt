@@ -1,4 +1,4 @@
--- Every list of events carries the headline, and the stamps that its world issues are fresh.
+-- The headline holds for every list of events, and the stamps that its world issues are fresh.
 use Rattle.std.proofs.Common.{refl}
 use Rattle.road_world.specs.Events.{world_of_events, world_of_winners}
 use Rattle.road_world.proofs.AppliedEvents.{few_of_event}

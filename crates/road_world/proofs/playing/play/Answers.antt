@@ -1,4 +1,4 @@
--- One more event is played, from the opened world on.
+-- One more event is played, from the opening world on.
 use Rattle.std.proofs.Common.{◌≡◌, ◌≤◌, ◌+◌, ◌++◌, ◌∷◌, ◌∙◌, [], ℕ, List, length, take, ap, arith, subst, sym}
 use Rattle.std.specs.Arc.{arc_value}
 use Rattle.std.specs.Prelude.{Result}
@@ -16,7 +16,7 @@ use Rattle.road_world.proofs.HeadlineOfWinners.{headline}
 use Rattle.road_world.proofs.PlayedEvents.{IsPlayed, played_none, played_one_more}
 use Rattle.road_world.proofs.playing.play.Goals as goal
 
--- what is played at the end of a loop over the events is all of them
+-- at the end of a loop over the events all of them are played
 played_all : (plan : Plan) (count i : ℕ) (events : List Event) (replies : List (Result Reply WorldFault)) (world : World) → length events ≤ i → IsPlayed plan count (take i events) replies world → IsPlayed plan count events replies world
 played_all plan count i events replies world all played = subst (λ (es : List Event). IsPlayed plan count es replies world) (take_all i events all) played
 

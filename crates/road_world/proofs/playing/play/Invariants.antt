@@ -7,8 +7,8 @@ use Rattle.road_world.proofs.EventSteps.{IsMetered}
 use Rattle.road_world.proofs.PlayedEvents.{IsPlayed}
 use Rattle.road_world.proofs.playing.play.Given as goal
 
--- the world is that of the events so far, of the winners alone, each of them has its answer and was counted, and there
--- is room for the other answers
+-- the world is that of the events so far (only the winners), each of them has its answer and was counted, and there is
+-- room for the other answers
 abbrev pub invariant-loop-event : goal.invariant-loop-event
 invariant-loop-event g l = record {
   played : IsPlayed (arc_value l.fn.plan) l.fn.replicas (take l.event-index l.events) l.replies.items l.world;

@@ -1,16 +1,16 @@
--- One car more, behind all others.
+-- One more car, in front of all others.
 use Rattle.std.proofs.Common.{arith, ◌≡◌, ◌∙◌, ℕ, ◌≤◌, ◌+◌, List, ◌++◌, ◌∷◌, [], Vec, Global, ap, subst, sym}
 use Rattle.road_cells.specs.Cars.{AreRising, AreRisingFrom, end_of}
 use Rattle.road_cells.specs.declared.car.Car.{Car}
 use Rattle.tests_plans.proofs.roads.road_of.Goals as goal
 use Rattle.tests_plans.proofs.roads.road_of.Goals.{then-from-end+in_ok-push, else-from-end}
 
--- the cars rise with one more behind the last
+-- the cars still rise with one more after the last
 rise-push : (k : ℕ) (cars : List Car) (car : Car) → AreRisingFrom k cars → end_of cars ≤ car.cell → k ≤ car.cell → AreRisingFrom k (cars ++ car ∷ [])
 rise-push k [] car rise behind after = (after, tt)
 rise-push k (first ∷ cars) car rise behind after = (rise.0, rise-push (first.cell + 1) cars car rise.1 (omega arith) (omega arith))
 
--- and it is the last then
+-- and that one is then the last
 end-push : (cars : List Car) (car : Car) → end_of cars ≤ car.cell → end_of (cars ++ car ∷ []) ≤ car.cell + 1
 end-push [] car behind = omega arith
 end-push (first ∷ cars) car behind = let rest = end-push cars car (omega arith) in omega arith

@@ -1,4 +1,4 @@
--- The loop that puts cars one behind the other.
+-- The loop that appends the cars one after the other.
 use Rattle.std.proofs.Common.{◌≤◌}
 use Rattle.road_cells.specs.Cars.{AreRising, end_of}
 use Rattle.tests_plans.proofs.roads.road_of.Given as goal

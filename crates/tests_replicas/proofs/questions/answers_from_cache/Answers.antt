@@ -1,4 +1,4 @@
--- A cache is that of the sheet also after it has forgotten its run.
+-- A cache stays one of the sheet after it has dropped its run.
 use Rattle.std.proofs.Common.{refl}
 use Rattle.tests_replicas.proofs.questions.answers_from_cache.Goals as goal
 

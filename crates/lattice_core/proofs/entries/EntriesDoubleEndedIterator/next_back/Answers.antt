@@ -1,4 +1,4 @@
--- The entries of the last page stand behind those of the others.
+-- The entries of the last page come after those of the other pages.
 use Rattle.lattice_core.proofs.KeyPages.{all_entries-last}
 use Rattle.lattice_core.proofs.entries.EntriesDoubleEndedIterator.next_back.Goals as goal
 

@@ -1,4 +1,4 @@
--- What is found is no bottom.
+-- A value that is found is not a bottom.
 use Rattle.lattice_core.specs.Private.Entries.{all_entries}
 use Rattle.lattice_core.proofs.MapJoins.{held-found}
 use Rattle.lattice_core.proofs.map.LatMap.get.Goals as goal

@@ -1,4 +1,4 @@
--- One entry more is joined in, and at the end all are.
+-- Each turn joins in one more entry, so at the end all are joined in.
 use Rattle.std.proofs.Common.{◌≡◌, ◌∙◌, T, ap, sym, subst}
 use Rattle.std.specs.Arc.{arc_value}
 use Rattle.std.specs.FinMap.Entries.{find, is_sorted, is_sorted-put}

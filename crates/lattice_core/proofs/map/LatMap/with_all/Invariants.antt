@@ -6,7 +6,7 @@ use Rattle.lattice_core.specs.Map.{IsHeld, map_join}
 use Rattle.lattice_core.specs.Private.Entries.{ArePages, all_entries}
 use Rattle.lattice_core.proofs.map.LatMap.with_all.Given as goal
 
--- the pages so far, with what is left joined in, give the whole
+-- the pages so far, joined with the entries that are left, are the whole join
 abbrev pub invariant-loop-key : goal.invariant-loop-key
 invariant-loop-key g l = record {
   pages : ArePages l.pages.items;

@@ -1,4 +1,4 @@
--- What a binary search finds is the car at the cell, and where it finds none the cell is empty.
+-- A binary search finds the car at the cell, or none if the cell is empty.
 use Rattle.std.proofs.Common.{◌≡◌, ◌<◌, rules, sym, subst, ap, ◌∙◌, length}
 use Rattle.std.specs.List.{slice_index_or}
 use Rattle.std.specs.Ordering.{nat_cmp}

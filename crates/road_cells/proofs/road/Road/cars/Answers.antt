@@ -1,4 +1,4 @@
--- The list that is kept is that of the array's cars.
+-- The stored list is the list of the array's cars.
 use Rattle.std.proofs.Common.{◌∙◌, ap, sym}
 use Rattle.road_cells.specs.Cars.{cars_of}
 use Rattle.road_cells.proofs.CarLists.{cars_of-array_of}

@@ -1,4 +1,4 @@
--- The free cells up to the next car or block are the lesser of those up to either.
+-- The free cells up to the next car or block are the smaller of the two counts.
 use Rattle.std.proofs.Common.{◌≡◌, sym, ap, ◌+◌, ◌∙◌, arith, min}
 use Rattle.std.specs.Option.{is_some}
 use Rattle.road_cells.specs.Array.{vehicle_at}

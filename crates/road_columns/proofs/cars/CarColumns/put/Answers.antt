@@ -5,7 +5,7 @@ use Rattle.road_columns.specs.Private.Entering.{IsPutIn, place_beside}
 use Rattle.road_columns.proofs.Refilled.{refilled}
 use Rattle.road_columns.proofs.cars.CarColumns.put.Goals as goal
 
--- what is put in stays where a 0 is written behind
+-- an inserted value stays where a 0 is written behind
 put_closed : (xs ys : List ℕ) (place tail v : ℕ) → place ≤ tail → IsPutIn xs ys place tail v 0 → IsPutIn xs (slice_set ys (tail + 1) 0) place tail v 0
 put_closed xs ys place tail v order put = record {
   low = λ k below. get_or-set_other ys (tail + 1) k 0 0 (omega arith) ∙ put.low k below;
@@ -23,8 +23,6 @@ returns c =
       head = refl;
       tail = refl;
       cells_each = length-set c.insert.new.column.items (tail + 1) 0 ∙ c.insert.ensures.long;
-      speeds_each = c.insert-2.ensures.long;
-      numbers_each = c.insert-3.ensures.long;
       places_each = ap length is ∙ c.move_places.ensures.long ∙ ap length c.deref_mut.ensures.value;
       cells = put_closed c.args.self.now.cells.items c.insert.new.column.items c.args.place tail c.args.cell c.requires.order (c.insert.ensures.put_in 0);
       speeds = c.insert-2.ensures.put_in 0;

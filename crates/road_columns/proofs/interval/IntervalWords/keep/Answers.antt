@@ -1,18 +1,22 @@
 -- The words of the car are drawn and kept, or nothing is kept.
-use Rattle.std.proofs.Common.{◌∙◌, ◌+◌, ◌*◌, ◌/◌, ap, arith}
+use Rattle.std.proofs.Common.{◌∙◌, ◌+◌, ◌*◌, ◌/◌, ap, arith, refl}
 use Rattle.road_columns.specs.Private.Drawn.{drawn_word}
 use Rattle.road_columns.specs.Private.Interval.{entered_of_words}
 use Rattle.road_columns.specs.Private.Lanes.{place_of}
 use Rattle.road_columns.proofs.EnteredWords.{order_last}
 use Rattle.road_columns.proofs.interval.IntervalWords.keep.Goals as goal
 
-pub returns-then-not-self-clause-entered : goal.returns-then-not-self-clause-entered
-returns-then-not-self-clause-entered c =
-    let few = c.requires.entered.few in
+pub returns-then-not-self-clause-keeps : goal.returns-then-not-self-clause-keeps
+returns-then-not-self-clause-keeps c =
+    let few = c.requires.can.entered.few in
     record {
-      few = omega arith;
-      rising = c.requires.entered.rising;
-      in_order = order_last (entered_of_words c.args.self.now) c.args.tail c.requires.entered.in_order;
+      rest = record { source = refl; drawn = refl; worded = refl; inlets = refl; rows_each = refl; beside_each = refl };
+      bound = omega arith;
+      entered = record {
+        few = omega arith;
+        rising = c.requires.can.entered.rising;
+        in_order = order_last (entered_of_words c.args.self.now) c.args.tail c.requires.can.entered.in_order;
+      };
     }
 
 pub returns-clause-words : goal.returns-clause-words

@@ -1,4 +1,4 @@
--- What is kept for the settings is made anew, with the places of the sites.
+-- What is kept for the settings is computed again, with the places of the sites.
 use Rattle.std.proofs.Common.{◌≡◌, sym, ap, subst}
 use Rattle.std.proofs.Math.Path.{transport}
 use Rattle.std.specs.Arc.{arc_value}
@@ -27,16 +27,9 @@ invariant_of-self c =
         on_road = i.running.on_road;
         standing = record {
           source_is = st.source_is;
-          even = record {
-            short = st.even.short;
-            speeds_each = st.even.speeds_each;
-            numbers_each = st.even.numbers_each;
-            batches_each = st.even.batches_each;
-            inlets_each = st.even.inlets_each;
-          };
-          from = st.from;
+          inlets_each = st.inlets_each;
           cars_are = st.cars_are;
-          places_are = transport (λ j. ArePlacesFrom (c.deref-3.ensures.value j) x.cars.head x.cars.tail (c.deref-4.ensures.value j) (sym places_is j)) c.find_places.ensures.places;
+          places_are = transport (λ j. ArePlacesFrom x.cars.cells.items x.cars.head x.cars.tail (c.deref-3.ensures.value j) (sym places_is j)) c.find_places.ensures.places;
         };
         stand = i.running.stand;
         counts_are = i.running.counts_are;

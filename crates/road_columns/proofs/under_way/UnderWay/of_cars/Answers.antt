@@ -1,4 +1,4 @@
--- A new run: all memory is made, and the cars are put in.
+-- A new run: all memory is made, and the cars are inserted.
 use Rattle.std.proofs.Common.{◌≡◌, ◌∙◌, length, sym, ap, subst, arith}
 use Rattle.std.proofs.Math.Path.{transport}
 use Rattle.std.proofs.lemmas.Bool.{false≢true}
@@ -20,7 +20,6 @@ invariant_of-result c =
     let counts = c.in_ok-counts.counts in
     let first = c.args.stretch.first in
     let end = c.args.stretch.end in
-    let head = c.in_ok-columns.ensures.head in
     let detectors : length c.detectors.result.now ≡ length (arc_value c.args.plan).detectors = ap length c.detectors.ensures.detectors ∙ ap (λ (p : Plan). length p.detectors) c.deref-6.ensures in
     record {
       within = subst IsWithinLimits c.deref-6.ensures c.detectors.ensures.within;
@@ -33,14 +32,7 @@ invariant_of-result c =
         on_road = c.requires.on_road;
         standing = record {
           source_is = λ stream place. c.in_ok-words.ensures.source stream place ∙ ap (λ (p : Plan). word p.words stream place) c.deref-5.ensures;
-          even = record {
-            short = c.in_ok-columns.ensures.short;
-            speeds_each = c.in_ok-columns.ensures.speeds;
-            numbers_each = c.in_ok-columns.ensures.numbers;
-            batches_each = c.in_ok-words.ensures.batches;
-            inlets_each = c.in_ok-words.ensures.inlets ∙ ap (λ (p : Plan). length p.inlets) c.deref-5.ensures;
-          };
-          from = omega arith;
+          inlets_each = c.in_ok-words.ensures.inlets ∙ ap (λ (p : Plan). length p.inlets) c.deref-5.ensures;
           cars_are = subst (λ p. AreCarsInColumn p columns.head columns.tail columns.cells.items) c.deref-3.ensures c.in_ok-columns.ensures.cars;
           places_are = subst (λ sites. ArePlacesFrom columns.cells.items columns.head columns.tail sites columns.places.items) c.deref-4.ensures.value c.in_ok-columns.ensures.places;
         };

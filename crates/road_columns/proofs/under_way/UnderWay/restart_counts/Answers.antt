@@ -1,4 +1,4 @@
--- All but the counts stays.
+-- Only the counts change.
 use Rattle.std.proofs.Common.{◌≡◌, ◌∙◌, length, sym, ap, arith}
 use Rattle.std.proofs.Math.Path.{transport}
 use Rattle.std.specs.Arc.{arc_value}

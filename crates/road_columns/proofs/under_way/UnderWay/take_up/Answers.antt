@@ -1,21 +1,18 @@
--- The cars of the road are put in, and all that is kept for the settings is made anew.
-use Rattle.std.proofs.Common.{◌≡◌, ◌∙◌, ◌-◌, ◌<◌, ◌≤◌, length, false, sym, ap, subst, arith, refl}
+-- The cars of the road are put in, and all that is kept for the settings is computed again.
+use Rattle.std.proofs.Common.{◌≡◌, ◌∙◌, ◌-◌, ◌<◌, ◌≤◌, length, sym, ap, subst, arith, refl}
 use Rattle.std.specs.List.{All}
 use Rattle.std.proofs.Math.Path.{transport}
 use Rattle.std.proofs.lemmas.Bool.{false≢true}
 use Rattle.std.specs.Arc.{arc_value}
-use Rattle.std.specs.Vec.{with_items}
 use Rattle.road_plan.specs.Plan.{Plan, exit_start}
 use Rattle.road_plan.specs.Settings.{Fits}
 use Rattle.road_cells.specs.declared.car.Car.{Car}
 use Rattle.road_columns.specs.UnderWay.{CanRun, UnderWay, nothing_counted}
 use Rattle.road_columns.specs.Private.Entering.{ArePlacesFrom}
-use Rattle.road_columns.specs.Private.Held.{StandOn, road_in}
-use Rattle.road_columns.specs.Private.LooseWords.{AreFalling}
+use Rattle.road_columns.specs.Private.Held.{StandOn}
 use Rattle.road_columns.specs.Private.Counts.{AreCounts, totals_in}
-use Rattle.road_columns.specs.Private.Step.{AreCarsInColumn, AreRegionsOf, AreSitesOf}
+use Rattle.road_columns.specs.Private.Step.{AreRegionsOf, AreSitesOf}
 use Rattle.road_columns.proofs.HeldLists.{few_rising}
-use Rattle.road_columns.specs.declared.interval.IntervalWords.{IntervalWords}
 use Rattle.road_columns.proofs.LongerColumns.{on_err, road_longer, running_longer}
 use Rattle.road_columns.proofs.Refilled.{refilled}
 use Rattle.road_columns.proofs.StretchSteps.{stand_all}
@@ -23,38 +20,19 @@ use Rattle.road_columns.proofs.TakenUp.{all_before}
 use Rattle.road_columns.proofs.TotalsKept.{counts_cleared, totals_cleared}
 use Rattle.road_columns.proofs.under_way.UnderWay.take_up.Goals as goal
 
-pub hold-tail-requires-clause-room : goal.hold-tail-requires-clause-room
-hold-tail-requires-clause-room c =
+pub hold-requires-clause-room : goal.hold-requires-clause-room
+hold-requires-clause-room c =
     let same = ap length (c.cars-many.ensures.all ∙ sym c.cars-2.ensures.all) in
-    let long = c.in_ok-lengthen.ensures.long in
-    let value = ap length c.deref_mut.ensures.value in omega arith
+    let long = c.in_ok-lengthen.ensures.long in omega arith
 
-pub find_places-requires-clause-short : goal.find_places-requires-clause-short
-find_places-requires-clause-short c =
+pub lengthen-requires : goal.lengthen-requires
+lengthen-requires c =
     let start : c.length.result - c.exit.result ≡ exit_start (arc_value c.self.inside.plan) = let a = c.length.ensures.cells in let b = c.exit.ensures in let d = ap (λ (p : Plan). p.cells) c.deref.ensures in let e = ap (λ (p : Plan). p.exit) c.deref-2.ensures in omega arith in
-    let can : All (CanRun c.args.stretch.first c.args.stretch.end (exit_start (arc_value c.self.inside.plan))) c.cars-2.result.now =
-    transport (λ j. All (CanRun c.args.stretch.first c.args.stretch.end (start j)) ((c.cars.ensures.all ∙ sym c.cars-2.ensures.all) j)) (c.can_hold.ensures.0 c.if-not-can_hold.false) in
-    let before : All (λ (car : Car). car.cell < exit_start (arc_value c.self.inside.plan)) c.cars-2.result.now = all_before c.args.stretch.first c.args.stretch.end (exit_start (arc_value c.self.inside.plan)) c.cars-2.result.now can in
-    let few = few_rising (exit_start (arc_value c.self.inside.plan)) c.cars-2.result.now c.cars-2.ensures.rise before in
-    let most = c.self.invariant.within.short_enough in
-    let many = ap length (c.cars-many.ensures.all ∙ sym c.cars-2.ensures.all) in
-    let short = c.lengthen.ensures.short c.self.invariant.running.standing.even.short (omega arith) in
-    let cells_is = refilled c.lengthen.new.self.cells c.deref_mut.result.now c.hold-tail.new.cells c.deref_mut.ensures.value c.hold-tail.ensures.cells_each in
-    let same = ap length (c.deref-5.ensures.value ∙ cells_is) in
-    let each = c.hold-tail.ensures.cells_each in
-    let value = ap length c.deref_mut.ensures.value in omega arith
-
-pub find_places-requires-clause-inside : goal.find_places-requires-clause-inside
-find_places-requires-clause-inside c =
-    let start : c.length.result - c.exit.result ≡ exit_start (arc_value c.self.inside.plan) = let a = c.length.ensures.cells in let b = c.exit.ensures in let d = ap (λ (p : Plan). p.cells) c.deref.ensures in let e = ap (λ (p : Plan). p.exit) c.deref-2.ensures in omega arith in
-    let can : All (CanRun c.args.stretch.first c.args.stretch.end (exit_start (arc_value c.self.inside.plan))) c.cars-2.result.now =
-    transport (λ j. All (CanRun c.args.stretch.first c.args.stretch.end (start j)) ((c.cars.ensures.all ∙ sym c.cars-2.ensures.all) j)) (c.can_hold.ensures.0 c.if-not-can_hold.false) in
-    let before : All (λ (car : Car). car.cell < exit_start (arc_value c.self.inside.plan)) c.cars-2.result.now = all_before c.args.stretch.first c.args.stretch.end (exit_start (arc_value c.self.inside.plan)) c.cars-2.result.now can in
-    let within : (arc_value c.self.inside.plan).cells ≤ 65525 = let most = c.self.invariant.within.short_enough in omega arith in
-    let cars = c.hold-tail.ensures.cars (arc_value c.self.inside.plan) within before in
-    let cells_is = refilled c.lengthen.new.self.cells c.deref_mut.result.now c.hold-tail.new.cells c.deref_mut.ensures.value c.hold-tail.ensures.cells_each in
-    let inside = cars.inside in
-    let same = ap length (c.deref-5.ensures.value ∙ cells_is) in omega arith
+    let can : All (CanRun c.args.stretch.first c.args.stretch.end (exit_start (arc_value c.self.inside.plan))) c.cars-many.result.now =
+    transport (λ j. All (CanRun c.args.stretch.first c.args.stretch.end (start j)) ((c.cars.ensures.all ∙ sym c.cars-many.ensures.all) j)) (c.can_hold.ensures.0 c.if-not-can_hold.false) in
+    let before : All (λ (car : Car). car.cell < exit_start (arc_value c.self.inside.plan)) c.cars-many.result.now = all_before c.args.stretch.first c.args.stretch.end (exit_start (arc_value c.self.inside.plan)) c.cars-many.result.now can in
+    let few = few_rising (exit_start (arc_value c.self.inside.plan)) c.cars-many.result.now c.cars-many.ensures.rise before in
+    let most = c.self.invariant.within.short_enough in omega arith
 
 pub find_places-requires-clause-falling : goal.find_places-requires-clause-falling
 find_places-requires-clause-falling c =
@@ -63,9 +41,7 @@ find_places-requires-clause-falling c =
     transport (λ j. All (CanRun c.args.stretch.first c.args.stretch.end (start j)) ((c.cars.ensures.all ∙ sym c.cars-2.ensures.all) j)) (c.can_hold.ensures.0 c.if-not-can_hold.false) in
     let before : All (λ (car : Car). car.cell < exit_start (arc_value c.self.inside.plan)) c.cars-2.result.now = all_before c.args.stretch.first c.args.stretch.end (exit_start (arc_value c.self.inside.plan)) c.cars-2.result.now can in
     let within : (arc_value c.self.inside.plan).cells ≤ 65525 = let most = c.self.invariant.within.short_enough in omega arith in
-    let cars = c.hold-tail.ensures.cars (arc_value c.self.inside.plan) within before in
-    let cells_is = refilled c.lengthen.new.self.cells c.deref_mut.result.now c.hold-tail.new.cells c.deref_mut.ensures.value c.hold-tail.ensures.cells_each in
-    subst (λ xs. AreFalling xs 8 c.hold-tail.result) (sym (c.deref-5.ensures.value ∙ cells_is)) cars.falling
+    (c.hold.ensures.cars (arc_value c.self.inside.plan) within before).falling
 
 pub invariant_of-self : goal.invariant_of-self
 invariant_of-self c =
@@ -77,20 +53,16 @@ invariant_of-self c =
     let before : All (λ (car : Car). car.cell < exit_start (arc_value c.self.inside.plan)) c.cars-many.result.now = all_before c.args.stretch.first c.args.stretch.end (exit_start (arc_value c.self.inside.plan)) c.cars-many.result.now can in
     let few = few_rising (exit_start (arc_value c.self.inside.plan)) c.cars-many.result.now c.cars-many.ensures.rise before in
     let most = c.self.invariant.within.short_enough in
-    let short = c.lengthen.ensures.short c.self.invariant.running.standing.even.short (omega arith) in
-    let words : IntervalWords = record c.self.inside.words { drawn = false } in
     record {
       within = i.within;
       fits = i.fits;
       regions_are = i.regions_are;
       slowing_is = i.slowing_is;
       sites_are = i.sites_are;
-      running = running_longer (arc_value x.plan) x.kept.sites.items x.step x.stretch.first x.stretch.end x.cars c.lengthen.new.self x.words words x.counts (record {
+      running = running_longer (arc_value x.plan) x.kept.sites.items x.step x.stretch.first x.stretch.end x.cars c.lengthen.new.self x.words _ x.counts (record {
         longer = c.lengthen.ensures.longer;
-        short = short;
         source = refl;
         inlets = refl;
-        batches_each = i.running.standing.even.batches_each;
         drawn = λ never. absurd (false≢true never);
       }) i.running;
     }
@@ -119,28 +91,15 @@ invariant_of-self-2 c =
     transport (λ j. All (CanRun c.args.stretch.first c.args.stretch.end (start j)) ((c.cars.ensures.all ∙ sym c.cars-2.ensures.all) j)) (c.can_hold.ensures.0 c.if-not-can_hold.false) in
     let before : All (λ (car : Car). car.cell < exit_start (arc_value c.self.inside.plan)) c.cars-2.result.now = all_before c.args.stretch.first c.args.stretch.end (exit_start (arc_value c.self.inside.plan)) c.cars-2.result.now can in
     let within : (arc_value c.self.inside.plan).cells ≤ 65525 = let most = c.self.invariant.within.short_enough in omega arith in
-    let cars = c.hold-tail.ensures.cars (arc_value c.self.inside.plan) within before in
-    let cells_is = refilled c.lengthen.new.self.cells c.deref_mut.result.now c.hold-tail.new.cells c.deref_mut.ensures.value c.hold-tail.ensures.cells_each in
-    let speeds_is = refilled c.lengthen.new.self.speeds c.deref_mut-2.result.now c.hold-tail.new.speeds c.deref_mut-2.ensures.value c.hold-tail.ensures.speeds_each in
-    let numbers_is = refilled c.lengthen.new.self.numbers c.deref_mut-3.result.now c.hold-tail.new.numbers c.deref_mut-3.ensures.value c.hold-tail.ensures.numbers_each in
-    let places_is = refilled c.in_ok-places.places c.deref_mut-4.result.now c.find_places.new.places c.deref_mut-4.ensures.value c.find_places.ensures.long in
-    let passes_is = refilled c.self.inside.counts.passes c.deref_mut-5.result.now c.clear_counts.new.passes c.deref_mut-5.ensures.value c.clear_counts.ensures.passes_each in
-    let totals_is = refilled c.self.inside.counts.totals c.deref_mut-6.result.now c.clear_counts.new.totals c.deref_mut-6.ensures.value c.clear_counts.ensures.totals_each in
-    let a : length c.clear_counts.new.passes ≡ length (arc_value c.self.inside.plan).detectors = c.clear_counts.ensures.passes_each ∙ ap length c.deref_mut-5.ensures.value ∙ c.self.invariant.running.counts_are.passes_each in
-    let b : length c.clear_counts.new.totals ≡ length (arc_value c.self.inside.plan).detectors = c.clear_counts.ensures.totals_each ∙ ap length c.deref_mut-6.ensures.value ∙ c.self.invariant.running.counts_are.totals_each in
+    let places_is = refilled c.in_ok-places.places c.deref_mut.result.now c.find_places.new.places c.deref_mut.ensures.value c.find_places.ensures.long in
+    let passes_is = refilled c.self.inside.counts.passes c.deref_mut-2.result.now c.clear_counts.new.passes c.deref_mut-2.ensures.value c.clear_counts.ensures.passes_each in
+    let totals_is = refilled c.self.inside.counts.totals c.deref_mut-3.result.now c.clear_counts.new.totals c.deref_mut-3.ensures.value c.clear_counts.ensures.totals_each in
+    let a : length c.clear_counts.new.passes ≡ length (arc_value c.self.inside.plan).detectors = c.clear_counts.ensures.passes_each ∙ ap length c.deref_mut-2.ensures.value ∙ c.self.invariant.running.counts_are.passes_each in
+    let b : length c.clear_counts.new.totals ≡ length (arc_value c.self.inside.plan).detectors = c.clear_counts.ensures.totals_each ∙ ap length c.deref_mut-3.ensures.value ∙ c.self.invariant.running.counts_are.totals_each in
     let e = c.clear_counts.ensures.passes_each in
     let f = c.clear_counts.ensures.totals_each in
     let plan_is : c.args.self.now.plan ≡ arc_value c.self.inside.plan = sym (ap (λ (run : UnderWay). run.plan) c.self.view_is) in
     let on_road : c.args.stretch.end ≤ (arc_value c.self.inside.plan).cells = let old = c.requires.on_road in let same = ap (λ (p : Plan). p.cells) plan_is in omega arith in
-    let long_cells : length c.hold-tail.new.cells ≡ length c.lengthen.new.self.cells.items = c.hold-tail.ensures.cells_each ∙ ap length c.deref_mut.ensures.value in
-    let long_speeds : length c.hold-tail.new.speeds ≡ length c.lengthen.new.self.speeds.items = c.hold-tail.ensures.speeds_each ∙ ap length c.deref_mut-2.ensures.value in
-    let long_numbers : length c.hold-tail.new.numbers ≡ length c.lengthen.new.self.numbers.items = c.hold-tail.ensures.numbers_each ∙ ap length c.deref_mut-3.ensures.value in
-    let few = few_rising (exit_start (arc_value c.self.inside.plan)) c.cars-2.result.now c.cars-2.ensures.rise before in
-    let most = c.self.invariant.within.short_enough in
-    let many = ap length (c.cars-many.ensures.all ∙ sym c.cars-2.ensures.all) in
-    let short = c.lengthen.ensures.short c.self.invariant.running.standing.even.short (omega arith) in
-    let longer = c.lengthen.ensures.longer in
-    let long : length (with_items c.lengthen.new.self.cells c.hold-tail.new.cells).items ≡ length c.lengthen.new.self.cells.items = ap length cells_is ∙ long_cells in
     record {
       within = i.within;
       fits = transport (λ j. Fits (plan_is j) (arc_value c.args.settings)) c.requires.fits;
@@ -152,18 +111,11 @@ invariant_of-self-2 c =
         on_road = on_road;
         standing = record {
           source_is = i.running.standing.source_is;
-          even = record {
-            short = omega arith;
-            speeds_each = ap length speeds_is ∙ long_speeds ∙ longer.speeds_each ∙ sym (ap length cells_is ∙ long_cells);
-            numbers_each = ap length numbers_is ∙ long_numbers ∙ longer.numbers_each ∙ sym (ap length cells_is ∙ long_cells);
-            batches_each = i.running.standing.even.batches_each;
-            inlets_each = i.running.standing.even.inlets_each;
-          };
-          from = omega arith;
-          cars_are = subst (AreCarsInColumn (arc_value c.self.inside.plan) 8 c.hold-tail.result) (sym cells_is) cars;
-          places_are = transport (λ j. ArePlacesFrom (c.deref-5.ensures.value j) 8 c.hold-tail.result (c.deref-6.ensures.value j) (sym places_is j)) c.find_places.ensures.places;
+          inlets_each = i.running.standing.inlets_each;
+          cars_are = c.hold.ensures.cars (arc_value c.self.inside.plan) within before;
+          places_are = transport (λ j. ArePlacesFrom c.hold.new.self.cells.items c.hold.new.self.head c.hold.new.self.tail (c.deref-5.ensures.value j) (sym places_is j)) c.find_places.ensures.places;
         };
-        stand = subst (StandOn c.args.stretch.first c.args.stretch.end) (sym ((λ k. road_in (cells_is k) (speeds_is k) (numbers_is k) 8 c.hold-tail.result) ∙ c.hold-tail.ensures.road))
+        stand = subst (StandOn c.args.stretch.first c.args.stretch.end) (sym c.hold.ensures.road)
             (stand_all c.args.stretch.first c.args.stretch.end (exit_start (arc_value c.self.inside.plan)) c.cars-2.result.now can);
         counts_are = transport (λ j. AreCounts (length (arc_value c.self.inside.plan).detectors) c.args.step (sym passes_is j) (sym totals_is j))
             (counts_cleared (length (arc_value c.self.inside.plan).detectors) c.args.step c.clear_counts.new.passes c.clear_counts.new.totals a b
@@ -175,14 +127,10 @@ invariant_of-self-2 c =
 pub returns-clause-taken : goal.returns-clause-taken
 returns-clause-taken c _ =
     let x = c.self.inside in
-    let cells_is = refilled c.lengthen.new.self.cells c.deref_mut.result.now c.hold-tail.new.cells c.deref_mut.ensures.value c.hold-tail.ensures.cells_each in
-    let speeds_is = refilled c.lengthen.new.self.speeds c.deref_mut-2.result.now c.hold-tail.new.speeds c.deref_mut-2.ensures.value c.hold-tail.ensures.speeds_each in
-    let numbers_is = refilled c.lengthen.new.self.numbers c.deref_mut-3.result.now c.hold-tail.new.numbers c.deref_mut-3.ensures.value c.hold-tail.ensures.numbers_each in
-    let places_is = refilled c.in_ok-places.places c.deref_mut-4.result.now c.find_places.new.places c.deref_mut-4.ensures.value c.find_places.ensures.long in
-    let passes_is = refilled c.self.inside.counts.passes c.deref_mut-5.result.now c.clear_counts.new.passes c.deref_mut-5.ensures.value c.clear_counts.ensures.passes_each in
-    let totals_is = refilled c.self.inside.counts.totals c.deref_mut-6.result.now c.clear_counts.new.totals c.deref_mut-6.ensures.value c.clear_counts.ensures.totals_each in
-    let a : length c.clear_counts.new.passes ≡ length (arc_value c.self.inside.plan).detectors = c.clear_counts.ensures.passes_each ∙ ap length c.deref_mut-5.ensures.value ∙ c.self.invariant.running.counts_are.passes_each in
-    let b : length c.clear_counts.new.totals ≡ length (arc_value c.self.inside.plan).detectors = c.clear_counts.ensures.totals_each ∙ ap length c.deref_mut-6.ensures.value ∙ c.self.invariant.running.counts_are.totals_each in
+    let passes_is = refilled c.self.inside.counts.passes c.deref_mut-2.result.now c.clear_counts.new.passes c.deref_mut-2.ensures.value c.clear_counts.ensures.passes_each in
+    let totals_is = refilled c.self.inside.counts.totals c.deref_mut-3.result.now c.clear_counts.new.totals c.deref_mut-3.ensures.value c.clear_counts.ensures.totals_each in
+    let a : length c.clear_counts.new.passes ≡ length (arc_value c.self.inside.plan).detectors = c.clear_counts.ensures.passes_each ∙ ap length c.deref_mut-2.ensures.value ∙ c.self.invariant.running.counts_are.passes_each in
+    let b : length c.clear_counts.new.totals ≡ length (arc_value c.self.inside.plan).detectors = c.clear_counts.ensures.totals_each ∙ ap length c.deref_mut-3.ensures.value ∙ c.self.invariant.running.counts_are.totals_each in
     let e = c.clear_counts.ensures.passes_each in
     let f = c.clear_counts.ensures.totals_each in
     let plan_is : arc_value c.self.inside.plan ≡ c.args.self.now.plan = ap (λ (run : UnderWay). run.plan) c.self.view_is in
@@ -192,7 +140,7 @@ returns-clause-taken c _ =
       step = c.args.step;
       lo = c.args.stretch.first;
       hi = c.args.stretch.end;
-      road = ((λ k. road_in (cells_is k) (speeds_is k) (numbers_is k) 8 c.hold-tail.result) ∙ c.hold-tail.ensures.road ∙ c.cars-2.ensures.road) j;
+      road = (c.hold.ensures.road ∙ c.cars-2.ensures.road) j;
       totals = ((λ k. totals_in (passes_is k) (totals_is k)) ∙ totals_cleared (length (arc_value c.self.inside.plan).detectors) c.args.step c.clear_counts.new.passes c.clear_counts.new.totals a b
           (λ d below. c.clear_counts.ensures.passes d (omega arith)) (λ d below. c.clear_counts.ensures.totals d (omega arith)) ∙ ap nothing_counted plan_is) j;
     })

@@ -1,4 +1,5 @@
--- An import is the event of its edits, the name of a message is its text, a query asks no crew, and what is no crowd gathers none.
+-- An import is the event of its edits, the name of a message is its text, a query uses no crew, and a command that is
+-- not a crowd gathers none.
 use Rattle.std.proofs.Common.{subst}
 use Rattle.road_commands.proofs.NamedReplicas.{of_outcome}
 use Rattle.road_commands.proofs.Outcomes.{import_is}

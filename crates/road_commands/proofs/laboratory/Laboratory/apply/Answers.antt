@@ -1,4 +1,4 @@
--- The caches still hold after an event: where it keeps the edits, and where a cache begins anew.
+-- The caches stay valid after an event, if it keeps the edits or a cache is replaced by a new one.
 use Rattle.std.proofs.Common.{◌∙◌, arith, sym}
 use Rattle.road_commands.proofs.QueryCaches.{cached_but_one, cached_on, run_below}
 use Rattle.road_commands.proofs.laboratory.Laboratory.apply.Goals as goal

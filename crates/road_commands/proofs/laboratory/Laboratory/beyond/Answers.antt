@@ -1,4 +1,4 @@
--- The message is made beyond the heads of the number of their name.
+-- The message is made beyond the heads with the number of their name.
 use Rattle.std.proofs.Common.{sym}
 use Rattle.road_commands.proofs.laboratory.Laboratory.beyond.Goals as goal
 

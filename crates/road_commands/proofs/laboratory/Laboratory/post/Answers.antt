@@ -1,4 +1,4 @@
--- An event that makes a message is one of the world, and leaves all caches as they were.
+-- An event that makes a message is one of the world, and leaves all caches unchanged.
 use Rattle.std.proofs.Common.{◌∙◌, ◌≡◌, ◌++◌, ◌∷◌, [], List, ℕ, ap, length, rules, string_bytes, subst, sym, take}
 use Rattle.std.proofs.Math.Seq.{take-append_seam}
 use Rattle.road_commands.proofs.QueryCaches.{cached_on, laboratory_with, made_keeps}
@@ -44,6 +44,6 @@ returns-in-Err-clause-unchanged g c =
     let name = string_bytes c.args.name in
     let named : c.add.new.self ≡ m ++ name ∷ [] = search rules in
     let count : c.len-count.result ≡ length m = search rules in
-    let cut = c.cut.ensures ∙ ap (λ n. take n c.add.new.self) count ∙ ap (take (length m)) named ∙ take-append_seam m (name ∷ []) in
-    ap (λ (v : World). laboratory_with r c.cut.new.self v) (c.in-Err.ensures.applied 0).unchanged
+    let cut = c.truncate.ensures ∙ ap (λ n. take n c.add.new.self) count ∙ ap (take (length m)) named ∙ take-append_seam m (name ∷ []) in
+    ap (λ (v : World). laboratory_with r c.truncate.new.self v) (c.in-Err.ensures.applied 0).unchanged
     ∙ ap (λ (ns : List (List ℕ)). laboratory_with r ns c.self.inside.world) cut ∙ c.self.view_is

@@ -1,4 +1,4 @@
--- The step that it is for.
+-- The step of the input.
 use Rattle.std.proofs.Common.{rules}
 use Rattle.road_ends.proofs.input.StepInput.step.Goals as goal
 

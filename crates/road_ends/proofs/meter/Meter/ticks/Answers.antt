@@ -1,4 +1,4 @@
--- What it shows.
+-- The stored count.
 use Rattle.std.proofs.Common.{rules}
 use Rattle.road_ends.proofs.meter.Meter.ticks.Goals as goal
 

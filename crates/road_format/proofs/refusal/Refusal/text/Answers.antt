@@ -1,4 +1,4 @@
--- The word of the refusal.
+-- The text of the refusal.
 use Rattle.std.proofs.Common.{rules}
 use Rattle.road_format.proofs.refusal.Refusal.text.Goals as goal
 

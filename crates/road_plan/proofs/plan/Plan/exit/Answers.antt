@@ -1,4 +1,4 @@
--- The part that it is.
+-- The part of that name.
 use Rattle.std.proofs.Common.{rules}
 use Rattle.road_plan.proofs.plan.Plan.exit.Goals as goal
 

@@ -1,4 +1,4 @@
--- A plan is made exactly where no fault is found.
+-- A plan is made exactly if no fault is found.
 use Rattle.std.proofs.Common.{sym, ◌∙◌}
 use Rattle.std.proofs.lemmas.Option.{none-some}
 use Rattle.road_plan.proofs.PlanFaults.{faultless}

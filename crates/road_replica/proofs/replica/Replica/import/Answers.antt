@@ -1,4 +1,4 @@
--- Edits for which no cause stands fit the plan, and a refusal loses no worker.
+-- Edits to which no cause applies fit the plan, and a refusal loses no worker.
 use Rattle.std.proofs.Common.{◌≡◌, ◌∙◌, None, Option, ap, sym, subst, rules}
 use Rattle.std.specs.Prelude.{IfOk, IfSome}
 use Rattle.lattice_core.specs.Sets.{from_list}

@@ -1,4 +1,4 @@
--- A line is answered: by the laboratory that there is, or as the plan line.
+-- A line is answered by the laboratory, if there is one, or as the plan line.
 use Rattle.std.proofs.Common.{◌∙◌, Some, refl, ap, sym, subst, string_bytes}
 use Rattle.road_serve.specs.Dialogue.{Dialogue, GoesOn}
 use Rattle.road_serve.proofs.Options.{none_of, some_of}

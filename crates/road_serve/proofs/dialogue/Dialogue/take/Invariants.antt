@@ -1,4 +1,4 @@
--- What the loop keeps that takes the bytes line by line.
+-- The invariant of the loop that takes the bytes line by line.
 use Rattle.std.proofs.Common.{◌≡◌, ◌≤◌, ◌-◌, ◌++◌, ℕ, List, take, length}
 use Rattle.road_serve.specs.Dialogue.{HasAnswered}
 use Rattle.road_serve.specs.StreamViews.{SinkView, sink_view}

@@ -1,4 +1,4 @@
--- The bytes up to the end of a line are taken: answered, held, or passed over where the dialogue is over.
+-- The bytes up to the end of a line are taken: answered, held, or passed over if the dialogue is over.
 use Rattle.std.proofs.Common.{◌≡◌, ◌++◌, true, false, IsSome, is_some, Some, take, refl, sym, ap}
 use Rattle.std.proofs.lemmas.Result.{err_from_is_err_and}
 use Rattle.road_serve.specs.Dialogue.{Dialogue}

@@ -1,4 +1,4 @@
--- A run that a limit ends early is told so.
+-- A run that a limit ends early has that fault.
 use Rattle.std.proofs.Common.{ap, sym}
 use Rattle.road_serve.specs.Faults.{early_fault}
 use Rattle.road_serve.proofs.faults.EarlyEnd.fault.Goals as goal

@@ -1,4 +1,4 @@
--- A read gives the next bytes, and none only where none are left.
+-- A read gives the next bytes, and none only if none are left.
 use Rattle.std.proofs.Common.{arith, ap, length, length-append, length-drop, ℕ, List, ◌+◌, drop}
 use Rattle.road_serve.proofs.ByteParts.{read_next, nothing_left}
 use Rattle.road_serve.proofs.memory.MemorySourceSource.read.Goals as goal

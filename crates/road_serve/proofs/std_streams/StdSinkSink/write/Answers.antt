@@ -1,4 +1,4 @@
--- A write that goes well takes a byte at least.
+-- A successful write takes at least one byte.
 use Rattle.std.proofs.Common.{rules}
 use Rattle.road_serve.proofs.std_streams.StdSinkSink.write.Goals as goal
 

@@ -1,4 +1,4 @@
--- The fault that it is.
+-- The fault of the replica.
 use Rattle.std.proofs.Common.{rules}
 use Rattle.road_world.proofs.faults.WorldFaultFromReplicaFault.from.Goals as goal
 

@@ -1,4 +1,4 @@
--- A replica that simulates further is one whose horizon has grown.
+-- Advancing a replica increases its horizon.
 use Rattle.std.proofs.Common.{◌∙◌, max, ap, refl}
 use Rattle.std.specs.Arc.{arc_value}
 use Rattle.road_replica.specs.Refusals.{advance_fault}

@@ -1,4 +1,4 @@
--- What an event issues and makes, by its answer and the world after it.
+-- The stamp and the message of an event, from its answer and the world after it.
 use Rattle.std.specs.Arc.{arc_value}
 use Rattle.road_world.proofs.FreshStamps.{issued_is_new}
 use Rattle.road_world.proofs.KeptWorlds.{world_wins}

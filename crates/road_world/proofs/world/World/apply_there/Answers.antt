@@ -1,4 +1,4 @@
--- A message is made at whatever count of the meter.
+-- A message is made whatever the count of the meter.
 use Rattle.road_world.proofs.world.World.apply_there.Goals as goal
 
 pub returns-in-Send-clause-applied : goal.returns-in-Send-clause-applied

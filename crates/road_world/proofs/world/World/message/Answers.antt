@@ -1,4 +1,4 @@
--- The edits that a message carries win and fit the plan.
+-- The edits of a message are winners and fit the plan.
 use Rattle.std.specs.Arc.{arc_value}
 use Rattle.road_world.proofs.KeptWorlds.{carried_there}
 use Rattle.road_world.proofs.world.World.message.Goals as goal

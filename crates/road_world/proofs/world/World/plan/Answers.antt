@@ -1,4 +1,4 @@
--- What a world holds and carries are winners.
+-- A world's replicas and messages hold winners.
 use Rattle.std.specs.Arc.{arc_value}
 use Rattle.road_world.proofs.KeptWorlds.{world_wins}
 use Rattle.road_world.proofs.world.World.plan.Goals as goal

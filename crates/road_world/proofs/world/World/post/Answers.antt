@@ -1,4 +1,4 @@
--- The message of an event more.
+-- The message of an event is added.
 use Rattle.std.proofs.Common.{◌≡◌, List, ap, arith, length, subst, sym}
 use Rattle.std.specs.Arc.{arc_value}
 use Rattle.road_world.proofs.AppliedEvents.{post_applied}

@@ -1,4 +1,4 @@
--- What a detector counts is read of the winners of what reached the replica.
+-- The counts of a detector are a function of the winners of what reached the replica.
 use Rattle.std.proofs.Common.{◌∙◌}
 use Rattle.road_plan.specs.Plan.{Plan}
 use Rattle.road_scenario.specs.Edits.{Edits}

@@ -1,7 +1,0 @@
--- The loop that shares the pages.
-use Rattle.std.proofs.Common.{◌≡◌, take}
-use Rattle.lattice_core.proofs.pages.shared.Given as goal
-
--- those before the place are shared
-abbrev pub invariant-loop-first : goal.invariant-loop-first
-invariant-loop-first g l = l.same.items ≡ take l.first-index l.pages

@@ -1,6 +1,0 @@
--- Its count is one above all that the replica holds.
-use Rattle.std.proofs.Common.{rules}
-use Rattle.road_replica.proofs.replica.Replica.edit_made.Goals as goal
-
-pub returns : goal.returns
-returns c = search rules

@@ -1,0 +1,8 @@
+-- What was given is what the job came to.
+use Rattle.road_workers.proofs.pool.working.answer_job.Goals as goal
+
+pub returns-clause-taken : goal.returns-clause-taken
+returns-clause-taken g c is = (c.result_of-done.result, c.result_of-done.ensures, c.deliver.ensures.taken is)
+
+pub returns-clause-nobody : goal.returns-clause-nobody
+returns-clause-nobody g c is = (c.result_of-done.result, c.result_of-done.ensures, c.deliver.ensures.nobody is)

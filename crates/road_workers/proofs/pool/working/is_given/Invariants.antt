@@ -1,9 +1,0 @@
--- The loop that offers a reply.
-use Rattle.std.proofs.Common.{◌≡◌}
-use Rattle.road_workers.proofs.pool.working.is_given.Given as goal
-
-abbrev pub invariant-loop : goal.invariant-loop
-invariant-loop g l = record {
-  goes_on : (goal.iterator-loop g).can_next l.iterator' × (goal.iterator-loop g).is_finite l.iterator';
-  same : l.again ≡ l.fn.reply;
-}

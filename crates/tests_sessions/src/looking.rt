@@ -1,0 +1,157 @@
+//! A look while a write holds the lock.
+
+ghost use Rattle.std.specs.Prelude.{◌≡◌};
+
+use crate::worked::prepare_free_road;
+use crate::writes::Answer;
+use road_ends::{Meter, StepInput};
+use road_replica::Reply;
+use road_sessions::{Naming, Prepared, Session, Shared, open};
+use road_workers::{Alone, Crew, CrewFault};
+use std::alloc::Global;
+use std::marker::Brand;
+use std::sync::atomic::{AtomicBool, Ordering};
+use std::sync::{Arc, Wait};
+use std::test::Fail;
+use std::thread::{Threads, join, yield_now};
+
+/// How often a thread checks whether the other one has come this far.
+const TURNS: u32 = 1_000_000;
+
+// Return whether a flag is set before a thread has checked it this number of times.
+fn comes(flag: &AtomicBool) -> bool {
+    for _ in 0..TURNS {
+        if flag.load(Ordering::SeqCst) {
+            return true;
+        }
+        yield_now();
+    }
+    false
+}
+
+/// A crew that at its first call reports the call and waits until a session has looked. If none has, it returns
+/// `WorkersGone`. It computes all speeds itself.
+#[derive(Drop)]
+struct Waiting<'a> {
+    called: &'a AtomicBool,
+    looked: &'a AtomicBool,
+    has_waited: bool,
+    gone: u64,
+}
+
+impl Crew for Waiting<'_> {
+    ghost times_gone = { λ crew. crew.gone };
+
+    fn speeds(&mut self, alloc: Global, input: &Arc<StepInput>) -> Result<Vec<u8>, CrewFault> {
+        if self.gone == 0 && !self.has_waited {
+            self.has_waited = true;
+            self.called.store(true, Ordering::SeqCst);
+            if !comes(self.looked) {
+                self.gone = 1;
+                return Err(CrewFault::WorkersGone);
+            }
+        }
+        Ok(input.speeds(alloc)?)
+    }
+}
+
+// Let a session advance to 9, with a crew that waits.
+fn advance<J: Naming, R: Wait + Drop, W: Wait>(
+    rt: &W,
+    shared: &Shared<J, R>,
+    session: &mut Session<J>,
+    called: &AtomicBool,
+    looked: &AtomicBool,
+) -> Answer {
+    let mut crew = Waiting {
+        called,
+        looked,
+        has_waited: false,
+        gone: 0,
+    };
+    let wrote = session.advance(rt, shared, 9, &mut crew, &mut Meter::new())?;
+    Ok((wrote.place, wrote.reply))
+}
+
+// Return the horizon that a session is shown once the crew was called.
+fn finds<J: Naming, R: Wait + Drop>(
+    shared: &Shared<J, R>,
+    session: &mut Session<J>,
+    called: &AtomicBool,
+    looked: &AtomicBool,
+) -> Option<u32> {
+    if !comes(called) {
+        return None;
+    }
+    let sheet = session.look(shared).ok()?;
+    looked.store(true, Ordering::SeqCst);
+    Some(sheet.horizon())
+}
+
+// Return the reply to one session, and what the other is shown meanwhile.
+fn both<J: Naming + Send + Sync, R: Wait + Drop + Send, W: Threads + Wait + Sync>(
+    rt: &W,
+    shared: &Shared<J, R>,
+    writer: &mut Session<J>,
+    reader: &mut Session<J>,
+) -> (Answer, Option<u32>) {
+    let called = AtomicBool::new(false);
+    let looked = AtomicBool::new(false);
+    join(
+        rt,
+        || advance(rt, shared, writer, &called, &looked),
+        || finds(shared, reader, &called, &looked),
+    )
+}
+
+// Let a session advance to 6, as the first entry of the journal.
+fn begin<J: Naming, R: Wait + Drop, W: Wait>(
+    rt: &W,
+    shared: &Shared<J, R>,
+    session: &mut Session<J>,
+) -> Result<(), Fail> {
+    let wrote = session.advance(rt, shared, 6, &mut Alone, &mut Meter::new())?;
+    if wrote.place != 0 {
+        return Err(Fail::new("another place"));
+    }
+    Ok(())
+}
+
+// Let the first session begin. Return its reply, and what the second is shown meanwhile.
+fn one_after_another<J: Naming + Send + Sync, R: Wait + Drop + Send, W: Threads + Wait + Sync>(
+    rt: &W,
+    shared: &Shared<J, R>,
+    sessions: &mut [Session<J>],
+) -> Result<(Answer, Option<u32>), Fail> {
+    let Some((writer, others)) = sessions.split_first_mut() else {
+        return Err(Fail::new("two sessions"));
+    };
+    let Some(reader) = others.first_mut() else {
+        return Err(Fail::new("two sessions"));
+    };
+    begin(rt, shared, writer)?;
+    Ok(both(rt, shared, writer, reader))
+}
+
+// Return whether a session that was told nothing finds the finished write, while another one holds the lock.
+fn looks_meanwhile<J: Naming + Send + Sync, R: Wait + Drop + Send, W: Threads + Wait + Sync>(
+    rt: &W,
+    prepared: Prepared<R>,
+) -> Result<(Answer, Option<u32>), Fail>
+    requires book { prepared.book ≡ J.book }
+    requires replica { prepared.replica ≡ J.replica }
+    requires ledger { (prepared.ledger.name ≡ J.name) × (prepared.ledger.parts ≡ J.parts) }
+    requires limit { prepared.limit ≡ J.limit }
+{
+    let (shared, mut sessions) = open::<J, R>(prepared)?;
+    one_after_another(rt, &shared, sessions.as_mut_slice())
+}
+
+#[test]
+fn a_look_takes_no_lock(rt: HostRuntime) -> Result<(), Fail> {
+    let prepared = prepare_free_road(&rt, rt.alloc(), 0, 2, 10)?;
+    let (answer, found) = looks_meanwhile::<Brand, _, _>(&rt, prepared)?;
+    let wrote = answer?;
+    assert!(rt; wrote == (1, Reply::Horizon(9)) && found == Some(6));
+    Ok(())
+}

@@ -1,6 +1,0 @@
--- The cache is one of the sheet.
-use Rattle.road_sheet.specs.QueryCaches.{IsCacheOf}
-use Rattle.tests_sheets.proofs.scripts.states_agree_from.Given as goal
-
-abbrev pub invariant-loop-place : goal.invariant-loop-place
-invariant-loop-place l = IsCacheOf l.sheet l.cache

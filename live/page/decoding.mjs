@@ -1,0 +1,205 @@
+// What the server tells, as objects with named fields, and back: stamps, shapes, parts and edits of
+// changes, figures. Another site may have told anything: what is malformed is left out.
+
+/** @typedef {import("./types.mjs").Answers} Answers */
+/** @typedef {import("./types.mjs").Edit} Edit */
+/** @typedef {import("./types.mjs").Figures} Figures */
+/** @typedef {import("./types.mjs").Gone} Gone */
+/** @typedef {import("./types.mjs").Kind} Kind */
+/** @typedef {import("./types.mjs").ListNews} ListNews */
+/** @typedef {import("./types.mjs").Mean} Mean */
+/** @typedef {import("./types.mjs").Rectangle} Rectangle */
+/** @typedef {import("./types.mjs").RoadFigures} RoadFigures */
+/** @typedef {import("./types.mjs").Shape} Shape */
+/** @typedef {import("./types.mjs").Stamp} Stamp */
+/** @typedef {import("./types.mjs").TaggedChange} TaggedChange */
+/** @typedef {import("./types.mjs").ToldAnswers} ToldAnswers */
+/** @typedef {import("./types.mjs").ToldChange} ToldChange */
+/** @typedef {import("./types.mjs").ToldFigures} ToldFigures */
+/** @typedef {import("./types.mjs").ToldGone} ToldGone */
+/** @typedef {import("./types.mjs").ToldLayers} ToldLayers */
+/** @typedef {import("./types.mjs").ToldMean} ToldMean */
+/** @typedef {import("./types.mjs").ToldOperation} ToldOperation */
+/** @typedef {import("./types.mjs").ToldRoadFigures} ToldRoadFigures */
+/** @typedef {import("./types.mjs").ToldShape} ToldShape */
+/** @typedef {import("./types.mjs").ToldStamp} ToldStamp */
+/** @typedef {import("./types.mjs").ToldTrip} ToldTrip */
+/** @typedef {import("./types.mjs").Trip} Trip */
+
+/** @type {readonly Kind[]} */
+const KINDS = ["block", "limit", "slow", "start", "inflow", "watch"];
+
+/** Ask whether a value is the name of a kind.
+ * @param {unknown} value
+ * @returns {value is Kind}
+ */
+const isKind = (value) => KINDS.some((kind) => kind === value);
+
+/** Ask whether a value is a whole number that is not negative.
+ * @param {unknown} value
+ * @returns {value is number}
+ */
+const isCount = (value) => Number.isInteger(value) && Number(value) >= 0;
+
+/** Ask whether a value is a whole number.
+ * @param {unknown} value
+ * @returns {value is number}
+ */
+const isWhole = (value) => Number.isInteger(value);
+
+/** Return a value as a list; an empty one if it is none.
+ * @param {unknown} value
+ * @returns {unknown[]}
+ */
+const listOf = (value) => (Array.isArray(value) ? value : []);
+
+/** Return the stamp of [count, number].
+ * @param {ToldStamp} told
+ * @returns {Stamp}
+ */
+export const decodeStamp = ([count, number]) => ({count, number});
+
+/** Return [count, number] of a stamp.
+ * @param {Stamp} stamp
+ * @returns {ToldStamp}
+ */
+export const encodeStamp = ({count, number}) => [count, number];
+
+/** Return the stamp of [count, number]; null of null.
+ * @param {ToldStamp | null | undefined} told
+ */
+const decodeIfAny = (told) => (told ? decodeStamp(told) : null);
+
+/** Return the shape of [kind, first, last, from, until, value]; null if it is malformed.
+ * @param {unknown} told
+ * @returns {Shape | null}
+ */
+export function decodeShape(told) {
+  const [kind, first, last, from, to, value] = listOf(told);
+  if (!isKind(kind) || !isCount(first) || !isCount(last) || !isCount(from)) return null;
+  if ((to !== null && !isCount(to)) || !isWhole(value)) return null;
+  return {kind, first, last, from, to, value};
+}
+
+/** Return [kind, first, last, from, until, value] of a shape.
+ * @param {Shape} shape
+ * @returns {ToldShape}
+ */
+export const encodeShape = ({kind, first, last, from, to, value}) =>
+  [kind, first, last, from, to, value];
+
+/** Return the parts of a change of [kind, first, last, from, until, value, by].
+ * @param {unknown} told
+ * @returns {Rectangle[]}
+ */
+export const decodeParts = (told) => listOf(told).flatMap((part) => {
+  const [shape, by] = [decodeShape(part), listOf(part)[6]];
+  const [count, number] = listOf(by);
+  if (!shape || !(by === null || (isCount(count) && isCount(number)))) return [];
+  return [{...shape, by: isCount(count) && isCount(number) ? {count, number} : null}];
+});
+
+/** Return the edit of [kind, index, step, value]; none if it is malformed.
+ * @param {unknown} told
+ * @returns {Edit[]}
+ */
+function decodeEdit(told) {
+  const [kind, index, step, value] = listOf(told);
+  if (!isKind(kind) || !isCount(index) || !isCount(step)) return [];
+  return value === null || isWhole(value) ? [{kind, index, step, value}] : [];
+}
+
+/** Return an operation on a change.
+ * @param {ToldOperation} told
+ */
+const decodeOperation = ({stamp, undoes, lost, shape, ...told}) =>
+  ({...told, stamp: decodeStamp(stamp), undoes: decodeIfAny(undoes), lost: decodeIfAny(lost),
+    ...(shape ? {shape: decodeShape(shape)} : {})});
+
+/** Return a change, or that one is gone.
+ * @param {ToldChange | ToldGone} told
+ * @returns {TaggedChange | Gone}
+ */
+export function decodeChange(told) {
+  const name = decodeStamp(told.name);
+  if ("gone" in told) return {name, gone: true};
+  const {shape, shown, edits, operations, was, ...rest} = told;
+  const [, number] = listOf(shape);
+  return {...rest, name, shape: decodeShape(shape), shown: decodeParts(shown),
+          edits: listOf(edits).flatMap(decodeEdit), operations: operations.map(decodeOperation),
+          site: told.kind === "site" && isCount(number) ? number : null,
+          ...(was === undefined ? {} : {was: was && decodeParts(was)})};
+}
+
+/** Return the changes that differ from an earlier version of the list, and what Z and Redo would
+ * do.
+ * @param {ToldLayers} told
+ * @returns {ListNews}
+ */
+export const decodeList = ({layers, next, since, more = false, undo, redo, blocked = []}) =>
+  ({layers: layers.map(decodeChange), next, since, more, undo: decodeIfAny(undo),
+    redo: decodeIfAny(redo),
+    blocked: blocked.map(({stamp, by}) => ({stamp: decodeStamp(stamp), by}))});
+
+/** Return the cars that arrived somewhere and their mean seconds.
+ * @param {ToldTrip} told
+ * @returns {Trip}
+ */
+const decodeTrip = ([cars, seconds]) => ({cars, seconds});
+
+/** Return the figures of a road.
+ * @param {ToldRoadFigures} told
+ * @returns {RoadFigures}
+ */
+const decodeRoad = ({travel, ...told}) => ({...told, travel: travel.map(decodeTrip)});
+
+/** Return the figures of two roads.
+ * @param {ToldFigures} told
+ * @returns {Figures}
+ */
+export const decodeFigures = ({before, after, later, ...told}) =>
+  ({...told, before: decodeRoad(before), after: decodeRoad(after), later: later.map(decodeTrip)});
+
+/** Return the mean of [mean, half].
+ * @param {ToldMean} told
+ * @returns {Mean}
+ */
+const decodeMean = ([mean, half]) => ({mean, half});
+
+/** Return the figures of many days.
+ * @param {ToldAnswers["days"]} told
+ * @returns {Answers["days"]}
+ */
+export const decodeDays = ({figures = [], ...told}) => ({...told,
+  figures: figures.map(({name, before, after, difference}) => ({name, before: decodeMean(before),
+    after: decodeMean(after), difference: decodeMean(difference)}))});
+
+/** Return the answer to an act.
+ * @param {ToldAnswers["gesture"]} told
+ * @returns {Answers["gesture"]}
+ */
+const decodeDone = (told) => ({...decodeList(told), stamp: decodeStamp(told.stamp),
+                               touched: told.touched, us: told.us});
+
+/** Return an answer that has no arrays of positions.
+ * @template Answer
+ * @param {Answer} told
+ */
+const asTold = (told) => told;
+
+/** @type {{[Verb in keyof Answers]: (told: ToldAnswers[Verb]) => Answers[Verb]}} */
+const DECODERS = {
+  gesture: decodeDone, again: decodeDone, site: decodeDone, undo: decodeDone,
+  take: (told) => ({...decodeList(told), touched: told.touched}), layers: decodeList,
+  preview: ({layers = []}) => ({layers: layers.map(decodeChange)}), figures: decodeFigures,
+  days: decodeDays, send: asTold, advance: asTold, diagram: asTold, counts: asTold, sums: asTold,
+  admission: asTold, script: asTold, report: asTold, transcript: asTold, csv: asTold, clock: asTold,
+};
+
+/** Return the answer to a command, with named fields.
+ * @template {keyof Answers} Verb
+ * @param {Verb} verb
+ * @param {ToldAnswers[Verb]} told
+ * @returns {Answers[Verb]}
+ */
+export const decodeAnswer = (verb, told) => DECODERS[verb](told);

@@ -1,0 +1,355 @@
+// Types of what the server says and of what the page knows. There is no code here: `tsc` reads this
+// file, by tsconfig.json. Cells are 7.5 m long and steps take 1 s.
+
+/**
+ * The name of an operation: a count, and the number of the seat that made it. The greater is later.
+ * @typedef {{count: number, number: number}} Stamp
+ *
+ * What a change sets: a closure, a speed limit, a slowing chance, a slow-to-start chance, a demand,
+ * or a detector that is on.
+ * @typedef {"block" | "limit" | "slow" | "start" | "inflow" | "watch"} Kind
+ *
+ * Objects `first` to `last` have the value from step `from` until step `to`; `to` null: for ever.
+ * @typedef {{kind: Kind, first: number, last: number, from: number, to: number | null,
+ *            value: number}} Shape
+ *
+ * A part of a change; `by` names the change that covers it there, null: it is in force.
+ * @typedef {Shape & {by: Stamp | null}} Rectangle
+ *
+ * One object has a value from a step on, until the next edit of it; null withdraws the edit.
+ * @typedef {{kind: Kind, index: number, step: number, value: number | null}} Edit
+ *
+ * @typedef {[cells: number, steps: number]} Stride
+ * @typedef {[cell: number, step: number]} Place
+ * @typedef {[from: number, to: number]} Span          steps or cells, the end excluded
+ * @typedef {[left: number, top: number, right: number, bottom: number]} Box     pixels
+ */
+
+/**
+ * A scenario's plan line. Zones are `zone` cells long, each with a speed limit (cells a step) and
+ * a slowing chance (1/65,536); an inlet has a cell and an inflow chance (1/65,536).
+ * @typedef {object} Plan
+ * @property {number} length          cells
+ * @property {number} exit            cells of the deleted zone
+ * @property {number} zone            cells
+ * @property {[limit: number, slow: number][]} zones
+ * @property {[cell: number, chance: number][]} inlets
+ * @property {number[]} detectors     cells
+ * @property {number | string} words
+ * @property {string[]} replicas
+ */
+
+/**
+ * What an operation does to a change.
+ * @typedef {"put" | "change" | "withdraw" | "top" | "undo" | "redo" | "edits" | "exclude"
+ *           | "include"} Deed
+ */
+
+/**
+ * An operation on a change.
+ * @typedef {object} Operation
+ * @property {Stamp} stamp
+ * @property {string} who
+ * @property {string} note
+ * @property {number} when            seconds since 1970; 0: not known
+ * @property {Deed} does
+ * @property {boolean} shared
+ * @property {Stamp | null} [undoes]  the operation that it takes back
+ * @property {Stamp | null} lost      the operation that was made at the same time and won
+ * @property {Shape | null} [shape]   what a lost operation would have set
+ * @property {boolean} [idle]         it need not be shared: nothing differs by it
+ */
+
+/**
+ * A change as it was told, before it is known which parts are of this road.
+ * @typedef {Omit<Change, "isRaw">} TaggedChange
+ *
+ * A change that leaves the list.
+ * @typedef {{name: Stamp, gone: true}} Gone
+ */
+
+/**
+ * A change of this road.
+ * @typedef {object} Change
+ * @property {Stamp} name
+ * @property {Kind | "site" | null} kind
+ * @property {Shape | null} shape     of raw edits: what they put, if that is one rectangle
+ * @property {string} who
+ * @property {string} note
+ * @property {number} when
+ * @property {boolean} standing
+ * @property {boolean} shared
+ * @property {Rectangle[]} shown
+ * @property {Operation[]} operations
+ * @property {Edit[]} edits
+ * @property {boolean} isRaw          it was made of raw edits alone
+ * @property {number | null} site     the site that it excludes
+ * @property {Rectangle[] | null} [was]
+ */
+
+/**
+ * The changes that differ from an earlier version of the list.
+ * @typedef {object} ListNews
+ * @property {(TaggedChange | Gone)[]} layers
+ * @property {number} next            the version that they lead to
+ * @property {number} [since]         the version from which they lead
+ * @property {boolean} more           there are more behind them
+ * @property {Stamp | null} undo      what Z would take back
+ * @property {Stamp | null} redo      what Redo would put again
+ * @property {{stamp: Stamp, by: string[]}[]} blocked     what Z passes over, and who changed it
+ */
+
+/**
+ * Where a change is in force.
+ * @typedef {Shape & {by: Change}} Frame
+ */
+
+/**
+ * What an inlet admits by each inflow chance (1/65,536), in cars per hour; `points` by rising chances.
+ * @typedef {object} Curve
+ * @property {[chance: number, cars: number][]} points
+ * @property {number} capacity
+ */
+
+/**
+ * A road by which the curves of its inlets are known at each step; null: it is measured just now.
+ * @typedef {object} MeasuredRoad
+ * @property {Plan} plan
+ * @property {(inlet: number, step: number) => Curve | null} curveAt
+ */
+
+/**
+ * What one road is counted to have, in a period.
+ * @typedef {object} RoadFigures
+ * @property {number} vehicle_hours
+ * @property {number[]} asked         cars that each inlet is asked for
+ * @property {number[]} entered       cars that each inlet lets in
+ * @property {number[]} lost          cars of lost demand of each inlet
+ * @property {number[]} scatter       cars by which the demand of each inlet scatters by chance
+ * @property {DetectorFigures[]} flows
+ * @property {Trip[]} travel          to each detector, and last to the road's end
+ */
+
+/**
+ * What a detector counted: flow in cars per hour and speed in km/h, null: it was off, or no car came;
+ * seconds for which it was on.
+ * @typedef {{cars: number, speeds: number, flow: number | null, speed: number | null, on: number}}
+ *   DetectorFigures
+ *
+ * Cars, and the mean of their seconds; null: there was none.
+ * @typedef {{cars: number, seconds: number | null}} Trip
+ */
+
+/**
+ * What two roads are counted to have, car by car.
+ * @typedef {object} Figures
+ * @property {number} from            step
+ * @property {number} to
+ * @property {RoadFigures} before
+ * @property {RoadFigures} after
+ * @property {number} delay_hours     vehicle hours
+ * @property {Trip[]} later           how much later cars of both roads are at each place
+ */
+
+/**
+ * A mean of days, with how far its 95 % interval reaches to both sides; null: it was one day.
+ * @typedef {{mean: number, half: number | null}} Mean
+ *
+ * @typedef {{name: string, before: Mean, after: Mean, difference: Mean}} DaysFigure
+ * @typedef {{from: number, to: number, days: number, stopped: boolean, figures: DaysFigure[]}}
+ *   DaysFigures
+ */
+
+/**
+ * This tab's seat, and what the server says of itself when the tab joins.
+ * @typedef {object} Welcome
+ * @property {string} at              how the seat's road is named
+ * @property {number} seat
+ * @property {number} number          the seat's, in stamps
+ * @property {string} name
+ * @property {string} key             by which the tab has the seat again when it is reloaded
+ * @property {Plan} plan
+ * @property {number} now             step of the clock
+ * @property {number} rate            steps a second
+ * @property {number | null} [stop]   the step at which a fast clock stops
+ * @property {number} ahead           steps that the own road may be ahead of the clock
+ * @property {{rows: number, bytes: number, days: number}} [most]
+ * @property {Broker | null} broker
+ * @property {string} [standing]
+ * @property {{begin: number | null, zone: string | null, date?: string | null} | null} [day]  the
+ *   time of day of step 0, in seconds after midnight, the time zone, and the date
+ */
+
+/**
+ * A seat, and how many of its changes are not shared.
+ * @typedef {{seat: number, at: string, name: string, here: boolean, private: number}} Seat
+ *
+ * As whom to join: with a name, as a seat that nobody has open, or as the own seat.
+ * @typedef {{name: string} | {take: number} | {key: string}} Wishes
+ */
+
+/**
+ * The state of the exchange with other sites.
+ * @typedef {object} Broker
+ * @property {string} state           "away": there is no broker
+ * @property {number} [unsent]        changes to be sent
+ * @property {{site: number, when: number}[]} [sites]
+ * @property {string[]} [told]        sentences, the newest last
+ * @property {string[]} [stays]       what is wrong, as long as it is
+ * @property {boolean} [sealed]       false: sites are trusted wholly
+ */
+
+/**
+ * What others shared and this seat has not taken; `touched` is the first step that differs.
+ * @typedef {object} News
+ * @property {number} size
+ * @property {{who: string, title: string}[]} shares
+ * @property {string[]} from          who
+ * @property {number | null} [touched]
+ */
+
+/**
+ * What a rectangle would do: lines that say so, the note of the change, and why it cannot be done.
+ * @typedef {object} Area
+ * @property {Shape} shape
+ * @property {string} note
+ * @property {string[]} lines
+ * @property {string} fault           "": it can be done
+ * @property {Change | null} old      the change that it alters
+ * @property {string} [taken]         a sentence of the stretch that it takes
+ */
+
+/**
+ * What is looked at before sharing or taking.
+ * @typedef {object} Preview
+ * @property {"mine" | "shared" | "both"} whose   the road that was seen before
+ * @property {boolean} takes
+ * @property {string[] | undefined} names         of the changes to share; undefined: all
+ * @property {Change[]} lines         what is shared
+ * @property {Stamp[]} stamps
+ * @property {ReturnType<typeof setTimeout>} [soon]   until figures are asked for
+ */
+
+/**
+ * What sharing or taking would change. What is not known yet is null.
+ * @typedef {object} Previewed
+ * @property {string} why             why it cannot be said; "": it can
+ * @property {import("./layers.mjs").Layers | null} layers    of the road that it would be
+ * @property {Stamp[]} names          of the changes that would be shown otherwise
+ * @property {Figures | {why: string} | null} figures
+ */
+
+/**
+ * What is asked over many days: of which roads, of which versions, how many days are done, and the
+ * answer.
+ * @typedef {{of: "mine" | "preview", key: string, done: number, said: DaysFigures | null}} Days
+ *
+ * When a gesture was made, had its rows, was painted, and was confirmed: milliseconds.
+ * @typedef {{key: string, began: number, settled?: number, painted?: number, confirmed?: number,
+ *            us?: Record<string, number>}} Timing
+ */
+
+/**
+ * A command that is sent again until it is confirmed.
+ * @typedef {object} Pending
+ * @property {Command<"gesture" | "again" | "site" | "undo">} command
+ * @property {string} note
+ * @property {Shape | null} [shape]   what it puts
+ * @property {number} [first]         the first step that it changes, if that is known
+ * @property {"lay" | "undo" | "redo"} does
+ * @property {Stamp | string} [undoes]    the stamp, or the key, of what it takes back
+ * @property {string} taken           a sentence of the stretch that it takes
+ */
+
+/**
+ * The answer to an act: the operation's stamp, the first step at which the road differs, and what
+ * the server took for it, in microseconds.
+ * @typedef {ListNews & {stamp: Stamp, touched: number | null, us?: Record<string, number>}} Done
+ *
+ * The answers to the commands that are not refused, by the command's name.
+ * @typedef {object} Answers
+ * @property {Done} gesture
+ * @property {Done} again
+ * @property {Done} site
+ * @property {Done} undo
+ * @property {{touched: number | null}} send
+ * @property {ListNews & {touched: number | null}} take
+ * @property {ListNews} layers
+ * @property {Pick<ListNews, "layers">} preview
+ * @property {Figures} figures
+ * @property {DaysFigures} days
+ * @property {{horizon: number}} advance
+ * @property {{rows: string[]}} diagram
+ * @property {{flows: (DetectorFigures | DetectorFigures[])[]}} counts    with `each` a list of each span
+ * @property {Curve} admission
+ * @property {{lines: string, to: number}} script
+ * @property {{html: string}} report
+ * @property {{sums: number[]}} sums
+ * @property {{lines: string, next: number | null}} transcript
+ * @property {{csv: string}} csv
+ * @property {object} clock
+ *
+ * Why a command was refused, by name and in a sentence.
+ * @typedef {{refused: string, why?: string}} Refusal
+ */
+
+/**
+ * What is told without asking: one of these.
+ * @typedef {object} Told
+ * @property {{now: number, rate: number, stop?: number | null}} [clock]
+ * @property {News} [news]
+ * @property {Seat[]} [seats]
+ * @property {Broker | null} [broker]
+ * @property {{done: number}} [days]
+ * @property {string | null} [trouble]
+ * @property {{why?: string}} [program]
+ */
+
+/**
+ * The fields of a command, by its name.
+ * @template {keyof Answers} Verb
+ * @typedef {Partial<Record<Verb, object>>} Command
+ */
+
+// As the server tells it: arrays of positions, which decoding.mjs reads.
+
+/**
+ * @typedef {[count: number, number: number]} ToldStamp
+ * @typedef {[kind: Kind, first: number, last: number, from: number, to: number | null,
+ *            value: number]} ToldShape
+ * @typedef {[cars: number, seconds: number | null]} ToldTrip
+ * @typedef {[mean: number, half: number | null]} ToldMean
+ *
+ * @typedef {Omit<Operation, "stamp" | "undoes" | "lost" | "shape">
+ *   & {stamp: ToldStamp, undoes?: ToldStamp | null, lost: ToldStamp | null,
+ *      shape?: ToldShape | null}} ToldOperation
+ *
+ * Another site may have made shapes, parts and edits: they may be anything.
+ * @typedef {Omit<Change, "name" | "shape" | "shown" | "operations" | "edits" | "isRaw" | "site" | "was">
+ *   & {name: ToldStamp, shape: unknown, shown: unknown, operations: ToldOperation[], edits?: unknown,
+ *      was?: unknown}} ToldChange
+ * @typedef {{name: ToldStamp, gone: true}} ToldGone
+ *
+ * @typedef {object} ToldLayers
+ * @property {(ToldChange | ToldGone)[]} layers
+ * @property {number} next
+ * @property {number} [since]
+ * @property {boolean} [more]
+ * @property {ToldStamp | null} [undo]
+ * @property {ToldStamp | null} [redo]
+ * @property {{stamp: ToldStamp, by: string[]}[]} [blocked]
+ *
+ * @typedef {Omit<RoadFigures, "travel"> & {travel: ToldTrip[]}} ToldRoadFigures
+ * @typedef {Omit<Figures, "before" | "after" | "later">
+ *   & {before: ToldRoadFigures, after: ToldRoadFigures, later: ToldTrip[]}} ToldFigures
+ * @typedef {{name: string, before: ToldMean, after: ToldMean, difference: ToldMean}} ToldDaysFigure
+ * @typedef {Omit<DaysFigures, "figures"> & {figures?: ToldDaysFigure[]}} ToldDays
+ * @typedef {ToldLayers & Pick<Done, "touched" | "us"> & {stamp: ToldStamp}} ToldDone
+ * @typedef {Omit<Answers, "gesture" | "again" | "site" | "undo" | "take" | "layers" | "preview"
+ *                         | "figures" | "days">
+ *   & {gesture: ToldDone, again: ToldDone, site: ToldDone, undo: ToldDone,
+ *      take: ToldLayers & {touched: number | null}, layers: ToldLayers,
+ *      preview: Partial<Pick<ToldLayers, "layers">>, figures: ToldFigures, days: ToldDays}} ToldAnswers
+ */
+
+export {};

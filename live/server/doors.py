@@ -1,0 +1,150 @@
+"""The listening sockets: who comes is let in by turns of addresses, so that no address locks the others out.
+
+    doors = Doors(sockets, protocol, certificate)
+    doors.open()
+    await doors.serve()             for ever
+    doors.close()
+
+Many connections of one address wait for each other, and of too many the oldest are closed. Those that have said nothing, or
+are still about their keys, are few: by TLS each takes a third of a megabyte.
+"""
+from __future__ import annotations
+
+import asyncio
+import collections
+import contextlib
+import ipaddress
+import logging
+import socket
+import ssl
+import time
+from typing import Any, Callable, Deque
+
+MOST_WAITING = 64  # connections of an address that wait to be let in
+MOST_ADDRESSES = 256  # that have some
+AT_ONCE, A_SECOND = 128, 100  # connections that are let in
+MOST_ENTERING = 64  # that have said nothing, or are about their keys
+HANDSHAKE = 10.0  # seconds for each of both
+FAREWELL = 5.0  # seconds in which the other end says that it goes, by TLS
+AT_A_TIME = 256  # that are accepted before others have their turn
+TOO_MANY = 0.5  # seconds until it is tried again where the system has no more sockets
+
+
+class Doors:
+    """Listening sockets, and who waits before them."""
+
+    def __init__(self, sockets: list[socket.socket], protocol: Callable[[], Any], certificate: ssl.SSLContext | None) -> None:
+        self._sockets, self._protocol, self._certificate = sockets, protocol, certificate
+        self._waiting: collections.OrderedDict[str, Deque[socket.socket]] = collections.OrderedDict()  # by address
+        self._entering: dict[asyncio.Future[Any], str] = {}  # the oldest first, and their addresses
+        self._come = asyncio.Event()
+        self._left, self._at = float(AT_ONCE), time.monotonic()
+
+    def open(self) -> None:
+        """Accept connections from now on."""
+        for one in self._sockets:
+            one.setblocking(False)
+            asyncio.get_running_loop().add_reader(one, self._accept, one)
+
+    def _accept(self, door: socket.socket) -> None:
+        loop = asyncio.get_running_loop()
+        for _ in range(AT_A_TIME):
+            try:
+                connection, (address, *_) = door.accept()
+            except (BlockingIOError, InterruptedError, ConnectionError):
+                return
+            except OSError as fault:
+                logging.warning("no more connections for a moment: %s", fault)
+                loop.remove_reader(door)
+                loop.call_later(TOO_MANY, self._again, door)
+                return
+            self._put(connection, neighbourhood(address))
+
+    def _again(self, door: socket.socket) -> None:
+        if door.fileno() >= 0:
+            asyncio.get_running_loop().add_reader(door, self._accept, door)
+
+    def _put(self, connection: socket.socket, address: str) -> None:
+        """Let a connection wait; the oldest of too many of its address is closed."""
+        queue = self._waiting.setdefault(address, collections.deque())
+        queue.append(connection)
+        if len(queue) > MOST_WAITING:
+            queue.popleft().close()
+        if len(self._waiting) > MOST_ADDRESSES:  # of one whose turn is last
+            for one in self._waiting.popitem()[1]:
+                one.close()
+        self._come.set()
+
+    async def serve(self) -> None:
+        """Let those who wait in, an address after the other."""
+        while True:
+            self._come.clear()
+            while self._waiting:
+                await self._pace()
+                address, queue = self._waiting.popitem(last=False)
+                connection = queue.popleft()
+                if queue:
+                    self._waiting[address] = queue
+                self._enter(connection, address)
+            await self._come.wait()
+
+    async def _pace(self) -> None:
+        """Wait until one more may be let in."""
+        now = time.monotonic()
+        self._left = min(AT_ONCE, self._left + A_SECOND * (now - self._at)) - 1
+        self._at = now
+        await asyncio.sleep(max(0.0, -self._left / A_SECOND))
+
+    def _enter(self, connection: socket.socket, address: str) -> None:
+        task = asyncio.ensure_future(self._connect(connection))
+        self._entering[task] = address
+        task.add_done_callback(self._entering.pop)
+        if len(self._entering) > MOST_ENTERING:
+            counts = collections.Counter(self._entering.values())
+            worst = max(counts.values())
+            next(one for one, of in self._entering.items() if counts[of] == worst).cancel()
+
+    async def _connect(self, connection: socket.socket) -> None:
+        tls: dict[str, Any] = {} if self._certificate is None else {
+            "ssl": self._certificate, "ssl_handshake_timeout": HANDSHAKE, "ssl_shutdown_timeout": FAREWELL}
+        try:
+            async with asyncio.timeout(HANDSHAKE):
+                await says_something(connection)
+            await asyncio.get_running_loop().connect_accepted_socket(self._protocol, connection, **tls)
+        except (OSError, asyncio.TimeoutError):  # (what is wrong about keys is an OSError, too)
+            connection.close()
+        except asyncio.CancelledError:
+            with contextlib.suppress(OSError):
+                connection.close()
+            raise
+
+    def close(self) -> None:
+        """Let nobody in any more."""
+        for one in self._sockets:
+            asyncio.get_running_loop().remove_reader(one)
+            one.close()
+        for task in [*self._entering]:
+            task.cancel()
+        for queue in self._waiting.values():
+            for connection in queue:
+                connection.close()
+        self._waiting.clear()
+
+
+async def says_something(connection: socket.socket) -> None:
+    """Wait until there is something to read: who is silent takes a socket, and nothing else."""
+    loop, said = asyncio.get_running_loop(), asyncio.Event()
+    connection.setblocking(False)
+    loop.add_reader(connection, said.set)
+    try:
+        await said.wait()
+    finally:
+        loop.remove_reader(connection)
+
+
+def neighbourhood(address: str) -> str:
+    """Return what counts as one address: of IPv6 a network of 64 bits, all of which one host may have."""
+    if ":" not in address:
+        return address
+    long = ipaddress.IPv6Address(address.partition("%")[0])
+    return str(long.ipv4_mapped or ipaddress.ip_network((long, 64), strict=False))

@@ -1,0 +1,99 @@
+"""The lines of a journal, read and written.
+
+A line ends with the checksum of its entry: as `crc` where a write began with it, as `and` where it went on. So a line
+that is none was never confirmed where no write began behind it. (Lines of older journals have no checksum.)
+"""
+from __future__ import annotations
+
+import itertools
+import json
+import re
+import zlib
+from pathlib import Path
+from typing import Any, Iterator
+
+Entry = dict[str, Any]
+SUM = 18  # bytes of a checksum, at the end of a line
+SUMMED = re.compile(rb',"(crc|and)":"([0-9a-f]{8})"\}')
+
+
+class Broken(Exception):
+    """The journal has a line that is none, or the folder cannot be used; the text says so in a sentence."""
+
+
+def packed(value: Any) -> str:
+    """Compact JSON in one line."""
+    return json.dumps(value, separators=(",", ":"), ensure_ascii=False, allow_nan=False)
+
+
+def line_of(text: str, is_first: bool) -> bytes:
+    """The line of an entry, the first of a write or not."""
+    data = text.encode()
+    return data[:-1] + b',"%s":"%08x"}\n' % (b"crc" if is_first else b"and", zlib.crc32(data))
+
+
+class Entries:
+    """The entries of a journal, read one by one. When all are read `size` is how many bytes they take."""
+
+    def __init__(self, path: Path, most: int | None = None) -> None:
+        """`most`: only so many bytes are read."""
+        self._path, self._most = path, most
+        self.size = 0
+
+    def __iter__(self) -> Iterator[Entry]:
+        """Yield each entry; `Broken` names a line that is no entry, unless it is of a write that never ended."""
+        if not self._path.exists():
+            return
+        left = self._path.stat().st_size if self._most is None else self._most
+        with open(self._path, "rb") as file:
+            for number in itertools.count(1):
+                line = file.readline(left)
+                left -= len(line)
+                if not line.endswith(b"\n"):
+                    return
+                try:
+                    entry = entry_of(self._path, number, line[:-1])
+                except Broken:
+                    if not self._never_ended(line[:-1], file.read(left)):
+                        raise
+                    return
+                self.size += len(line)
+                yield entry
+
+    def _never_ended(self, line: bytes, behind: bytes) -> bool:
+        """Return whether a broken line is of a write that never ended: no write begins behind it."""
+        *lines, rest = behind.split(b"\n")
+        could = [line.rpartition(b"\0")[2], *lines]
+        return bool(rest or b"\0" in line) and not any(begins_a_write(self._path, one) for one in could)
+
+
+def read(path: Path, size: int | None = None) -> tuple[list[Entry], int]:
+    """The entries of a journal (of its first bytes), and how many bytes they take; `Broken` names a line that is no
+    entry, unless it is of a write that never ended."""
+    entries = Entries(path, size)
+    return list(entries), entries.size
+
+
+def entry_of(path: Path, number: int, line: bytes) -> Entry:
+    """Read an entry; `Broken` if it is none, or its checksum differs."""
+    summed = SUMMED.fullmatch(line[-SUM:])
+    text = line[:-SUM] + b"}" if summed else line
+    try:
+        if summed and zlib.crc32(text) != int(summed[2], 16):
+            raise ValueError("its checksum differs")
+        entry = json.loads(text)
+    except (ValueError, RecursionError) as fault:
+        raise Broken(f"{path}, line {number}, is broken ({fault}): {line[:60]!r}") from None
+    if not isinstance(entry, dict) or [type(value) for value in entry.values()] != [dict]:
+        raise Broken(f"{path}, line {number}, is no entry: {line[:60]!r}")
+    return entry
+
+
+def begins_a_write(path: Path, line: bytes) -> bool:
+    """Whether all lines before were confirmed: this one was written behind them."""
+    try:
+        entry_of(path, 0, line)
+    except Broken:
+        return False
+    summed = SUMMED.fullmatch(line[-SUM:])
+    return summed is None or summed[1] == b"crc"

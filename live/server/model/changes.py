@@ -1,0 +1,122 @@
+"""The list of changes: a line for each layer that somebody put, or for the raw edits of one operation.
+
+Which operations belong to a line follows from the set alone, and so does everything else that a line shows. `altered` says
+which lines a step from one road to another may have altered: a list that is kept by increments asks for those alone.
+"""
+from __future__ import annotations
+
+from typing import Iterable
+
+from .layers import Rank, Stretch, rank, touches
+from .operations import Name, Operation, Stamp, in_order, is_line, is_raw, line_of
+from .projection import MANY, changed, stretches, united
+from .road import Road, parts_of
+
+
+def lines_of(road: Road, one: Operation) -> set[Stamp]:
+    """Return the lines to which an operation belongs: at least one. An undo belongs to those of what it undoes, and a raw edit
+    also to the line of the one in whose place it is."""
+    record = road.record
+    root = record.root_of(one)
+    if root.undoes is not None:
+        return {root.stamp}  # what it undoes is not here yet
+    if root.excludes is not None:
+        return line_of_site(road, root.excludes[0])
+    lines = {name for name in root.names if is_line(name)}
+    for name, shape in root.sets.items():
+        if is_raw(name):
+            replaced = replaced_line(road, root, name)
+            lines |= (set() if shape is None else {line_of(root, name)}) | (set() if replaced is None else {replaced})
+    return lines or {root.stamp}
+
+
+def line_of_site(road: Road, site: int) -> set[Stamp]:
+    """Return the line of all exclusions of a site, which the oldest one names; empty if there are none."""
+    first = next((one for one in road.record.exclusions if one.excludes is not None and one.excludes[0] == site), None)
+    return set() if first is None else {first.stamp}
+
+
+def replaced_line(road: Road, one: Operation, name: Name) -> Stamp | None:
+    """Return the line of the raw edit that an operation withdraws or takes the place of: of the newest older one."""
+    older = (other for other in reversed(road.setters_of(name))
+             if other is not one and other.sets[name] is not None and other < one)
+    found = next(older, None)
+    return None if found is None else line_of(found, name)
+
+
+def all_lines(road: Road) -> set[Stamp]:
+    return {line for one in road.record.operations() for line in lines_of(road, one)}
+
+
+def operations_on(road: Road, line: Stamp) -> list[Operation]:
+    """Return what was done to a line, the oldest first."""
+    record = road.record
+    roots = {*road.setters_of(line), *road.lifters_of(line), *(one for name in parts_of(road, line) for one in road.setters_of(name))}
+    for put in record.held.get(line, ()):
+        roots.add(put)
+        if put.excludes is not None:
+            roots.update(record.exclusions)
+        roots.update(one for name in put.sets if is_raw(name) for one in road.setters_of(name))
+    found = [one for one in roots if line in lines_of(road, one)]
+    for one in found:
+        found += [other for other in record.undos_of(one) if other not in roots]
+    return in_order(set(found))
+
+
+def altered(before: Road, after: Road) -> set[Stamp]:
+    """Return the lines that may show something else on `after` than on `before`, which `after` was made from by adding
+    operations."""
+    step = after.step
+    if before is after:
+        return set()
+    if step is None or step.before() is not before or before.record.excluded != after.record.excluded:
+        return all_lines(before) | all_lines(after)
+    lines: set[Stamp] = set()
+    others: set[Operation] = set()
+    for one in step.fresh | step.flipped:
+        lines |= lines_of(after, one)
+        if one in step.fresh:  # what waited for it had a line of its own, and what is older may name one anew
+            lines |= {each.stamp for each in above(after, one)[1:]}
+            lines |= set() if one.excludes is None else line_of_site(before, one.excludes[0])
+        others.update(other for name in one.sets if is_raw(name) for other in after.setters_of(name))
+    for other in others:  # a raw edit belongs to the line of an older one, too
+        lines |= lines_of(after, other) | (lines_of(before, other) if other in before else set())
+    names = changed(before, after)
+    lines |= {road.layers[name].line for name in names for road in (before, after) if name in road.layers}
+    return lines | beneath(before, after, names)
+
+
+def above(road: Road, one: Operation) -> list[Operation]:
+    """Return an operation, its undos, the undos of those, and so on."""
+    found = [one]
+    for each in found:
+        found += road.record.undos_of(each)
+    return found
+
+
+def beneath(before: Road, after: Road, names: Iterable[Name]) -> set[Stamp]:
+    """Return the lines that lie beneath these layers, on either road: what covers them, and where raw edits among them end,
+    may have changed."""
+    names, lines = set(names), set[Stamp]()
+    if len(names) > MANY:
+        return {line for stretch in united(stretches(before, after, names))
+                for line in touched_lines((before, after), stretch, None)}
+    for name in names:
+        there = [road.layers[name] for road in (before, after) if name in road.layers]
+        top = None if is_raw(name) else max(map(rank, there), default=None)
+        for kind, first, last, begin, end in stretches(before, after, [name]):
+            if kind in {one.kind for one in there}:
+                lines |= touched_lines((before, after), (kind, first, last, begin, end), top)
+    return lines
+
+
+def touched_lines(roads: Iterable[Road], stretch: Stretch, top: Rank | None) -> set[Stamp]:
+    """Return the lines that touch a stretch; of shapes those that lie beneath a rank."""
+    kind, first, last, _, _ = stretch
+    lines: set[Stamp] = set()
+    for road in roads:
+        lines |= {one.line for one in road.touching(stretch) if top is None or rank(one) < top}
+        if road.raws:
+            things = ((kind, index) for index in range(first, last + 1))
+            lines |= {one.line for thing in things if thing in road.raws for one in road.raws_at(*thing) if touches(one, stretch)}
+    return lines

@@ -1,0 +1,97 @@
+"""What a seat can undo, redo and share."""
+from __future__ import annotations
+
+from typing import AbstractSet, NamedTuple
+
+from .operations import SEATS, Operation, Stamp, in_order
+from .projection import changed
+from .road import Road
+
+
+class Undoable(NamedTuple):
+    """The operation that Z undoes next, and the undo that Redo undoes. `blocked` are newer own operations that Z passes over,
+    because what they did was done again, otherwise, by somebody else since."""
+
+    undo: Operation | None
+    redo: Operation | None
+    blocked: list[Operation]
+
+
+def own_operations(road: Road, number: int) -> list[Operation]:
+    """Return the operations of a seat's number, the oldest first."""
+    return in_order(one for one in road.record.operations() if one.stamp[1] == number)
+
+
+def would_change(road: Road, one: Operation) -> bool:
+    """Return whether the undo of an operation would change anything."""
+    return one not in road.record.void and road.is_changed_by(road.record.flipped_by_undo(one))
+
+
+def undoable(road: Road, number: int) -> Undoable:
+    """Return what Z and Redo of a seat do next. Both pass over what would change nothing."""
+    done: dict[Stamp, Operation] = {}
+    undone: dict[Stamp, tuple[Operation, Operation]] = {}  # by the undo: that, and what it undid
+    for one in own_operations(road, number):
+        if one.undoes in done:
+            undone[one.stamp] = one, done.pop(one.undoes)
+        elif one.undoes in undone:
+            again = undone.pop(one.undoes)[1]
+            done[again.stamp] = again
+        else:
+            done[one.stamp] = one
+            undone.clear()
+    blocked = []
+    undo = None
+    for one in reversed(done.values()):
+        if would_change(road, one):
+            undo = one
+            break
+        if any(other.stamp[1] != number for other in overruling(road, one)):
+            blocked.append(one)
+    redo = next((one for one, _ in reversed(undone.values()) if would_change(road, one)), None)
+    return Undoable(undo, redo, blocked)
+
+
+def overruling(road: Road, one: Operation) -> list[Operation]:
+    """Return the operations because of which the undo of this one changes nothing, the newest first."""
+    record = road.record
+    root = record.root_of(one)
+    found = {setter for name in root.sets for setter in [road.setter(name)] if setter is not None}
+    found |= {lifter for name in root.heights for lifter in [road.lifter(name)] if lifter is not None}
+    found |= {other for other in record.undos_of(one) if record.counts(other)}
+    if root.excludes is not None:
+        found |= {other for other in record.exclusions if other.excludes is not None and record.counts(other)
+                  and other.excludes[0] == root.excludes[0]}
+    return sorted(found - {root}, reverse=True)
+
+
+def private(road: Road, shared: Road, number: int) -> list[Operation]:
+    """Return the seat's own operations that are not shared, the oldest first."""
+    return [one for one in own_operations(road, number) if one not in shared]
+
+
+def shareable(road: Road, shared: Road, number: int, then: Road | None = None) -> list[Operation]:
+    """Return the private operations that count and by which the shared road would differ. An undo of what others never had is
+    not among them. `then` is the shared road with all private operations, if that is known."""
+    own = sendable(road, shared, number)
+    if number // SEATS in shared.record.excluded:
+        return own  # what they would change there is known once the site is let in again
+    then = then or shared.adding(own)
+    names, excluded = changed(shared, then), then.record.excluded ^ shared.record.excluded
+    names.update(road.layers[name].line for name in list(names) for road in (shared, then) if name in road.layers)
+    return [one for one in own if any(each.names & names or each.excludes is not None and each.excludes[0] in excluded
+                                      for each in chain(road, one))]
+
+
+def sendable(road: Road, shared: Road, number: int, stamps: AbstractSet[Stamp] | None = None) -> list[Operation]:
+    """Return the private operations that count, all or those of some stamps, but no undo of what others never had."""
+    return [one for one in private(road, shared, number) if road.record.counts(one)
+            and (one.undoes is None or one.undoes in shared.record.held) and (stamps is None or one.stamp in stamps)]
+
+
+def chain(road: Road, one: Operation) -> list[Operation]:
+    """Return an operation, what it undoes, what that undoes, and so on."""
+    found = [one]
+    for each in found:
+        found += road.record.undone_by(each)
+    return found

@@ -1,0 +1,128 @@
+"""Which operations of a set count.
+
+An operation counts unless an operation that counts undoes it, or its site is excluded. This is worked out from the greatest
+stamp down, and again only where a new operation alters it. Exclusions come before all else: only their own site undoes
+them, excluded or not, so no two decisions wait for each other.
+"""
+from __future__ import annotations
+
+from bisect import bisect
+from typing import AbstractSet, Iterable, Iterator
+
+from .operations import Operation, Stamp, in_order
+
+NONE: frozenset[Operation] = frozenset()
+
+
+class Record:
+    """A set of operations, and which of them count."""
+
+    def __init__(self) -> None:
+        self.held: dict[Stamp, tuple[Operation, ...]] = {}
+        self.void: set[Operation] = set()  # held, but they do not count
+        self.excluded: frozenset[int] = frozenset()  # sites
+        self.exclusions: tuple[Operation, ...] = ()  # operations that exclude sites or let them in, the oldest first
+        self._undos: dict[Stamp, tuple[Operation, ...]] = {}  # by the stamp of what they undo
+        self._of_exclusions: frozenset[Stamp] = frozenset()  # exclusions, their undos, the undos of those, and so on
+
+    def copy(self) -> Record:
+        """Return a copy that can be changed without changing this one."""
+        other = Record()
+        other.held, other.void, other.excluded = dict(self.held), set(self.void), self.excluded
+        other.exclusions, other._undos, other._of_exclusions = self.exclusions, dict(self._undos), self._of_exclusions
+        return other
+
+    def __contains__(self, one: Operation) -> bool:
+        return any(held.is_same(one) for held in self.held.get(one.stamp, ()))
+
+    def operations(self) -> Iterator[Operation]:
+        return (one for some in self.held.values() for one in some)
+
+    def undos_of(self, one: Operation) -> tuple[Operation, ...]:
+        """Return the operations that undo this one, whether they count or not."""
+        return self._undos.get(one.stamp, ())
+
+    def undone_by(self, one: Operation) -> tuple[Operation, ...]:
+        """Return the operations that this one undoes: none, one, or twins."""
+        return () if one.undoes is None else self.held.get(one.undoes, ())
+
+    def root_of(self, one: Operation) -> Operation:
+        """Follow undos down to what was undone first; an undo whose target is missing is its own root."""
+        while some := self.undone_by(one):
+            one = some[0]
+        return one
+
+    def counts(self, one: Operation, flipped: AbstractSet[Operation] = NONE) -> bool:
+        """Return whether an operation counts, were these the other way round."""
+        return (one in self.void) == (one in flipped)
+
+    def add(self, operations: Iterable[Operation]) -> tuple[set[Operation], set[Operation]]:
+        """Add operations. Return those that are new, and those that count now and did not, or the other way round."""
+        before = self._of_exclusions
+        fresh = {one for one in operations if self._hold(one)}
+        waiting = fresh.union(one for stamp in self._of_exclusions - before for one in self.held.get(stamp, ()))
+        flipped = self._settle(in_order(waiting))
+        excluded = self.excluded_if()
+        if excluded != self.excluded:
+            changed, self.excluded = excluded ^ self.excluded, excluded
+            flipped ^= self._settle(in_order(one for one in self.operations() if one.site in changed))
+        return fresh, flipped
+
+    def _hold(self, one: Operation) -> bool:
+        """Hold an operation, as one that does not count yet. Return whether it is new."""
+        if one in self:
+            return False
+        self.held[one.stamp] = *self.held.get(one.stamp, ()), one
+        self.void.add(one)
+        if one.undoes is not None:
+            self._undos[one.undoes] = *self._undos.get(one.undoes, ()), one
+        if one.excludes is not None:
+            self.exclusions = inserted(self.exclusions, one)
+        if one.excludes is not None or one.undoes in self._of_exclusions:
+            chain = [one]
+            for each in chain:
+                chain += self.undos_of(each)
+            self._of_exclusions |= {each.stamp for each in chain}
+        return True
+
+    def _settle(self, waiting: list[Operation]) -> set[Operation]:
+        """Decide which of these count, the greatest last, and so for what they undo. Return those that flipped."""
+        flipped: set[Operation] = set()
+        while waiting:
+            one = waiting.pop()
+            if self._is_void(one, NONE) != (one in self.void):
+                self.void ^= {one}
+                flipped ^= {one}
+                waiting += self.undone_by(one)
+        return flipped
+
+    def _is_void(self, one: Operation, flipped: AbstractSet[Operation]) -> bool:
+        if one.stamp in self._of_exclusions:
+            return any(other.site == one.site and self.counts(other, flipped) for other in self.undos_of(one))
+        return one.site in self.excluded or any(self.counts(other, flipped) for other in self.undos_of(one))
+
+    def excluded_if(self, flipped: AbstractSet[Operation] = NONE) -> frozenset[int]:
+        """Return the excluded sites, were these operations the other way round. From the oldest on, an excluded site has no
+        say."""
+        says: dict[int, bool] = {}
+        for one in self.exclusions:
+            if one.excludes is not None and self.counts(one, flipped) and not says.get(one.site):
+                says[one.excludes[0]] = one.excludes[1]
+        return frozenset(site for site, is_out in says.items() if is_out)
+
+    def flipped_by_undo(self, one: Operation) -> set[Operation]:
+        """Return the operations that would count, or count no more, if an operation that counts were undone."""
+        flipped = {each for each in self.held[one.stamp] if each not in self.void}
+        waiting = [other for each in flipped for other in self.undone_by(each)]
+        while waiting:
+            other = waiting.pop()
+            if self._is_void(other, flipped) == self.counts(other, flipped):
+                flipped ^= {other}
+                waiting += self.undone_by(other)
+        return flipped
+
+
+def inserted(some: tuple[Operation, ...], one: Operation) -> tuple[Operation, ...]:
+    """Return operations in their order, with one more."""
+    place = bisect(some, one)
+    return *some[:place], one, *some[place:]

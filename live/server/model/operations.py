@@ -1,0 +1,182 @@
+"""Operations: what people do to a road, once and for all.
+
+    put(stamp, shape)               a new layer on top
+    lift(stamp, line)               a line comes on top
+    edit(stamp, values)             raw edits
+    undo(stamp, operation)          as if that had never been done; redo undoes an undo
+    exclude(stamp, site, is_out)    nothing counts that a site made or makes
+
+and `change`, which depends on what stands, in `road`.
+
+An operation has one stamp. It names layers by the stamp of their put; a raw edit's layer is named by kind, object and step.
+"""
+from __future__ import annotations
+
+import json
+from dataclasses import dataclass, field
+from types import MappingProxyType
+from typing import Iterable, Mapping, NamedTuple, TypeGuard, Union
+
+Json = Union[None, bool, int, float, str, "list[Json]", "dict[str, Json]"]
+Stamp = tuple[int, int]
+"""A count, and 64 times the site's number plus the seat's."""
+RawName = tuple[str, int, int]
+"""Kind, object and step of a raw edit."""
+Name = Union[Stamp, RawName]
+"""What names a layer."""
+
+SEATS = 64  # numbers of a site; 0 is the site itself
+END = 1 << 20  # after every step
+
+
+class Shape(NamedTuple):
+    """The objects `first` to `last` have a value from step `begin` until step `end`, or for ever."""
+
+    kind: str
+    first: int
+    last: int
+    begin: int
+    end: int | None
+    value: int
+
+
+NO_LAYERS: Mapping[Name, Shape | None] = MappingProxyType({})
+NO_HEIGHTS: Mapping[Name, Stamp] = MappingProxyType({})
+NO_MORE: Mapping[str, Json] = MappingProxyType({})
+"""What most operations lack, once for all of them."""
+
+
+@dataclass(frozen=True, slots=True)
+class About:
+    """What people are told about an operation. `shape` is how raw edits were drawn; `more` are fields of later versions."""
+
+    who: str = ""
+    note: str = ""
+    when: float = 0
+    shape: Shape | None = None
+    more: Mapping[str, Json] = field(default_factory=lambda: NO_MORE)
+
+
+NOTHING = About()
+
+
+@dataclass(frozen=True, eq=False, slots=True)
+class Operation:
+    """What somebody did. Two operations with one stamp are twins: the one with the greater text counts as the later one."""
+
+    stamp: Stamp
+    sets: Mapping[Name, Shape | None] = field(default_factory=lambda: NO_LAYERS)  # what layers are from now on; None: nothing
+    heights: Mapping[Name, Stamp] = field(default_factory=lambda: NO_HEIGHTS)  # the height at which layers lie from now on
+    undoes: Stamp | None = None
+    excludes: tuple[int, bool] | None = None  # a site, and whether nothing of it counts
+    seen: Stamp | None = None  # the operation that had set the line last, as far as the maker knew
+    about: About = NOTHING
+
+    def __post_init__(self) -> None:
+        older = [one for one in (self.undoes, self.seen) if one is not None]
+        others = [*self.heights.values(), *(name for name in self.names if not is_raw(name))]
+        if any(one >= self.stamp for one in older) or any(one > self.stamp for one in others):
+            raise ValueError("an operation can only refer to older ones, and lifts nothing above itself")
+
+    def __lt__(self, other: Operation) -> bool:
+        return self.stamp < other.stamp or self.stamp == other.stamp and self.text() < other.text()
+
+    def is_same(self, other: Operation) -> bool:
+        return self is other or self.stamp == other.stamp and self.text() == other.text()
+
+    @property
+    def names(self) -> set[Name]:
+        """The layers that it sets or lifts."""
+        return {*self.sets, *self.heights}
+
+    @property
+    def site(self) -> int:
+        return self.stamp[1] // SEATS
+
+    @property
+    def is_empty(self) -> bool:
+        """Whether it says nothing at all."""
+        return not self.sets and not self.heights and self.undoes is None and self.excludes is None
+
+    def written(self) -> dict[str, Json]:
+        """Return it as journals and messages have it. Empty fields are left out."""
+        about = self.about
+        fields: dict[str, Json] = {
+            "sets": [[list(name), written_shape(name, shape)] for name, shape in self.sets.items()],
+            "heights": [[list(name), list(height)] for name, height in self.heights.items()],
+            "undoes": written_stamp(self.undoes), "seen": written_stamp(self.seen),
+            "excludes": None if self.excludes is None else [*self.excludes],
+            "who": about.who, "note": about.note, "when": about.when or None,
+            "shape": None if about.shape is None else [*about.shape], **about.more}
+        return {"stamp": [*self.stamp], **{name: value for name, value in fields.items() if value not in (None, [], "")}}
+
+    def text(self) -> str:
+        """Return the text by which equal operations are known."""
+        return json.dumps(self.written(), sort_keys=True)
+
+
+def in_order(operations: Iterable[Operation]) -> list[Operation]:
+    """Return operations by their stamps, twins by their texts."""
+    found = sorted(operations, key=lambda one: one.stamp)
+    has_twins = any(one.stamp == other.stamp for one, other in zip(found, found[1:]))
+    return sorted(found) if has_twins else found
+
+
+def is_raw(name: Name) -> TypeGuard[RawName]:
+    return len(name) == 3
+
+
+def is_line(name: Name) -> TypeGuard[Stamp]:
+    """Return whether a name is that of a line, and not of a raw edit."""
+    return len(name) == 2
+
+
+def written_stamp(stamp: Stamp | None) -> Json:
+    return None if stamp is None else [*stamp]
+
+
+def written_shape(name: Name, shape: Shape | None) -> Json:
+    """Return a shape as it is written: of a raw edit the value alone."""
+    if shape is None:
+        return None
+    return shape.value if is_raw(name) else [*shape]
+
+
+def raw_shape(name: RawName, value: int) -> Shape:
+    """Return the shape of a raw edit, which holds until the next one of its object."""
+    kind, index, step = name
+    return Shape(kind, index, index, step, None, value)
+
+
+def line_of(one: Operation, name: Name) -> Stamp:
+    """Return the line to which a layer belongs that an operation set: of a shape its name, of a raw edit the operation's
+    stamp, or what form 2 said."""
+    return name if is_line(name) else one.heights.get(name, one.stamp)
+
+
+# What people do
+
+def put(stamp: Stamp, shape: Shape, about: About = NOTHING) -> Operation:
+    """Put a new layer on top of all."""
+    return Operation(stamp, {stamp: shape}, about=about)
+
+
+def lift(stamp: Stamp, line: Stamp, about: About = NOTHING) -> Operation:
+    """Lift a line on top, whatever its shape is and will be."""
+    return Operation(stamp, heights={line: stamp}, about=about)
+
+
+def edit(stamp: Stamp, values: Mapping[RawName, int | None], about: About = NOTHING) -> Operation:
+    """Make raw edits. Each holds until the next one of its object; None withdraws one."""
+    return Operation(stamp, {name: None if value is None else raw_shape(name, value) for name, value in values.items()},
+                     about=about)
+
+
+def undo(stamp: Stamp, undone: Operation, about: About = NOTHING) -> Operation:
+    """Undo an operation, as if it had never been made. Redo is the undo of an undo."""
+    return Operation(stamp, undoes=undone.stamp, about=about)
+
+
+def exclude(stamp: Stamp, site: int, is_out: bool, about: About = NOTHING) -> Operation:
+    """Let nothing count that a site made or makes, or let all of it count again."""
+    return Operation(stamp, excludes=(site, is_out), about=about)

@@ -1,0 +1,164 @@
+"""Operations as JSON, checked in every field: what is read here is safe for all other modules.
+
+The same checks hold for what a tab asks, for what another site sends, and for what a journal has. Whether objects and values
+exist on a road is not known here.
+"""
+from __future__ import annotations
+
+import json
+import sys
+from typing import Callable, Mapping, Sequence, TypeVar
+
+from .operations import (NO_HEIGHTS, NO_LAYERS, NO_MORE, About, Json, Name, Operation, RawName, Shape, Stamp, is_line, is_raw,
+                         raw_shape)
+
+GREATEST_COUNT, GREATEST_NUMBER, GREATEST_VALUE = 1 << 48, 65_535, (1 << 32) - 1
+MOST_RAW = 1_200  # raw edits of an operation
+MOST_SETS = MOST_RAW + 1  # layers of an operation: raw edits that are withdrawn, and the shape in their place
+MOST_OBJECTS = 600  # of all shapes of an operation
+MOST_MORE = 1_000  # bytes of fields that this version does not know
+LONGEST_NAME, LONGEST_NOTE = 64, 200  # characters
+SITES = range(1, 1_024)
+KNOWN = ("stamp", "sets", "heights", "undoes", "seen", "excludes", "who", "note", "when", "shape")
+T = TypeVar("T")
+
+
+class Malformed(ValueError):
+    """A value that is no operation. The text says what is wrong with it."""
+
+
+def read_operation(value: Json) -> Operation:
+    """Return the operation that a JSON value says; raise `Malformed` if it says none."""
+    if not isinstance(value, dict):
+        raise Malformed("an operation is an object")
+    more = {name: one for name, one in value.items() if name not in KNOWN} or NO_MORE
+    if more and len(json.dumps(more)) > MOST_MORE:
+        raise Malformed(f"fields that this version does not know have more than {MOST_MORE} bytes")
+    stamp = read_stamp(value.get("stamp"))
+    about = About(read_text(value, "who", LONGEST_NAME), read_text(value, "note", LONGEST_NOTE), read_time(value.get("when")),
+                  None if value.get("shape") is None else read_shape(value["shape"]), more)
+    try:
+        one = Operation(stamp, read_sets(value.get("sets"), stamp) or NO_LAYERS,
+                        read_heights(value.get("heights")) or NO_HEIGHTS,
+                        optional(value, "undoes", read_stamp), optional(value, "excludes", read_exclusion),
+                        optional(value, "seen", read_stamp), about)
+    except ValueError as fault:
+        raise Malformed(str(fault)) from None
+    fault_of_size = why_too_large(one)
+    if fault_of_size or one.is_empty:
+        raise Malformed(fault_of_size or "an operation that does nothing")
+    return one
+
+
+def why_too_large(one: Operation) -> str | None:
+    """Return why an operation has more than any may have; None: it has not."""
+    objects = sum(shape.last - shape.first + 1 for name, shape in one.sets.items() if shape is not None and is_line(name))
+    raws = sum(is_raw(name) for name in one.sets)
+    if objects > MOST_OBJECTS:
+        return f"an operation has at most {MOST_OBJECTS} objects, not {objects}"
+    if raws > MOST_RAW or len(one.sets) > MOST_SETS or len(one.heights) > MOST_SETS:
+        return f"an operation has at most {MOST_RAW} raw edits"
+    return None
+
+
+def optional(value: Mapping[str, Json], name: str, read: Callable[[Json], T]) -> T | None:
+    return None if value.get(name) is None else read(value[name])
+
+
+def read_stamp(value: Json) -> Stamp:
+    """Return a stamp, a count and a number."""
+    count, number = read_row(value, 2, "a stamp has a count and a number")
+    return whole(count, GREATEST_COUNT, "count"), whole(number, GREATEST_NUMBER, "number")
+
+
+def read_name(value: Json) -> Name:
+    """Return a layer's name: a stamp, or kind, object and step."""
+    if isinstance(value, (list, tuple)) and len(value) == 3:
+        return read_raw_name(value)
+    return read_stamp(value)
+
+
+def read_raw_name(value: Json) -> RawName:
+    kind, index, step = read_row(value, 3, "a raw edit has a kind, an object and a step")
+    return word(kind), whole(index, GREATEST_VALUE, "object"), whole(step, GREATEST_VALUE, "step")
+
+
+def read_shape(value: Json) -> Shape:
+    """Return a shape: kind, first and last object, from, until (or null), value."""
+    kind, first, last, begin, end, number = read_row(value, 6, "a shape has six parts")
+    shape = Shape(word(kind), whole(first, GREATEST_VALUE, "object"), whole(last, GREATEST_VALUE, "object"),
+                  whole(begin, GREATEST_VALUE, "step"), None if end is None else whole(end, GREATEST_VALUE, "step"),
+                  whole(number, GREATEST_VALUE, "value"))
+    if shape.first > shape.last or shape.end is not None and shape.end <= shape.begin:
+        raise Malformed("a shape ends before it begins")
+    return shape
+
+
+def read_sets(value: Json, stamp: Stamp) -> dict[Name, Shape | None]:
+    """Return what an operation sets, whose stamp is that of most of its layers."""
+    return {stamp if name == stamp else name: read_set(name, shape) for name, shape in read_pairs(value, "sets")}
+
+
+def read_set(name: Name, value: Json) -> Shape | None:
+    if value is None:
+        return None
+    return raw_shape(name, whole(value, GREATEST_VALUE, "value")) if is_raw(name) else read_shape(value)
+
+
+def read_heights(value: Json) -> dict[Name, Stamp]:
+    return {name: read_stamp(height) for name, height in read_pairs(value, "heights")}
+
+
+def read_pairs(value: Json, what: str) -> Sequence[tuple[Name, Json]]:
+    """Return pairs whose first part is a layer's name; none twice."""
+    if value is None:
+        return ()
+    if not isinstance(value, (list, tuple)):
+        raise Malformed(f"`{what}` is a list of pairs")
+    pairs = [(read_name(name), one) for name, one in (read_row(pair, 2, f"`{what}` is a list of pairs") for pair in value)]
+    if len({name for name, _ in pairs}) < len(pairs):
+        raise Malformed(f"`{what}` names a layer twice")
+    return pairs
+
+
+def read_exclusion(value: Json) -> tuple[int, bool]:
+    """Return a site and whether it is excluded."""
+    site, is_out = read_row(value, 2, "an exclusion has a site, and true or false")
+    if type(site) is not int or site not in SITES or type(is_out) is not bool:
+        raise Malformed("an exclusion has a site, and true or false")
+    return site, is_out
+
+
+def read_row(value: Json, size: int, why: str) -> Sequence[Json]:
+    if not isinstance(value, (list, tuple)) or len(value) != size:
+        raise Malformed(why)
+    return value
+
+
+def whole(value: Json, most: int, what: str) -> int:
+    """Return a whole number from 0 on."""
+    if type(value) is not int or not 0 <= value <= most:
+        raise Malformed(f"{what} {str(value)[:40]} is no whole number from 0 to {most}")
+    return value
+
+
+def word(value: Json) -> str:
+    if type(value) is not str or len(value) > 16:
+        raise Malformed("a kind is a short word")
+    return sys.intern(value)
+
+
+def read_text(value: Mapping[str, Json], name: str, most: int) -> str:
+    text = value.get(name, "")
+    if type(text) is not str or len(text) > most:
+        raise Malformed(f"`{name}` is a text of at most {most} characters")
+    return sys.intern(text)
+
+
+def read_time(value: Json) -> float:
+    """Return when it was made, in seconds since 1970; 0: nobody knows."""
+    if value is None:
+        return 0
+    if not isinstance(value, (int, float)) or isinstance(value, bool) or not 0 <= value < 1 << 40:
+        raise Malformed("`when` is a time in seconds since 1970")
+    return value

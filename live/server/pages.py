@@ -1,0 +1,62 @@
+"""The files that browsers load, and the headers that keep others out."""
+from __future__ import annotations
+
+import re
+from pathlib import Path
+
+from aiohttp import web
+
+from . import LIVE
+from .tabs import Tabs
+
+TYPES = {".html": "text/html", ".js": "text/javascript", ".mjs": "text/javascript", ".css": "text/css"}
+
+
+class Page:
+    """The files that are served, and the headers that keep others out."""
+
+    def __init__(self, tabs: Tabs, hosts: set[str], scheme: str) -> None:
+        self._tabs, self._hosts, self._scheme = tabs, hosts, scheme
+
+    def app(self) -> web.Application:
+        app = web.Application()
+        app.add_routes([web.get("/", self._file), web.get("/live", self._live), web.get("/{name}", self._file),
+                        web.get("/page/{part}", self._file)])
+        return app
+
+    def _check(self, request: web.Request) -> str:
+        host = request.headers.get("Host", "")
+        if host not in self._hosts:
+            raise web.HTTPForbidden(text="this host is not the server's")
+        return host
+
+    async def _live(self, request: web.Request) -> web.StreamResponse:
+        host = self._check(request)
+        if request.headers.get("Origin") != f"{self._scheme}://{host}":
+            raise web.HTTPForbidden(text="this origin is not the server's")
+        return await self._tabs.socket(request)
+
+    async def _file(self, request: web.Request) -> web.StreamResponse:
+        host = self._check(request)
+        path = file_of(request.match_info.get("name"), request.match_info.get("part"))
+        if path is None or not path.is_file():
+            raise web.HTTPNotFound()
+        return web.Response(body=path.read_bytes(), content_type=TYPES[path.suffix], charset="utf-8",
+                            headers=self._headers(host))
+
+    def _headers(self, host: str) -> dict[str, str]:
+        socket = f"{'wss' if self._scheme == 'https' else 'ws'}://{host}"
+        policy = {"default-src": "'none'", "script-src": "'self'", "style-src": "'self'",
+                  "img-src": "'self' data: blob:", "connect-src": f"'self' {socket}", "base-uri": "'none'",
+                  "form-action": "'none'", "frame-ancestors": "'none'"}
+        return {"Content-Security-Policy": "; ".join(" ".join(part) for part in policy.items()),
+                "Referrer-Policy": "no-referrer", "X-Content-Type-Options": "nosniff", "Cache-Control": "no-store",
+                "Cross-Origin-Opener-Policy": "same-origin", "Cross-Origin-Resource-Policy": "same-origin"}
+
+
+def file_of(name: str | None, part: str | None) -> Path | None:
+    """The file that a path names; there are no others."""
+    if part is not None:
+        return LIVE / "page" / part if re.fullmatch(r"[a-z_]+\.mjs", part) else None
+    return {None: LIVE / "page.html", "page.css": LIVE / "page.css",
+            "drawing.js": LIVE.parent / "viewer" / "drawing.js"}.get(name)

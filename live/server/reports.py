@@ -1,0 +1,144 @@
+"""The report of two roads in a window: the same page as `zegdrut report` writes of a freeway.
+
+As a program this module reads {plan, before, after, first, last, title, names, works, clock, days} from standard input, and prints
+the page. `names` are those of the two roads, `works` sentences of what lies on them; `clock` has begin, date and timezone of the file.
+"""
+from __future__ import annotations
+
+import asyncio
+import json
+import sys
+from typing import TYPE_CHECKING, Any, Sequence
+
+from . import LIVE, figures
+from .asked import Refused
+from .journal import packed
+from .program import import_lines
+
+if TYPE_CHECKING:
+    from zegdrut.clock import Clock
+    from zegdrut.demand import Rates
+    from zegdrut.report import Side
+    from zegdrut.trips import Window
+
+DAYS = 5
+NICE = 8
+PATIENCE = 600.0
+MOST_DATES = 12  # of a demand over time, that are told
+
+
+async def make(index: int, asked: dict[str, Any], path: str) -> str:
+    """Return the page that a seat asks for."""
+    async with figures.alone(index):
+        process = await asyncio.create_subprocess_exec(
+            *figures.gently(__name__, NICE), stdin=asyncio.subprocess.PIPE, stdout=asyncio.subprocess.PIPE, env=figures.environment(path),
+            start_new_session=True, cwd=LIVE)
+        try:
+            async with asyncio.timeout(PATIENCE):
+                out, _ = await process.communicate(packed(asked).encode())
+        except asyncio.TimeoutError:
+            raise Refused("too long", f"the report took more than {PATIENCE:.0f} seconds: show less time") from None
+        finally:
+            if process.returncode is None:  # nobody waits for it any more
+                figures.kill(process)
+    if process.returncode != 0:
+        raise Refused("failed", "the report failed; the server's log says why")
+    return out.decode()
+
+
+# The program
+
+def sides_of(asked: dict[str, Any]) -> list[Side]:
+    """Return the roads before and after, or the one if they are the same."""
+    from zegdrut.lost import compute_demands
+    from zegdrut.report import Side
+    from zegdrut.scripts import Script
+    found = []
+    for side, name in zip(figures.SIDES, asked["names"]):
+        plan: Any = {**asked["plan"], "replicas": ["A"]}
+        edits = figures.edits_of(asked[side])
+        lines: list[Any] = [*import_lines("A", [[*key, 1, figures.NUMBER, value] for key, value in sorted(edits.items())]),
+                            {"advance": {"at": "A", "to": asked["last"]}}]
+        found.append(Side(name, Script(plan, lines), compute_demands(plan, figures.given(edits), asked["last"])))
+    return found if figures.edits_of(asked["before"]) != figures.edits_of(asked["after"]) else found[1:]
+
+
+def closures_of(asked: dict[str, Any], side: str) -> list[tuple[int, int, float, float]]:
+    """Return the closures of a road, as (from step, to step, from km, to km): neighbouring cells as one."""
+    from zegdrut.units import to_km
+    changes: dict[int, list[tuple[int, int]]] = {}
+    for (kind, cell, step), value in sorted(figures.edits_of(asked[side]).items()):
+        if kind == "block":
+            changes.setdefault(cell, []).append((step, value))
+    spans: dict[tuple[int, int], list[int]] = {}
+    for cell, puts in changes.items():
+        begin = None
+        for step, value in [*puts, (asked["last"], 0)]:
+            if value and begin is None:
+                begin = step
+            elif not value and begin is not None:
+                spans.setdefault((begin, step), []).append(cell)
+                begin = None
+    return [(begin, end, to_km(cells[0]), to_km(cells[-1] + 1)) for (begin, end), all_cells in spans.items()
+            for cells in runs(all_cells)]
+
+
+def runs(cells: Sequence[int]) -> list[list[int]]:
+    """Return stretches of cells beside each other."""
+    found: list[list[int]] = []
+    for cell in cells:
+        if found and found[-1][-1] == cell - 1:
+            found[-1].append(cell)
+        else:
+            found.append([cell])
+    return found
+
+
+def facts_of(asked: dict[str, Any], side: Side, clock: Clock) -> list[str]:
+    """Return length, drivers and demand, a sentence each."""
+    from zegdrut.units import ALWAYS, KMH, to_km
+    plan = asked["plan"]
+    kinds = {tuple(zone) for zone in plan["zones"]}
+    (limit, slowing), *more = sorted(kinds)
+    drivers = f"limit {limit * KMH:g} km/h, slowing {slowing / ALWAYS:.0%}" if not more else f"{len(kinds)} kinds of zones"
+    found = [f"{to_km(plan['length']):g} km, one lane, {drivers}"]
+    for (cell, _), rates in zip(plan["inlets"], side.demands):
+        name = f"on-ramp at km {to_km(cell):g}" if cell else "main road"
+        found.append(f"{name}: {demand_text(rates, clock, asked['last'])} cars/h")
+    return found
+
+
+def demand_text(rates: Rates, clock: Clock, last: int) -> str:
+    """Return a demand over time in words."""
+    whole = [(step, round(rate)) for step, rate in rates if step < last]
+    dates = [one for place, one in enumerate(whole) if not place or one[1] != whole[place - 1][1]]
+    if len(dates) == 1:
+        return f"{dates[0][1]:,}"
+    return ", ".join(f"{rate:,} from {clock.to_text(step)}" for step, rate in dates[:MOST_DATES]) + ", .." * (len(dates) > MOST_DATES)
+
+
+def page(asked: dict[str, Any]) -> str:
+    """Return the page."""
+    from zegdrut.clock import Clock
+    from zegdrut.report import make_table, run_sides
+    from zegdrut.report_page import Contents, format_page
+    from zegdrut.trips import Window
+    window: Window = Window(asked["first"], asked["last"])
+    clock, seed, plan = Clock.read(*asked["clock"]), asked["plan"]["words"], asked["plan"]
+    sides = sides_of(asked)
+    days = run_sides(sides, [seed] if type(seed) is not int else list(range(seed, seed + asked["days"])), window)
+    closed = [closures_of(asked, side) for side in figures.SIDES]
+    return format_page(Contents(
+        title=asked["title"], facts=facts_of(asked, sides[-1], clock), works=asked["works"], notes=[], clock=clock, window=window,
+        length=plan["length"], detectors=plan["detectors"], sides=sides, days=days, rows=make_table(sides, days, window), seed=seed,
+        closed=closed[-len(sides):]))
+
+
+def main() -> None:
+    """Print the page of what standard input asks for."""
+    figures.leave_one_free()
+    sys.stdout.write(page(json.load(sys.stdin)))
+
+
+if __name__ == "__main__":
+    main()

@@ -1,0 +1,79 @@
+"""The program as a screen: each of its replicas is shown a road, and then the difference to another one."""
+from __future__ import annotations
+
+import asyncio
+import collections
+import logging
+from typing import Any, Deque
+
+from .journal import packed
+from .model.projection import Edits, difference, difference_like
+from .model.road import Road
+from .program import Program, import_lines
+
+NUMBER = 64  # in all stamps that a program is given: of no replica
+MOST_INLINE = 64  # layers of a road whose difference is worked out at once, and not beside
+KEPT = 16  # differences
+
+
+def rows_of(edits: Edits, count: int = 1) -> list[list[Any]]:
+    """Return edits as an `import` has them. Their stamps say nothing outside of the program."""
+    return [[kind, index, step, count, NUMBER, value] for (kind, index, step), value in edits.items()]
+
+
+def first_step(edits: Edits) -> int | None:
+    """Return the first step at which edits change anything."""
+    return min((step for _, _, step in edits), default=None)
+
+
+class Differences:
+    """Edits between two roads, worked out once for all who need them. Large ones are worked out beside the event loop."""
+
+    def __init__(self) -> None:
+        self._known: Deque[tuple[Road, Road, Edits]] = collections.deque(maxlen=KEPT)
+
+    async def between(self, before: Road, after: Road, like: tuple[Road, Road] | None = None) -> Edits:
+        """Return the edits from one road to another; `like` are two others between which much is the same."""
+        if before is after:
+            return {}
+        found = self._found(before, after)
+        if found is None:
+            known = None if like is None else (*like, await self.between(*like))
+            found = await self._worked_out(before, after, known)
+            self._known.append((before, after, found))
+        return found
+
+    def _found(self, before: Road, after: Road) -> Edits | None:
+        return next((edits for one, other, edits in self._known if one is before and other is after), None)
+
+    async def _worked_out(self, before: Road, after: Road, known: tuple[Road, Road, Edits] | None) -> Edits:
+        if len(before.layers) + len(after.layers) <= MOST_INLINE:
+            return difference(before, after)
+        loop = asyncio.get_running_loop()
+        if known is None:
+            return await loop.run_in_executor(None, difference, before, after)
+        return await loop.run_in_executor(None, difference_like, known, before, after)
+
+
+class Screen:
+    """A program, and the road that each of its replicas shows."""
+
+    def __init__(self, program: Program, empty: Road) -> None:
+        self.program = program
+        self.withdrawn = 0  # edits that it was given and that say nothing any more
+        self._empty, self._count = empty, 0
+        self._shown: dict[int, Road] = {}
+
+    def shown(self, index: int) -> Road:
+        """Return the road that a replica shows."""
+        return self._shown.get(index, self._empty)
+
+    async def show(self, index: int, at: str, road: Road, edits: Edits) -> None:
+        """Show a road, by the edits from the one that is shown."""
+        self._count += 1
+        self.withdrawn += sum(value is None for value in edits.values())
+        lines = [packed(line).encode() for line in import_lines(at, rows_of(edits, self._count))]
+        for reply in await self.program.ask_all(lines) if lines else ():
+            if not reply.startswith(b'{"touched"'):
+                logging.error("the program refused what had been checked: %s", reply[:200])
+        self._shown[index] = road

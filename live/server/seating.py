@@ -1,0 +1,201 @@
+"""Seats: they are given, taken over, left, and freed when nobody used them for a day.
+
+A seat that is given while the disk takes nothing is written down when it does. Until then its key itself says whose seat it
+is, signed, so that it is given again after a kill.
+"""
+from __future__ import annotations
+
+import asyncio
+import base64
+import hashlib
+import hmac
+import logging
+import secrets
+import time
+from typing import Any
+
+from .asked import Refused, folded
+from .clocks import SteadyClock
+from .keeper import A_MOMENT, SHARED, Keeper, NotKept
+from .model.operations import SEATS
+from .records import SeatFreed, SeatGiven, SeatUsed
+from .state import Seat, State
+from .writing import confirmed
+
+NOTED = 1 / 24  # of the time after which a seat that nobody uses is free
+
+
+def digest(key: str) -> str:
+    return hashlib.sha256(key.encode("utf-8", "replace")).hexdigest()
+
+
+class Seating:
+    """The seats of a laboratory."""
+
+    def __init__(self, keeper: Keeper) -> None:
+        self._keeper = keeper
+        self._giving = asyncio.Lock()
+        self.steady = SteadyClock(keeper.settings.day * NOTED)
+        self.secret = secrets.token_bytes(16)  # of signed keys
+        self._unkept: dict[int, SeatGiven] = {}  # seats that were given while the disk took nothing
+        self._listed: list[dict[str, Any]] = []  # as it was on the disk
+        keeper.listeners.on("trouble", self._keep)
+
+    @property
+    def _state(self) -> State:
+        return self._keeper.state
+
+    def _keep(self) -> None:
+        """Write down the seats that were given while the disk took nothing, before anything that they put."""
+        while self._unkept and self._keeper.journal.fault is None:
+            index, entry = self._unkept.popitem()
+            if self._state.seats[index].key == entry.key:
+                self._keeper.record(entry)
+
+    # Lists
+
+    def seats(self) -> list[dict[str, Any]]:
+        """Return who has a seat, for people."""
+        return [{"seat": seat.index, "at": seat.at, "name": seat.name, "here": seat.index in self._keeper.here,
+                 "private": len(seat.shareable())} for seat in self._state.seats[1:] if seat.key]
+
+    async def seats_kept(self, turn: int | None = None) -> list[dict[str, Any]]:
+        """Return the same, in a seat's turn or at once, when it is on the disk; while that does not answer, as it was before."""
+        async def look() -> list[dict[str, Any]]:
+            return self.seats()
+
+        async def in_turn() -> Any:
+            return await (look() if turn is None else self._keeper.ask(turn, (), look))
+        asked = asyncio.ensure_future(self._keeper.truly(in_turn))
+        while not (await asyncio.wait([asked], timeout=A_MOMENT))[0]:
+            if self._listed and self._keeper.journal.waits(A_MOMENT):
+                asked.cancel()
+                return [{**one, "here": one["seat"] in self._keeper.here} for one in self._listed]
+        self._listed = asked.result()
+        return self._listed
+
+    # Coming
+
+    async def join(self, name: str, key: str, take: int | None) -> tuple[int, str]:
+        """Return the seat of a tab that was here, one that is taken over, or a new one; and the key to come again."""
+        if take is None and key:
+            known = [seat for seat in self._state.seats[1:] if seat.key and hmac.compare_digest(seat.key, digest(key))]
+            if known:
+                return known[0].index, key
+        async with self._giving:
+            if take is not None:
+                return await self._take_over(take)
+            return await (self._give_again(key) if key else self._new_seat(name))
+
+    async def _take_over(self, index: int) -> tuple[int, str]:
+        if not 1 <= index < SEATS or not self._state.seats[index].key:
+            raise self._refused("no such seat", "nobody has this seat")
+        if index in self._keeper.here:
+            raise self._refused("seat is connected", "somebody is connected there")
+        return await self._give(index, self._state.seats[index].name)
+
+    async def _new_seat(self, name: str) -> tuple[int, str]:
+        if not name:
+            raise self._refused("no name", "who are you? A name has 1 to 64 signs")
+        alike = self._alike(name)
+        if alike is not None:
+            looks = "" if alike == name else f", and {name} looks like it"
+            raise self._refused("NameTaken", f"there is a seat of {alike}{looks}: take it over, or choose another name")
+        free = [seat.index for seat in self._state.seats[1:] if not seat.key]
+        if not free:
+            raise self._refused("all seats are taken", "all 63 seats are taken: take one over")
+        made = {number for _, number in self._state.by_stamp}  # whose is not to be another's
+        fresh = [index for index in free if self._state.seats[index].number not in made]
+        return await self._give((fresh or free)[0], name, self._state.works)
+
+    async def _give_again(self, key: str) -> tuple[int, str]:
+        """Give a seat that was given by this key while the disk took nothing, if it is free."""
+        said, _, name = key.partition(".")[2].partition(".")
+        index = int(said) if said.isdecimal() and len(said) <= 2 else 0
+        is_signed = hmac.compare_digest(self._signed(key[:8], index, name).encode(), key.encode("utf-8", "replace"))
+        if not is_signed or self._state.seats[index].key or self._alike(name) is not None:
+            raise self._refused("unknown key", "the seat was taken over, or is free again: choose one")
+        return await self._give(index, name, self._state.works, key)
+
+    def _alike(self, name: str) -> str | None:
+        """Return the name of a seat that looks like this one, or is it."""
+        return next((seat.name for seat in self._state.seats if seat.key and folded(seat.name) == folded(name)), None)
+
+    def _refused(self, text: str, why: str) -> Refused:
+        return Refused(text, why, seats=self.seats())
+
+    async def _give(self, index: int, name: str, upto: int = 0, key: str = "") -> tuple[int, str]:
+        key = key or secrets.token_urlsafe(12)
+        self._keeper.here.add(index)  # so that nobody else gets it meanwhile
+        try:
+            try:
+                await self._keeper.turns.ask(SHARED, self._keeper.writable)
+                await confirmed(self._keeper.record_late(self._entry(index, name, key, upto), lambda: None), {})
+            except NotKept:  # who looks needs no disk
+                key = self._signed(key[:8], index, name)
+                entry = self._entry(index, name, key, upto)
+
+                async def looks() -> None:
+                    entry.apply(self._state)
+                    self._unkept[index] = entry
+                await self._keeper.turns.ask(SHARED, looks)
+        except BaseException:  # also where its tab went meanwhile
+            self._keeper.here.discard(index)
+            raise
+        return index, key
+
+    def _entry(self, index: int, name: str, key: str, upto: int) -> SeatGiven:
+        return SeatGiven(index, name, digest(key), int(time.time()), upto=upto)
+
+    def _signed(self, bits: str, index: int, name: str) -> str:
+        """Return a key that says whose seat it is."""
+        said = f"{index}.{name}"
+        seal = hmac.digest(self.secret, f"{bits}.{said}".encode("utf-8", "replace"), "sha256")[:12]
+        return f"{bits}{base64.urlsafe_b64encode(seal).decode()}.{said}"
+
+    # Going
+
+    def leave(self, index: int) -> None:
+        """Note that the tab of a seat has gone."""
+        self._keeper.here.discard(index)
+        if self._keeper.journal.fault is None and self._state.seats[index].key:
+            self._note_use(index)
+
+    def _note_use(self, index: int) -> None:
+        self._keeper.record(SeatUsed(index, int(time.time())))
+
+    async def give_back(self, index: int) -> None:
+        """Free a seat that holds nothing private, when what it was asked before is done."""
+        async def body() -> asyncio.Future[None]:
+            if self.owned(index).shareable():
+                raise Refused("private edits", "this seat has changes that are not shared: share them, or undo them")
+            await self._keeper.writable()
+            return self._free(index)
+        done: asyncio.Future[None] = await self._keeper.turns.ask(index, body)
+        await confirmed(done, {})
+
+    def owned(self, index: int) -> Seat:
+        """Return a seat, unless it was left by what was asked before."""
+        seat = self._state.seats[index]
+        if not seat.key:
+            raise Refused("not your replica", "the seat was left")
+        return seat
+
+    def _free(self, index: int) -> asyncio.Future[None]:
+        self._keeper.wanted.pop(index, None)
+        return self._keeper.record(SeatFreed(index))
+
+    def free_unused(self) -> None:
+        """Free the seats that nobody used for a day and that hold nothing private; and note now and then which are used, since
+        after a kill that is not known. Nothing is done for an hour after a start, or after the clock has jumped."""
+        if not self.steady.is_so():
+            return
+        now, day = time.time(), self._keeper.settings.day
+        for seat in [one for one in self._state.seats[1:] if one.key]:
+            if seat.index in self._keeper.here:
+                if seat.used < now - day * NOTED:
+                    self._note_use(seat.index)
+            elif seat.used < now - day and not seat.shareable():
+                logging.info("seat %d of %s is free again", seat.index, seat.name)
+                self._free(seat.index)
+                self._keeper.listeners.tell("seats")

@@ -1,0 +1,95 @@
+"""Tells which piece of work kept all others waiting.
+
+    watch = Watch(0.2, logging.warning)     told of each piece that uses the processor for longer, in seconds
+    ..
+    watch.end()
+
+An event loop does one piece at a time. What counts is the processor time of its thread, and not how late it is: on a busy
+machine a short piece takes long, too. Where a long piece was is looked up by a thread beside it.
+"""
+from __future__ import annotations
+
+import asyncio
+import sys
+import threading
+import time
+import traceback
+from pathlib import Path
+from typing import Any, Callable
+
+HERE = str(Path(__file__).resolve().parent)
+CLIENT = str(Path(HERE, "client.py"))  # what asks a server is none
+LOOKS = 4  # times that a piece of the greatest length is looked at
+FRAMES = 4  # of the stack that are told
+SAID = "all others waited"
+
+
+class Watch:
+    """Looks at each piece of work of the event loops in this process."""
+
+    def __init__(self, longest: float, told: Callable[[str], Any],
+                 counts: Callable[[Any], bool] = lambda callback: True) -> None:
+        """`counts` says whether a piece is looked at, by its callback."""
+        self._longest, self._told, self._counts = longest, told, counts
+        self._piece: tuple[int, float] | None = None  # the thread that does one, and when it began
+        self._seen: list[str] = []  # where it was
+        self._ended = threading.Event()
+        self._run = asyncio.Handle._run
+        self._looker = threading.Thread(target=self._look, daemon=True)
+        self._begin()
+
+    def _begin(self) -> None:
+        run, longest, clock = self._run, self._longest, time.thread_time
+
+        def measured(handle: Any) -> None:
+            if not self._counts(handle._callback):
+                run(handle)
+                return
+            callback, began = handle._callback, clock()
+            self._piece = threading.get_ident(), time.monotonic()
+            try:
+                run(handle)
+            finally:
+                self._piece = None
+                took = clock() - began
+                if took > longest:
+                    self._tell(took, callback)
+                self._seen = []
+        self._measured = measured
+        setattr(asyncio.Handle, "_run", measured)
+        self._looker.start()
+
+    def _tell(self, took: float, callback: Any) -> None:
+        where = max(self._seen, key=self._seen.count, default=named(callback))
+        self._told(f"{SAID} for a piece of work of {took:.2f} s: {where}")
+
+    def _look(self) -> None:
+        while not self._ended.wait(self._longest / LOOKS):
+            piece = self._piece
+            if piece is not None and time.monotonic() - piece[1] > self._longest / LOOKS:
+                frame = sys._current_frames().get(piece[0])
+                stack = traceback.extract_stack(frame)[-FRAMES:] if frame is not None else []
+                del frame
+                if piece is self._piece:
+                    self._seen.append(", ".join(f"{Path(one.filename).name} {one.lineno} {one.name}" for one in stack))
+
+    def end(self) -> None:
+        """Look no more."""
+        self._ended.set()
+        if asyncio.Handle._run is self._measured:
+            setattr(asyncio.Handle, "_run", self._run)
+        self._looker.join()
+
+
+def named(callback: Any) -> str:
+    """Return what a piece does, where nobody has seen where it was."""
+    task = getattr(callback, "__self__", None)
+    return repr(task.get_coro()) if isinstance(task, asyncio.Task) else repr(callback)
+
+
+def is_of_server(callback: Any) -> bool:
+    """Return whether a piece is of this package: of a task of one of its functions, or a call of one."""
+    task = getattr(callback, "__self__", None)
+    does = task.get_coro() if isinstance(task, asyncio.Task) else callback
+    code = getattr(does, "cr_code", None) or getattr(getattr(does, "__func__", does), "__code__", None)
+    return code is not None and code.co_filename.startswith(HERE) and code.co_filename != CLIENT

@@ -1,0 +1,140 @@
+"""Read a change as an engineer writes it, in km, km/h, cars per hour and clock times, as the page's form does.
+
+    what = read_change(["limit", "54", "1.5", "2.25", "07:00", "07:10"], plan, clock)
+    what.shape                          ["limit", 4, 5, 1800, 2400, 2]
+
+The words are those of `live/road NAME put`. A demand has no chance yet: `find_chance` finds it in the curve of its inlet.
+"""
+from __future__ import annotations
+
+import math
+from dataclasses import dataclass
+from typing import Any, Sequence
+
+from zegdrut.clock import Clock, InvalidTime
+from zegdrut.units import KMH, to_cells, to_chance, to_km, to_limit
+
+HOW = {"close": "FROM_KM TO_KM BEGIN [END]", "limit": "KMH FROM_KM TO_KM BEGIN [END]", "slowing": "PERCENT FROM_KM TO_KM BEGIN [END]",
+       "slow-to-start": "PERCENT FROM_KM TO_KM BEGIN [END]", "demand": "CARS_PER_HOUR INLET_KM BEGIN [END]",
+       "detector": "on|off KM BEGIN [END]"}
+KINDS = {"close": "block", "limit": "limit", "slowing": "slow", "slow-to-start": "start", "demand": "inflow", "detector": "watch"}
+
+
+class InvalidWords(ValueError):
+    """The words of a change cannot be read; the sentence says which, and what is accepted."""
+
+
+@dataclass(frozen=True)
+class WrittenChange:
+    """A change: its shape, in which a demand has the value 0; the demand in cars per hour, if it is one; and a sentence of it."""
+
+    shape: list[Any]
+    demand: float | None
+    sentence: str
+
+
+def read_change(words: Sequence[str], plan: dict[str, Any], clock: Clock) -> WrittenChange:
+    """Return the change that words write. InvalidWords: they cannot be read, or the road has no such place."""
+    kind = words[0] if words else ""
+    if kind not in HOW:
+        raise InvalidWords(f"{kind!r} is not a change: write {', '.join(HOW)}")
+    most = HOW[kind].count(" ") + 1
+    given = list(words[1:])
+    if not most - 1 <= len(given) <= most:
+        raise InvalidWords(f"{kind} is followed by {HOW[kind]}")
+    value = None if kind == "close" else given.pop(0)
+    places = [given.pop(0) for _ in range(1 if kind in ("demand", "detector") else 2)]
+    begin, end = read_times(given, clock)
+    number, said = read_value(kind, value)
+    first, last, where = find_places(kind, [read_number(one, "a number of km") for one in places], plan)
+    times = f"from {clock.to_text(begin)} on" if end is None else f"{clock.to_text(begin)} to {clock.to_text(end)}"
+    return WrittenChange([KINDS[kind], first, last, begin, end, number], float(value or 0) if kind == "demand" else None,
+                         f"{said}, {where}, {times}")
+
+
+def read_number(text: str, accepted: str) -> float:
+    """Return a number of 0 or more. InvalidWords: it is not a number."""
+    try:
+        number = float(text.replace(",", "."))
+    except ValueError:
+        number = -1.0
+    if not 0 <= number < math.inf:
+        raise InvalidWords(f"{text!r} is not {accepted}")
+    return number
+
+
+def read_times(given: Sequence[str], clock: Clock) -> tuple[int, int | None]:
+    """Return the steps of a beginning and of an end, if there is one. InvalidWords: they are not times, or in the wrong order."""
+    try:
+        steps = [clock.to_step(float(one) if one.replace(".", "", 1).isdigit() else one, name) for one, name in zip(given, ("BEGIN", "END"))]
+    except InvalidTime as fault:
+        raise InvalidWords(str(fault)) from None
+    begin, end = (*steps, None)[:2]
+    if end is not None and end <= begin:
+        raise InvalidWords(f"END: {given[1]} is not later than {given[0]}")
+    return begin, end
+
+
+def read_value(kind: str, text: str | None) -> tuple[int, str]:
+    """Return a value in the program's units, and in words. InvalidWords: it is out of range."""
+    if text is None:
+        return 1, "closed"
+    if kind == "detector":
+        if text not in ("on", "off"):
+            raise InvalidWords(f"a detector is on or off, not {text!r}")
+        return int(text == "on"), f"detector {text}"
+    if kind == "demand":
+        return 0, f"{read_number(text, 'a number of cars per hour'):g} cars/h"
+    number = read_number(text, "a number of km/h" if kind == "limit" else "a number of percent")
+    if kind == "limit":
+        limit = to_limit(number)
+        if limit > 9:
+            raise InvalidWords(f"a limit is 0 to {9 * KMH:g} km/h, not {text}")
+        return limit, f"limit {limit * KMH:g} km/h"
+    if number > 100:
+        raise InvalidWords(f"a chance is 0 to 100 percent, not {text}")
+    return to_chance(number / 100), f"{kind} {number:g} %"
+
+
+def find_places(kind: str, places: Sequence[float], plan: dict[str, Any]) -> tuple[int, int, str]:
+    """Return the first and the last object at places in km, and where they are in words. InvalidWords: they are not on the road."""
+    end = to_km(plan["length"])
+    if max(places) > end + 1e-9 or len(places) == 2 and places[0] > places[1]:
+        raise InvalidWords(f"{' to '.join(f'{one:g}' for one in places)} km is not on the road: 0 to {end:g} km, the greater one second")
+    if kind in ("demand", "detector"):
+        cells = [cell for cell, _ in plan["inlets"]] if kind == "demand" else plan["detectors"]
+        if not cells:
+            raise InvalidWords("the road has no " + ("inlet" if kind == "demand" else "detector"))
+        index = min(range(len(cells)), key=lambda one: abs(cells[one] - to_cells(places[0])))
+        return index, index, f"at km {to_km(cells[index]):g}"
+    low, high = (to_cells(one) for one in places)
+    if kind == "close":
+        first = min(low, plan["length"] - 1)
+        last = max(first, min(high, plan["length"]) - 1)
+        return first, last, f"km {to_km(first):g} to {to_km(last + 1):g}"
+    zones, zone = len(plan["zones"]), plan["zone"]
+    first = min(round(low / zone), zones - 1)
+    last = max(first, min(round(high / zone), zones) - 1)
+    return first, last, f"km {to_km(first * zone):g} to {to_km(min((last + 1) * zone, plan['length'])):g}"
+
+
+def find_state(plan: dict[str, Any], edits: Sequence[Sequence[Any]], inlet: int, step: int) -> dict[str, Any]:
+    """Return what the curve of an inlet depends on at a step, as the question `admission` has it. `edits` are those of a scenario."""
+    cell = plan["inlets"][inlet][0]
+
+    def find_value(kind: str, index: int, at: int, planned: int | None) -> int | None:
+        puts = sorted((edit[2], edit[-1]) for edit in edits if edit[:2] == [kind, index] and edit[-1] is not None and edit[2] <= at)
+        return puts[-1][1] if puts else planned
+    before = [[index, find_value("inflow", index, step, chance)] for index, (at, chance) in enumerate(plan["inlets"]) if at < cell]
+    return {"inlet": inlet, "start": find_value("start", cell // plan["zone"], 0, None), "before": [one for one in before if one[1]]}
+
+
+def find_chance(curve: dict[str, Any], demand: float) -> int:
+    """Return the inflow chance in 1/65,536 that admits a demand in cars per hour. InvalidWords: the inlet admits less."""
+    if demand > curve["capacity"]:
+        raise InvalidWords(f"this inlet admits 0 to {curve['capacity']:,.0f} cars per hour here, not {demand:,.0f}")
+    points = curve["points"]
+    for (low, less), (high, more) in zip(points, points[1:]):
+        if demand <= more:
+            return round(low + (high - low) * (demand - less) / (more - less)) if more > less else int(low)
+    return int(points[-1][0])

@@ -1,0 +1,150 @@
+"""The figures that live gives of two roads, beside those that numpy finds in the cars of each step: 30 random roads with all kinds
+of edits, in windows of any length; and over days."""
+from __future__ import annotations
+
+import math
+import random
+from typing import Any
+
+from faulty import Here, soon
+from raw_figures import LONG, STEPS, Run, compare, random_plan, random_shapes
+from running import ALL, Case
+from server.settings import Settings
+
+ROADS = 100 if ALL else 30
+
+
+class ByCars(Case):
+    def near(self, found: Any, wanted: Any, what: Any) -> None:
+        """Numbers, and lists and objects of them, to nine digits."""
+        if isinstance(wanted, dict):
+            for name, value in wanted.items():
+                self.near(found[name], value, (what, name))
+        elif isinstance(wanted, list):
+            self.assertEqual(len(found), len(wanted), what)
+            for place, value in enumerate(wanted):
+                self.near(found[place], value, (what, place))
+        elif wanted is None:
+            self.assertIsNone(found, what)
+        else:
+            self.assertAlmostEqual(found, wanted, 7, what)
+
+    async def runs(self, here: Here, seat: int) -> list[Run]:
+        """The shared road and the own one, by the edits that the laboratory says."""
+        edits = [(await here.ask(seat, "scenario", at=at))["edits"] for at in ("shared", f"seat{seat}")]
+        return [Run(here.plan, one, STEPS) for one in edits]
+
+    async def test_each_figure_is_that_of_the_cars(self) -> None:
+        for number in range(ROADS):
+            chance = random.Random(number)
+            async with Here(plan=random_plan(chance)) as here:
+                seat, = await here.join("Ada")
+                await here.lab.timing.set_clock(to=STEPS)
+                shapes = random_shapes(here.plan, chance)
+                shared = chance.randrange(len(shapes) + 1)
+                for place, shape in enumerate(shapes):
+                    if place == shared:
+                        await here.share(seat)
+                    await here.ask(seat, "gesture", key=f"{place}", shape=shape)
+                before, after = await self.runs(here, seat)
+                whole = [0, STEPS]
+                windows = [whole, sorted(chance.sample(range(STEPS), 2)), [chance.randrange(STEPS - 60)] * 2]
+                windows[2][1] += 60
+                for first, last in windows:
+                    said = await soon(here.ask(seat, "figures", of="mine", **{"from": first, "to": last}))
+                    self.near(said, compare(before, after, first, last), (number, first, last))
+                    for side, run in (("before", before), ("after", after)):
+                        self.near(said[side], {
+                            "vehicle_hours": run.hours(first, last), "entered": run.admitted(first, last),
+                            "travel": run.travel(first, last),
+                            "flows": [run.detector(one, first, last) for one in range(3)]}, (number, side, first, last))
+                        self.near(said[side]["lost"], [one - other for one, other in zip(said[side]["asked"], run.admitted(first, last))],
+                                  (number, side))
+                    if [first, last] == whole:
+                        self.demand_is(said, before, after, number)
+                for step in (300, 40):  # late edits, of which one is further back than the other
+                    await here.ask(seat, "gesture", key=f"late {step}", shape=["block", 8, 8, step, step + 40, 1])
+                    before, after = await self.runs(here, seat)
+                    said = await soon(here.ask(seat, "figures", of="mine", **{"from": 0, "to": STEPS}))
+                    self.near(said, compare(before, after, 0, STEPS), (number, "late", step))
+                    self.near(said["after"], {"travel": after.travel(0, STEPS), "entered": after.admitted(0, STEPS)}, (number, "late", step))
+                for at, run in (("shared", before), (f"seat{seat}", after)):
+                    await here.ask(seat, "advance", at=at, to=STEPS)
+                    flows = (await here.ask(seat, "counts", at=at, **{"from": 0, "to": STEPS}))["flows"]
+                    self.near(flows, [run.detector(one, 0, STEPS) for one in range(3)], (number, at))
+                    sums = (await here.ask(seat, "sums", at=at, **{"from": 60, "to": 420}))["sums"]
+                    self.assertAlmostEqual(sum(sums) / 3_600, run.hours(60, 420), 9)
+
+    def demand_is(self, said: Any, before: Run, after: Run, number: int) -> None:
+        """The demand is what its chances admit in long runs: to 0.5 %, and four standard errors of such a run."""
+        for side, run in (("before", before), ("after", after)):
+            for inlet, asked in enumerate(said[side]["asked"]):
+                wanted = run.asked(inlet, 0, STEPS)
+                error = math.sqrt(wanted * STEPS / LONG) if wanted else 0
+                self.assertLessEqual(abs(asked - wanted), 0.005 * wanted + 4 * error + 1e-9, (number, side, inlet, asked, wanted))
+
+    async def test_what_holds_cars_back_at_an_inlet_is_lost_demand(self) -> None:
+        """Without slowing a chance q admits q / (1 + q q) cars a step, if nothing hinders a car: so the demand is known. What is put
+        at the inlet holds cars back, and leaves the demand as it is; a lowered demand or a ramp that is switched off loses nothing."""
+        chances, steps = (26_214, 6_554), 3_600
+        plan: dict[str, Any] = {"length": 240, "exit": 1, "zone": 20, "zones": [[5, 0]] * 12, "inlets": [[0, chances[0]], [100, chances[1]]],
+                                "detectors": [50], "words": 3, "replicas": ["road"]}
+        part = chances[0] / 65_536
+        wanted = part / (1 + part * part) * steps
+        scatter = 2 * math.sqrt(wanted)
+        for shapes, asked, least, most in (
+                ([], wanted, -scatter, scatter),
+                ([["slow", 0, 0, 0, None, 49_152]], wanted, 400, 900),  # three of four cars that enter stand
+                ([["start", 0, 0, 1, None, 60_000]], wanted, 400, 1_200), ([["limit", 0, 0, 0, None, 0]], wanted, wanted - 2, wanted),
+                ([["limit", 0, 0, 0, None, 1]], wanted, -scatter, scatter),  # (at 27 km/h a car still leaves the inlet at once)
+                ([["block", 0, 5, 600, 2_400, 1]], wanted, wanted / 2 - scatter, wanted / 2 + scatter),
+                ([["inflow", 0, 0, 0, None, 0]], 0, 0, 0)):
+            async with Here(plan=plan) as here:
+                seat, = await here.join("Ada")
+                await here.lab.timing.set_clock(to=steps)
+                for place, shape in enumerate(shapes):
+                    await here.ask(seat, "gesture", key=f"{place}", shape=shape)
+                said = await soon(here.ask(seat, "figures", of="mine", **{"from": 0, "to": steps}))
+                self.assertAlmostEqual(said["after"]["asked"][0], asked, delta=0.01 * wanted, msg=str(shapes))
+                lost = said["after"]["lost"][0]
+                self.assertTrue(least <= lost <= most, (shapes, lost, least, most))
+                self.assertAlmostEqual(lost, said["after"]["asked"][0] - said["after"]["entered"][0], 9)
+                self.assertLess(abs(said["before"]["lost"][0]), scatter)
+
+    async def test_a_ramp_that_finds_no_place_loses_its_demand_and_one_that_is_switched_off_does_not(self) -> None:
+        chances, steps = (26_214, 6_554), 3_600
+        plan: dict[str, Any] = {"length": 240, "exit": 1, "zone": 20, "zones": [[5, 0]] * 12, "inlets": [[0, chances[0]], [100, chances[1]]],
+                                "detectors": [50], "words": 3, "replicas": ["road"]}
+        for shapes, share in (([["block", 130, 130, 0, None, 1]], 0.95), ([["inflow", 1, 1, 0, None, 0]], 0.0)):
+            async with Here(plan=plan) as here:
+                seat, = await here.join("Ada")
+                await here.lab.timing.set_clock(to=steps)
+                for place, shape in enumerate(shapes):
+                    await here.ask(seat, "gesture", key=f"{place}", shape=shape)
+                said = await soon(here.ask(seat, "figures", of="mine", **{"from": 600, "to": steps}))
+                asked, before = said["after"]["asked"][1], said["before"]["asked"][1]
+                if share:
+                    self.assertAlmostEqual(asked, before, 9)  # the jam leaves the demand as it is
+                    self.assertGreater(said["after"]["lost"][1], share * asked)
+                else:
+                    self.assertEqual((asked, said["after"]["lost"][1]), (0, 0))
+
+    async def test_days_are_means_of_such_figures(self) -> None:
+        chance = random.Random(77)
+        for _ in range(2):
+            plan = random_plan(chance)
+            async with Here(plan=plan) as here:
+                seat, = await here.join("Ada")
+                await here.lab.timing.set_clock(to=STEPS)
+                for place, shape in enumerate(random_shapes(plan, chance)):
+                    await here.ask(seat, "gesture", key=f"{place}", shape=shape)
+                here.keeper.settings = Settings(days=3)
+                said = await soon(here.ask(seat, "days", of="mine", **{"from": 60, "to": 400}))
+                found = {one["name"]: one for one in said["figures"]}
+                edits = [(await here.ask(seat, "scenario", at=at))["edits"] for at in ("shared", f"seat{seat}")]
+                days = [[Run({**plan, "words": plan["words"] + day}, one, STEPS) for one in edits] for day in range(3)]
+                for side, place in (("before", 0), ("after", 1)):
+                    hours = [day[place].hours(60, 400) for day in days]
+                    self.assertAlmostEqual(found["vehicle_hours"][side][0], sum(hours) / 3, 7)
+                delays = [compare(*day, 60, 400)["delay_hours"] for day in days]
+                self.assertAlmostEqual(found["delay"]["difference"][0], sum(delays) / 3, 7)

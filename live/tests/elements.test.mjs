@@ -1,0 +1,48 @@
+// The page has the elements that its modules ask for, each of the kind that its type says.
+
+import assert from "node:assert/strict";
+import {readFileSync} from "node:fs";
+import {test} from "node:test";
+
+const read = (name) => readFileSync(new URL(name, import.meta.url), "utf8");
+const KINDS = {button: "Button", canvas: "Canvas", details: "Details", dialog: "Dialog", div: "Div",
+               fieldset: "FieldSet", form: "Form", h2: "Heading", input: "Input", label: "Label",
+               ol: "OList", p: "Paragraph", select: "Select", span: "Span", table: "Table",
+               ul: "UList"};
+const MADE = {beforeTitles: "p", beforeList: "ul", beforeDays: "span", beforeCovers: "div",
+              beforeOver: "div", beforeFigures: "div"};      // by before.mjs
+
+/** The tags of the elements that have an id. */
+function tagsOf(html) {
+  const tags = [...html.matchAll(/<(\w+)\s[^>]*?\bid="(\w+)"/g)].map(([, tag, id]) => [id, tag]);
+  return new Map([...tags, ...Object.entries(MADE)]);
+}
+
+test("each element that has a type is on the page, and is of that kind", () => {
+  const [tags, text] = [tagsOf(read("../page.html")), read("../page/elements.mjs")];
+  const records = [...text.matchAll(/Record<([^,]*), HTML(\w*)Element>/g)];
+  assert.ok(records.length > 10);
+  for (const [, names, kind] of records) {
+    for (const [, id] of names.matchAll(/"(\w+)"/g)) {
+      assert.ok(tags.has(id), `page.html has no element ${id}`);
+      assert.equal(kind, KINDS[tags.get(id)] ?? "", id);
+    }
+  }
+});
+
+test("a preview makes the elements that have types", () => {
+  const text = read("../page/before.mjs");
+  for (const [id, tag] of Object.entries(MADE)) {
+    assert.match(text, new RegExp(`element\\("${tag}", "", \\{id: "${id}"`), id);
+  }
+});
+
+test("what is used of drawing.js has a type, and drawing.js has it", () => {
+  const types = read("../page/drawing.d.ts");
+  const script = read("../../viewer/drawing.js");
+  const names = [...types.matchAll(/^declare (?:const|function|class) (\w+)/gm)].map(([, name]) => name);
+  assert.ok(names.length > 20);
+  for (const name of names) {
+    assert.match(script, new RegExp(`^(?:const|let|function|class) ${name}\\b`, "m"), name);
+  }
+});

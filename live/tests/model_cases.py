@@ -1,0 +1,369 @@
+"""The model: what may surprise, and is settled by a rule. Each case has the name of its rule."""
+from __future__ import annotations
+
+import itertools
+import json
+import unittest
+
+from painted import EMPTY
+from working import takes_at_most
+from server.model import changes, choices, seen
+from server.model.operations import About, Operation, Shape, Stamp, edit, exclude, lift, put, undo
+from server.model.projection import difference, timeline
+from server.model.reading import Malformed, read_operation
+from server.model.road import Road, change, stands
+
+ADA, BEN, CLEO = 65, 129, 193
+SHAPE, LONGER, WIDE = Shape("block", 2, 4, 5, 15, 1), Shape("block", 2, 4, 5, 25, 1), Shape("block", 1, 6, 5, 15, 1)
+CLOSURE = put((1, ADA), SHAPE)
+LINE = CLOSURE.stamp
+BASE = EMPTY.adding([CLOSURE])
+
+
+def in_every_order(operations: list[Operation]) -> Road:
+    """The road of these operations, which is the same in whatever order they come."""
+    roads = [EMPTY]
+    for order in itertools.islice(itertools.permutations(operations), 24):
+        road = EMPTY
+        for one in order:
+            road = road.adding([one])
+        roads.append(road)
+    assert all(road.layers == roads[1].layers and road.record.excluded == roads[1].record.excluded for road in roads[1:])
+    return roads[1]
+
+
+class Cases(unittest.TestCase):
+    def test_a_withdrawal_that_is_undone_does_not_beat_a_change_made_meanwhile(self) -> None:
+        for withdrawn, changed, undone in ((2, 3, 4), (2, 4, 3), (3, 2, 4), (4, 2, 5)):
+            withdrawal = change(BASE, (withdrawn, ADA), LINE, None)
+            back = undo((undone, ADA), withdrawal)
+            bens = change(BASE, (changed, BEN), LINE, LONGER)
+            road = in_every_order([CLOSURE, withdrawal, back, bens])
+            self.assertEqual(road.layers, BASE.adding([bens]).layers)
+            self.assertEqual(seen.lost(road, LINE), {})
+
+    def test_an_undone_pair_that_is_private_is_not_shared_and_says_nothing(self) -> None:
+        withdrawal = change(BASE, (2, ADA), LINE, None)
+        road = BASE.adding([withdrawal, undo((3, ADA), withdrawal)])
+        self.assertEqual(choices.shareable(road, BASE, ADA), [])
+        self.assertEqual(road.layers, BASE.layers)
+
+    def test_a_change_without_its_put_stands(self) -> None:
+        bens = change(BASE, (2, BEN), LINE, LONGER)
+        alone = EMPTY.adding([bens])
+        self.assertEqual(alone.layers[LINE].end, 25)
+        self.assertEqual(alone.layers, alone.adding([CLOSURE]).layers)
+
+    def test_the_undo_of_a_put_takes_nothing_of_a_change_by_another_and_he_is_named(self) -> None:
+        bens = change(BASE, (2, BEN), LINE, LONGER)
+        road = BASE.adding([bens])
+        self.assertFalse(choices.would_change(road, CLOSURE))
+        self.assertEqual(choices.overruling(road, CLOSURE), [bens])
+        self.assertEqual(road.layers, road.adding([undo((3, ADA), CLOSURE)]).layers)
+
+    def test_a_change_that_is_undone_while_another_builds_on_it_leaves_his_shape(self) -> None:
+        adas = change(BASE, (2, ADA), LINE, WIDE)
+        taken, on_it = undo((3, ADA), adas), change(BASE.adding([adas]), (4, BEN), LINE, SHAPE)
+        road = in_every_order([CLOSURE, adas, taken, on_it])
+        self.assertEqual(road.layers[LINE].end, 15)
+        self.assertEqual(seen.lost(road, LINE), {taken: on_it})
+
+    def test_of_two_changes_at_once_one_stands_and_the_other_comes_up_when_it_is_undone(self) -> None:
+        adas, bens = change(BASE, (2, ADA), LINE, WIDE), change(BASE, (2, BEN), LINE, LONGER)
+        road = in_every_order([CLOSURE, adas, bens])
+        self.assertEqual((seen.lost(road, LINE), road.layers[LINE].end), ({adas: bens}, 25))
+        self.assertEqual(road.adding([undo((3, BEN), bens)]).layers, BASE.adding([adas]).layers)
+
+    def test_a_change_and_a_lift_at_once_both_hold(self) -> None:
+        bens, adas = change(BASE, (2, BEN), LINE, LONGER), lift((2, ADA), LINE)
+        road = in_every_order([CLOSURE, bens, adas])
+        self.assertEqual((road.layers[LINE].end, road.layers[LINE].height), (25, (2, ADA)))
+        self.assertEqual(seen.lost(road, LINE), {})
+
+    def test_z_goes_back_and_redo_goes_forth(self) -> None:
+        road, past = BASE, [{}, BASE.layers]
+        for count, shape in ((2, LONGER), (3, None), (4, WIDE)):
+            road = road.adding([change(road, (count, ADA), LINE, shape)])
+            past.append(road.layers)
+        for count in range(5, 9):
+            past.pop()
+            undone = choices.undoable(road, ADA).undo
+            assert undone is not None
+            road = road.adding([undo((count, ADA), undone)])
+            self.assertEqual(road.layers, past[-1])
+        self.assertIsNone(choices.undoable(road, ADA).undo)
+        for count in range(9, 13):
+            redone = choices.undoable(road, ADA).redo
+            assert redone is not None
+            road = road.adding([undo((count, ADA), redone)])
+        self.assertIsNone(choices.undoable(road, ADA).redo)
+        self.assertEqual((road.layers[LINE].first, road.layers[LINE].last), (1, 6))
+
+    def test_z_says_who_changed_the_last_own_change_since(self) -> None:
+        """It is not silently the one before that is taken back."""
+        other = put((1, BEN), WIDE)
+        first, bens = change(BASE, (2, ADA), LINE, LONGER), None
+        road = BASE.adding([first, other])
+        bens = change(road, (3, BEN), LINE, SHAPE)
+        found = choices.undoable(road.adding([bens]), ADA)
+        self.assertEqual((found.undo, found.blocked), (None, [first, CLOSURE]))
+        self.assertEqual(choices.overruling(road.adding([bens]), first), [bens])
+
+    def test_z_where_an_older_change_by_another_lies_between(self) -> None:
+        """It gives what the other said, who is not undone."""
+        bens = change(BASE, (2, BEN), LINE, WIDE)
+        last = change(BASE, (3, ADA), LINE, LONGER)
+        road = BASE.adding([last, bens])
+        self.assertEqual(choices.undoable(road, ADA).undo, last)
+        road = road.adding([undo((4, ADA), last)])
+        self.assertEqual(road.layers, BASE.adding([bens]).layers)
+        self.assertEqual((choices.undoable(road, ADA).undo, choices.undoable(road, ADA).blocked), (None, [CLOSURE]))
+
+    def test_two_who_undo_one_operation_must_both_redo(self) -> None:
+        adas, bens = undo((2, ADA), CLOSURE), undo((2, BEN), CLOSURE)
+        road = BASE.adding([adas, bens])
+        self.assertIsNone(choices.undoable(road, ADA).redo)
+        road = road.adding([undo((3, BEN), bens)])
+        self.assertEqual((road.layers, choices.undoable(road, ADA).redo), ({}, adas))
+
+    def test_two_who_withdraw_at_once_and_one_takes_it_back(self) -> None:
+        """The closure stays away, since the other's withdrawal still counts; and that is what Z says."""
+        adas, bens = change(BASE, (2, ADA), LINE, None), change(BASE, (2, BEN), LINE, None)
+        road = in_every_order([CLOSURE, adas, bens])
+        self.assertEqual(seen.lost(road, LINE), {adas: bens})
+        self.assertEqual(choices.undoable(road, ADA).blocked, [adas, CLOSURE])
+        self.assertEqual(road.adding([undo((3, ADA), adas)]).layers, {})
+
+    def test_a_late_undo_of_an_old_operation_changes_the_old_road(self) -> None:
+        lid = put((2, BEN), Shape("block", 3, 3, 0, None, 0))
+        road = BASE.adding([lid])
+        self.assertEqual(road.adding([undo((3, ADA), CLOSURE)]).layers, EMPTY.adding([lid]).layers)
+
+    def test_what_was_withdrawn_comes_on_top_when_it_is_changed(self) -> None:
+        lid = put((2, BEN), WIDE)
+        road = BASE.adding([lid, change(BASE, (3, ADA), LINE, None)])
+        road = road.adding([change(road, (4, ADA), LINE, LONGER)])
+        self.assertGreater(road.layers[LINE].height, road.layers[lid.stamp].height)
+
+    def test_at_equal_heights_a_raw_edit_lies_on_a_shape_and_else_the_greater_name(self) -> None:
+        values = {("block", 3, 7): 0}
+        both = Operation((2, BEN), {**edit((2, BEN), values).sets, (2, BEN): WIDE})
+        layers = EMPTY.adding([both]).on_object("block", 3)
+        self.assertEqual([layer.name for layer in layers], [("block", 3, 7), (2, BEN)])
+
+    def test_a_lost_own_change_stays_private_and_counts_again_when_the_winner_is_undone(self) -> None:
+        adas, bens = change(BASE, (2, ADA), LINE, WIDE), change(BASE, (2, BEN), LINE, LONGER)
+        shared = BASE.adding([bens])
+        road = shared.adding([adas])
+        self.assertEqual(choices.shareable(road, shared, ADA), [])
+        taken_back = undo((3, BEN), bens)
+        self.assertEqual(choices.shareable(road.adding([taken_back]), shared.adding([taken_back]), ADA), [adas])
+
+    def test_an_undo_of_what_others_never_had_is_not_shared_and_neither_is_its_redo(self) -> None:
+        change_of_it = change(BASE, (2, ADA), LINE, None)
+        back = undo((3, ADA), change_of_it)
+        again = undo((4, ADA), back)
+        road = BASE.adding([change_of_it, back, again])
+        self.assertEqual(choices.sendable(road, BASE, ADA), [change_of_it])
+        self.assertEqual(BASE.adding([change_of_it]).layers, road.layers)
+
+    def test_a_very_long_chain_of_undos_and_twins(self) -> None:
+        chain = [CLOSURE]
+        for count in range(2, 5_002):
+            chain.append(undo((count, ADA), chain[-1]))
+        self.assertEqual(EMPTY.adding(chain).layers, BASE.layers)
+        self.assertEqual(EMPTY.adding(chain[:-1]).layers, {})
+        road = EMPTY
+        for size, one in enumerate(chain[:200], 1):
+            road = road.adding([one])
+            self.assertEqual(bool(road.layers), size % 2 == 1)
+        twins = [put(LINE, SHAPE), put(LINE, LONGER)]
+        self.assertEqual(EMPTY.adding(twins).layers, EMPTY.adding(reversed(twins)).layers)
+        self.assertEqual(EMPTY.adding([*twins, undo((2, ADA), twins[0])]).layers, {})
+
+    def test_a_line_that_was_changed_very_often_is_shown_as_soon(self) -> None:
+        many = [Operation((count, ADA), {LINE: LONGER}, seen=(count - 1, ADA)) for count in range(2, 20_002)]
+        with takes_at_most(5):
+            self.assertEqual(seen.lost(BASE.adding(many), LINE), {})
+
+    def test_only_what_a_step_changed_is_compared(self) -> None:
+        road = BASE.adding([put((2, ADA), WIDE)])
+        self.assertEqual(difference(BASE, road), difference(BASE, EMPTY.adding(road.record.operations())))
+        self.assertEqual(difference(road, road), {})
+
+
+class Exclusions(unittest.TestCase):
+    def test_who_is_excluded_lets_nobody_in_but_by_the_undo_of_who_excluded_it(self) -> None:
+        out, bens = exclude((2, ADA), 2, True), put((1, BEN), SHAPE)
+        road = in_every_order([bens, out, undo((3, BEN), out), exclude((4, BEN), 2, False)])
+        self.assertEqual((road.record.excluded, road.layers), ({2}, {}))
+        self.assertEqual(road.adding([undo((5, ADA), out)]).layers.keys(), {(1, BEN)})
+
+    def test_another_site_lets_an_excluded_one_in_and_does_not_undo_the_exclusion(self) -> None:
+        out, bens = exclude((2, ADA), 2, True), put((1, BEN), SHAPE)
+        road = EMPTY.adding([bens, out])
+        self.assertEqual(road.adding([undo((3, CLEO), out)]).record.excluded, {2})
+        self.assertEqual(road.adding([exclude((3, CLEO), 2, False)]).layers.keys(), {(1, BEN)})
+
+    def test_an_exclusion_that_comes_behind_its_undo_by_a_site_that_is_excluded(self) -> None:
+        late = exclude((2, BEN), 1, True)
+        some = [undo((3, BEN), late), exclude((4, CLEO), 2, True)]
+        self.assertEqual(EMPTY.adding(some).adding([late]).record.excluded, EMPTY.adding([late, *some]).record.excluded)
+        self.assertEqual(EMPTY.adding([late, *some]).record.excluded, {2})
+
+    def test_of_two_sites_that_exclude_each_other_the_older_exclusion_holds(self) -> None:
+        road = in_every_order([exclude((2, ADA), 2, True), exclude((3, BEN), 1, True), CLOSURE])
+        self.assertEqual(road.record.excluded, {2})
+
+    def test_very_many_exclusions_are_soon_worked_out(self) -> None:
+        road = EMPTY
+        flips = [exclude((count, ADA), 2, count % 2 == 0) for count in range(2, 2_002)]
+        with takes_at_most(5):
+            for one in flips:
+                road = road.adding([one])
+            self.assertEqual(EMPTY.adding(flips).record.excluded, road.record.excluded)
+
+
+class Raw(unittest.TestCase):
+    """A line of raw edits is one line, whatever is done to it."""
+
+    VALUES = {("block", cell, step): value for cell in (3, 4) for step, value in ((5, 1), (15, 0))}
+
+    def setUp(self) -> None:
+        self.edits = edit((1, ADA), {**self.VALUES})
+        self.base = EMPTY.adding([self.edits])
+        self.line: Stamp = self.edits.stamp
+
+    def test_two_changes_at_once_give_one_shape_and_one_is_told(self) -> None:
+        adas, bens = (change(self.base, (2, number), self.line, shape) for number, shape in ((ADA, WIDE), (BEN, LONGER)))
+        road = in_every_order([self.edits, adas, bens])
+        self.assertEqual(road.layers.keys(), {self.line})
+        self.assertEqual((road.layers[self.line].end, seen.lost(road, self.line)), (25, {adas: bens}))
+
+    def test_a_change_does_not_beat_a_later_withdrawal(self) -> None:
+        adas, bens = change(self.base, (2, ADA), self.line, WIDE), change(self.base, (3, BEN), self.line, None)
+        road = in_every_order([self.edits, adas, bens])
+        self.assertEqual((road.layers, seen.lost(road, self.line)), ({}, {adas: bens}))
+
+    def test_one_who_drags_twice_before_the_first_is_confirmed_gets_one_shape(self) -> None:
+        first = change(self.base, (2, ADA), self.line, WIDE)
+        second = change(self.base.adding([first]), (3, ADA), self.line, LONGER)
+        road = self.base.adding([first, second])
+        self.assertEqual(road.layers.keys(), {self.line})
+        self.assertEqual([one.stamp for one in changes.operations_on(road, self.line)], [(1, ADA), (2, ADA), (3, ADA)])
+        self.assertEqual(changes.all_lines(road), {self.line})
+        back = road.adding([undo((4, ADA), second), undo((5, ADA), first)])
+        self.assertEqual(back.layers, self.base.layers)
+
+    def test_they_are_lifted_and_stay_one_line(self) -> None:
+        lid = put((2, BEN), Shape("block", 0, 9, 0, None, 0))
+        road = self.base.adding([lid, lift((3, ADA), self.line)])
+        self.assertEqual({layer.height for name, layer in road.layers.items() if name != lid.stamp}, {(3, ADA)})
+        self.assertEqual(changes.all_lines(road), {self.line, lid.stamp})
+        self.assertEqual([one[:6] for one in seen.shown(road, self.line)],
+                         [("block", 3, 4, 5, 15, 1), ("block", 3, 4, 15, None, 0)])
+
+    def test_both_who_withdraw_them_at_once_stand_in_the_line(self) -> None:
+        adas, bens = (change(self.base, (2, number), self.line, None) for number in (ADA, BEN))
+        road = in_every_order([self.edits, adas, bens])
+        self.assertEqual(changes.operations_on(road, self.line), [self.edits, adas, bens])
+        self.assertFalse(stands(road, self.line))
+
+    def test_a_withdrawal_of_one_step_belongs_to_the_line_of_what_it_withdraws(self) -> None:
+        one = edit((2, BEN), {("block", 3, 5): None})
+        road = in_every_order([self.edits, one])
+        self.assertEqual(changes.lines_of(road, one), {self.line})
+        self.assertEqual(changes.lines_of(EMPTY.adding([one]), one), {one.stamp})
+
+    def test_who_puts_a_raw_edit_in_the_place_of_anothers_stands_in_his_line_too(self) -> None:
+        bens = edit((2, BEN), {("block", 3, 5): 0})
+        road = in_every_order([self.edits, bens])
+        self.assertEqual(changes.lines_of(road, bens), {self.line, bens.stamp})
+        self.assertEqual(changes.operations_on(road, self.line), [self.edits, bens])
+
+    def test_an_act_on_a_line_of_which_nothing_is_left(self) -> None:
+        """Raw edits that others put over all of it take its place: a change puts a shape on top, a lift lifts nothing."""
+        others = edit((2, BEN), {**self.VALUES})
+        road = self.base.adding([others])
+        self.assertFalse(stands(road, self.line))
+        self.assertEqual(road.adding([lift((3, ADA), self.line)]).layers, road.layers)
+        changed = road.adding([change(road, (3, ADA), self.line, WIDE)])
+        self.assertEqual(changed.layers[self.line].height, (3, ADA))
+        self.assertEqual(len(changed.layers), 5)
+
+    def test_the_greatest_line_can_be_dragged(self) -> None:
+        """A closure of 600 cells in raw edits has 1,200, and its change withdraws them all."""
+        values = {("block", cell, step): value for cell in range(600) for step, value in ((5, 1), (15, 0))}
+        closure = edit((1, ADA), values)
+        road = EMPTY.adding([closure])
+        dragged = change(road, (2, ADA), closure.stamp, Shape("block", 0, 599, 5, 25, 1))
+        for one in (closure, dragged):
+            self.assertTrue(one.is_same(read_operation(json.loads(json.dumps(one.written())))))
+        self.assertEqual(road.adding([dragged]).layers.keys(), {closure.stamp})
+
+
+class Lists(unittest.TestCase):
+    def test_a_line_is_told_when_what_covered_it_goes_in_what_was_never_taken(self) -> None:
+        """A puts P on top and shares; B, who has not taken that, withdraws P and shares: Q is covered no more."""
+        below, above = put((1, ADA), SHAPE), put((2, ADA), WIDE)
+        base = EMPTY.adding([below, above])
+        lifted, withdrawn = lift((3, ADA), above.stamp), change(base, (3, BEN), above.stamp, None)
+        road = base.adding([lifted])
+        self.assertEqual([one.by for one in seen.shown(road, below.stamp)], [above.stamp])
+        then = road.adding([withdrawn])
+        self.assertIn(below.stamp, changes.altered(road, then))
+        self.assertEqual([one.by for one in seen.shown(then, below.stamp)], [None])
+
+
+    def test_an_older_exclusion_of_a_site_names_its_line_anew(self) -> None:
+        """The name that the line had goes."""
+        before = EMPTY.adding([exclude((8, ADA), 2, False)])
+        older = exclude((4, CLEO), 2, False)
+        after = before.adding([older])
+        self.assertEqual((changes.all_lines(before), changes.all_lines(after)), ({(8, ADA)}, {(4, CLEO)}))
+        self.assertEqual(changes.altered(before, after), {(8, ADA), (4, CLEO)})
+        self.assertEqual(changes.operations_on(after, (8, ADA)), [])
+
+
+class Reading(unittest.TestCase):
+    """What is written is read, and whatever else comes is refused with a sentence."""
+
+    def some(self) -> list[Operation]:
+        return [CLOSURE, change(BASE, (2, ADA), LINE, None), lift((3, ADA), LINE), undo((4, BEN), CLOSURE),
+                exclude((5, CLEO), 1, True), edit((6, ADA), {("limit", 2, 7): 3, ("limit", 2, 9): None}, About(
+                    "Ada", "note", 1_760_000_000, Shape("limit", 2, 2, 7, None, 3)))]
+
+    def test_what_is_written_is_read(self) -> None:
+        for one in self.some():
+            again = read_operation(json.loads(json.dumps(one.written())))
+            self.assertEqual((again.written(), again.text()), (one.written(), one.text()))
+
+    def test_fields_of_later_versions_are_kept_up_to_a_kilobyte(self) -> None:
+        value = json.loads(json.dumps(CLOSURE.written()))
+        one = read_operation({**value, "colour": "red"})
+        self.assertEqual(one.written()["colour"], "red")
+        self.assertFalse(one.is_same(CLOSURE))
+        with self.assertRaisesRegex(Malformed, "more than 1000 bytes"):
+            read_operation({**value, "colour": "r" * 1_000})
+
+    def test_whatever_is_changed_in_one_is_read_or_refused(self) -> None:
+        strange = [None, True, -1, 1 << 60, "x", "x" * 300, [], [1], {}, 0.5, [[1, 2], 3], [[1, ADA], "x"]]
+        for one in self.some():
+            value = json.loads(json.dumps(one.written()))
+            for name in [*value, "sets", "heights", "undoes", "seen", "excludes", "who", "note", "when", "shape"]:
+                for other in strange:
+                    try:
+                        found = read_operation({**value, name: other})
+                    except Malformed as fault:
+                        self.assertTrue(str(fault))
+                    else:
+                        timeline(EMPTY.adding([found]) if name == "who" else EMPTY)
+
+    def test_an_operation_refers_to_older_ones_alone(self) -> None:
+        for more in ({"undoes": [2, ADA]}, {"seen": [3, ADA]}, {"heights": [[[1, ADA], [3, ADA]]]}, {"sets": [[[3, ADA], None]]}):
+            with self.assertRaisesRegex(Malformed, "older ones"):
+                read_operation({"stamp": [2, ADA], **more})
+
+    def test_what_does_nothing_is_refused(self) -> None:
+        with self.assertRaisesRegex(Malformed, "nothing"):
+            read_operation({"stamp": [2, ADA], "note": "?"})

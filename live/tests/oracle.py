@@ -1,0 +1,121 @@
+"""What operations say, painted object by object and step by step: from their definition alone, without the model.
+
+    oracle = Oracle({"limit": 3, ..}, plan, last)     how many objects there are, their values by the plan, so many steps
+    oracle.painted(operations)                        the value of each object at each step
+    oracle.by_the_program(edits)                      the same by the program's rule for edits
+"""
+from __future__ import annotations
+
+from typing import Any, Callable, Iterable, Mapping
+
+from server.model.operations import Operation, Shape, Stamp, is_raw, line_of
+from server.state import planned
+
+Values = dict[tuple[str, int], list[Any]]
+COUNTED = {"block": "length", "limit": "zones", "slow": "zones", "start": "zones", "inflow": "inlets", "watch": "detectors"}
+
+
+def text_order(one: Operation) -> tuple[Stamp, str]:
+    return one.stamp, one.text()
+
+
+def counting_operations(held: Iterable[Operation]) -> list[Operation]:
+    """The operations that count, the greatest first: those that no operation that counts undoes, of sites that are in. An
+    exclusion is undone by its own site alone, excluded or not."""
+    down = sorted(held, key=text_order, reverse=True)
+    of_exclusions = {one.stamp for one in down if one.excludes is not None}
+    size = -1
+    while size != len(of_exclusions):
+        size = len(of_exclusions)
+        of_exclusions |= {one.stamp for one in down if one.undoes in of_exclusions}
+
+    def alive(excluded: Iterable[int]) -> list[Operation]:
+        undone: dict[Stamp, set[int]] = {}
+        found = []
+        for one in down:
+            by = undone.get(one.stamp, set())
+            if (one.site not in by) if one.stamp in of_exclusions else (one.site not in excluded and not by):
+                found.append(one)
+                if one.undoes is not None:
+                    undone.setdefault(one.undoes, set()).add(one.site)
+        return found
+    says: dict[int, bool] = {}
+    for one in reversed(alive(())):
+        if one.excludes is not None and not says.get(one.site):
+            says[one.excludes[0]] = one.excludes[1]
+    return alive({site for site, is_out in says.items() if is_out})
+
+
+def with_starts(values: Values) -> Values:
+    """Cars that start have the slowing chance of their zone where nothing else is said."""
+    for (kind, index), line in values.items():
+        if kind == "start":
+            slow = values["slow", index]
+            line[:] = [slow[step] if value is None else value for step, value in enumerate(line)]
+    return values
+
+
+class Oracle:
+    """What holds on one road."""
+
+    def __init__(self, there: Mapping[str, int], plan: Callable[[str, int], int | None], last: int) -> None:
+        self.there, self.plan, self.last = there, plan, last
+
+    def tops(self, held: Iterable[Operation]) -> dict[tuple[str, int], list[tuple[Any, Any]]]:
+        """Of each object at each step the value and the line of the topmost layer; (None, None): the plan's."""
+        shapes: dict[Any, Shape | None] = {}
+        lines: dict[Any, Stamp] = {}
+        heights: dict[Any, Stamp] = {}
+        for one in counting_operations(held):
+            for name, shape in one.sets.items():
+                if name not in shapes:
+                    shapes[name], lines[name] = shape, line_of(one, name)
+            for name, height in one.heights.items():
+                heights.setdefault(name, height)
+        there = {name: shape for name, shape in shapes.items() if shape is not None}
+        found: dict[tuple[str, int], list[tuple[Any, Any]]] = {
+            (kind, index): [(None, None)] * self.last for kind, many in self.there.items() for index in range(many)}
+
+        def rank(name: Any) -> Any:
+            return heights.get(lines[name], lines[name]), len(name), name
+        for name in sorted(there, key=rank):
+            shape = there[name]
+            end = self.last if shape.end is None else min(self.last, shape.end)
+            if is_raw(name):
+                end = min([end, *(other[2] for other in there if is_raw(other) and other[:2] == name[:2] and other[2] > name[2])])
+            for index in range(shape.first, shape.last + 1):
+                if shape.begin < end:
+                    found[shape.kind, index][shape.begin:end] = [(shape.value, lines[name])] * (end - shape.begin)
+        return found
+
+    def painted(self, held: Iterable[Operation]) -> Values:
+        return with_starts({thing: [self.plan(*thing) if value is None else value for value, _ in line]
+                            for thing, line in self.tops(held).items()})
+
+    def by_the_program(self, edits: dict[tuple[str, int], dict[int, tuple[int, Any]]]) -> Values:
+        """The same by the program's rule: at each step the last value that was not withdrawn."""
+        found: Values = {}
+        for kind, many in self.there.items():
+            for index in range(many):
+                value, line = self.plan(kind, index), []
+                there = edits.get((kind, index), {})
+                for step in range(self.last):
+                    _, put_there = there.get(step, (0, None))
+                    value = value if put_there is None else put_there
+                    line.append(value)
+                found[kind, index] = line
+        return with_starts(found)
+
+
+def oracle_of(plan: dict[str, Any], last: int) -> Oracle:
+    """The oracle of a plan line, for the steps before `last`."""
+    there = {kind: plan[name] if kind == "block" else len(plan[name]) for kind, name in COUNTED.items()}
+    return Oracle(there, lambda kind, index: planned(plan, kind, index), last)
+
+
+def by_rows(edits: Iterable[Any]) -> dict[tuple[str, int], dict[int, tuple[int, Any]]]:
+    """Edits as an `import` has them, by objects and steps."""
+    found: dict[tuple[str, int], dict[int, tuple[int, Any]]] = {}
+    for kind, index, step, count, _, value in edits:
+        found.setdefault((kind, index), {})[step] = count, value
+    return found

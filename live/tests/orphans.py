@@ -1,0 +1,83 @@
+"""However a server ends: nothing that it has started goes on without it."""
+from __future__ import annotations
+
+import asyncio
+import contextlib
+import importlib.machinery
+import os
+import secrets
+import signal
+import unittest
+from pathlib import Path
+
+from running import PATIENCE, SMALL, Case, descendants, until
+
+HERE = Path(__file__).resolve().parent
+
+LONG = {**SMALL, "length": 2_000, "zone": 1_000, "zones": [[5, 6_554]] * 2, "exit": 1}
+
+
+def marked(mark: str) -> set[int]:
+    """The processes that have a mark among their variables, but for those that have ended."""
+    found = set()
+    for path in Path("/proc").glob("[0-9]*"):
+        with contextlib.suppress(OSError):
+            if mark.encode() in (path / "environ").read_bytes() and " Z " not in (path / "stat").read_text():
+                found.add(int(path.name))
+    return found
+
+
+class Orphans(Case):
+    async def asyncSetUp(self) -> None:
+        self.mark = secrets.token_hex(8)
+        self.a6 = self.server(plan=LONG, LIVE_MARK=self.mark)
+        self.addCleanup(self.end_all)
+
+    def end_all(self) -> None:
+        for process in marked(self.mark):
+            os.kill(process, signal.SIGKILL)
+
+    async def ends(self, by: int) -> None:
+        """Figures, a preview, a question over many days and a save are under way, all of them stopped, when it ends."""
+        async with self.a6.seat("Ada") as ada, self.a6.seat("Ben") as ben, self.a6.seat("Cleo") as cleo:
+            for seat in (ada, ben, cleo):
+                await seat.ask("gesture", key="k", note="", shape=["limit", 1, 1, 60, None, 2])
+            await ada.ask("preview", what="share")
+            asked = [asyncio.ensure_future(seat.reply(verb, at=at, **more)) for seat, verb, at, more in (
+                (ada, "advance", "before", {"to": 30_000}), (ada, "figures", ada.at, {"of": "mine", "from": 0, "to": 30_000}),
+                (ben, "days", ben.at, {"of": "mine", "from": 0, "to": 7_000}),
+                (cleo, "transcript", cleo.at, {"from": 0, "to": 30_000}))]
+            await until(lambda: self.are(8), "all is under way")
+            for process in descendants(self.a6.process.pid):
+                os.kill(process, signal.SIGSTOP)
+            self.a6.process.send_signal(by)
+            await until(lambda: self.are(0), "all has ended", 20)
+            await asyncio.gather(*asked, return_exceptions=True)
+
+    async def are(self, count: int) -> bool:
+        there = len(marked(self.mark))
+        return there > count if count else not there
+
+    async def test_nothing_outlives_a_server_that_is_killed(self) -> None:
+        await self.ends(signal.SIGKILL)
+
+    async def test_nothing_outlives_a_server_that_is_told_to_end(self) -> None:
+        await self.ends(signal.SIGTERM)
+
+
+class Termination(unittest.TestCase):
+    def test_a_signal_in_the_midst_of_a_task_cancels_the_start_alone(self) -> None:
+        serve = importlib.machinery.SourceFileLoader("serve", str(HERE.parent / "serve")).load_module()
+
+        async def starts() -> None:
+            serve.cancel_at_termination()
+
+            async def works() -> None:
+                os.kill(os.getpid(), signal.SIGTERM)
+                await asyncio.sleep(0)
+            task = asyncio.ensure_future(works())
+            with self.assertRaises(asyncio.CancelledError):
+                await asyncio.sleep(PATIENCE)
+            await task  # goes on to its end
+        self.addCleanup(signal.signal, signal.SIGTERM, signal.getsignal(signal.SIGTERM))
+        asyncio.run(starts())

@@ -1,0 +1,204 @@
+"""The watch that is on in all tests: a piece of a server's work that keeps all others waiting fails them."""
+from __future__ import annotations
+
+import asyncio
+import gc
+import json
+import time
+import unittest
+from typing import Any
+from unittest import mock
+
+from faulty import Here
+from running import HELD_UP, Case, Watched, until
+from working import takes_at_most
+from server.client import Seat
+from server.collecting import keep_collections_short
+from server.keeper import Keeper
+from server.model.operations import About, edit
+from server.model.road import Road
+from server.tabs import Tab, Tabs
+from server.watch import SAID, Watch, is_of_server
+
+
+SHAPES = 130
+
+
+def works(seconds: float) -> None:
+    """Use the processor for so long."""
+    until = time.thread_time() + seconds
+    while time.thread_time() < until:
+        pass
+
+
+class Watching(unittest.IsolatedAsyncioTestCase):
+    def watched(self, *more: Any) -> list[str]:
+        said: list[str] = []
+        watch = Watch(0.1, said.append, *more)
+        self.addCleanup(watch.end)
+        return said
+
+    async def test_a_long_piece_is_told_with_its_place_and_a_short_one_is_not(self) -> None:
+        said = self.watched()
+
+        async def long() -> None:
+            works(0.3)
+        await asyncio.create_task(long())
+        await asyncio.sleep(0)
+        self.assertEqual(len(said), 1, said)
+        self.assertRegex(said[0], rf"{SAID} for a piece of work of \d+\.\d\d s: .*watching\.py \d+ long, watching\.py \d+ works")
+        for _ in range(20):
+            works(0.02)
+            await asyncio.sleep(0)
+        asyncio.get_running_loop().call_soon(time.sleep, 0.3)  # what waits uses no processor
+        await asyncio.sleep(0.4)
+        self.assertEqual(len(said), 1, said)
+        asyncio.get_running_loop().call_soon(works, 0.2)
+        await asyncio.sleep(0.01)
+        self.assertIn("works", said[1])
+
+    async def test_of_a_test_only_what_the_server_does_counts(self) -> None:
+        said = self.watched(is_of_server)
+
+        async def long() -> None:
+            works(0.2)
+        await asyncio.create_task(long())
+        asyncio.get_running_loop().call_soon(works, 0.2)
+        await asyncio.sleep(0.01)
+        self.assertEqual(said, [])
+        self.assertTrue(is_of_server(Tab._reader))
+        self.assertFalse(is_of_server(Seat._read))  # of a tab that the test has
+
+
+class Collections(unittest.TestCase):
+    def tearDown(self) -> None:
+        gc.unfreeze()
+
+    def test_what_lives_is_looked_at_once(self) -> None:
+        """When it is there from the start, and when so much has come since that a collection took long."""
+        held: list[Any] = []
+        self.addCleanup(gc.callbacks.pop)
+        for collects in (keep_collections_short, gc.collect, gc.collect):
+            held.append([[number] for number in range(300_000)])
+            collects()
+            self.assertLess(len(gc.get_objects()), 290_000)
+        held.append([[number] for number in range(100)])
+        gc.collect()
+        self.assertGreater(len(gc.get_objects()), 100)  # a short one is followed by nothing
+
+
+class Failing(Case):
+    async def test_a_test_fails_by_it(self) -> None:
+        """By what a server in this process did, or one beside."""
+        class Example(Watched):
+            def runTest(self) -> None:
+                HELD_UP.extend(f"{SAID} for a piece of work of {seconds} s: x" for seconds in said)
+        for said, fails in (([], 0), (["0.21"], 0), (["30.00"], 1)):
+            result = unittest.TestResult()
+            Example().run(result)
+            self.assertEqual((len(result.failures), len(result.errors)), (fails, 0))
+        HELD_UP.clear()
+        server = self.server()
+        with open(server.log, "a", encoding="ascii") as log:
+            log.write(f"WARNING {SAID} for a piece of work of 0.31 s: x\n")
+            log.write(f"WARNING {SAID} for a piece of work of 21.00 s: x\n")
+        with self.assertRaisesRegex(AssertionError, "^[^\n]*21.00[^\n]*$"):
+            self._held_nobody_up()
+        here = await self.enterAsyncContext(Here())
+        with mock.patch.object(Keeper, "now", lambda keeper: works(0.3) or 0):
+            await here.keeper.turns.ask(0, self.now_of(here))
+        await asyncio.sleep(0)
+        self.assertEqual(len(HELD_UP), 1)
+        HELD_UP.clear()
+
+    def now_of(self, here: Here) -> Any:
+        async def now() -> int:
+            return here.keeper.now()
+        return now
+
+
+class Pieces(Case):
+    """What takes long is done in pieces, between which others are answered."""
+
+    async def test_the_table_of_changes(self) -> None:
+        """Of shapes that cover each other; the clock's piece and its own are all that is written meanwhile."""
+        here = await self.enterAsyncContext(Here())
+        ada, ben = await here.join("Ada", "Ben")
+        for number in range(SHAPES):
+            await here.ask(ada, "gesture", key=f"{number}", note="",
+                           shape=["limit", number % 3, 5 - number % 2, number, 4 * SHAPES - number, number % 5])
+        asked = asyncio.create_task(here.ask(ada, "csv", what="changes"))
+        answers = 0
+        while not asked.done():
+            await here.ask(ben, "scenario")
+            answers += 1
+        lines = (await asked)["csv"].splitlines()
+        self.assertEqual((len(lines), lines[0].split(",")[:2]), (SHAPES + 1, ["change", "who"]))
+        self.assertGreater(answers, 2)
+
+    async def test_the_table_of_changes_is_of_one_moment(self) -> None:
+        """What is put meanwhile is in it, and nothing twice."""
+        here = await self.enterAsyncContext(Here())
+        ada, = await here.join("Ada")
+        for number in range(20):
+            await here.ask(ada, "gesture", key=f"{number}", note="", shape=["limit", 1, 4, number, 100 - number, number % 5])
+        with mock.patch("server.questions.LIST_AT_ONCE", 0, create=True):
+            asked = asyncio.create_task(here.ask(ada, "csv", what="changes"))
+            await asyncio.sleep(0)
+            await here.ask(ada, "gesture", key="more", note="", shape=["limit", 0, 0, 5, 9, 1])
+            lines = (await asked)["csv"].splitlines()
+        self.assertEqual(sorted(int(line.split(",")[0]) for line in lines[1:]), list(range(1, len(lines))))
+
+    async def test_what_comes_and_is_taken(self) -> None:
+        """Many operations of another site, and then a take of them."""
+        here = await self.enterAsyncContext(Here())
+        ada, = await here.join("Ada")
+        await here.ask(ada, "layers")
+        await here.ask(ada, "layers", at="shared")
+        many = [edit((count, 2 * 64 + 1), {("limit", count % 6, count): count % 5}, About("Sam")) for count in range(1, 61)]
+        added, adding = list[int](), Road.adding
+
+        def counted(road: Road, operations: Any) -> Road:
+            some = list(operations)
+            added.append(len([one for one in some if one not in road]))
+            return adding(road, some)
+        with mock.patch("server.state.AT_ONCE", 7), mock.patch.object(Road, "adding", counted):
+            await here.lab.came(many, "", {})
+            self.assertEqual((await here.take(ada))["size"], 60)
+        self.assertEqual((max(added), sum(added)), (7, 120))
+        with mock.patch("server.lab.LIST_AT_ONCE", 60):
+            for at in (f"seat{ada}", "shared"):
+                self.assertEqual(len((await here.ask(ada, "layers", at=at))["layers"]), 60)
+
+    async def test_what_many_tabs_are_told_is_worked_out_for_one_at_a_time(self) -> None:
+        """When its turn comes; the first step of all that it was not told of is in it."""
+        here = await self.enterAsyncContext(Here())
+        index, = await here.join("Ada")
+        tabs, sent = Tabs(here.lab, "token"), list[str]()
+        self.addAsyncCleanup(tabs.close)
+
+        class Socket:
+            async def send_str(self, text: str) -> None:
+                sent.append(text)
+        several = [Tab(tabs, Socket(), None) for _ in range(63)]  # type: ignore[arg-type]
+        for tab in several:
+            tab.index = index
+        tabs._all.update(several)
+        news = here.lab.news
+
+        def slowly(*given: Any) -> Any:
+            works(0.005)
+            return news(*given)
+        with mock.patch.object(here.lab, "news", slowly):
+            with takes_at_most(0.1):
+                for step in (70, 50, 60):
+                    here.keeper.listeners.tell("shared", step)
+            writers = [asyncio.create_task(tab._writer()) for tab in several]
+
+            async def all_are_told() -> bool:
+                return len(sent) == 63
+            await until(all_are_told, "all are told")
+        self.assertEqual({json.loads(text)["news"]["touched"] for text in sent}, {50})
+        for writer in writers:
+            writer.cancel()
+        tabs._all.clear()

@@ -1,0 +1,59 @@
+"""The report of two roads, beside the figures that live gives of them, and as the recipe writes it."""
+from __future__ import annotations
+
+import html
+import re
+
+from faulty import Here, soon
+from running import SMALL, Case
+from server.asked import Refused
+
+SPAN = {"from": 60, "to": 600}
+ASKED = {"of": "mine", "title": "The road of <Ada>: 0:01:00 to 0:10:00", "works": ["Closed 0.45–0.458 km, 0:02:00–0:05:00", "a & b"]}
+
+
+def rows_of(page: str) -> dict[str, list[str]]:
+    """The lines of its table of figures."""
+    found = re.findall(r"<tr>(<td>.*?)</tr>", page)
+    return {html.unescape(cells[0]): cells[1:] for cells in (re.findall(r"<td>(.*?)</td>", line) for line in found)}
+
+
+class Reports(Case):
+    async def test_a_report_of_one_day_has_the_figures_of_the_page(self) -> None:
+        async with Here(plan={**SMALL, "words": "steady"}) as here:
+            seat, = await here.join("Ada")
+            await here.lab.timing.set_clock(to=600)
+            await here.ask(seat, "gesture", key="1", shape=["block", 60, 60, 120, 300, 1])
+            await here.ask(seat, "gesture", key="2", shape=["watch", 2, 2, 200, 400, 0])
+            page = (await soon(here.ask(seat, "report", **ASKED, **SPAN)))["html"]
+            figures = await soon(here.ask(seat, "figures", of="mine", **SPAN))
+            rows = rows_of(page)
+            for name, digits, values in (
+                    ("vehicle hours on the road", 2, [figures[side]["vehicle_hours"] for side in ("before", "after")]),
+                    ("lost demand, cars", 0, [sum(figures[side]["lost"]) for side in ("before", "after")]),
+                    ("km 0.825: cars/h", 0, [figures[side]["flows"][2]["flow"] for side in ("before", "after")])):
+                shared, _, mine, _, *_ = rows[name]
+                self.assertEqual([shared, mine], [f"{value:,.{digits}f}" for value in values], name)
+            self.assertEqual(rows["delay, vehicle hours"][4], f"{figures['delay_hours']:.2f}")
+            self.assertEqual(figures["after"]["flows"][2]["on"], 340)
+
+    async def test_a_report_stands_by_itself_and_has_no_marks_of_others(self) -> None:
+        async with Here() as here:
+            seat, = await here.join("<b>")
+            await here.lab.timing.set_clock(to=600)
+            await here.ask(seat, "gesture", key="1", shape=["block", 60, 60, 120, 300, 1])
+            page = (await soon(here.ask(seat, "report", **ASKED, **SPAN)))["html"]
+        for wanted in ("<h1>The road of &lt;Ada&gt;: 0:01:00 to 0:10:00</h1>", "<li>a &amp; b</li>", "@page { size: A4", "Seeds 1 to 5",
+                       "main road: ", "on-ramp at km 0.3: ", "0.9 km, one lane, limit 135 km/h, slowing 10%", "off-ramps, junctions and trucks"):
+            self.assertIn(wanted, page)
+        self.assertNotIn("<b>", page)
+        self.assertIsNone(re.search(r'(src|href)="(?!data:)|<script|<button', page))
+
+    async def test_what_is_no_report_is_refused(self) -> None:
+        async with Here() as here:
+            seat, = await here.join("Ada")
+            for wrong, said in (({"works": "a"}, "at most 200 texts"), ({"works": [1]}, "at most 200 texts"), ({"of": "all"}, '"preview" or'),
+                                ({"to": 5}, "not below")):
+                with self.assertRaises(Refused) as caught:
+                    await here.ask(seat, "report", **{**ASKED, **SPAN, **wrong})
+                self.assertIn(said, caught.exception.why)

@@ -1,0 +1,106 @@
+"""Run the roads of known_results: each function returns a count for a seed. Chances are in 1/65,536."""
+from __future__ import annotations
+
+from zegdrut import Fault, Plan, RoadLab
+from zegdrut.rows import count_cars
+
+ALWAYS = 65_536
+SOON = 1 << 20
+LENGTH, WARM = 512, 20_000
+"""For roads whose flow is known: their cells, and the steps that are left out."""
+JAM, FRONT = 2_400, 2_000
+"""The cells of a jam, and the steps in which its front moves back."""
+CARS = 400
+"""The number of cars that leave a jam at limit 1."""
+OUTFLOW, BEHIND = 1_500, 200
+"""The steps in which the flow out of a jam is counted, and the cells to the detector after the jam."""
+WIDE, QUEUE = 2_000, 500
+"""The steps in which a wide jam is observed, and about the number of cars that it has at first."""
+
+Counted = dict[str, float]
+
+
+def flow(limit: int, slowing: int, steps: int, seed: int) -> Counted:
+    """Return the cars that pass the middle of a road in `steps` steps."""
+    plan = Plan(length=LENGTH, inlets=[(0, ALWAYS)], zones=[(limit, slowing)], detectors=[LENGTH // 2], words=seed)
+    with RoadLab(plan) as lab:
+        lab.advance("A", WARM + steps, SOON)
+        return {"counted": lab.count("A", 0, WARM, WARM + steps).cars}
+
+
+def jam(limit: int, slowing: int, start: int, cells: int, behind: int, seed: int) -> tuple[RoadLab, int]:
+    """Return a lab with a jam before a cell that opens at some step, and this step.
+
+    Nobody is slowed until then, so a car enters in every other step, and they stop without gaps. Fault: the jam has gaps.
+    """
+    opened = 2 * cells + cells // limit + 100
+    width = -(-(cells + behind + 2) // 64)
+    zones = -(-(cells + behind + 2) // width)
+    plan = Plan(length=cells + behind + 2, inlets=[(0, ALWAYS)], zones=[(limit, 0)] * zones, zone=width, detectors=[cells, cells + behind],
+                words=seed)
+    lab = RoadLab(plan)
+    lab.edit("A", ("block", cells), 0, 1)
+    lab.edit("A", ("block", cells), opened, 0)
+    for zone in range(zones):
+        lab.edit("A", ("slow", zone), opened, slowing)
+        lab.edit("A", ("start", zone), opened, start)
+    lab.advance("A", opened, SOON)
+    if lab.cells("A", opened)[:cells].strip("0"):
+        lab.close()
+        raise Fault("the jam has gaps")
+    return lab, opened
+
+
+def front(limit: int, slowing: int, start: int, seed: int) -> Counted:
+    """Return the number of cells that the front of a jam has moved back, which is the number of its cars that have started."""
+    lab, opened = jam(limit, slowing, start, JAM, 10, seed)
+    with lab:
+        lab.advance("A", opened + FRONT, SOON)
+        before = {car.number: car.cell for car in lab.cars("A", opened)}
+        stands = sum(before.get(car.number) == car.cell for car in lab.cars("A", opened + FRONT))
+    return {"counted": JAM - stands}
+
+
+def time(slowing: int, seed: int) -> Counted:
+    """Return the steps until CARS cars have left a jam, at limit 1."""
+    lab, opened = jam(1, slowing, slowing, CARS + 100, 100, seed)
+    with lab:
+        first, last = 0, 20 * CARS
+        lab.advance("A", opened + last, SOON)
+        while last - first > 1:
+            middle = (first + last) // 2
+            is_done = lab.count("A", 0, opened, opened + middle).cars >= CARS
+            first, last = (first, middle) if is_done else (middle, last)
+    return {"counted": last}
+
+
+def outflow(limit: int, start: int, seed: int) -> Counted:
+    """Return the cars that leave a jam whose cars are slow to start but are not slowed otherwise."""
+    lab, opened = jam(limit, 0, start, JAM, BEHIND, seed)
+    with lab:
+        begin = opened + 2 * BEHIND
+        lab.advance("A", begin + OUTFLOW, SOON)
+        if count_cars(lab.cells("A", begin + OUTFLOW)[:100]) < 90:
+            raise Fault("the jam has gone")
+        return {"counted": lab.count("A", 1, begin, begin + OUTFLOW).cars}
+
+
+def wide_jam(start: int, seed: int) -> Counted:
+    """Return the number of cars that a wide jam has gained, while a car enters in every other step, at limit 5 and density 1/10.
+
+    Fault: at the end it is not a single jam of standing cars.
+    """
+    cell, closed = 3_000, 1_000
+    opened = closed + round(QUEUE * 9 / 5)
+    plan = Plan(length=3_600, inlets=[(0, ALWAYS)], zones=[(5, 0)] * 36, words=seed)
+    with RoadLab(plan) as lab:
+        lab.edit("A", ("block", cell), closed, 1)
+        lab.edit("A", ("block", cell), opened, 0)
+        for zone in range(1, 36):
+            lab.edit("A", ("start", zone), opened, start)
+        lab.advance("A", opened + WIDE, SOON)
+        rows = [lab.cells("A", step)[100:] for step in (opened, opened + WIDE)]
+    for row in rows:
+        if row.strip(".123456789").strip("0#"):
+            raise Fault("it is not a single jam of standing cars")
+    return {"counted": rows[1].count("0") - rows[0].count("0")}

@@ -1,0 +1,74 @@
+#!/usr/bin/env python3
+"""Replies to lines as a test tells it to: late, in pieces, with signals between them, twice, or not at all.
+
+The first line is the plan; each later one is {"echo": {"text": .., ..}} with some of these fields:
+
+    cut     so many bytes of the reply are written, then the parent gets SIGINT, then the rest follows
+    steps   the reply is written byte by byte
+    late    seconds before the reply
+    what    "twice": a second reply; "noise": what is no reply; "exit": ends with status 3; "session": replies its session
+"""
+import json
+import os
+import signal
+import sys
+import time
+
+PAUSE = 0.002
+
+
+def write(data: bytes) -> None:
+    while data:
+        data = data[os.write(1, data):]
+
+
+def line_of(signals: int) -> bytes:
+    """Read a line in pieces, and send the parent a SIGINT after each of the first N pieces."""
+    found = b""
+    while not found.endswith(b"\n"):
+        piece = os.read(0, 4_096)
+        if not piece:
+            sys.exit(0)
+        found += piece
+        if signals > 0:
+            signals -= 1
+            os.kill(os.getppid(), signal.SIGINT)
+            time.sleep(PAUSE)
+    return found
+
+
+def reply(text: object, asked: dict) -> None:
+    data = json.dumps({"echo": text}).encode() + b"\n"
+    time.sleep(asked.get("late", 0))
+    what = asked.get("what")
+    if what == "exit":
+        print("no more", file=sys.stderr)
+        sys.exit(3)
+    if what == "session":
+        data = json.dumps({"echo": os.getsid(0)}).encode() + b"\n"
+    if what == "noise":
+        data = b"Segmentation fault\n"
+    cut = asked.get("cut")
+    if cut is not None:
+        write(data[:cut])
+        os.kill(os.getppid(), signal.SIGINT)
+        time.sleep(PAUSE)
+        data = data[cut:]
+    for part in ([data[at:at + 1] for at in range(len(data))] if asked.get("steps") else [data]):
+        write(part)
+    if what == "twice":
+        write(data)
+
+
+def main() -> None:
+    signals = 0
+    line_of(0)
+    write(b'{"open":1}\n')
+    while True:
+        asked = json.loads(line_of(signals))["echo"]
+        signals = asked.get("then_signals", 0)
+        reply(asked["text"] if len(str(asked["text"])) < 100 else len(asked["text"]), asked)
+
+
+if __name__ == "__main__":
+    main()

@@ -1,0 +1,271 @@
+"""No call gets the reply to another: interrupts at each byte of a reply, timeouts, threads, and programs that end."""
+from __future__ import annotations
+
+import gc
+import os
+import pickle
+import re
+import signal
+import subprocess
+import sys
+import threading
+import time
+import unittest
+from pathlib import Path
+from types import FrameType
+from typing import Any
+
+from zegdrut import Ended, LabBroken, LabError, LabTimeout, NoProgram, Plan, Refused, RoadLab
+
+FAKE = Path(__file__).with_name("fake_program.py")
+PLAN: dict[str, Any] = {"length": 8}
+ROAD = Plan(length=40, inlets=[(0, 65_536)], zones=[(3, 0)], detectors=[28], words="steady")
+LONG = 180.0  # seconds, also beside much other work
+
+
+def fake(timeout: float | None = LONG) -> RoadLab:
+    return RoadLab(PLAN, FAKE, timeout)
+
+
+def echo(text: object, **how: Any) -> dict[str, Any]:
+    return {"echo": {"text": text, **how}}
+
+
+class Interrupt(BaseException):
+    """The exception of a signal handler."""
+
+
+class Interrupts(unittest.TestCase):
+    def test_an_interrupt_at_each_byte_of_a_reply(self) -> None:
+        size = len('{"echo": "mine"}\n')
+        with fake() as lab:
+            for cut in range(size + 1):
+                with self.subTest(cut=cut):
+                    with self.assertRaises(KeyboardInterrupt):
+                        lab.ask(echo("mine", cut=cut))
+                        time.sleep(LONG)  # (the reply may come before the signal)
+                    self.assertEqual(lab.ask(echo(f"next {cut}", steps=True)), {"echo": f"next {cut}"})
+
+    def test_interrupts_one_behind_the_other(self) -> None:
+        """Calls are given up, many in turn, and the next one gets its own reply."""
+        with fake() as lab:
+            for turn in range(40):
+                for cut in range(turn % 7):
+                    with self.assertRaises(KeyboardInterrupt):
+                        lab.ask(echo(f"given up {turn}", cut=cut))
+                        time.sleep(LONG)
+                self.assertEqual(lab.ask(echo(turn)), {"echo": turn})
+
+    def test_interrupts_while_a_long_line_is_written(self) -> None:
+        text = "x" * 400_000
+        with fake() as lab:
+            for signals in range(1, 12):
+                lab.ask(echo("ready", then_signals=signals))
+                with self.assertRaises(KeyboardInterrupt):
+                    lab.ask(echo(text))
+                    time.sleep(LONG)
+                while True:
+                    try:
+                        found = lab.ask(echo(f"next {signals}"))
+                        break
+                    except KeyboardInterrupt:
+                        pass  # (one of the other signals)
+                self.assertEqual(found, {"echo": f"next {signals}"})
+
+    def test_a_signal_at_any_moment_of_any_call(self) -> None:
+        """Raise an exception in a signal handler between any two instructions of a call: at rising times, then as often as possible."""
+        armed = False
+
+        def interrupt(_: int, __: FrameType | None) -> None:
+            nonlocal armed
+            if armed:
+                armed = False
+                raise Interrupt
+        with RoadLab(ROAD, timeout=LONG) as lab:
+            lab.advance("A", 400)
+            rows = lab.diagram("A", 0, 400)
+            self.addCleanup(signal.signal, signal.SIGALRM, signal.signal(signal.SIGALRM, interrupt))
+            self.addCleanup(signal.setitimer, signal.ITIMER_REAL, 0)
+            begin = time.perf_counter()
+            for step in range(200):
+                lab.cells("A", step)
+            usual = (time.perf_counter() - begin) / 200
+            for storm in (False, True):
+                if storm:
+                    signal.setitimer(signal.ITIMER_REAL, usual * 2, usual * 2)
+                given_up = right = 0
+                for turn in range(2_000):
+                    step = turn * 13 % 401
+                    try:
+                        if not storm:
+                            signal.setitimer(signal.ITIMER_REAL, usual * (turn % 400 + 1) / 200)
+                        armed = True
+                        found = lab.cells("A", step)
+                        armed = False
+                        right += 1
+                        self.assertEqual(found, rows[step])
+                    except Interrupt:
+                        given_up += 1
+                        if turn % 5:
+                            self.assertEqual(lab.cells("A", turn % 401), rows[turn % 401])
+                self.assertGreater(given_up, 10)
+                self.assertGreater(right, 10)
+            signal.setitimer(signal.ITIMER_REAL, 0)
+            self.assertEqual(lab.diagram("A", 0, 400), rows)
+
+    def test_an_interrupted_message_is_explained(self) -> None:
+        """Remember in explanations what an abandoned call has done."""
+        with RoadLab(ROAD, timeout=LONG) as lab:
+            lab.timeout = 0.0
+            with self.assertRaises(LabTimeout):
+                lab.send("A", "m")
+            lab.timeout = LONG
+            with self.assertRaisesRegex(Refused, "the name \"m\" is taken: `send` made a message of this name"):
+                lab.send("A", "m")
+
+    def test_ctrl_c_does_not_reach_the_program(self) -> None:
+        with fake() as lab:
+            self.assertNotEqual(lab.ask(echo("", what="session")), {"echo": os.getsid(0)})
+
+    def test_an_advance_goes_on_where_it_was_interrupted(self) -> None:
+        with RoadLab(ROAD, timeout=LONG) as lab:
+            with self.assertRaises(KeyboardInterrupt):
+                lab.advance("A", 1_000, 100, lambda done, whole: signal.raise_signal(signal.SIGINT))
+            self.assertEqual(lab.advance("A", 1_000), 1_000)
+
+
+class Ends(unittest.TestCase):
+    def refuses_all(self, lab: RoadLab, said: str) -> None:
+        for _ in range(3):
+            with self.assertRaisesRegex(LabBroken, f"{re.escape(said)}.*: start a new one$"):
+                lab.ask(echo("anything"))
+
+    def test_a_timeout(self) -> None:
+        with fake() as lab:
+            lab.timeout = 0.05
+            with self.assertRaisesRegex(LabTimeout, "no reply within 0.05 s"):
+                lab.ask(echo("late", late=0.3))
+            lab.timeout = LONG
+            self.assertEqual(lab.ask(echo("next")), {"echo": "next"})
+
+    def test_a_program_that_ends(self) -> None:
+        with fake() as lab:
+            with self.assertRaisesRegex(Ended, "status 3: out of memory") as raised:
+                lab.ask(echo("", what="exit"))
+            self.assertEqual((raised.exception.status, raised.exception.said), (3, "no more"))
+            self.refuses_all(lab, "the program ended with status 3")
+
+    def test_a_program_that_is_killed(self) -> None:
+        with fake() as lab:
+            pid = lab.ask(echo("", what="session"))["echo"]
+            threading.Timer(0.05, os.kill, (pid, signal.SIGKILL)).start()
+            with self.assertRaisesRegex(Ended, "status -9"):
+                lab.ask(echo("", late=LONG))
+            self.refuses_all(lab, "the program ended with status -9")
+
+    def test_a_reply_that_nobody_asked_for(self) -> None:
+        with fake() as lab:
+            lab.ask(echo("one", what="twice"))
+            time.sleep(0.1)
+            self.refuses_all(lab, "the program wrote something unasked: b'{\"echo\": \"one\"}")
+
+    def test_what_is_no_reply(self) -> None:
+        with fake() as lab:
+            with self.assertRaisesRegex(LabBroken, "wrote something that is not a reply: b'Segmentation fault'"):
+                lab.ask(echo("", what="noise"))
+            self.refuses_all(lab, "something that is not a reply")
+
+    def test_a_closed_lab(self) -> None:
+        before = threading.active_count()
+        lab = fake()
+        with lab:
+            pass
+        lab.close()
+        self.refuses_all(lab, "this lab was closed")
+        self.assertEqual(threading.active_count(), before)
+
+    def test_a_lab_that_is_closed_in_the_middle_of_a_call(self) -> None:
+        lab = fake()
+        threading.Timer(0.05, lab.close).start()
+        begin = time.monotonic()
+        with self.assertRaisesRegex(LabBroken, "this lab was closed"):
+            lab.ask(echo("", late=LONG))
+        self.assertLess(time.monotonic() - begin, LONG / 2)
+
+    def test_a_lab_that_nobody_holds(self) -> None:
+        lab = fake()
+        pid = lab.ask(echo("", what="session"))["echo"]
+        del lab
+        gc.collect()
+        until = time.monotonic() + LONG
+        while Path(f"/proc/{pid}").exists() and time.monotonic() < until:
+            time.sleep(0.01)
+        self.assertFalse(Path(f"/proc/{pid}").exists())
+
+    def test_no_program(self) -> None:
+        with self.assertRaisesRegex(NoProgram, "no program at /nowhere/road_lab"):
+            RoadLab(ROAD, "/nowhere/road_lab")
+
+    def test_a_plan_that_is_refused(self) -> None:
+        before = threading.active_count()
+        with self.assertRaisesRegex(Refused, "^Length: a road has 8 to 8,192 cells"):
+            RoadLab(Plan(length=4, inlets=[(0, 1)], zones=[(5, 0)]))
+        self.assertEqual(threading.active_count(), before)
+
+    def test_errors_go_through_a_pool(self) -> None:
+        for fault in (Refused("Step", "too late", "{}"), Ended(3, "no"), LabBroken("closed"), NoProgram("/x")):
+            again = pickle.loads(pickle.dumps(fault))
+            self.assertEqual((type(again), str(again)), (type(fault), str(fault)))
+            self.assertIsInstance(again, LabError)
+
+    def test_a_lab_is_not_pickled(self) -> None:
+        with fake() as lab, self.assertRaisesRegex(TypeError, "send the plan"):
+            pickle.dumps(lab)
+
+
+class Sharing(unittest.TestCase):
+    def test_threads(self) -> None:
+        """Eight threads ask one lab, and each gets its own replies."""
+        with RoadLab(ROAD, timeout=LONG) as lab:
+            lab.advance("A", 400)
+            rows, wrong = lab.diagram("A", 0, 400), list[int]()
+
+            def ask(first: int) -> None:
+                wrong.extend(step for step in range(first, 401, 8) if lab.cells("A", step) != rows[step])
+            threads = [threading.Thread(target=ask, args=(first,)) for first in range(8)]
+            for thread in threads:
+                thread.start()
+            for thread in threads:
+                thread.join()
+            self.assertEqual(wrong, [])
+
+    def test_another_process(self) -> None:
+        """Refuse the lab in a forked process, which cannot end it either."""
+        with fake() as lab:
+            child = os.fork()
+            if not child:
+                try:
+                    lab.ask(echo("child"))
+                except LabBroken as fault:
+                    lab.close()
+                    os._exit(0 if "belongs to the process that started it" in str(fault) else 1)
+                os._exit(2)
+            self.assertEqual(os.waitpid(child, 0)[1], 0)
+            self.assertEqual(lab.ask(echo("parent")), {"echo": "parent"})
+
+    def test_a_process_that_dies_leaves_no_program(self) -> None:
+        """Python is killed with a lab open."""
+        code = ("import os, signal, sys; from zegdrut import RoadLab\n"
+                f"lab = RoadLab({PLAN!r}, {str(FAKE)!r})\n"
+                "print(lab.ask({'echo': {'text': '', 'what': 'session'}})['echo'], flush=True)\n"
+                "os.kill(os.getpid(), signal.SIGKILL)")
+        ran = subprocess.run([sys.executable, "-c", code], capture_output=True, text=True, check=False,
+                             env={**os.environ, "PYTHONPATH": os.pathsep.join(sys.path)})
+        until = time.monotonic() + LONG
+        while Path(f"/proc/{ran.stdout.strip()}").exists() and time.monotonic() < until:
+            time.sleep(0.01)
+        self.assertFalse(Path(f"/proc/{ran.stdout.strip()}").exists())
+
+
+if __name__ == "__main__":
+    unittest.main()

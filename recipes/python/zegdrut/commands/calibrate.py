@@ -1,0 +1,117 @@
+"""Fit the slowing chance, the slow-to-start chance and a demand factor to measured counts and speeds.
+
+    python3 -m zegdrut calibrate ROAD.json COUNTS.csv [--stations TABLE.csv] [--bounds FILE] [--points N] [--out FOLDER]
+
+ROAD.json and COUNTS.csv are as `zegdrut measured` reads them. The bounds are {"slowing": [0, 0.4], "start": [0, 0.7], "factor":
+[0.9, 1.1]}, or those of a JSON file. Several rounds of points are simulated in parallel on all processors, each over some days. On a
+terminal it shows the progress and the best point.
+
+It prints the result and the ten best points. It writes calibrated-NAME.json (ROAD.json with the fitted drivers), tried-NAME.csv (all
+points with their errors) and surface-NAME.svg (a picture of the errors). zegdrut/calibration.py defines the error; an error of about
+2 is as good as chance allows.
+"""
+from __future__ import annotations
+
+import argparse
+import dataclasses
+import json
+import math
+import sys
+from pathlib import Path
+from typing import Sequence
+
+from ..calibration import NAMES, Bounds, Calibration, Search, Trial, calibrate, is_congested
+from ..demand import BeyondCapacity
+from ..comparison import with_measured_demand
+from ..errors import Fault, LabError
+from ..freeway import make_road
+from ..pictures import draw_points, stack_drawings
+from .measured import add_data_arguments, report_progress, read_data, print_lines
+
+
+NO_CONGESTION = ("no station is congested (more than 10 km/h below its greatest speed): these counts cannot determine the slow-to-start "
+                 "chance, and its value is arbitrary. Use counts of a day with a jam")
+
+
+def read_arguments(words: Sequence[str] | None) -> argparse.Namespace:
+    """Read the command line."""
+    parser = argparse.ArgumentParser("zegdrut calibrate", description=__doc__, formatter_class=argparse.RawDescriptionHelpFormatter)
+    add_data_arguments(parser)
+    parser.add_argument("--bounds", type=Path, metavar="FILE", help="a JSON file with the bounds of slowing, start and factor")
+    parser.add_argument("--points", type=int, default=Search.points, metavar="N", help="points of a round, 10 or more (default: %(default)s)")
+    parser.add_argument("--days", type=int, default=Search.days, metavar="N", help="days of a point (default: %(default)s)")
+    return parser.parse_args(words)
+
+
+def read_bounds(path: Path | None) -> Bounds:
+    """Read the bounds of a file, or take the usual ones. Fault: the file cannot be read."""
+    if path is None:
+        return Bounds()
+    try:
+        return Bounds.read(json.loads(path.read_text(encoding="utf-8")), str(path))
+    except ValueError as fault:
+        raise Fault(f"{path} is not JSON: {fault}") from None
+
+
+def show_progress(done: int, total: int, best: Trial) -> None:
+    """Draw how far the search is, where standard error is a terminal."""
+    if sys.stderr.isatty():
+        point = ", ".join(f"{name} {value:.3f}" for name, value in zip(NAMES, best.point))
+        end = "\n" if done == total else ""
+        print(f"\r{done} of {total} points; the best of the round: {point}, error {best.error:.2f}   ", end=end, file=sys.stderr, flush=True)
+
+
+def format_trials(tried: Sequence[Trial]) -> list[str]:
+    """Return points with their errors as the lines of a table."""
+    return ["round,slowing,slow-to-start,demand factor,error"] + [
+        f"{one.round},{one.point.slowing:.4f},{one.point.start:.4f},{one.point.factor:.4f},{one.error:.4f}" for one in tried]
+
+
+def draw_surface(found: Calibration) -> str:
+    """Return the errors over slowing and slow-to-start, and over slowing and factor, as SVG."""
+    known = [one for one in found.tried if math.isfinite(one.error)]
+    drawn = []
+    for first, second in ((0, 1), (0, 2)):
+        points = [(one.point[first], one.point[second], one.error) for one in known]
+        drawn.append(draw_points("Error by " + " and ".join(("slowing", "slow-to-start", "demand factor")[axis] for axis in (first, second)),
+                                 ("slowing chance", ("slow-to-start chance", "demand factor")[second - 1]), points,
+                                 (found.best[first], found.best[second])))
+    return stack_drawings(drawn)
+
+
+def run_calibration(given: argparse.Namespace, out: Path) -> None:
+    """Read the data, search, and write the results."""
+    bounds = read_bounds(given.bounds)
+    figures, measured = read_data(given)
+    print_lines(measured.notes)
+    if given.points < 10 or given.days < 1:
+        raise Fault("--points must be 10 or more, and --days 1 or more")
+    search = dataclasses.replace(Search(), points=given.points, days=given.days, elite=max(given.points // 4, 4))
+    print_lines(make_road(with_measured_demand(figures, measured)).notes)
+    if not is_congested(measured):
+        print_lines([NO_CONGESTION])
+    report_progress(f"trying {search.total} points")
+    found = calibrate(given.road.stem, figures, measured, bounds, search, show_progress)
+    name, folder = given.road.stem, given.out or out / given.road.stem
+    folder.mkdir(parents=True, exist_ok=True)
+    print("quantity,found,spread of the best points")
+    for quantity, value, spread in zip(("slowing chance", "slow-to-start chance", "demand factor"), found.best, found.spread):
+        print(f"{quantity},{value:.3f},{spread:.3f}")
+    print("\n" + "\n".join(format_trials(found.best_ten())))
+    road = json.loads(given.road.read_text(encoding="utf-8"))
+    road.update(slowing=round(found.best.slowing, 4), start=round(found.best.start, 4))
+    (folder / f"calibrated-{name}.json").write_text(json.dumps(road, indent=1) + "\n", encoding="utf-8")
+    (folder / f"tried-{name}.csv").write_text("".join(f"{line}\n" for line in format_trials(found.tried)), encoding="utf-8")
+    (folder / f"surface-{name}.svg").write_text(draw_surface(found), encoding="utf-8")
+    print(f"The calibrated road, the points and the picture are in {folder}", file=sys.stderr)
+
+
+def main(words: Sequence[str] | None = None, out: Path = Path("out")) -> int:
+    """Fit drivers and demand to measured counts. Return the exit status."""
+    given = read_arguments(words)
+    try:
+        run_calibration(given, out)
+    except (LabError, BeyondCapacity, OSError) as fault:
+        print(fault, file=sys.stderr)
+        return 1
+    return 0

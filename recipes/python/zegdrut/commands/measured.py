@@ -1,0 +1,247 @@
+"""Compare a road with measured counts over some days: GEH of each station and hour, speeds, and pictures.
+
+    python3 -m zegdrut measured ROAD.json COUNTS.csv [--stations TABLE.csv] [--days N] [--out FOLDER]
+
+ROAD.json is a freeway as `zegdrut freeway` reads it. It needs a "begin" such as "06:30", and a "date" if the counts have dates. The
+first main-line station upstream gives the demand at km 0, on-ramp stations give the demands of ramps, and the other stations are
+compared. The model has one lane, so all figures are per lane. The run begins some minutes before the window, to fill the road.
+
+COUNTS.csv has a header with time, km or station, count or flow, and perhaps speed. It may also be five-minute station data without a
+header; then --stations TABLE.csv has station, km or miles, and lanes. Missing and doubtful data are reported with line numbers.
+
+It writes the tables hours-, speeds- and intervals-NAME-0630-0930.csv, and the pictures comparison- and space-time-NAME-0630-0930.svg.
+"""
+from __future__ import annotations
+
+import argparse
+import csv
+import io
+import sys
+from pathlib import Path
+from typing import Optional, Sequence, cast
+
+from ..bars import Bar
+from ..comparison import (Day, Hour, Model, compare_hours, compare_speeds, make_model, make_interval_records, compute_total_rmse, compute_share_below,
+                          simulate_day, simulate_days)
+from ..demand import BeyondCapacity
+from ..errors import Fault, LabError
+from ..freeway import Figures
+from ..measured import Measured, put_on_road
+from ..pictures import MEASURED, SIMULATED, Chart, Field, Line, draw_field, draw_scale, stack_drawings, make_speed_field
+from ..stations import read_counts, read_stations
+from ..units import HOUR
+from ..wire import Record
+from .freeway import FIGURES
+
+DAYS = 5
+A_MINUTE = 60
+CELLS_A_PIECE = 13
+"""The cells of a piece of the space-time diagram: about 100 m."""
+
+
+def read_arguments(words: Sequence[str] | None) -> argparse.Namespace:
+    """Read the command line."""
+    parser = argparse.ArgumentParser("zegdrut measured", description=__doc__, formatter_class=argparse.RawDescriptionHelpFormatter)
+    add_data_arguments(parser)
+    parser.add_argument("--days", type=int, default=DAYS, metavar="N", help="number of days, each with a seed (default: %(default)s)")
+    return parser.parse_args(words)
+
+
+def add_data_arguments(parser: argparse.ArgumentParser) -> None:
+    """Add the arguments that name the road and its data."""
+    parser.add_argument("road", type=Path, metavar="ROAD.json")
+    parser.add_argument("counts", type=Path, metavar="COUNTS.csv")
+    parser.add_argument("--stations", type=Path, metavar="TABLE.csv", help="table with station, km or miles, and lanes")
+    parser.add_argument("--origin", type=float, metavar="KM", help="km of the table that is km 0 of the road (default: 0, or the first station if the table has miles)")
+    parser.add_argument("--reverse", action="store_true", help="the km of the table fall in the direction of travel")
+    parser.add_argument("--column", action="append", default=[], metavar="speed=NAME", help="title of the column of a quantity")
+    parser.add_argument("--unit", action="append", default=[], metavar="speed=mph", help="unit of a speed: km/h, mph or m/s")
+    parser.add_argument("--out", type=Path, metavar="FOLDER", help="folder of tables and pictures")
+
+
+def read_pairs(given: list[str], word: str) -> dict[str, str]:
+    """Read arguments such as speed=mph into a dictionary. Fault: one has no =."""
+    found = dict(one.partition("=")[::2] for one in given)
+    if "" in found.values() or any("=" not in one for one in given):
+        raise Fault(f"--{word} must be QUANTITY=NAME, such as speed=mph, not {' '.join(given)}")
+    return found
+
+
+def read_data(given: argparse.Namespace) -> tuple[Figures, Measured]:
+    """Read the road and its counts. Fault: one of them is invalid."""
+    figures = FIGURES.override(given.road)
+    if figures.begin is None:
+        raise Fault(f'{given.road} has no begin: add the clock time at which the window begins, such as "begin": "06:30"')
+    table = read_stations(given.stations) if given.stations else None
+    counts = read_counts(given.counts, table, read_pairs(given.column, "column"), read_pairs(given.unit, "unit"))
+    return figures, put_on_road(counts, figures.clock, round(figures.minutes * 60), given.origin, given.reverse)
+
+
+def print_lines(sentences: Sequence[str]) -> None:
+    """Print sentences at once."""
+    print("".join(f"{one}\n" for one in sentences), end="", flush=True)
+
+
+def report_progress(doing: str) -> None:
+    """Print on standard error what is being done."""
+    print(f"{doing} ..", file=sys.stderr, flush=True)
+
+
+# Tables
+
+def format_window(model: Model) -> str:
+    """Return the window for names of files: 0630-0930."""
+    clock = model.measured.clock
+    return f"{clock.to_file_text(0)}-{clock.to_file_text(model.steps)}"
+
+
+def make_title(model: Model) -> str:
+    """Return the title of tables and pictures: the road and the window."""
+    clock = model.measured.clock
+    date = f" on {clock.date}" if clock.date else ""
+    return f"{model.name}, {clock.to_text(0)} to {clock.to_text(model.steps)}{date}, per lane"
+
+
+def format_number(value: float | None, digits: int = 1) -> str:
+    """Return a number for a table; an empty string for None."""
+    return "" if value is None else f"{value:.{digits}f}"
+
+
+def format_hours(model: Model, hours: Sequence[Hour]) -> list[str]:
+    """Return the table of stations and hours."""
+    lines = ["station,km,from,to,measured cars/h/lane,simulated cars/h/lane,±,GEH per lane,lanes,GEH all lanes"]
+    clock, lanes = model.measured.clock, {one.station.name: one.station.lanes for one in model.measured.main}
+    for one in hours:
+        lines.append(f"{one.station},{one.km:g},{clock.to_text(one.first)},{clock.to_text(one.first + HOUR)},{one.measured:.1f},"
+                     f"{one.simulated:.1f},{format_number(one.half)},{one.geh:.2f},{lanes[one.station]},{one.geh_all_lanes:.2f}")
+    return lines
+
+
+def format_speeds(model: Model, days: Sequence[Day]) -> list[str]:
+    """Return the table of speeds by station and for all stations."""
+    errors = compare_speeds(model.measured, days)
+    lines = ["station,km,intervals,RMSE of time-mean speed km/h,simulated minus measured km/h"]
+    lines += [f"{one.station},{one.km:g},{one.intervals},{format_number(one.rmse)},{format_number(one.bias)}" for one in errors]
+    return [*lines, f"all,,{sum(one.intervals for one in errors)},{format_number(compute_total_rmse(errors))},"]
+
+
+def format_csv(records: Sequence[Record]) -> list[str]:
+    """Return records as the lines of a CSV file."""
+    text = io.StringIO()
+    writer = csv.DictWriter(text, list(records[0]), lineterminator="\n")
+    writer.writeheader()
+    writer.writerows(records)
+    return text.getvalue().splitlines()
+
+
+def write_table(folder: Path, name: str, model: Model, lines: Sequence[str]) -> None:
+    """Write a table. Its first line is the title."""
+    path = folder / f"{name}-{model.name}-{format_window(model)}.csv"
+    path.write_text("".join(f"{line}\n" for line in (f"# {make_title(model)}", *lines)), encoding="utf-8")
+
+
+# Pictures
+
+def draw_comparison(model: Model, days: Sequence[Day]) -> str:
+    """Return measured and simulated flow and speed by time at each station as one SVG."""
+    return stack_drawings([chart.draw() for chart in make_comparison_charts(model, days)])
+
+
+def make_comparison_charts(model: Model, days: Sequence[Day]) -> list[Chart]:
+    """Return charts of measured and simulated flow and speed by time, two for each station."""
+    measured, charts = model.measured, list[Chart]()
+    records = cast("list[dict[str, Optional[float]]]", make_interval_records(model, days))  # (the figures of these charts)
+    for index, series in enumerate(measured.main[1:]):
+        rows = records[index * measured.intervals:(index + 1) * measured.intervals]
+        middles = [(place + 0.5) * measured.interval for place in range(measured.intervals)]
+        for what, unit, names in (("Flow", "cars/h per lane", ("measured cars/h/lane", "simulated cars/h/lane", "± cars/h/lane")),
+                                  ("Time-mean speed", "km/h", ("measured time-mean km/h", "simulated time-mean km/h", ""))):
+            chart = Chart(f"{what}, station {series.station.name}, km {series.station.km:g}", unit, measured.clock, 0, model.steps)
+            simulated, half = [row[names[1]] for row in rows], [row.get(names[2]) for row in rows]
+            pairs = [(mean, width) for mean, width in zip(simulated, half) if mean is not None and width is not None]
+            has_band = len(pairs) == len(rows)
+            low, high = ([mean + sign * width for mean, width in pairs] if has_band else None for sign in (-1, 1))
+            chart.add(Line("simulated", list(zip(middles, simulated)), SIMULATED, low, high))
+            chart.add(Line("measured", list(zip(middles, (row[names[0]] for row in rows))), MEASURED, is_dashed=True))
+            charts.append(chart)
+    return charts
+
+
+def make_measured_field(model: Model, pieces: int) -> Field:
+    """Return measured speeds as a field. Each piece of the road has the speed of the nearest station with a speed."""
+    measured = model.measured
+    last = model.road.length / (1_000 / 7.5)
+    field = []
+    for place in range(measured.intervals):
+        column: list[float | None] = []
+        for piece in range(pieces):
+            km = (piece + 0.5) * last / pieces
+            near = sorted((abs(one.station.km - km), one.speeds[place]) for one in measured.main if one.speeds[place] is not None)
+            column.append(near[0][1] if near else None)
+        field.append(column)
+    return field
+
+
+def draw_space_time(model: Model) -> str:
+    """Return the measured and the simulated space-time diagram with the same colour scale, as SVG."""
+    _, rows, _ = simulate_day(model, model.seed, with_rows=True)
+    clock, km = model.measured.clock, model.road.length / (1_000 / 7.5)
+    simulated = make_speed_field(rows, A_MINUTE, CELLS_A_PIECE)
+    drawn = [draw_field(simulated, f"Simulated space-mean speed, seed {model.seed}", clock, 0, model.steps, km)]
+    if any(speed is not None for one in model.measured.main for speed in one.speeds):
+        measured = make_measured_field(model, len(simulated[0]))
+        drawn.insert(0, draw_field(measured, "Measured time-mean speed, nearest station", clock, 0, model.steps, km))
+    return stack_drawings([*drawn, draw_scale()])
+
+
+# The command
+
+def compare(given: argparse.Namespace, out: Path) -> None:
+    """Read the data, simulate, compare, and write the results."""
+    figures, measured = read_data(given)
+    print_lines(measured.notes)
+
+    def tell_inlet(inlet: int) -> None:
+        report_progress(f"measuring the inflow chances of inlet {inlet}")
+    model = make_model(given.road.stem, figures, measured, progress=tell_inlet)
+    print_lines(model.road.notes)
+    if not 1 <= given.days <= 1_000:
+        raise Fault(f"--days is 1 to 1,000, not {given.days:,}")
+    report_progress(f"simulating {given.days} days")
+    bar = Bar("days")
+    days = simulate_days(model, given.days, bar.show)
+    bar.end()
+    hours = compare_hours(measured, days)
+    folder = given.out or out / given.road.stem
+    folder.mkdir(parents=True, exist_ok=True)
+    tables = {"hours": format_hours(model, hours), "speeds": format_speeds(model, days)}
+    for name, lines in tables.items():
+        write_table(folder, name, model, lines)
+        print(f"\n{make_title(model)}\n" + "\n".join(lines))
+    write_table(folder, "intervals", model, format_csv(make_interval_records(model, days)))
+    print()
+    print_lines(format_shares(hours))
+    window = format_window(model)
+    (folder / f"comparison-{model.name}-{window}.svg").write_text(draw_comparison(model, days), encoding="utf-8")
+    (folder / f"space-time-{model.name}-{window}.svg").write_text(draw_space_time(model), encoding="utf-8")
+    print(f"The tables and pictures are in {folder}", file=sys.stderr)
+
+
+def format_shares(hours: Sequence[Hour]) -> list[str]:
+    """Return the shares of hours with a GEH below 5."""
+    if not hours:
+        return ["no station has a whole hour without a missing interval, so there is no GEH"]
+    one, every = [hour.geh for hour in hours], [hour.geh_all_lanes for hour in hours]
+    return [f"GEH below 5: {compute_share_below(one):.0%} of {len(hours)} station hours per lane, {compute_share_below(every):.0%} of all lanes "
+            "(guidelines require 85 % of the links)"]
+
+
+def main(words: Sequence[str] | None = None, out: Path = Path("out")) -> int:
+    """Compare a road with measured counts. Return the exit status."""
+    given = read_arguments(words)
+    try:
+        compare(given, out)
+    except (LabError, BeyondCapacity, OSError) as fault:
+        print(fault, file=sys.stderr)
+        return 1
+    return 0

@@ -1,0 +1,253 @@
+"""Meter an on-ramp by ALINEA in a closed loop, and compare it with no control over some days.
+
+    python3 -m zegdrut metering ROAD.json CONTROL.json [--days N] [--then TIME] [--out FOLDER]
+
+ROAD.json is a freeway with a ramp, as `zegdrut freeway` reads it. CONTROL.json has
+
+    {"ramp": 3.6, "detector": 3.9, "setpoint": 9, "gain": 70, "least": 240, "most": 1200, "begin": "06:30"}
+
+ramp and detector are the km of the ramp and of a detector downstream of it. setpoint is in per cent of occupancy (the share of steps in
+which a car is in the cell of the detector). gain is in cars per hour and per cent. least and most are the bounds of the rate in cars per
+hour. begin is the time when metering begins. Only the first three are required.
+
+Cars wait before the ramp in a vertical queue (arrivals minus admitted cars), metered or not. Its waiting time counts in vehicle hours,
+beside those on the road. With --then TIME the first day is simulated without control, and then again with metering that had begun at
+that time, by edits in the past. The two are compared.
+The command prints a table of means and 95 % intervals (Student's t, paired by day), and writes it to metering-NAME.csv. It writes the
+first day to minutes-NAME.csv.
+"""
+from __future__ import annotations
+
+import argparse
+import dataclasses
+import json
+import math
+import sys
+from concurrent.futures import ThreadPoolExecutor
+from dataclasses import dataclass
+from pathlib import Path
+from typing import Sequence
+
+from ..bars import Bar
+from ..clock import InvalidTime
+from ..control import RampMeter, run_control
+from ..demand import Admission, AdmissionBeside, Drivers, Inlet, count_demand, measure_admission, count_processors, find_rate
+from ..errors import Fault, LabError
+from ..freeway import Figures, Road, measure_chances, make_road
+from ..freeway_files import is_number, check_names
+from ..intervals import estimate_mean, estimate_paired
+from ..lab import RoadLab
+from ..road_scripts import Chances, make_base_edits, make_commands, make_plan
+from ..trips import Trips, Window, count_admitted_cars, compute_vehicle_hours
+from ..units import HOUR, to_cells
+from .freeway import FIGURES, report_progress
+
+DAYS = 20
+
+
+@dataclass(frozen=True)
+class Control:
+    """The parameters of ALINEA."""
+
+    ramp: float
+    """The km of the ramp."""
+    detector: float
+    """The km of the detector downstream of it."""
+    setpoint: float
+    """The occupancy to keep, in per cent."""
+    gain: float = 70.0
+    """Cars per hour and per cent."""
+    least: float = 240.0
+    """The least rate in cars per hour."""
+    most: float = 1_200.0
+    """The greatest rate in cars per hour."""
+    begin: int = 0
+    """The step at which metering begins."""
+
+
+@dataclass(frozen=True)
+class Site:
+    """A road with a metered ramp, and the parameters of the control."""
+
+    name: str
+    figures: Figures
+    road: Road
+    chances: Chances
+    inlet: int
+    cell: int
+    control: Control
+    beside: AdmissionBeside
+
+    def admission(self, step: int) -> Admission:
+        """Return the admission of the ramp beside the main demand of a step."""
+        return self.beside.at(sum(find_rate(demand, step) for _, demand in self.road.inlets[:self.inlet]))
+
+    def meter(self, start: float) -> RampMeter:
+        """Return a meter of the ramp that begins at a step (infinity: never)."""
+        gates = (len(self.road.detectors) - 1, len(self.road.detectors) - 2, self.road.inlets[self.inlet][0])
+        control = self.control
+        return RampMeter(self.inlet, gates, self.cell, self.road.inlets[self.inlet][1], self.admission, control.setpoint, control.gain,
+                         control.least, control.most, start)
+
+
+def read_control(path: Path, figures: Figures) -> Control:
+    """Read the parameters of the control. Fault: a field is missing or invalid."""
+    try:
+        given = json.loads(path.read_text(encoding="utf-8"))
+    except ValueError as fault:
+        raise Fault(f"{path} is not JSON: {fault}") from None
+    check_names(given, [field.name for field in dataclasses.fields(Control)], str(path))
+    missing = [name for name in ("ramp", "detector", "setpoint") if name not in given]
+    if missing:
+        raise Fault(f"{path} has no {missing[0]}: add it")
+    for name, value in given.items():
+        if name != "begin" and not is_number(value):
+            raise Fault(f"{path}: {name}: {json.dumps(value)} is not a number")
+    try:
+        control = Control(**{**given, "begin": figures.clock.to_step(given.get("begin", 0), "begin")})
+    except InvalidTime as fault:
+        raise Fault(f"{path}: {fault}") from None
+    if not 0 < control.least <= control.most:
+        raise Fault(f"{path}: least: {control.least:g} must be above 0 and at most {control.most:g}")
+    return control
+
+
+def make_site(name: str, figures: Figures, control: Control) -> Site:
+    """Make the road with detectors at and after the ramp, and measure the admission of the ramp beside the main demand."""
+    road = make_road(figures)
+    wanted = to_cells(control.ramp)
+    inlet = next((index for index, (cell, _) in enumerate(road.inlets) if index and cell == wanted), None)
+    if inlet is None:
+        ramps = ", ".join(f"{km:g}" for km, _ in figures.ramps) or "none"
+        raise Fault(f"ramp: the road has no ramp at km {control.ramp:g}: its ramps are at km {ramps}")
+    if not wanted < to_cells(control.detector) < road.length - 1:
+        raise Fault(f"detector: km {control.detector:g} must be downstream of the ramp at km {control.ramp:g}, and on the road")
+    road.detectors += [wanted, wanted + 1]
+    report_progress("measuring the inflow chances for the demand")
+    chances = measure_chances(road)
+    main = [rate for _, rate in road.inlets[0][1]]
+    nodes = []
+    for flow in sorted({min(main), (min(main) + max(main)) / 2, max(main)}) if max(main) > min(main) else [0.0, max(main) / 2, max(main)]:
+        first = measure_admission(road.drivers, demands=[flow]).chance(flow)
+        nodes.append((flow, measure_admission(road.drivers, wanted, [Inlet(0, first)] if first else [], demands=[control.most])))
+    return Site(name, figures, road, chances, inlet, to_cells(control.detector), control, AdmissionBeside(tuple(nodes)))
+
+
+# Days
+
+Numbers = dict[str, float]
+
+
+def measure_day(site: Site, lab: RoadLab, meter: RampMeter) -> Numbers:
+    """Return the figures of a day."""
+    trips = Trips(lab.plan, [])
+    trips.follow(lab, "A", site.road.steps)
+    day = Window(0, site.road.steps)
+    hours, waiting = compute_vehicle_hours(trips, day), meter.waiting / HOUR
+    asked = count_demand(site.road.inlets[0][1], 0, site.road.steps)
+    return {"vehicle hours on the road": hours, "vehicle hours waiting at the ramp": waiting, "vehicle hours together": hours + waiting,
+            "longest queue at the ramp, cars": meter.longest, "cars that left the road": float(sum(step is not None for step in trips.left.values())),
+            "lost main demand, cars": asked - count_admitted_cars(trips, day)[0]}
+
+
+def open_day(site: Site, seed: int) -> RoadLab:
+    """Start a day with its demand and works."""
+    lab = RoadLab(make_plan(site.road, site.chances, seed))
+    for line in make_commands([*make_base_edits(site.road, site.chances), *site.road.edits]):
+        lab.ask(line)
+    return lab
+
+
+def run_day(site: Site, seed: int) -> tuple[Numbers, Numbers, RampMeter, RampMeter]:
+    """Run a day without control and with it. Return the figures and the meter of both."""
+    meters = [site.meter(math.inf), site.meter(site.control.begin)]
+    found = []
+    for meter in meters:
+        with open_day(site, seed) as lab:
+            run_control(lab, "A", [meter], 0, site.road.steps)
+            found.append(measure_day(site, lab, meter))
+    return found[0], found[1], meters[0], meters[1]
+
+
+def run_again(site: Site, seed: int, start: int) -> tuple[Numbers, Numbers]:
+    """Return the figures of a day without metering, and of the same day with metering from step `start` on, by edits in its past."""
+    with open_day(site, seed) as lab:
+        first = site.meter(math.inf)
+        run_control(lab, "A", [first], 0, site.road.steps)
+        before = measure_day(site, lab, first)
+        again = site.meter(start)
+        run_control(lab, "A", [again], 0, site.road.steps)
+        return before, measure_day(site, lab, again)
+
+
+# Tables
+
+def format_table(days: Sequence[tuple[Numbers, Numbers]]) -> list[str]:
+    """Return the table of means over the days with 95 % intervals: without control, with it, and the difference, paired by day."""
+    lines = ["mean of a day,no control,±,ALINEA,±,difference,±"]
+    for name in days[0][0]:
+        before, after = [one[name] for one, _ in days], [other[name] for _, other in days]
+        numbers = [number for one in (estimate_mean(before), estimate_mean(after), estimate_paired(before, after)) for number in one]
+        lines.append(f"{name}," + ",".join(f"{number:.2f}" for number in numbers))
+    return lines
+
+
+def format_minutes(site: Site, meters: Sequence[RampMeter]) -> list[str]:
+    """Return the table of occupancy, rate and queue by minute, without control and with it."""
+    lines = ["time,no control: occupancy %,queue cars,ALINEA: occupancy %,rate cars/h,queue cars"]
+    clock = site.figures.clock
+    for (step, plain, _, waiting), (_, occupancy, rate, queue) in zip(*(meter.rates for meter in meters)):
+        lines.append(f"{clock.to_text(step)},{plain:.1f},{waiting:.1f},{occupancy:.1f},{rate:.0f},{queue:.1f}")
+    return lines
+
+
+def compare(given: argparse.Namespace, out: Path) -> None:
+    """Read the files, simulate, and write the tables."""
+    figures = FIGURES.override(given.road)
+    site = make_site(given.road.stem, figures, read_control(given.control, figures))
+    print("".join(f"{note}\n" for note in site.road.notes), end="", file=sys.stderr, flush=True)
+    folder = given.out or out / given.road.stem
+    folder.mkdir(parents=True, exist_ok=True)
+    if given.then is not None:
+        start = figures.clock.to_step(given.then, "--then")
+        report_progress("simulating a day, and the same day again")
+        before, after = run_again(site, figures.seed, start)
+        print(f"seed {figures.seed},as it was,with metering from {figures.clock.to_text(start)} on")
+        print("\n".join(f"{name},{before[name]:.2f},{after[name]:.2f}" for name in before))
+        return
+    if not 2 <= given.days <= 1_000:
+        raise Fault(f"--days is 2 to 1,000, not {given.days:,}")
+    bar, found = Bar("days"), []
+    report_progress(f"simulating {given.days} days without control and with it")
+    with ThreadPoolExecutor(count_processors()) as pool:
+        for one in pool.map(lambda seed: run_day(site, seed), range(figures.seed, figures.seed + given.days)):
+            found.append(one)
+            bar.show(len(found), given.days)
+    bar.end()
+    for name, lines in (("metering", format_table([one[:2] for one in found])), ("minutes", format_minutes(site, found[0][2:]))):
+        (folder / f"{name}-{site.name}.csv").write_text("".join(f"{line}\n" for line in lines), encoding="utf-8")
+        if name == "metering":
+            print("\n".join(lines))
+    print(f"The tables are in {folder}", file=sys.stderr)
+
+
+def read_arguments(words: Sequence[str] | None) -> argparse.Namespace:
+    """Read the command line."""
+    parser = argparse.ArgumentParser("zegdrut metering", description=__doc__, formatter_class=argparse.RawDescriptionHelpFormatter)
+    parser.add_argument("road", type=Path, metavar="ROAD.json")
+    parser.add_argument("control", type=Path, metavar="CONTROL.json")
+    parser.add_argument("--days", type=int, default=DAYS, metavar="N", help="number of days to compare (default: %(default)s)")
+    parser.add_argument("--then", metavar="TIME", help='compare one day with the same day with metering from a time on, such as "07:10"')
+    parser.add_argument("--out", type=Path, metavar="FOLDER", help="folder of the tables")
+    return parser.parse_args(words)
+
+
+def main(words: Sequence[str] | None = None, out: Path = Path("out")) -> int:
+    """Compare metering with no control. Return the exit status."""
+    given = read_arguments(words)
+    try:
+        compare(given, out)
+    except (LabError, InvalidTime, OSError) as fault:
+        print(fault, file=sys.stderr)
+        return 1
+    return 0

@@ -1,0 +1,296 @@
+"""Compare simulated days with measured counts: GEH of each station and hour, and RMSE of speeds.
+
+    days = simulate_days(model, days=5)
+    hours = compare_hours(model.measured, days)          # a list of Hour; compute_share_below([hour.geh for hour in hours])
+    speeds = compare_speeds(model.measured, days)
+
+GEH = sqrt(2 (M - C)^2 / (M + C)) for M simulated and C measured cars of an *hour*. Five-minute rows are summed first, and an hour with
+a missing row has no GEH. GEH grows with the number of lanes, so each table has it per lane, like all other figures, and for all lanes.
+Both speeds are time-mean speeds at a detector.
+"""
+from __future__ import annotations
+
+import dataclasses
+import math
+from concurrent.futures import ThreadPoolExecutor
+from dataclasses import dataclass
+from typing import Any, Callable, NamedTuple, Sequence
+
+from .demand import Effort, Rates, convert_demands, count_processors
+from .errors import Fault
+from .freeway import Figures, Road, Section, make_road
+from .intervals import Estimate, estimate_mean
+from .lab import RoadLab
+from .measured import Measured
+from .road_scripts import Chances, make_commands, make_plan, make_base_edits
+from .units import HOUR, KMH, to_cells, to_km, to_steps
+from .wire import Record
+
+ENTRY = 0.3
+"""The km at the beginning of the road where nobody is slowed. There the inlet admits up to 1,800 cars per hour and lane. Five minutes of a
+real freeway often bring more cars than an inlet with slowed drivers admits."""
+MOST_AT_INLET = 1_780.0
+"""The greatest demand in cars per hour and lane. Cars above it enter in the following minutes."""
+GOOD = 5.0
+"""Guidelines require a GEH below this in 85 % of the cases."""
+SAME_PLACE = 0.1
+"""The distance in km within which a ramp of the road's file and a ramp station are the same ramp."""
+
+
+class Passed(NamedTuple):
+    """The cars that passed a detector in an interval, and the sum of their speeds in cells per step."""
+
+    cars: int
+    speeds: int
+
+
+Day = list[list[Passed]]
+"""What passed each compared station in each interval."""
+
+
+@dataclass(frozen=True)
+class Model:
+    """A road with measured demand. Its run begins some minutes before the measured window, so that the road is full in time."""
+
+    name: str
+    measured: Measured
+    road: Road
+    chances: Chances
+    seed: int
+    warm: int
+    """The steps before the window."""
+
+    @property
+    def detectors(self) -> list[int]:
+        """Return the indexes of the compared stations' detectors, in the order of `measured.main[1:]`."""
+        return list(range(len(self.measured.main) - 1))
+
+    @property
+    def gates(self) -> list[tuple[int, int]]:
+        """Return the detectors after (1) and at (-1) each inlet, by index. The difference of their counts has entered."""
+        first = len(self.detectors)
+        return [(1, first), *((sign, first + place) for place in range(1, 2 * len(self.road.inlets) - 1)
+                              for sign in ((-1,) if place % 2 else (1,)))]
+
+    @property
+    def steps(self) -> int:
+        """Return the number of steps of the window."""
+        return self.measured.intervals * self.measured.interval
+
+
+def warm_up_minutes(figures: Figures) -> int:
+    """Return the minutes that fill the road before the window: twice the free travel time, rounded up to five minutes."""
+    return math.ceil(2 * figures.length / figures.limit * 60 / 5) * 5
+
+
+def with_measured_demand(figures: Figures, measured: Measured, factor: float = 1.0) -> Figures:
+    """Return the figures of a road with measured demand, beginning with a warm-up before the window. Fault: there are too few stations."""
+    if len(measured.main) < 2:
+        raise Fault("only one main-line station is left: it gives the demand, and none is left to compare. Give more stations")
+    warm = warm_up_minutes(figures)
+    ramps = [(km, shift_demand(demand, warm, factor)) for km, demand in measured.ramp_demands()]
+    for km, cars in figures.ramps:
+        if all(abs(km - one) > SAME_PLACE for one, _ in ramps):
+            pairs = cars if isinstance(cars, list) else [(0.0, cars)]
+            ramps.append((km, shift_demand([(to_steps(minute), rate) for minute, rate in pairs], warm, factor)))
+    sections = [one._replace(begin=one.begin + warm if one.begin > 0 else 0, end=one.end + warm) for one in figures.sections]
+    minutes = measured.intervals * measured.interval / 60 + warm
+    sections.append(Section(0, ENTRY, 0, minutes, slowing=0.0, start=0.0))
+    stalled = [one._replace(begin=one.begin + warm, end=one.end + warm) for one in figures.stalled]
+    places = [min(max(one.station.km, 0.0075), figures.length - 0.015) for one in measured.main[1:]]
+    for one, place in zip(measured.main[1:], places):
+        if abs(one.station.km - place) > 0.02:
+            raise Fault(f"station {one.station.name} is at km {one.station.km:g}, outside the road of {figures.length:g} km: correct length or --origin")
+    return dataclasses.replace(figures, main=shift_demand(measured.demand(), warm, factor), ramps=ramps, sections=sections, stalled=stalled,
+                               detectors=places, minutes=minutes, begin=None, date=None, timezone=None)
+
+
+def shift_demand(rates: Rates, minutes: int, factor: float) -> list[tuple[float, float]]:
+    """Convert a demand to minutes, and begin it some minutes earlier with its first value."""
+    return [(0.0 if place == 0 else step / 60 + minutes, cars * factor) for place, (step, cars) in enumerate(rates)]
+
+
+def spread_excess(rates: Rates, most: float, end: int) -> tuple[Rates, int]:
+    """Limit a demand to a flow in cars per hour, and move the excess to the following intervals.
+
+    Return the new demand, and the number of intervals with an excess."""
+    found: Rates = []
+    excess, number = 0.0, 0
+    ends = [step for step, _ in rates[1:]] + [end]
+    for (step, cars), after in zip(rates, ends):
+        wanted = cars + excess * HOUR / (after - step)
+        found.append((step, min(wanted, most)))
+        number += wanted > most
+        excess = max(wanted - most, 0.0) * (after - step) / HOUR
+    return found, number
+
+
+def make_model(name: str, figures: Figures, measured: Measured, factor: float = 1.0, effort: Effort = Effort(),
+             progress: Callable[[int], None] = lambda inlet: None) -> Model:
+    """Make the model of a road with measured demand. BeyondCapacity: a demand exceeds the capacity of its inlet."""
+    given = with_measured_demand(figures, measured, factor)
+    road = make_road(given)
+    (cell, main), *ramps = road.inlets
+    main, number = spread_excess(main, MOST_AT_INLET, road.steps)
+    road.inlets = [(cell, main), *ramps]
+    if number:
+        road.notes.append(f"the main demand is above {MOST_AT_INLET:,.0f} cars per hour and lane in {number} intervals: the excess "
+                          "enters in the following minutes")
+    # Detectors after the first inlet, and at and after each ramp, count the cars that enter.
+    road.detectors += [1, *(gate for place, _ in ramps for gate in (place, place + 1))]
+    places, demands = [place for place, _ in road.inlets], [demand for _, demand in road.inlets]
+    chances = convert_demands(places, demands, road.drivers._replace(entry=to_cells(ENTRY)), effort, progress)
+    return Model(name, measured, road, chances, figures.seed, warm_up_minutes(figures) * 60)
+
+
+# Days
+
+def simulate_day(model: Model, seed: int, with_rows: bool = False, with_entries: bool = False) -> tuple[Day, list[str], int]:
+    """Simulate one day.
+
+    Return what passed the compared stations; with `with_rows` the rows of the window; with `with_entries` the cars that all inlets
+    admitted in the whole run."""
+    edits = make_commands([*make_base_edits(model.road, model.chances), *model.road.edits])
+    with RoadLab(make_plan(model.road, model.chances, seed)) as lab:
+        for line in edits:
+            lab.ask(line)
+        lab.command("advance", "A", to=model.warm + model.steps)
+        day: Day = []
+        for detector in model.detectors:
+            passed = []
+            for place in range(model.measured.intervals):
+                first = model.warm + place * model.measured.interval
+                found = lab.count("A", detector, first, first + model.measured.interval)
+                passed.append(Passed(found.cars, found.speeds))
+            day.append(passed)
+        rows = lab.diagram("A", model.warm, model.warm + model.steps - 1) if with_rows else []
+        admitted = 0
+        for sign, detector in model.gates if with_entries else ():
+            admitted += sign * lab.count("A", detector, 0, model.road.steps).cars
+    return day, rows, admitted
+
+
+def simulate_days(model: Model, days: int, progress: Callable[[int, int], None] | None = None) -> list[Day]:
+    """Simulate days in parallel: the seed of the road, and the ones after it."""
+    found: list[Day] = []
+    with ThreadPoolExecutor(count_processors()) as pool:
+        for day, _, _ in pool.map(lambda seed: simulate_day(model, seed), range(model.seed, model.seed + days)):
+            found.append(day)
+            if progress:
+                progress(len(found), days)
+    return found
+
+
+# Hours
+
+class Hour(NamedTuple):
+    """A station and an hour: measured and simulated flow in cars per hour and lane (mean over the days, half its 95 % interval), and GEH."""
+
+    station: str
+    km: float
+    first: int
+    measured: float
+    simulated: float
+    half: float | None
+    geh: float
+    geh_all_lanes: float
+
+
+def compute_geh(simulated: float, measured: float) -> float:
+    """Return the GEH of two hourly flows."""
+    return math.sqrt(2 * (simulated - measured) ** 2 / (simulated + measured)) if simulated + measured > 0 else 0.0
+
+
+def compare_hours(measured: Measured, days: Sequence[Day]) -> list[Hour]:
+    """Compare each station and whole hour of the window in which no interval is missing."""
+    found = []
+    an_hour = HOUR // measured.interval
+    for index, series in enumerate(measured.main[1:]):
+        for begin in range(0, measured.intervals - an_hour + 1, an_hour):
+            counted = series.cars[begin:begin + an_hour]
+            if any(one is None for one in counted):
+                continue
+            wanted = math.fsum(one or 0.0 for one in counted)
+            flows = [float(sum(one.cars for one in day[index][begin:begin + an_hour])) for day in days]
+            mean = estimate_days(flows)
+            lanes = series.station.lanes
+            found.append(Hour(series.station.name, series.station.km, begin * measured.interval, wanted, mean[0], mean[1],
+                              compute_geh(mean[0], wanted), compute_geh(mean[0] * lanes, wanted * lanes)))
+    return found
+
+
+def estimate_days(values: Sequence[float]) -> tuple[float, float | None]:
+    """Return the mean over days, and half its 95 % interval (None for one day)."""
+    if len(values) < 2:
+        return values[0], None
+    found: Estimate = estimate_mean(values)
+    return found.mean, found.half
+
+
+def compute_share_below(values: Sequence[float], bound: float = GOOD) -> float:
+    """Return the share of values below a bound, from 0 to 1."""
+    return sum(value < bound for value in values) / len(values) if values else 0.0
+
+
+# Speeds
+
+class SpeedError(NamedTuple):
+    """The speed error of a station: the number of intervals with both speeds, the RMSE in km/h, and the mean of simulated minus measured
+    speed in km/h. Both are time-mean speeds."""
+
+    station: str
+    km: float
+    intervals: int
+    rmse: float | None
+    bias: float | None
+
+
+def compute_speed(days: Sequence[Day], index: int, place: int) -> float | None:
+    """Return the simulated time-mean speed of an interval over all days in km/h, or None without a car."""
+    cars = sum(day[index][place].cars for day in days)
+    return sum(day[index][place].speeds for day in days) / cars * KMH if cars else None
+
+
+def compare_speeds(measured: Measured, days: Sequence[Day]) -> list[SpeedError]:
+    """Compare simulated and measured speeds at each compared station."""
+    found = []
+    for index, series in enumerate(measured.main[1:]):
+        off = []
+        for place, speed in enumerate(series.speeds):
+            other = compute_speed(days, index, place)
+            if speed is not None and other is not None:
+                off.append(other - speed)
+        found.append(SpeedError(series.station.name, series.station.km, len(off), math.sqrt(math.fsum(one * one for one in off) / len(off))
+                                if off else None, math.fsum(off) / len(off) if off else None))
+    return found
+
+
+def compute_total_rmse(errors: Sequence[SpeedError]) -> float | None:
+    """Return the RMSE of speeds over all intervals of all stations in km/h, or None if there are none."""
+    pairs = [(one.intervals, one.rmse) for one in errors if one.rmse is not None]
+    total = sum(number for number, _ in pairs)
+    return math.sqrt(sum(number * rmse * rmse for number, rmse in pairs) / total) if total else None
+
+
+# Records
+
+def make_interval_records(model: Model, days: Sequence[Day]) -> list[Record]:
+    """Return a record for each station and interval, for `pandas.DataFrame`: flows per lane, time-mean speeds."""
+    found: list[Record] = []
+    measured = model.measured
+    for index, series in enumerate(measured.main[1:]):
+        for place, cars in enumerate(series.cars):
+            flows = [day[index][place].cars * HOUR / measured.interval for day in days]
+            mean, half = estimate_days(flows)
+            found.append({"station": series.station.name, "km": round(to_km(model.road.detectors[index]), 4),
+                          "time": measured.clock.to_text(place * measured.interval),
+                          "measured cars/h/lane": None if cars is None else round(cars * HOUR / measured.interval, 1),
+                          "simulated cars/h/lane": round(mean, 1), "± cars/h/lane": None if half is None else round(half, 1),
+                          "measured time-mean km/h": None if series.speeds[place] is None else round(series.speeds[place] or 0.0, 1),
+                          "simulated time-mean km/h": round_optional(compute_speed(days, index, place))})
+    return found
+
+
+def round_optional(value: float | None) -> float | None:
+    """Round a value to one decimal; None stays None."""
+    return None if value is None else round(value, 1)

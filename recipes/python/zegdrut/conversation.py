@@ -1,0 +1,222 @@
+"""Talk with a running program, so that no call gets the reply to another call.
+
+One thread writes each whole request and reads its whole reply. A caller only waits for the reply to its own request. An
+interrupt, a timeout or an exception in the caller therefore leaves program and thread in step: the thread reads the
+abandoned reply before it writes the next request.
+"""
+from __future__ import annotations
+
+import contextlib
+import copy
+import json
+import math
+import os
+import queue
+import select
+import signal
+import subprocess
+import tempfile
+import threading
+import time
+from pathlib import Path
+from typing import IO
+
+from .errors import Ended, LabBroken, LabTimeout, Refused
+from .programs import NoProgram
+from .refusals import Reasons
+from .wire import Fields, Reply
+
+PIECE = 1 << 20
+"""The number of bytes to read at once."""
+GRACE = 5.0
+"""The seconds in which a program or a thread must end."""
+LOOK = 1.0
+"""The seconds without a reply after which a caller checks that the thread still runs."""
+
+
+class Request:
+    """A line for the program, and its reply once it has come."""
+
+    __slots__ = ("line", "text", "reply", "fault", "done")
+
+    def __init__(self, line: Fields, text: bytes) -> None:
+        self.line, self.text = line, text
+        self.reply: Reply = {}
+        self.fault: BaseException | None = None
+        self.done = threading.Lock()
+        self.done.acquire()
+
+    def result(self) -> Reply:
+        """Return the reply, or raise the exception of the thread."""
+        if self.fault is not None:
+            try:
+                raise self.fault
+            finally:
+                self.fault = None  # (else the exception and its traceback hold each other)
+        return self.reply
+
+
+class Conversation:
+    """A conversation with a program, which starts with the first request."""
+
+    def __init__(self, path: Path | str) -> None:
+        self._path = path
+        self._owner = os.getpid()
+        self._requests: queue.SimpleQueue[Request | None] = queue.SimpleQueue()
+        self._ending = threading.RLock()  # held while the program is started or killed
+        self._process: subprocess.Popen[bytes] | None = None
+        self._complaints: IO[bytes] | None = None
+        self._broken: LabBroken | None = None
+        self._unasked = b""
+        self._reasons = Reasons()
+        self._thread = threading.Thread(target=self._serve, name="zegdrut", daemon=True)
+        self._thread.start()
+
+    def ask(self, line: Fields, text: bytes, timeout: float | None = None) -> Reply:
+        """Return the program's reply to a line. `text` is the line in JSON.
+
+        Refused: the program refuses the line. NoProgram: there is no program. LabBroken: the program has ended, or the
+        conversation was closed. LabTimeout: there was no reply within `timeout` seconds.
+        """
+        if os.getpid() != self._owner:
+            raise LabBroken("this lab belongs to the process that started it")
+        request = Request(line, text)
+        self._requests.put(request)
+        until = math.inf if timeout is None else time.monotonic() + timeout
+        while not request.done.acquire(timeout=max(0.0, min(LOOK, until - time.monotonic()))):
+            if not self._thread.is_alive() and not request.done.acquire(blocking=False):
+                raise self._cause()
+            if time.monotonic() >= until:
+                raise LabTimeout(f"no reply within {timeout:g} s: the program continues, and the next call waits for that")
+        return request.result()
+
+    def close(self) -> None:
+        """End the program. Each later call raises `LabBroken`."""
+        if os.getpid() == self._owner:
+            self._break(LabBroken("this lab was closed"))
+            self._requests.put(None)
+
+    def wait(self) -> None:
+        """Wait until the program has ended, after `close`."""
+        if os.getpid() == self._owner and threading.current_thread() is not self._thread:
+            self._thread.join(GRACE)
+
+    # The thread
+
+    def _serve(self) -> None:
+        while (request := self._requests.get()) is not None:
+            try:
+                request.reply = self._answer(request)
+            except BaseException as fault:  # (the caller raises it)
+                request.fault = fault
+            request.done.release()
+            del request
+        self._reap()
+
+    def _answer(self, request: Request) -> Reply:
+        process = self._start()
+        self._check_silence(process)
+        self._write(process, request.text + b"\n")
+        text = self._read_line(process)
+        try:
+            reply = json.loads(text)
+            if not isinstance(reply, dict):
+                raise ValueError
+        except (ValueError, RecursionError):
+            raise self._break(LabBroken(f"{self._path} wrote something that is not a reply: {text[:80]!r}")) from None
+        if "refused" in reply:
+            raise Refused(reply["refused"], self._explain(request, reply), request.text.decode())
+        self._reasons.accept(request.line, reply)
+        return reply
+
+    def _explain(self, request: Request, reply: Reply) -> str:
+        try:
+            return self._reasons.hear(request.text, reply) or "the program gives no reason"
+        except (LookupError, TypeError, ValueError):
+            return "the program gives no reason"
+
+    def _start(self) -> subprocess.Popen[bytes]:
+        """Return the program, started in a session of its own, so that Ctrl-C in a terminal does not reach it. If
+        ROAD_LAB_GUARD is `setpriv --pdeathsig KILL`, the words stand before its path, and the program ends with this process."""
+        with self._ending:
+            if self._broken is not None:
+                raise self._cause()
+            if self._process is None:
+                self._complaints = tempfile.TemporaryFile()
+                try:
+                    guard = os.environ.get("ROAD_LAB_GUARD", "").split()
+                    self._process = subprocess.Popen([*guard, str(self._path)], stdin=subprocess.PIPE, stdout=subprocess.PIPE,
+                                                     stderr=self._complaints, bufsize=0, start_new_session=True)
+                except (FileNotFoundError, PermissionError):
+                    raise NoProgram(self._path) from None
+            return self._process
+
+    def _check_silence(self, process: subprocess.Popen[bytes]) -> None:
+        """Raise LabBroken if the program has written anything unasked, and Ended if it has ended."""
+        assert process.stdout is not None
+        waiting = select.poll()
+        waiting.register(process.stdout, select.POLLIN)
+        if not self._unasked and waiting.poll(0):
+            self._unasked = os.read(process.stdout.fileno(), PIECE)
+            if not self._unasked:
+                raise self._break(self._describe_end(process))
+        if self._unasked:
+            raise self._break(LabBroken(f"the program wrote something unasked: {self._unasked[:80]!r}"))
+
+    @staticmethod
+    def _write(process: subprocess.Popen[bytes], data: bytes) -> None:
+        assert process.stdin is not None
+        rest = memoryview(data)
+        with contextlib.suppress(BrokenPipeError):  # (reading then finds the cause)
+            while rest:
+                rest = rest[os.write(process.stdin.fileno(), rest):]
+
+    def _read_line(self, process: subprocess.Popen[bytes]) -> bytes:
+        """Return the next line of the program. Ended: it has ended."""
+        assert process.stdout is not None
+        pieces: list[bytes] = []
+        while not pieces or b"\n" not in pieces[-1]:
+            piece = os.read(process.stdout.fileno(), PIECE)
+            if not piece:
+                raise self._break(self._describe_end(process))
+            pieces.append(piece)
+        line, _, self._unasked = b"".join(pieces).partition(b"\n")
+        return line
+
+    def _describe_end(self, process: subprocess.Popen[bytes]) -> LabBroken:
+        """Return how the program ended. It has closed its output, so it will end soon, or is killed."""
+        try:
+            status = process.wait(GRACE)
+        except subprocess.TimeoutExpired:
+            with self._ending:
+                self._kill()
+            status = process.wait()
+        assert self._complaints is not None
+        self._complaints.seek(0)
+        return Ended(status, self._complaints.read().decode(errors="replace").strip())
+
+    def _break(self, cause: LabBroken) -> LabBroken:
+        """Kill the program. Return the first cause that was found for it."""
+        with self._ending:
+            self._broken = self._broken or cause
+            self._kill()
+        return self._cause()
+
+    def _cause(self) -> LabBroken:
+        """Return a copy of the cause, as an exception to raise once."""
+        return copy.copy(self._broken) or LabBroken("the thread of this lab has ended")
+
+    def _kill(self) -> None:
+        """Kill the program and its children, if it still runs. The caller holds `_ending`."""
+        if self._process is not None and self._process.returncode is None:
+            with contextlib.suppress(ProcessLookupError, PermissionError):
+                os.killpg(self._process.pid, signal.SIGKILL)
+
+    def _reap(self) -> None:
+        process = self._process
+        if process is None:
+            return
+        process.wait()
+        for stream in (process.stdin, process.stdout, self._complaints):
+            if stream is not None:
+                stream.close()

@@ -1,0 +1,179 @@
+"""Start the program road_lab, send it commands, and return its replies as objects."""
+from __future__ import annotations
+
+import weakref
+from pathlib import Path
+from types import TracebackType
+from typing import Callable, Iterable, cast
+
+from .bars import Bar
+from .checks import encode_line, check_text, check_object, check_whole
+from .conversation import Conversation
+from .grammar import LAST_HORIZON, MOST_ROWS
+from .plan import Plan
+from .programs import program_path
+from .records import Car, Count, Crowd, Edit, Head, Object, Stamp
+from .rows import Sums, Traffic, add_up
+from .wire import (CarsReply, CellsReply, CountReply, CrowdReply, EditsReply, Fields, HeadsReply, HorizonReply, PlanLine, Reply,
+                   RowsReply, SizeReply, StampReply, TouchedReply)
+
+FORM = 2
+
+
+class RoadLab:
+    """A running program with one road. Use it in a `with`, or `close` it.
+
+    plan: the road, as a `Plan` or as the first line of a script.
+    program: the path of the program; by default `zegdrut.programs` finds it.
+    timeout: the seconds that each call waits for its reply; by default there is no limit.
+
+    Each method sends one command and returns its reply. Every method may raise
+
+    - `Refused`: the program refuses the command. Nothing has changed.
+    - `LabBroken`: the lab was closed, or it belongs to another process. `Ended`: the program has ended.
+    - `LabTimeout`: the reply did not come in time.
+    - `TypeError`, `ValueError`: an argument has a wrong type, is NaN or is negative. The message begins with its name.
+
+    Threads may share a lab: their calls are carried out one after the other. After an interrupt or a timeout the program
+    continues with the call. The next call waits for that, and gets its own reply.
+    """
+
+    def __init__(self, plan: Plan | PlanLine, program: Path | str | None = None, timeout: float | None = None) -> None:
+        self.plan: PlanLine = plan.to_line() if isinstance(plan, Plan) else plan
+        self.timeout = timeout
+        self._conversation = Conversation(program or program_path())
+        self._end = weakref.finalize(self, self._conversation.close)
+        try:
+            self.ask({**self.plan})
+        except BaseException:
+            self.close()
+            raise
+
+    def __enter__(self) -> RoadLab:
+        return self
+
+    def __exit__(self, kind: type[BaseException] | None, fault: BaseException | None,
+                 trace: TracebackType | None) -> None:
+        self.close()
+
+    def __reduce__(self) -> str:
+        raise TypeError("a lab belongs to its process and cannot be pickled: send the plan instead, and start a lab there")
+
+    def close(self) -> None:
+        """End the program, even during a call. Each later call raises `LabBroken`."""
+        self._end()
+        self._conversation.wait()
+
+    def ask(self, line: Fields) -> Reply:
+        """Send any line of a script. Return the program's reply."""
+        return self._conversation.ask(line, encode_line(line), self.timeout)
+
+    def command(self, verb: str, at: str | None = None, /, **fields: object) -> Reply:
+        """Send any command, to the replica `at` or to none. Return the program's reply."""
+        named: Fields = {} if at is None else {"at": check_text("at", at)}
+        return self.ask({verb: {**named, **fields}})
+
+    # Edits
+
+    def edit(self, at: str, what: Object, step: int, value: int) -> Stamp:
+        """Set an object, such as ("block", 24), to a value from a step on. Return the stamp of the edit."""
+        reply = self.command("edit", at, object=check_object("object", what), step=check_whole("step", step), value=check_whole("value", value))
+        return Stamp(*cast(StampReply, reply)["stamp"])
+
+    def withdraw(self, at: str, what: Object, step: int) -> Stamp:
+        """Withdraw the value that was set for an object at a step. Return the stamp of the withdrawal."""
+        reply = self.command("withdraw", at, object=check_object("object", what), step=check_whole("step", step))
+        return Stamp(*cast(StampReply, reply)["stamp"])
+
+    def take_in(self, at: str, edits: Iterable[Edit]) -> int | None:
+        """Import edits whose stamps have numbers of 64 and above. Return the first step that changes, or None."""
+        reply = self.command("import", at, edits=[edit.to_line() for edit in edits], form=FORM)
+        return cast(TouchedReply, reply)["touched"]
+
+    def scenario(self, at: str) -> list[Edit]:
+        """Return the winning edits of the replica."""
+        return list(map(Edit.read, cast(EditsReply, self.command("scenario", at))["edits"]))
+
+    # Messages between replicas
+
+    def send(self, at: str, name: str) -> int:
+        """Make a message of all edits of the replica. Return the number of edits in it."""
+        return cast(SizeReply, self.command("send", at, name=check_text("name", name)))["size"]
+
+    def heads(self, at: str, name: str) -> list[Head]:
+        """Make a message of the heads of all edits of the replica. Return them."""
+        return list(map(Head.read, cast(HeadsReply, self.command("heads", at, name=check_text("name", name)))["heads"]))
+
+    def beyond(self, at: str, heads: str, name: str) -> list[Edit]:
+        """Make a message of the edits that the owner of the message `heads` may lack. Return them."""
+        reply = self.command("beyond", at, heads=check_text("heads", heads), name=check_text("name", name))
+        return list(map(Edit.read, cast(EditsReply, reply)["edits"]))
+
+    def take(self, at: str, message: str) -> int | None:
+        """Merge a message into the replica. Return the first step that changes, or None."""
+        return cast(TouchedReply, self.command("take", at, message=check_text("message", message)))["touched"]
+
+    # Queries
+
+    def advance(self, at: str, to: int, piece: int = 10_000, progress: Callable[[int, int], None] | None = None) -> int:
+        """Simulate up to step `to`, `piece` steps at a time. Return the step that the replica has then reached.
+
+        After each piece `progress` is called with the number of steps done and of all steps. By default a bar is drawn if
+        standard error is a terminal. After an interrupt the replica is at the end of a piece, and the same call continues.
+        """
+        to, piece = check_whole("to", to), max(check_whole("piece", piece), 1)
+        horizon = self._advance(at, to if to > LAST_HORIZON else 0)
+        first, bar = horizon, Bar()
+        try:
+            while horizon < to:
+                horizon = self._advance(at, min(to, horizon + piece))
+                (progress or bar.show)(horizon - first, to - first)
+        finally:
+            bar.end()
+        return horizon
+
+    def _advance(self, at: str, to: int) -> int:
+        return cast(HorizonReply, self.command("advance", at, to=to))["horizon"]
+
+    def cells(self, at: str, step: int) -> str:
+        """Return the row of a step: a digit is the speed of a car, "." an empty cell, "#" a blocked cell."""
+        return cast(CellsReply, self.command("cells", at, step=check_whole("step", step)))["cells"]
+
+    def cars(self, at: str, step: int) -> list[Car]:
+        """Return the cars at a step, in the order of their cells."""
+        return [Car(*car) for car in cast(CarsReply, self.command("cars", at, step=check_whole("step", step)))["cars"]]
+
+    def count(self, at: str, detector: int, first: int, to: int) -> Count:
+        """Return the count of a detector, by its index, in the steps `first` to `to` - 1."""
+        fields = {"detector": check_whole("detector", detector), "from": check_whole("first", first), "to": check_whole("to", to)}
+        return Count(**cast(CountReply, self.command("count", at, **fields)))
+
+    def diagram(self, at: str, first: int, to: int) -> list[str]:
+        """Return the rows of the steps `first` to `to`, both included."""
+        return [row for rows in self._diagrams(at, first, to) for row in rows]
+
+    def traffic(self, at: str, first: int, to: int, cells: tuple[int, int] | None = None) -> Traffic:
+        """Return density, flow and space-mean speed over the rows of the steps `first` to `to` - 1.
+
+        cells: the first cell, and the cell after the last one; by default the whole road.
+        """
+        left, right = (0, None) if cells is None else cells
+        found = Sums(0, 0, 0)
+        for rows in self._diagrams(at, first, to - 1):
+            found += add_up(rows, left, right)
+        return found.traffic()
+
+    def _diagrams(self, at: str, first: int, to: int) -> Iterable[list[str]]:
+        """Yield lists of rows, each as long as one diagram may be."""
+        first, to = check_whole("first", first), check_whole("to", to)
+        for start in range(first, to + 1, MOST_ROWS):
+            fields = {"from": start, "to": min(to, start + MOST_ROWS - 1)}
+            yield cast(RowsReply, self.command("diagram", at, **fields))["rows"]
+
+    # Beside the replicas
+
+    def crowd(self, shares: Iterable[Iterable[Edit]], to: int) -> Crowd:
+        """Let one session per share edit a road of the plan and advance to a step, all at the same time."""
+        written = [[edit.to_line() for edit in share] for share in shares]
+        left = cast(CrowdReply, self.command("crowd", shares=written, form=FORM, to=check_whole("to", to)))
+        return Crowd(list(map(Edit.read, left["edits"])), left["journal"], left["row"])

@@ -1,0 +1,229 @@
+"""Convert measured counts to series of intervals along a road of one lane, per lane and in the window of a run.
+
+The model has one lane. Counts of a main-line station are divided by its lanes. Counts of an on-ramp are divided by the lanes of the next
+main-line station downstream, so that the flow per lane after the ramp is right. The model has no off-ramps: if the flow falls downstream
+by more than counting error, only the stations upstream are compared.
+"""
+from __future__ import annotations
+
+import datetime
+import math
+from collections import Counter
+from dataclasses import dataclass, field, replace
+from typing import Iterable, NamedTuple
+
+from .clock import DAY, Clock
+from .demand import Rates
+from .errors import Fault
+from .stations import Counts, Row, Station, note_lines
+from .units import HOUR
+
+SUSPICIOUS = 10
+"""A zero between two intervals with at least this many cars per lane is a fault of the detector."""
+COUNTING_ERROR = 0.05
+"""The share of the flow that counting errors may lose between two stations."""
+
+
+@dataclass(frozen=True)
+class Series:
+    """The cars per lane and the mean speeds in km/h of a station, for each interval. None is a missing value."""
+
+    station: Station
+    cars: list[float | None]
+    speeds: list[float | None]
+
+    @property
+    def total(self) -> float:
+        """Return the cars per lane in all intervals that are not missing."""
+        return math.fsum(one for one in self.cars if one is not None)
+
+
+@dataclass(frozen=True)
+class Measured:
+    """The series of the main line, in the order of the road, and of the on-ramps. Intervals last `interval` seconds, from the begin of the
+    clock on."""
+
+    clock: Clock
+    interval: int
+    main: list[Series]
+    ramps: list[Series]
+    notes: list[str] = field(default_factory=list)
+
+    @property
+    def intervals(self) -> int:
+        """Return the number of intervals."""
+        return len(self.main[0].cars)
+
+    def demand(self) -> Rates:
+        """Return the main demand per lane from the first station, as (step, cars per hour). Missing intervals are interpolated."""
+        return make_rates(self.main[0], self.interval)
+
+    def ramp_demands(self) -> list[tuple[float, Rates]]:
+        """Return the km and the demand per main-line lane of each on-ramp station."""
+        return [(one.station.km, make_rates(one, self.interval)) for one in self.ramps]
+
+
+def make_rates(series: Series, interval: int) -> Rates:
+    """Convert a series to a demand over time in steps and cars per hour. Fault: all intervals are missing."""
+    known = [(place, cars) for place, cars in enumerate(series.cars) if cars is not None]
+    if not known:
+        raise Fault(f"station {series.station.name} has no count in the window, so its demand is unknown: check its times and the begin of the road")
+    found: Rates = []
+    for place in range(len(series.cars)):
+        before = max((one for one in known if one[0] <= place), default=known[0])
+        after = min((one for one in known if one[0] >= place), default=known[-1])
+        part = (place - before[0]) / (after[0] - before[0]) if after[0] != before[0] else 0.0
+        found.append((place * interval, (before[1] + part * (after[1] - before[1])) * HOUR / interval))
+    return found
+
+
+class PlacedRow(NamedTuple):
+    """A row, and the step at which its interval begins."""
+
+    row: Row
+    step: int
+
+
+def find_interval(counts: Counts, clock: Clock) -> int:
+    """Return the seconds between the rows of a station. Fault: they are not whole minutes that divide an hour."""
+    gaps: Counter[int] = Counter()
+    for name in counts.stations:
+        steps = sorted(find_step(clock, row) for row in counts.rows if row.station == name)
+        gaps.update(after - before for before, after in zip(steps, steps[1:]) if after > before)
+    if not gaps:
+        raise Fault(f"{counts.path}: no station has two intervals: the length of an interval is unknown")
+    interval = gaps.most_common(1)[0][0]
+    if interval % 60 or HOUR % interval:
+        raise Fault(f"{counts.path}: intervals of {interval / 60:g} minutes do not divide an hour: use 1, 5, 10, 15, 20, 30 or 60 minutes")
+    return interval
+
+
+def find_step(clock: Clock, row: Row) -> int:
+    """Return the step of the time of a row. It is negative before the begin."""
+    if isinstance(row.time, datetime.datetime):
+        return clock.find_step(row.time)
+    seconds = row.time.hour * HOUR + row.time.minute * 60 + row.time.second
+    return (seconds - clock.begin) % DAY
+
+
+def check_one_day(counts: Counts, clock: Clock) -> None:
+    """Check the dates. Fault: the rows have several dates and the clock has none."""
+    dates = sorted({row.time.date() for row in counts.rows if isinstance(row.time, datetime.datetime)})
+    if clock.date is None and len(dates) > 1:
+        raise Fault(f'{counts.path} has {len(dates)} dates, {dates[0]} to {dates[-1]}: choose one in the file of the road: "date": "{dates[0]}"')
+
+
+def put_on_road(counts: Counts, clock: Clock, seconds: int, origin: float | None = None, is_reversed: bool = False) -> Measured:
+    """Place counts on a road whose run begins at the begin of the clock and lasts `seconds`.
+
+    origin: the km of the station table that is km 0 of the road. The default is 0, or the first main-line station if the table has miles
+    or is reversed.
+    is_reversed: km fall in the direction of travel.
+
+    Fault: the counts do not fit the run, or nothing is left to compare."""
+    check_one_day(counts, clock)
+    interval = find_interval(counts, clock)
+    if seconds % interval:
+        raise Fault(f"the run of {seconds / 60:g} minutes does not consist of whole intervals of {interval / 60:g} minutes: change `minutes`")
+    sign = -1 if is_reversed else 1
+    main = sorted((one for one in counts.stations.values() if not one.is_ramp), key=lambda one: sign * one.km)
+    if not main:
+        raise Fault(f"{counts.path}: no station is on the main line: mark at least two with type ML")
+    start = origin if origin is not None else main[0].km if main[0].is_mile or is_reversed else 0.0
+    notes: list[str] = []
+    placed: dict[str, list[PlacedRow]] = {name: [] for name in counts.stations}
+    for row in counts.rows:
+        placed[row.station].append(PlacedRow(row, find_step(clock, row)))
+    check_clock_changes(counts, clock, seconds, notes)
+    found: list[Series] = []
+    for station in counts.stations.values():
+        here = station._replace(km=round(sign * (station.km - start), 4))
+        lanes = station.lanes
+        if station.is_ramp:
+            lanes = find_lanes_downstream(station, main, sign)
+        found.append(make_series(counts, here, placed[station.name], lanes, interval, seconds, clock, notes))
+    lines = sorted((one for one in found if not one.station.is_ramp), key=lambda one: one.station.km)
+    ramps = sorted((one for one in found if one.station.is_ramp), key=lambda one: one.station.km)
+    lanes_differ = sorted({one.station.lanes for one in lines})
+    if len(lanes_differ) > 1:
+        notes.append(f"the stations have {' and '.join(map(str, lanes_differ))} lanes: the model has one lane, so it cannot show how the flow "
+                     "per lane changes with the number of lanes")
+    upstream, downstream = cut_at_exit(lines, ramps, notes)
+    return Measured(clock, interval, upstream, [one for one in ramps if one.station.km < upstream[-1].station.km], [*counts.notes, *notes])
+
+
+def find_lanes_downstream(ramp: Station, main: Iterable[Station], sign: int) -> int:
+    """Return the lanes of the next main-line station downstream of a ramp, or of the last station."""
+    stations = list(main)
+    return next((one.lanes for one in stations if sign * one.km >= sign * ramp.km), stations[-1].lanes)
+
+
+def make_series(counts: Counts, station: Station, rows: list[PlacedRow], lanes: int, interval: int, seconds: int, clock: Clock,
+              notes: list[str]) -> Series:
+    """Make the series of a station per lane, and add notes on missing and zero intervals."""
+    number = seconds // interval
+    cars: list[float | None] = [None] * number
+    speeds: list[float | None] = [None] * number
+    lines = [0] * number
+    odd = []
+    for row, step in rows:
+        if not 0 <= step < seconds:
+            continue
+        if step % interval:
+            odd.append(row.line)
+            continue
+        place = step // interval
+        cars[place] = row.cars / lanes * (interval / HOUR if counts.are_per_hour else 1)
+        speeds[place], lines[place] = row.speed, row.line
+    own = replace(counts, notes=[])
+    note_lines(own, odd, f"rows of station {station.name} do not begin at a whole interval of {interval // 60} minutes: ignored")
+    zero = [place for place, count in enumerate(cars) if count == 0]
+    faulty = [place for place in zero if is_suspicious(cars, place)]
+    note_lines(own, [lines[place] for place in zero if place not in faulty], f"rows of station {station.name} have no car")
+    note_lines(own, [lines[place] for place in faulty], f"rows of station {station.name} have no car between two that have many: treated as missing")
+    for place in faulty:
+        cars[place] = speeds[place] = None
+    missing = [place for place, count in enumerate(cars) if count is None and place not in faulty]
+    if missing:
+        times = ", ".join(clock.to_text(place * interval) for place in missing[:5]) + (", .." if len(missing) > 5 else "")
+        after = max((line for place, line in enumerate(lines) if line and place < missing[0]), default=0)
+        behind = f" (the first after line {after})" if after else ""
+        own.notes.append(f"{counts.path}: station {station.name} has no row for {len(missing)} interval{'s' * (len(missing) > 1)}, "
+                          f"at {times}{behind}")
+    notes += own.notes
+    return Series(station, cars, speeds)
+
+
+def is_suspicious(cars: list[float | None], place: int) -> bool:
+    """Return whether a zero is between two intervals with many cars."""
+    beside = [next((one for one in part if one), 0) for part in (cars[place::-1][1:], cars[place + 1:])]
+    return min(beside) >= SUSPICIOUS
+
+
+def check_clock_changes(counts: Counts, clock: Clock, seconds: int, notes: list[str]) -> None:
+    """Add a note if the clock changes in the window."""
+    if clock.zone is None:
+        return
+    offsets = [clock.to_datetime(step).utcoffset() for step in range(0, seconds + 1, 900)]
+    for place, (before, after) in enumerate(zip(offsets, offsets[1:])):
+        if before != after and before is not None and after is not None:
+            is_back = after < before
+            notes.append(f"{counts.path}: the clock changes at {clock.to_text((place + 1) * 900)} in {clock.zone}: an hour "
+                        + ("comes twice; rows without an offset from UTC belong to the first" if is_back else "is skipped"))
+
+
+def cut_at_exit(lines: list[Series], ramps: list[Series], notes: list[str]) -> tuple[list[Series], list[Series]]:
+    """Split the stations where the flow first falls by more than counting error, and add a note. Return both parts."""
+    for place, (one, following) in enumerate(zip(lines, lines[1:])):
+        both = [index for index, (before, after) in enumerate(zip(one.cars, following.cars)) if before is not None and after is not None]
+        before = math.fsum(one.cars[index] or 0 for index in both)
+        after = math.fsum(following.cars[index] or 0 for index in both)
+        joining = math.fsum(ramp.cars[index] or 0 for ramp in ramps for index in both
+                            if one.station.km <= ramp.station.km < following.station.km)
+        expected = before + joining
+        if expected - after > max(COUNTING_ERROR * expected, 3 * math.sqrt(expected)):
+            notes.append(f"from station {one.station.name} (km {one.station.km:g}) to {following.station.name} (km {following.station.km:g}) "
+                        f"the flow per lane falls from {expected:.0f} to {after:.0f} cars, as at an off-ramp, which the model does not have. "
+                        f"Only stations up to {one.station.name} are compared")
+            return lines[:place + 1], lines[place + 1:]
+    return lines, []

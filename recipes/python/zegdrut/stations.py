@@ -1,0 +1,302 @@
+"""Read measured counts of detector stations from CSV files, and check them.
+
+    counts = read_counts(Path("counts.csv"))                           # a header names the columns
+    counts = read_counts(Path("d07.txt"), read_stations(Path("stations.csv")))      # five-minute station data without a header
+    for sentence in counts.notes: ..                                   # faults of the data, with line numbers
+
+A header has `time` (when the interval begins), `km` or `station`, and `count` (cars in the interval) or `flow` (cars per hour, or
+per interval if the title says so: `flow veh/5min`). It may have `speed`, `lanes` and `type` (ML main line, OR on-ramp). The title of
+a column may contain its unit: `speed mph`, `speed_kmh`, `flow veh/h`, `miles`.
+
+Five-minute station data without a header has the columns: begin of the interval, station, district, freeway, direction, lane type,
+length, samples, percent observed, total flow (cars in the five minutes), occupancy, speed in mph, and then lanes. Its station table
+has a header with station, km or miles (postmiles), lanes, and perhaps type.
+"""
+from __future__ import annotations
+
+import csv
+import datetime
+import re
+from collections import Counter
+from dataclasses import dataclass, field
+from pathlib import Path
+from typing import Iterable, Mapping, NamedTuple
+
+from .errors import Fault
+
+MILE = 1.609344
+"""Kilometres."""
+ON_RAMP = ("OR", "ONRAMP", "RAMP")
+MAIN_LINE = ("ML", "MAIN", "MAINLINE", "")
+FIVE_MINUTES = ("time", "station", "district", "freeway", "direction", "type", "length", "samples", "percent observed", "count",
+                "occupancy", "speed mph")
+"""The first columns of station data without a header."""
+MOST_TOLD = 5
+"""The number of lines of one kind that a note names."""
+HEADERS = {
+    "time": ("time", "timestamp", "datetime", "begin", "start", "interval"),
+    "km": ("km", "kilometre", "kilometer", "position"),
+    "miles": ("mile", "miles", "postmile", "abs_pm", "abspm", "pm", "mp"),
+    "station": ("station", "id", "detector", "vds"),
+    "count": ("count", "counts", "cars", "vehicles", "total"),
+    "flow": ("flow", "volume", "rate"),
+    "speed": ("speed", "v"),
+    "lanes": ("lanes",),
+    "type": ("type", "kind", "lane_type"),
+    "direction": ("direction", "dir")}
+SPEED_UNITS = {"kmh": 1.0, "km/h": 1.0, "kph": 1.0, "mph": MILE, "m/s": 3.6, "ms": 3.6}
+
+
+class Station(NamedTuple):
+    """The place of a station: its km in the table (not yet on the road), its lanes, and whether it is on an on-ramp."""
+
+    name: str
+    km: float
+    lanes: int
+    is_ramp: bool = False
+    is_mile: bool = False
+    """Whether its place was given in miles. The zero of such a table is far away."""
+
+
+class Row(NamedTuple):
+    """The count of a station in an interval: cars on all lanes, and their mean speed in km/h if it is known. `time` is its begin."""
+
+    line: int
+    station: str
+    time: datetime.datetime | datetime.time
+    cars: float
+    speed: float | None
+
+
+@dataclass
+class Counts:
+    """Rows of stations, and notes on their faults."""
+
+    stations: dict[str, Station]
+    rows: list[Row]
+    path: str
+    are_per_hour: bool = False
+    """Whether `cars` of the rows are cars per hour."""
+    notes: list[str] = field(default_factory=list)
+
+
+# Reading
+
+def read_stations(path: Path, units: Mapping[str, str] | None = None) -> dict[str, Station]:
+    """Read a station table. Fault: a column is missing, or a value is invalid."""
+    lines, header = read_table(path)
+    columns = find_columns(path, header, ("station", "lanes"), units or {})
+    place = next((name for name in ("km", "miles") if name in columns), None)
+    if place is None:
+        raise Fault(f"{path}: no column is named km or miles: the columns are {', '.join(header)}")
+    found: dict[str, Station] = {}
+    for number, line in lines:
+        name = line[columns["station"]].strip()
+        kilometres = read_number(path, number, header, line, columns[place]) * (MILE if place == "miles" else 1)
+        lanes = int(read_number(path, number, header, line, columns["lanes"]))
+        if lanes < 1:
+            raise Fault(f"{path}, line {number}: lanes: {lanes} is invalid: 1 or more")
+        if name in found:
+            raise Fault(f"{path}, line {number}: station {name} is duplicate: remove one line")
+        found[name] = Station(name, kilometres, lanes, is_ramp(line[columns["type"]] if "type" in columns else ""),
+                              place == "miles")
+    return found
+
+
+def is_ramp(text: str) -> bool:
+    """Return whether a lane type is an on-ramp."""
+    return re.sub("[^A-Z]", "", text.upper()) in ON_RAMP
+
+
+def is_used(text: str) -> bool:
+    """Return whether a lane type is the main line or an on-ramp. Other types are ignored."""
+    return is_ramp(text) or re.sub("[^A-Z]", "", text.upper()) in MAIN_LINE
+
+
+def read_table(path: Path) -> tuple[list[tuple[int, list[str]]], list[str]]:
+    """Return the lines of a table with their numbers, and its header. Columns are separated by commas, semicolons or tabs."""
+    try:
+        text = path.read_text(encoding="utf-8-sig")
+    except OSError as fault:
+        raise Fault(f"{path}: {fault.strerror}") from None
+    except UnicodeDecodeError:
+        raise Fault(f"{path} is not text in UTF-8") from None
+    first = text.split("\n", 1)[0]
+    cut = max(",;\t", key=first.count)
+    lines = [(number, line) for number, line in enumerate(csv.reader(text.splitlines(), delimiter=cut), 1)
+             if any(cell.strip() for cell in line) and not line[0].startswith("#")]
+    if not lines:
+        raise Fault(f"{path} is empty")
+    return lines[1:], [cell.strip() for cell in lines[0][1]]
+
+
+def find_columns(path: Path, header: list[str], needed: Iterable[str], named: Mapping[str, str]) -> dict[str, int]:
+    """Return the index of each known column. `named` has titles that the user gives, such as {"speed": "v_mean"}."""
+    found: dict[str, int] = {}
+    for column, words in HEADERS.items():
+        if column in named:
+            if named[column] not in header:
+                raise Fault(f"{path}: no column {named[column]!r}: the columns are {', '.join(header)}")
+            found[column] = header.index(named[column])
+            continue
+        for place, title in enumerate(header):
+            plain = re.sub(r"[\[(].*", "", title.lower()).strip()
+            if place not in found.values() and (plain in words or plain.replace(" ", "_").split("_")[0] in words):
+                found[column] = place
+                break
+    missing = [column for column in needed if column not in found]
+    if missing:
+        raise Fault(f"{path}: no column is named {missing[0]}: the columns are {', '.join(header)}; choose one with `--column {missing[0]}=NAME`")
+    return found
+
+
+def read_number(path: Path, number: int, header: list[str], line: list[str], place: int) -> float:
+    """Return the number in a column of a line. Fault: it is not a number."""
+    try:
+        return float(line[place])
+    except (IndexError, ValueError):
+        value = line[place] if place < len(line) else ""
+        raise Fault(f"{path}, line {number}: {header[place]}: {value!r} is not a number") from None
+
+
+def read_counts(path: Path, stations: Mapping[str, Station] | None = None, columns: Mapping[str, str] | None = None,
+                units: Mapping[str, str] | None = None) -> Counts:
+    """Read the counts of stations. Fault: the file is not such a table, or the place of a station is unknown."""
+    lines, header = read_table(path)
+    if is_five_minutes(header):
+        if stations is None:
+            raise Fault(f"{path} is station data without a header: give a table of its stations with km or miles, and lanes "
+                        "(--stations TABLE.csv)")
+        return check_rows(read_five_minutes(path, [(1, header), *lines], stations))
+    return check_rows(read_with_header(path, header, lines, stations, columns or {}, units or {}))
+
+
+def is_five_minutes(first: list[str]) -> bool:
+    """Return whether the first line of a file belongs to station data without a header."""
+    return len(first) >= 12 and re.fullmatch(r"\d\d/\d\d/\d{4} \d\d:\d\d:\d\d", first[0]) is not None and first[1].isdigit()
+
+
+def read_five_minutes(path: Path, lines: list[tuple[int, list[str]]], stations: Mapping[str, Station]) -> Counts:
+    """Read station data without a header."""
+    counts, used, left_out, unseen = Counts({}, [], str(path)), dict[str, Station](), Counter[str](), list[int]()
+    for number, line in lines:
+        values = dict(zip(FIVE_MINUTES, line))
+        name, kind = values["station"], values["type"]
+        if name not in stations or not is_used(kind):
+            left_out[f"station {name}, type {kind}" + ("" if name in stations else ", which is not in the station table")] += 1
+            continue
+        try:
+            time = datetime.datetime.strptime(values["time"], "%m/%d/%Y %H:%M:%S")
+        except ValueError:
+            raise Fault(f"{path}, line {number}: time: {values['time']!r} is not month/day/year and a clock time") from None
+        used[name] = stations[name]._replace(is_ramp=is_ramp(kind))
+        if not values["count"].strip():
+            unseen.append(number)
+            continue
+        speed = values["speed mph"].strip()
+        if float(values["percent observed"] or 0) == 0:
+            unseen.append(number)  # (estimated by the keeper of the data, not counted)
+        counts.rows.append(Row(number, name, time, read_number(path, number, list(FIVE_MINUTES), line, 9),
+                               float(speed) * MILE if speed else None))
+    counts.stations = used
+    counts.notes += [f"{path}: {times} rows of {name}: ignored" for name, times in sorted(left_out.items())]
+    note_lines(counts, unseen, "rows have 0 % observed or no count: their counts are estimates or empty")
+    return counts
+
+
+def read_with_header(path: Path, header: list[str], lines: list[tuple[int, list[str]]], stations: Mapping[str, Station] | None,
+                     named: Mapping[str, str], units: Mapping[str, str]) -> Counts:
+    """Read counts with a header."""
+    columns = find_columns(path, header, ("time",), named)
+    what = "count" if "count" in columns else "flow"
+    place = next((name for name in ("station", "km", "miles") if name in columns), None)
+    if what not in columns or place is None:
+        raise Fault(f"{path}: no column is named {'count or flow' if what not in columns else 'km or station'}: the columns are "
+                    f"{', '.join(header)}; choose one with `--column count=NAME`")
+    if place == "station" and stations is None and "km" not in columns and "miles" not in columns:
+        raise Fault(f"{path} does not contain the km of its stations: give a table with km or miles, and lanes (--stations TABLE.csv)")
+    speeds = find_speed_unit(path, header[columns["speed"]], units) if "speed" in columns else 1.0
+    is_of_interval = re.search(r"min|interval", header[columns[what]].lower()) is not None  # ("flow veh/5min")
+    counts = Counts({}, [], str(path), are_per_hour=what == "flow" and not is_of_interval)
+    for number, line in lines:
+        name = line[columns[place]].strip()
+        if name not in counts.stations:
+            counts.stations[name] = find_station(path, number, header, line, columns, name, stations)
+        speed = line[columns["speed"]].strip() if "speed" in columns and columns["speed"] < len(line) else ""
+        counts.rows.append(Row(number, name, read_time(path, number, line[columns["time"]]),
+                               read_number(path, number, header, line, columns[what]),
+                               read_number(path, number, header, line, columns["speed"]) * speeds if speed else None))
+    return counts
+
+
+def find_station(path: Path, number: int, header: list[str], line: list[str], columns: Mapping[str, int], name: str,
+               stations: Mapping[str, Station] | None) -> Station:
+    """Return the station of a line, from the station table or from the line itself."""
+    if stations is not None:
+        if name not in stations:
+            raise Fault(f"{path}, line {number}: station {name} is not in the station table")
+        return stations[name]
+    place = "km" if "km" in columns else "miles"
+    kilometres = read_number(path, number, header, line, columns[place]) * (1 if place == "km" else MILE)
+    lanes = int(read_number(path, number, header, line, columns["lanes"])) if "lanes" in columns else 1
+    return Station(name, kilometres, lanes, is_ramp(line[columns["type"]]) if "type" in columns else False, place == "miles")
+
+
+def find_speed_unit(path: Path, title: str, units: Mapping[str, str]) -> float:
+    """Return the factor that converts a column of speeds to km/h. Fault: the unit is unknown."""
+    given = units.get("speed")
+    if given is not None and given not in SPEED_UNITS:
+        raise Fault(f"--unit speed={given}: unknown unit; the units are {', '.join(SPEED_UNITS)}")
+    known = [unit for unit in sorted(SPEED_UNITS, key=len, reverse=True) if re.search(rf"(?<![a-z]){unit}(?![a-z])", title.lower())]
+    if given is None and not known:
+        raise Fault(f"{path}: the column {title!r} has no unit: name it `speed km/h` or `speed mph`, or give --unit speed=mph")
+    return SPEED_UNITS[given or known[0]]
+
+
+def read_time(path: Path, number: int, text: str) -> datetime.datetime | datetime.time:
+    """Read a date and time, or a clock time. Fault: it is neither."""
+    text = text.strip()
+    for form in ("%H:%M", "%H:%M:%S", "%m/%d/%Y %H:%M:%S"):
+        try:
+            found = datetime.datetime.strptime(text, form)
+            return found if "%Y" in form else found.time()
+        except ValueError:
+            continue
+    try:
+        return datetime.datetime.fromisoformat(text)
+    except ValueError:
+        pass
+    raise Fault(f'{path}, line {number}: {text!r} is not a time: "07:05", "2026-03-02 07:05" or "03/02/2026 07:05:00"')
+
+
+# Checks
+
+def check_rows(counts: Counts) -> Counts:
+    """Add notes on duplicates, rows out of order and stations out of order. Keep the first of duplicate rows, and sort the rest."""
+    seen: dict[tuple[str, object], Row] = {}
+    twice, late, last = [], [], dict[str, Row]()
+    for row in counts.rows:
+        key = row.station, row.time
+        if key in seen:
+            twice.append(row.line)
+            continue
+        seen[key] = row
+        before = last.get(row.station)
+        if before is not None and type(before.time) is type(row.time) and row.time < before.time:  # type: ignore[operator]
+            late.append(row.line)
+        last[row.station] = row
+    counts.rows = list(seen.values())
+    note_lines(counts, twice, "rows have the station and time of an earlier row: only the first one counts (at the end of summer time, "
+                             "an hour comes twice)")
+    note_lines(counts, late, "rows are out of order in time: they are sorted")
+    order = [station.km for station in counts.stations.values() if not station.is_ramp]
+    if order != sorted(order) and order != sorted(order, reverse=True):
+        counts.notes.append(f"{counts.path}: its stations are out of order along the road: they are sorted by km")
+    return counts
+
+
+def note_lines(counts: Counts, lines: list[int], said: str) -> None:
+    """Add a note that names some lines."""
+    if lines:
+        shown = ", ".join(map(str, lines[:MOST_TOLD])) + (", .." if len(lines) > MOST_TOLD else "")
+        counts.notes.append(f"{counts.path}, line{'s' if len(lines) > 1 else ''} {shown}: {len(lines)} {said}")

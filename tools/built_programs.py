@@ -1,0 +1,98 @@
+"""The programs that this repository builds: where each lies, and what text it was made from.
+
+A program is the name of its crate. The proved one is crates/NAME/out/NAME, the unproved one NAME_unproved beside it.
+.ci/proved has one line for the kit that the gate ran with, and one line "NAME SUM" for each program that it proved.
+"""
+from __future__ import annotations
+
+import os
+import subprocess
+import sys
+from pathlib import Path
+
+TOP = Path(__file__).resolve().parent.parent
+sys.path.insert(0, str(TOP / "recipes" / "python"))
+from zegdrut import programs  # noqa: E402  (the only import of the package by these tools)
+
+LABORATORY, WITHIN, CALLS = "road_lab", "tests_within", "tests_failures"
+PROGRAMS = (LABORATORY, WITHIN, CALLS)
+PROVED_TEXTS = TOP / ".ci" / "proved"
+
+
+def crate_of(name: str) -> Path:
+    """Return the folder of a program's crate."""
+    return programs.CRATES / name
+
+
+def proved_path(name: str) -> Path:
+    """Return where the proved program is, or would be."""
+    return crate_of(name) / "out" / name
+
+
+def unproved_path(name: str) -> Path:
+    """Return where the unproved program is, or would be."""
+    return crate_of(name) / "out" / f"{name}_unproved"
+
+
+def text_of(name: str) -> str:
+    """Return the sum of the text that the crates have now."""
+    return programs.sum_text(name)
+
+
+def note(path: Path, text: str, proved: bool, checks: bool) -> None:
+    """Write beside a program what text it was made from."""
+    programs.write_record(path, text, proved, checks)
+
+
+def current_path(name: str, with_checks: bool = True) -> Path | None:
+    """Return a program that was made from the text that the crates have now, the proved one first; or None.
+
+    A proved laboratory without a note was built by hand: it counts too. `with_checks` False asks for one without the compiler's checks.
+    """
+    text = text_of(name)
+    for path in (proved_path(name), unproved_path(name)):
+        made = programs.read_record(path) if os.access(path, os.X_OK) else None
+        if made and made.text == text and (with_checks or not made.checks):
+            return path
+    by_hand = name == LABORATORY and os.access(proved_path(name), os.X_OK) and not has_note(proved_path(name))
+    return proved_path(name) if by_hand else None
+
+
+def has_note(path: Path) -> bool:
+    """Return whether the note beside a program describes this very program."""
+    return programs.read_record(path) is not None
+
+
+def standing(path: Path) -> str | None:
+    """Return what a user should know of a laboratory, in one sentence; None if it is proved from the present text."""
+    return programs.describe_standing(path)
+
+
+def find_unwritable(folder: Path) -> str | None:
+    """Return why this user cannot write to a folder, or make it, in a sentence; None if that is possible."""
+    nearest = folder.absolute()
+    while not nearest.exists():
+        nearest = nearest.parent
+    if not nearest.is_dir():
+        return f"{nearest} is not a folder."
+    return None if os.access(nearest, os.W_OK | os.X_OK) else f"You may not write to {nearest}."
+
+
+def kit_name() -> str:
+    """Return the line that names the kit. Raises OSError or CalledProcessError if `rt` does not run."""
+    return subprocess.run(["rt", "version"], capture_output=True, text=True, check=True).stdout.strip()
+
+
+def is_proved_by_gate(name: str, kit: str) -> bool:
+    """Return whether .ci/proved says that the gate proved the present text of a program with this kit."""
+    try:
+        lines = PROVED_TEXTS.read_text(encoding="utf-8").splitlines()
+    except OSError:
+        return False
+    return kit in lines and f"{name} {text_of(name)}" in lines
+
+
+def note_gate(texts: dict[str, str], kit: str) -> None:
+    """Write to .ci/proved which text of each program the gate proved."""
+    lines = [kit, *(f"{name} {text}" for name, text in texts.items())]
+    PROVED_TEXTS.write_text("\n".join(lines) + "\n", encoding="utf-8")

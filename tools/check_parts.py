@@ -1,0 +1,146 @@
+"""The parts of ./check: what each runs, its programs, and how many processors it takes."""
+from __future__ import annotations
+
+import os
+import subprocess
+from dataclasses import dataclass, replace
+from pathlib import Path
+from typing import Iterable, Sequence
+
+import packages
+from built_programs import (CALLS, LABORATORY, PROGRAMS, WITHIN, current_path, is_proved_by_gate, kit_name, proved_path,
+                            unproved_path)
+
+FIRST, GATE = "pages", "proof"  # FIRST takes seconds: if it fails, nothing is proved for an hour
+NO_KIT = "there is no `rt` on the PATH: add the bin folder of the Rattle kit"
+MOST = 64  # of processors: all that there are
+MINUTES_OF_MUTANTS = 10
+
+
+@dataclass(frozen=True)
+class Part:
+    """A part: bash lines, run in turn at the top of the repository. They name programs as $road_lab and the like.
+
+    `before` are the parts that must have passed before it starts; `left_out` says why it cannot run, if it cannot. One
+    `without_checks` needs programs without the compiler's checks; what one that `is_shown` says is printed as it comes.
+    """
+
+    name: str
+    what: str
+    lines: tuple[str, ...]
+    programs: tuple[str, ...] = ()
+    processors: int = 1
+    before: tuple[str, ...] = ()
+    left_out: str = ""
+    only_proved: bool = False
+    is_shown: bool = False
+    needs_kit: bool = False
+    without_checks: bool = False
+    environment: tuple[tuple[str, str], ...] = ()
+
+
+def all_parts() -> list[Part]:
+    """Return the parts in the order in which they start: those that take long come early."""
+    return [
+        Part(FIRST, "the pages: limits, links, definitions as in specs/, and plain English", ("tools/definitions --check", "tools/check-pages")),
+        Part("live", "live, with real browsers, brokers and faults", ("ROAD_LAB=$road_lab live/test",), (LABORATORY,), 4),
+        Part("failures", "every failure of a call to the outside in turn",
+             ("tools/fail-in-turn --program $road_lab --within $tests_within --calls $tests_failures --jobs $processors",),
+             (LABORATORY, WITHIN, CALLS), 3, without_checks=True),
+        Part("unproved", "the program without a proof, with checks and without", ("tests/unproved",), processors=2, needs_kit=True),
+        Part("process", "the program in its process: words, streams, limits", ("tests/process --program $road_lab",), (LABORATORY,)),
+        Part("recipes", "the recipes, beside figures of other programs", ("ROAD_LAB=$road_lab recipes/test",), (LABORATORY,)),
+        Part("types", "the types of the Python package", ("recipes/python/types",)),
+        Part("viewer", "the viewer, in a real browser", ("viewer/test",), processors=2),
+        Part("refused-uses", "what must not compile", (".ci/refused-uses",), needs_kit=True),
+        Part("lost-worker", "a worker that has gone is missed", (".ci/lost-worker",), needs_kit=True),
+        Part("scripts", "the scripts of examples/ and tests/scripts", ("tests/run --program $road_lab",), (LABORATORY,)),
+        Part("node", "live's page: modules that need no browser, and the types of all",
+             ("node --test live/tests/*.test.mjs", "tsc -p live/page")),
+        Part("commands", "./start, ./check, due mutants, and the check of plain English",
+             ("ROAD_LAB=$road_lab tests/commands", "tests/mutants", "tests/plain_english"), (LABORATORY,)),
+        Part("mutants", "mutants that are due, for ten minutes (under --proof)",
+             (f"tools/try-mutants --due --minutes {MINUTES_OF_MUTANTS}",), processors=MOST, only_proved=True),
+    ]
+
+
+def chosen(names: Sequence[str], proof: bool) -> list[Part]:
+    """Return the parts of these names, or all; without a proof not those that need one, unless they are named."""
+    return [part for part in all_parts() if part.name in names or not names and (proof or not part.only_proved)]
+
+
+def with_programs(parts: Iterable[Part], proof: bool) -> list[Part]:
+    """Return the parts behind what makes their programs: the proof, or a compilation of each program that is not there."""
+    lacking = [without_packages(part) for part in parts]
+    if proof:
+        first = [part for part in lacking if part.name == FIRST]
+        proved = {name: proved_path(name) for name in PROGRAMS}
+        return [*first, gate(tuple(part.name for part in first)), *(by_programs(part, proved, (GATE,)) for part in lacking if part not in first)]
+    kit = find_kit()
+    runnable = [without_kit(part, kit) for part in lacking]
+    wanted = {name for part in runnable if not part.left_out for name in part.programs}
+    found = {name: find_program(name, kit) for name in PROGRAMS if name in wanted}
+    makers = [make(name, kit) for name, path in found.items() if path is None]
+    paths = {name: path or unproved_path(name) for name, path in found.items()}
+    return [*makers, *(by_programs(part, paths, before(part, makers)) for part in runnable)]
+
+
+def without_packages(part: Part) -> Part:
+    """Leave a part out if a package that it needs is missing; the recipes leave out some of theirs by themselves."""
+    missing = packages.find_missing([part.name])
+    return replace(part, left_out=f"not installed: {' '.join(missing)}") if missing and part.name != "recipes" else part
+
+
+def without_kit(part: Part, kit: str | None) -> Part:
+    """Leave a part out if it needs the kit, which is not there, or programs without checks, which cannot be made."""
+    if part.left_out:
+        return part
+    if kit is None and part.needs_kit:
+        return replace(part, left_out=NO_KIT)
+    for name in part.programs if part.without_checks else ():
+        if current_path(name, with_checks=False) is None and not (kit and is_proved_by_gate(name, kit)):
+            return replace(part, left_out=f"{name} is not proved, and .ci/proved does not name its present text: so it can only "
+                           "be made with checks, under which no call can be made to fail")
+    return part
+
+
+def find_kit() -> str | None:
+    """Return the line that names the kit, or None if there is no kit."""
+    try:
+        return kit_name()
+    except (OSError, subprocess.CalledProcessError):
+        return None
+
+
+def find_program(name: str, kit: str | None) -> Path | None:
+    """Return a program of the present text. None: one has to be made, also if the gate has proved the text meanwhile."""
+    given = os.environ.get("ROAD_LAB") if name == LABORATORY else None
+    if given:
+        return Path(given).absolute()
+    return current_path(name, with_checks=not (kit and is_proved_by_gate(name, kit)))
+
+
+def gate(before: tuple[str, ...]) -> Part:
+    """Prove everything, and note which text that was."""
+    return Part(GATE, "", ("text=$(tools/prove-program --text)", "rt ci", "tools/prove-program --record $text"), processors=MOST,
+                before=before, is_shown=True)
+
+
+def make(name: str, kit: str | None) -> Part:
+    """Make a program without a proof."""
+    return Part(maker_name(name), "", (f"tools/try-program {name}",), left_out="" if kit else NO_KIT)
+
+
+def maker_name(program: str) -> str:
+    return f"make {program}"
+
+
+def before(part: Part, makers: Sequence[Part]) -> tuple[str, ...]:
+    """Return what must have been made before a part starts: its programs. `unproved` looks at the laboratory's folder."""
+    names = (*part.programs, LABORATORY) if part.name == "unproved" else part.programs
+    return tuple(maker.name for maker in makers if maker.name in map(maker_name, names))
+
+
+def by_programs(part: Part, paths: dict[str, Path], before: tuple[str, ...]) -> Part:
+    """Give a part the paths of its programs, and the parts to wait for."""
+    return replace(part, environment=tuple((name, str(paths[name])) for name in part.programs if name in paths), before=before)

@@ -1,0 +1,90 @@
+"""The Debian packages that ./start and ./check use: which are missing, and their installation. packages.txt lists them."""
+from __future__ import annotations
+
+import importlib.util
+import os
+import shutil
+import sys
+from dataclasses import dataclass
+from pathlib import Path
+from typing import Collection, Iterable
+
+import processes
+
+LIST = Path(__file__).resolve().with_name("packages.txt")
+DEBIAN_PYTHON = "/usr/bin/python3"
+START, BROKER = "start", "broker"  # ./start, and what it needs besides if it has a broker
+HEADERS = Path("/usr/include")
+
+
+@dataclass(frozen=True)
+class Package:
+    """A package, what shows that it is there, and who uses it."""
+
+    name: str
+    kind: str
+    probe: str
+    users: frozenset[str]
+
+    def is_installed(self) -> bool:
+        if self.kind == "module":
+            return is_module(self.probe)
+        if self.kind == "command":
+            return shutil.which(self.probe, path=f"{os.environ.get('PATH', '')}:/usr/sbin") is not None
+        return (HEADERS / self.probe).exists()
+
+
+def is_module(name: str) -> bool:
+    """Return whether this Python finds a module."""
+    try:
+        return importlib.util.find_spec(name) is not None
+    except ModuleNotFoundError:  # the package that the module would lie in
+        return False
+
+
+def use_debian_python() -> None:
+    """Run this script again with Debian's Python, whose modules Debian's packages are, unless it is the one that runs."""
+    if sys.prefix != "/usr" and os.path.exists(DEBIAN_PYTHON):
+        os.execv(DEBIAN_PYTHON, [DEBIAN_PYTHON, *sys.argv])
+
+
+def read_list() -> list[Package]:
+    """Return all packages of the list."""
+    lines = [line.split() for line in LIST.read_text(encoding="utf-8").splitlines() if line and not line.startswith("#")]
+    return [Package(name, kind, probe, frozenset(users)) for name, kind, probe, *users in lines]
+
+
+def find_missing(users: Collection[str]) -> list[str]:
+    """Return the packages that one of these users needs, and that are not installed."""
+    return [package.name for package in read_list() if package.users.intersection(users) and not package.is_installed()]
+
+
+def command_line(missing: Iterable[str]) -> str:
+    """Return the line that a user types to install packages."""
+    return f"sudo apt-get install --no-install-recommends {' '.join(missing)}"
+
+
+def may_install() -> bool:
+    """Return whether this user may install packages."""
+    return os.geteuid() == 0 and shutil.which("apt-get") is not None
+
+
+def install(missing: list[str]) -> None:
+    """Install packages, and say so. Raises processes.Failed, with what apt-get said, if that fails."""
+    quiet = {**os.environ, "DEBIAN_FRONTEND": "noninteractive"}
+    with processes.Step(f"installing {' '.join(missing)}") as step:
+        for words in (["update", "-q"], ["install", "-q", "-y", "--no-install-recommends", *missing]):
+            processes.run_quietly(["apt-get", *words], step, env=quiet)
+    importlib.invalidate_caches()
+
+
+def provide(users: Collection[str]) -> list[str]:
+    """Install what these users need, if this user may. Return what is still missing."""
+    missing = find_missing(users)
+    if missing and may_install():
+        try:
+            install(missing)
+        except processes.Failed as fault:
+            print(f"not installed: {fault}", file=sys.stderr, flush=True)
+        missing = find_missing(users)
+    return missing

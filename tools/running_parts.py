@@ -1,0 +1,162 @@
+"""Runs the parts of ./check side by side, and tells what came of each."""
+from __future__ import annotations
+
+import os
+import shutil
+import signal
+import subprocess
+import sys
+import time
+from collections import Counter
+from dataclasses import dataclass, field
+from pathlib import Path
+from typing import Sequence
+
+import processes
+from built_programs import TOP
+from check_parts import Part
+
+LOOK = 0.2  # seconds
+LONGEST = 3_600  # seconds of a part that shows nothing
+PASSED, FAILED, LEFT_OUT = "ok", "FAILED", "left out"
+SAYS_LEFT_OUT = "left out: "  # how a test's own line begins if it leaves something out
+
+
+@dataclass
+class Run:
+    """A part that runs."""
+
+    part: Part
+    log: Path
+    process: subprocess.Popen[bytes]
+    processors: int
+    began: float = field(default_factory=time.monotonic)
+    shown: int = 0
+
+    def seconds(self) -> float:
+        return time.monotonic() - self.began
+
+    def is_too_long(self) -> bool:
+        return not self.part.is_shown and self.seconds() > LONGEST
+
+    def show_new_lines(self) -> None:
+        """Print what the log has got since the last call."""
+        with open(self.log, "rb") as log:
+            log.seek(self.shown)
+            new = log.read()
+        self.shown += len(new)
+        sys.stdout.write(new.decode(errors="replace"))
+        sys.stdout.flush()
+
+
+class Report:
+    """Prints one line for each part, and counts. If it is strict, a part that is left out has not passed."""
+
+    def __init__(self, folder: Path, is_strict: bool) -> None:
+        self.folder, self.is_strict, self.outcomes = folder, is_strict, dict[str, str]()
+        shutil.rmtree(folder, ignore_errors=True)
+        folder.mkdir(parents=True)
+        self._width, self._counts = 0, sys.stdout.isatty()
+
+    def add(self, part: Part, outcome: str, seconds: float = 0.0, why: str = "") -> None:
+        """Note how a part ended, and print its line."""
+        self.clear()
+        self.outcomes[part.name] = outcome
+        time_of_it = f"{seconds:5.0f} s" if outcome != LEFT_OUT else ""
+        print(f"{part.name:<20} {outcome:<9}{time_of_it}{why and ' ' + why}", flush=True)
+
+    def show_running(self, runs: Sequence[Run]) -> None:
+        """Print on a terminal, in a line that the next one replaces, what runs."""
+        if self._counts and runs:
+            text = "running: " + ", ".join(f"{run.part.name} {run.seconds():.0f} s" for run in runs)
+            text = text[:shutil.get_terminal_size().columns - 1]
+            print("\r" + text.ljust(self._width), end="", flush=True)
+            self._width = len(text)
+
+    def clear(self) -> None:
+        if self._counts and self._width:
+            print("\r" + " " * self._width + "\r", end="")
+            self._width = 0
+
+    def has_passed(self) -> bool:
+        counts = Counter(self.outcomes.values())
+        return not counts[FAILED] and not (self.is_strict and counts[LEFT_OUT])
+
+    def closing_line(self) -> str:
+        """Return the line that says how many parts passed and failed; CI reads it."""
+        counts = Counter(self.outcomes.values())
+        failed = counts[FAILED] + counts[LEFT_OUT] * self.is_strict
+        skipped = counts[LEFT_OUT] * (not self.is_strict)
+        return f"{counts[PASSED]} passed, {failed} failed" + (f", {skipped} skipped" if skipped else "")
+
+
+def run_all(parts: Sequence[Part], processors: int, report: Report) -> None:
+    """Run parts, as many at a time as processors allow, and report each. All end before an exception leaves."""
+    waiting, running = list(parts), list[Run]()
+    try:
+        while waiting or running:
+            for run in [run for run in running if run.process.poll() is not None or run.is_too_long()]:
+                running.remove(run)
+                finish(run, report)
+            waiting = [part for part in waiting if not settle(part, running, processors, report)]
+            for run in running:
+                if run.part.is_shown:
+                    run.show_new_lines()
+            report.show_running(running)
+            time.sleep(LOOK)
+    finally:
+        report.clear()
+        end_all(running)
+
+
+def settle(part: Part, running: list[Run], processors: int, report: Report) -> bool:
+    """Start a part if it may start now, or leave it out if it never can. Return whether one of these was done."""
+    if part.left_out:
+        report.add(part, LEFT_OUT, why=part.left_out)
+        return True
+    failed = [name for name in part.before if report.outcomes.get(name, PASSED) != PASSED]
+    if failed:
+        report.add(part, LEFT_OUT, why=f"since {failed[0]} has not passed")
+        return True
+    needed = min(part.processors, processors)
+    may_start = all(name in report.outcomes for name in part.before)
+    if may_start and sum(run.processors for run in running) + needed <= processors:
+        running.append(begin(part, needed, report.folder))
+        return True
+    return False
+
+
+def begin(part: Part, processors: int, folder: Path) -> Run:
+    """Start a part."""
+    log = folder / f"{part.name.replace(' ', '-')}.log"
+    variables = {**os.environ, **dict(part.environment), "processors": str(processors)}
+    with open(log, "wb") as said:
+        process = processes.start(["bash", "-euc", "\n".join(part.lines)], cwd=TOP, env=variables, stdin=subprocess.DEVNULL,
+                                  stdout=said, stderr=said)
+    return Run(part, log, process, processors)
+
+
+def finish(run: Run, report: Report) -> None:
+    """Report a part that has ended, or that takes too long."""
+    is_too_long = run.process.poll() is None
+    processes.end(run.process)
+    if run.part.is_shown:
+        run.show_new_lines()
+    passed = not is_too_long and run.process.returncode == 0
+    why = "" if passed else f"longer than {LONGEST} s" if is_too_long else f"status {run.process.returncode}"
+    report.add(run.part, PASSED if passed else FAILED, run.seconds(), why)
+    said = run.log.read_text(encoding="utf-8", errors="replace")
+    if not passed and not run.part.is_shown:
+        print(f"{said.rstrip()}\n({run.log})", flush=True)
+    elif passed:
+        for line in said.splitlines():
+            if line.startswith(SAYS_LEFT_OUT):
+                print(f"{'':<20} {line}", flush=True)
+
+
+def end_all(running: Sequence[Run]) -> None:
+    """Tell all parts to end, then wait for each."""
+    for run in running:
+        processes.tell(run.process, signal.SIGINT)
+    for run in running:
+        processes.wait_for_end(run.process)
