@@ -2,9 +2,9 @@
 // store.
 
 import {MOST_OBJECTS, isTooLate} from "./geometry.mjs";
-import {placesText, shapeText, spanText, takenZonesText, valueText} from "./sentences.mjs";
-import {known, layersOf} from "./store.mjs";
-import {LAST_STEP, chanceText, kmText, limitText, timeText, whole} from "./units.mjs";
+import {placesText, shapeText, takenZonesText, valueText} from "./sentences.mjs";
+import {need, layersOf, store} from "./store.mjs";
+import {LAST_STEP, chanceText, kmText, limitText, whole} from "./units.mjs";
 
 /** @typedef {import("./types.mjs").Area} Area */
 /** @typedef {import("./types.mjs").Change} Change */
@@ -18,7 +18,7 @@ import {LAST_STEP, chanceText, kmText, limitText, timeText, whole} from "./units
  */
 export function faultOfValue(kind, first, from) {
   if (kind !== "inflow") return "A chance is 0 to 100 %.";
-  const [plan, mine] = [known("plan"), layersOf("mine")];
+  const [plan, mine] = [need("plan"), layersOf("mine")];
   const curve = mine.curveAt(first, from);
   if (!curve) return MEASURED;
   const [limit, slowing] = plan.zones[Math.floor(plan.inlets[first][0] / plan.zone)];
@@ -38,12 +38,12 @@ const MEASURED = "What this inlet admits is being measured: a few seconds more."
  */
 export function areaOfShape(shape, old = null, few = false) {
   const {kind, first, last, from, to, value} = shape;
-  const [plan, mine] = [known("plan"), layersOf("mine")];
+  const [plan, mine] = [need("plan"), layersOf("mine")];
   const isValid = !Number.isNaN(value);
   const note = isValid ? shapeText(mine, shape) : "";
   const what = isValid ? valueText(mine, kind, value, first, from) : "";
   const lines = [what, placesText(plan, kind, first, last),
-                 takenZonesText(plan, kind, first, last), spanText(from, to)].filter(Boolean);
+                 takenZonesText(plan, kind, first, last), mine.day.spanText(from, to)].filter(Boolean);
   const fault = few ? "Less than half of a zone is covered: with Shift it is taken, whole."
     : faultOf(shape);
   return {shape, note, lines, fault, old};
@@ -54,7 +54,7 @@ export function areaOfShape(shape, old = null, few = false) {
  */
 function faultOf(shape) {
   const {kind, first, last, from, value} = shape;
-  if (isTooLate(shape)) return `The road's clock ends at ${timeText(LAST_STEP)}.`;
+  if (isTooLate(shape)) return `The road's clock ends at ${store.day.timeText(LAST_STEP)}.`;
   if (last - first >= MOST_OBJECTS) return `At most ${kmText(MOST_OBJECTS)} km are closed at once.`;
   return Number.isNaN(value) ? faultOfValue(kind, first, from) : "";
 }

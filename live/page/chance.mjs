@@ -5,9 +5,9 @@ import {assign} from "./assign.mjs";
 import {askDays, daysAsked, daysShown, dropDays, dropOldDays, stopDays} from "./days.mjs";
 import {$, button, childrenOf, element, findElement, headCell, row} from "./elements.mjs";
 import {changeText, halfText, meanText, sureText} from "./estimates.mjs";
-import {known, store, when} from "./store.mjs";
+import {need, store, watch} from "./store.mjs";
 import {ORDER} from "./tables.mjs";
-import {kmText, timeText} from "./units.mjs";
+import {kmText} from "./units.mjs";
 
 /** @typedef {import("./types.mjs").DaysFigure} DaysFigure */
 /** @typedef {import("./types.mjs").DaysFigures} DaysFigures */
@@ -32,7 +32,7 @@ const NAMES = {vehicle_hours: "Vehicle hours", lost: "Lost demand, cars",
 function nameOf({name}) {
   const [what, place] = name.split(" ");
   return NAMES[name] ?? (what === "cars"
-    ? `Cars at ${kmText(known("plan").detectors[Number(place)])} km` : "Seconds to the road's end");
+    ? `Cars at ${kmText(need("plan").detectors[Number(place)])} km` : "Seconds to the road's end");
 }
 
 /** Ask whether the table has a figure. The seconds to detectors are saved alone: it would be too
@@ -40,7 +40,7 @@ function nameOf({name}) {
  * @param {DaysFigure} figure
  */
 const isShown = ({name}) => !name.startsWith("seconds ")
-  || known("plan").detectors[Number(name.split(" ")[1])] === undefined;
+  || need("plan").detectors[Number(name.split(" ")[1])] === undefined;
 
 /** @type {(text: string, small: string) => HTMLElement} */
 const cell = (text, small) => element("td", text, {}, element("small", small));
@@ -60,7 +60,7 @@ function tableOf(said, isPreview) {
       : cell(meanText(one[side]), halfText(one[side])))),
     cell(changeText(one.difference), sureText(one.difference))));
   return element("table", "", {className: "over"},
-    element("caption", `${daysText(said)}, ${timeText(from)} to ${timeText(to)}`),
+    element("caption", `${daysText(said)}, ${store.day.timeText(from)} to ${store.day.timeText(to)}`),
     element("thead", "", {}, row(element("td"), ...heads.map((head) => headCell(head)))),
     element("tbody", "", {}, ...lines));
 }
@@ -95,13 +95,13 @@ function showAsking(place) {
 /** @typedef {[asking: keyof PageElements, table: keyof PageElements, one: keyof PageElements]} Ids */
 /** @typedef {import("./elements.mjs").PageElements} PageElements */
 /** @type {Ids} */
-const OF_PREVIEW = ["beforeDays", "beforeOver", "beforeFigures"];
+const OF_PREVIEW = ["previewDays", "previewOver", "previewFigures"];
 /** @type {Ids} */
 const OF_BOTH = ["days", "over", "oneDay"];
 
 /** Show the days of what is compared. */
 function showDays() {
-  const isPreview = Boolean(store.before);
+  const isPreview = Boolean(store.preview);
   const [asking, table, one] = isPreview ? OF_PREVIEW : OF_BOTH;
   if (!findElement(asking)) return;
   showAsking($(asking));
@@ -114,7 +114,7 @@ function showDays() {
 
 /** Listen to the store. */
 export function begin() {
-  when(["days", "before", "me"], showDays);
-  when(["lines"], dropOldDays);
+  watch(["days", "preview", "me"], showDays);
+  watch(["changes"], dropOldDays);
   showDays();
 }

@@ -1,11 +1,11 @@
 // Actions: the two roads that are compared are asked over many days, and that is stopped.
 
 import {ask} from "./asking.mjs";
-import {changed, known, layersOf, store, tell} from "./store.mjs";
+import {notify, need, layersOf, store, tell} from "./store.mjs";
 import {periodShown} from "./view.mjs";
 
 /** Return how many days the server runs. */
-export const daysAsked = () => store.most.days;
+export const daysAsked = () => store.limits.days;
 
 /** Return a key that differs once one of the two roads has changed. */
 const keyNow = () => [layersOf("mine").next, layersOf("shared").next].join();
@@ -13,7 +13,7 @@ const keyNow = () => [layersOf("mine").next, layersOf("shared").next].join();
 /** Return what is compared: the roads of the preview if there is one, else mine and shared.
  * @returns {"preview" | "mine"}
  */
-export const comparedNow = () => (store.before ? "preview" : "mine");
+export const comparedNow = () => (store.preview ? "preview" : "mine");
 
 /** Return the question about what is compared; null if there is none. */
 export const daysShown = () => (store.days?.of === comparedNow() ? store.days : null);
@@ -28,13 +28,13 @@ export async function askDays() {
   /** @type {import("./types.mjs").Days} */
   const days = {of: comparedNow(), key: keyNow(), done: 0, said: null};
   store.days = days;
-  changed("days");
-  const said = await ask({days: {at: known("me").at, of: days.of, from, to}},
+  notify("days");
+  const said = await ask({days: {at: need("me").at, of: days.of, from, to}},
     {quiet: ["stopped"], stands: () => store.days === days});
   if (store.days !== days) return;
   if (said && !("refused" in said)) days.said = said;
   else store.days = null;
-  changed("days");
+  notify("days");
 }
 
 /** Note how many days are done.
@@ -43,11 +43,11 @@ export async function askDays() {
 export function hearDays({done}) {
   if (!store.days) return;
   store.days.done = done;
-  changed("days");
+  notify("days");
 }
 
 /** Stop the question. Its answer is that of the days that are done. */
-export const stopDays = () => ask({days: {at: known("me").at, of: null}});
+export const stopDays = () => ask({days: {at: need("me").at, of: null}});
 
 /** Forget the answer, or the question. */
 export function dropDays() {
@@ -55,7 +55,7 @@ export function dropDays() {
   const {said} = store.days;
   store.days = null;
   if (!said) stopDays();
-  changed("days");
+  notify("days");
 }
 
 /** Forget what was asked about roads that have changed since. */

@@ -3,12 +3,12 @@
 import {assign} from "./assign.mjs";
 
 /**
- * The elements by their ids. A preview has those that begin with "before" and follow the title.
- * @typedef {Record<"me" | "clock" | "figuresPart" | "news" | "before" | "hint", HTMLElement>
+ * The elements by their ids. A preview has those that begin with "preview" and follow the title.
+ * @typedef {Record<"me" | "clock" | "figuresPart" | "news" | "preview" | "hint", HTMLElement>
  *   & Record<"line" | "said" | "who" | "helloSaid" | "readout" | "days" | "figuresNote" | "emptyHint"
- *            | "pastRest" | "seriesRead" | "beforeTitles", HTMLParagraphElement>
+ *            | "pastRest" | "seriesRead" | "previewTitles", HTMLParagraphElement>
  *   & Record<"others" | "rates" | "stop" | "values" | "exactTitle" | "toolHint" | "stride" | "period"
- *            | "beforeDays", HTMLSpanElement>
+ *            | "previewDays", HTMLSpanElement>
  *   & Record<"hour" | "ahead" | "back" | "savePicture" | "saveTranscript" | "saveScript"
  *            | "saveFigures" | "saveReport" | "saveCounts" | "saveChanges" | "undo" | "redo" | "apply"
  *            | "dropChange" | "closer" | "farther" | "wholeRoad" | "shareAll", HTMLButtonElement>
@@ -17,10 +17,10 @@ import {assign} from "./assign.mjs";
  *   & Record<"save" | "asTable" | "sites" | "past" | "series", HTMLDetailsElement>
  *   & Record<"hello", HTMLDialogElement>
  *   & Record<"helloForm" | "exact", HTMLFormElement>
- *   & Record<"beforeTitle", HTMLHeadingElement>
- *   & Record<"seats" | "over" | "oneDay" | "beforeBody" | "beforeCovers" | "beforeOver"
- *            | "beforeFigures", HTMLDivElement>
- *   & Record<"seatList" | "stays" | "legend" | "warnings" | "beforeList" | "seriesLegend", HTMLUListElement>
+ *   & Record<"previewTitle", HTMLHeadingElement>
+ *   & Record<"seats" | "over" | "oneDay" | "previewBody" | "previewCovers" | "previewOver"
+ *            | "previewFigures", HTMLDivElement>
+ *   & Record<"seatList" | "stays" | "legend" | "warnings" | "previewList" | "seriesLegend", HTMLUListElement>
  *   & Record<"tools" | "whose", HTMLFieldSetElement>
  *   & Record<"limit" | "inlet" | "site" | "watch" | "span" | "paint" | "seriesSite", HTMLSelectElement>
  *   & Record<"kmFromLabel" | "kmToLabel", HTMLLabelElement>

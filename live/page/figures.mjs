@@ -5,12 +5,12 @@
 
 import {boxSums} from "../../viewer/drawing.mjs";
 import {$, element, headCell, on, row, showList} from "./elements.mjs";
-import {exactOf, reckon} from "./fetching.mjs";
-import {caughtIn} from "./layers.mjs";
+import {exactOf, refreshFigures} from "./fetching.mjs";
+import {countTrapped} from "./layers.mjs";
+import {setOpen} from "./looking.mjs";
 import {placesText} from "./sentences.mjs";
-import {known, layersOf, roadOf, store, when, whoseShown} from "./store.mjs";
-import {HOUR, KMH_A_CELL, durationText, kmText, plural, signedText, timeText, whole}
-  from "./units.mjs";
+import {need, layersOf, roadOf, store, watch, whoseShown} from "./store.mjs";
+import {HOUR, KMH_A_CELL, durationText, kmText, plural, signedText, whole} from "./units.mjs";
 import {everyShown} from "./view.mjs";
 
 /** @typedef {import("./store.mjs").RoadName} RoadName */
@@ -70,7 +70,7 @@ function laterText(exact, place) {
  * @param {Figures | null} exact
  */
 function travelRow(exact) {
-  const place = known("plan").detectors.length;
+  const place = need("plan").detectors.length;
   const text = (/** @type {number | null} */ value) =>
     (value === null ? NO_CAR : `${whole(value)} s`);
   const cells = !exact ? [AWAITED, AWAITED, AWAITED]
@@ -89,7 +89,7 @@ function detectorRows(period, exact) {
   const seconds = period[1] - period[0];
   const awaited = () => element("td", AWAITED, {},
     element("small", AS_WIDE, {className: "awaited"}));
-  return known("plan").detectors.map((cell, index) => {
+  return need("plan").detectors.map((cell, index) => {
     const head = headCell(`Cars at ${kmText(cell)} km`, "row");
     if (!counts) return row(head, awaited(), awaited(), element("td", AWAITED));
     const [mine, shared] = counts.map((one) => one[index]);
@@ -108,7 +108,7 @@ const sum = (numbers) => numbers.reduce((one, other) => one + other, 0);
  * @param {Span} period
  */
 function hoursOf(whose, period) {
-  const minutes = roadOf(whose).minutes.within(period);
+  const minutes = roadOf(whose).minutes.find(period);
   return minutes && sum(minutes) / HOUR;
 }
 
@@ -141,7 +141,7 @@ function showFigures() {
   if (store.clock.rate && hours.includes(null)) return;
   const exact = exactOf(period);
   const lost = exact ? [exact.after, exact.before].map((one) => sum(one.lost)) : [null, null];
-  const [from, to] = period.map(timeText);
+  const [from, to] = period.map((step) => store.day.timeText(step));
   $("period").textContent = period[1] > period[0] ? `${from} to ${to}` : "";
   const heads = ["mine", "shared", "mine \u2212\u00a0shared"].map((name) => headCell(name));
   $("figures").replaceChildren(
@@ -154,7 +154,7 @@ function showFigures() {
     + (scatter >= 1 ? ` (\u00b1 ${whole(scatter)} by chance)` : "")
     + ". Seconds: from the inlet; on the right, delay.";
   showWarnings(exact);
-  if ($("asTable").open) showSpeeds(period);
+  if (store.isOpen.asTable) showSpeeds(period);
 }
 
 // Warnings.
@@ -164,7 +164,7 @@ function showFigures() {
  * @param {Figures} exact
  */
 function lostWarnings({after, before}) {
-  return known("plan").inlets.flatMap(([cell], inlet) => {
+  return need("plan").inlets.flatMap(([cell], inlet) => {
     const [lost, asked] = [after.lost[inlet], after.asked[inlet]];
     const isByChance = lost <= Math.max(LOST * asked, after.scatter[inlet]);
     if (isByChance || lost <= before.lost[inlet]) return [];
@@ -184,7 +184,7 @@ function caught(frame) {
   const end = Math.min(to ?? Infinity, mine.horizon, from + CAUGHT);
   const at = Math.floor((end - 1) / level.every);
   const text = at * level.every > from && level.fresh[at] ? level.rows[at] : undefined;
-  return caughtIn(layersOf("mine"), frame, text ?? "");
+  return countTrapped(layersOf("mine"), frame, text ?? "");
 }
 
 /** Return warnings of cars that stand in closures. */
@@ -193,9 +193,9 @@ function closureWarnings() {
     const cars = frame.kind === "block" && frame.value ? caught(frame) : 0;
     if (!cars) return [];
     const until = frame.to === null ? "and it does not open"
-      : `until it opens at ${timeText(frame.to)}`;
+      : `until it opens at ${store.day.timeText(frame.to)}`;
     return [`${plural(cars, "car stands", "cars stand")} in the closure `
-      + `${placesText(known("plan"), "block", frame.first, frame.last)}, ${until}.`];
+      + `${placesText(need("plan"), "block", frame.first, frame.last)}, ${until}.`];
   });
 }
 
@@ -235,7 +235,7 @@ function speedText(sums, other, box) {
  */
 function showSpeeds([from, to]) {
   const [picture, other] = whoseShown().map((whose) => roadOf(whose).level(everyShown()));
-  const {length} = known("plan");
+  const {length} = need("plan");
   const wide = Math.ceil(length / TABLE_COLUMNS);
   const high = Math.max(picture.every, Math.ceil((to - from) / TABLE_ROWS / 60) * 60);
   const heads = Array.from({length: Math.ceil(length / wide)}, (_, index) => {
@@ -246,7 +246,7 @@ function showSpeeds([from, to]) {
   for (let start = Math.floor(from / high) * high; start < to; start += high) {
     const sums = boxSums(picture, start, start + high, wide);
     const beside = other ? boxSums(other, start, start + high, wide) : null;
-    body.push(row(headCell(`from ${timeText(start)}`, "row"),
+    body.push(row(headCell(`from ${store.day.timeText(start)}`, "row"),
       ...heads.map((_, box) => element("td", speedText(sums, beside, box)))));
   }
   const caption = other ? `Mean speeds in km/h, ${whoseShown()[0] === "after" ? "then less now"
@@ -257,9 +257,12 @@ function showSpeeds([from, to]) {
 
 /** Listen to the store and to the page. */
 export function begin() {
-  on("asTable", "toggle", () => { if (store.plan) reckon(); });
-  when(["plan", "figures"], showFigures);
-  when(["before"], () => {
-    $("figuresPart").hidden = $("warnings").hidden = Boolean(store.before);
+  on("asTable", "toggle", () => {
+    setOpen("asTable", $("asTable").open);
+    if (store.plan) refreshFigures();
+  });
+  watch(["plan", "figures"], showFigures);
+  watch(["preview"], () => {
+    $("figuresPart").hidden = $("warnings").hidden = Boolean(store.preview);
   });
 }

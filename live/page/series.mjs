@@ -3,9 +3,10 @@
 
 import {assign} from "./assign.mjs";
 import {$, element, on} from "./elements.mjs";
-import {askSeries} from "./fetching.mjs";
-import {known, store, when} from "./store.mjs";
-import {kmText, timeText, whole} from "./units.mjs";
+import {askSeries, chooseSite, readPoint} from "./fetching.mjs";
+import {setOpen} from "./looking.mjs";
+import {need, store, watch} from "./store.mjs";
+import {kmText, whole} from "./units.mjs";
 
 /** @typedef {import("./types.mjs").DetectorFigures} DetectorFigures */
 /** @typedef {[x: number, y: number]} Point          pixels */
@@ -22,14 +23,11 @@ const CHARTS = [{id: "flowChart", unit: "cars/h", of: ({flow}) => flow, least: 5
                 {id: "speedChart", unit: "km/h", of: ({speed}) => speed, least: 135}];
 const TALL_ENOUGH = 880;        // pixels of a window in which it is open from the first on
 
-/** @type {number | null} */
-let seen = null;                // the point that is read
-
 /** Return the values of a side at the detector, one for each span; null if nothing was counted.
  * @param {DetectorFigures[][]} flows
  * @param {Chart["of"]} of
  */
-const pointsOf = (flows, of) => flows.map((span) => of(span[Number($("seriesSite").value)]));
+const pointsOf = (flows, of) => flows.map((span) => of(span[store.series.site]));
 
 /** Return the next greater round figure.
  * @param {number} value     above 0
@@ -58,7 +56,7 @@ function clearedCanvas(canvas) {
  * @param {DetectorFigures[][][]} flows      of each road, in each span
  */
 function drawChart({id, unit, of, least}, flows) {
-  const {series: {from, to, each}} = store;
+  const {day, series: {from, to, each, point: read}} = store;
   const [context, width, height] = clearedCanvas($(id));
   const sides = flows.map((one) => pointsOf(one, of));
   const top = niceAbove(Math.max(least, ...sides.flat().map((value) => value ?? 0)));
@@ -79,13 +77,13 @@ function drawChart({id, unit, of, least}, flows) {
   const times = [[from, "left"], [(from + to) / 2, "center"], [to, "right"]];
   for (const [step, align] of times) {
     context.textAlign = align;
-    context.fillText(timeText(step), across(step), height - 7);
+    context.fillText(day.timeText(step), across(step), height - 7);
   }
   sides.forEach((points, side) => drawLine(context, points.map((value, index) =>
     value === null ? null : [across(from + (index + 0.5) * each), up(value)]), side));
-  if (seen === null) return;
+  if (read === null) return;
   assign(context, {strokeStyle: "#1a1a1a", lineWidth: 1});
-  context.strokeRect(across(from + (seen + 0.5) * each), TOP, 0, high);
+  context.strokeRect(across(from + (read + 0.5) * each), TOP, 0, high);
 }
 
 /** Draw a line through points, with a gap where there is none.
@@ -114,42 +112,32 @@ function valueText({flow, speed}) {
 }
 
 /** Show what is read of the charts. */
-function showSeen() {
-  const {series: {flows, names, from, to, each}} = store;
-  if (seen === null || !flows?.[0][seen]) {
+function showReading() {
+  const {day, series: {flows, names, from, to, each, site, point}} = store;
+  if (point === null || !flows?.[0][point]) {
     $("seriesRead").textContent = "Point at a chart, or use the arrow keys there, to read it.";
     return;
   }
-  const site = Number($("seriesSite").value);
-  const [point, start] = [seen, from + seen * each];
+  const start = from + point * each;
   const texts = [1, 0].map((side) => `${names[side]} ${valueText(flows[side][point][site])}`);
-  $("seriesRead").textContent = `${timeText(start)}\u2013${timeText(Math.min(to, start + each))}: `
+  $("seriesRead").textContent = `${day.spanText(start, Math.min(to, start + each))}: `
     + texts.join("; ");
 }
 
 /** Show the charts, if they are open. */
 function show() {
-  const {series: {flows, names}} = store;
+  const {isOpen, series: {flows, names, site}} = store;
   $("series").hidden = !flows;
-  if (!flows || !$("series").open) return;
-  if (seen !== null && seen >= flows[0].length) seen = null;
+  if ($("series").open !== isOpen.series) $("series").open = isOpen.series;
+  $("seriesSite").value = String(site);
+  if (!flows || !isOpen.series) return;
   $("seriesLegend").replaceChildren(...[1, 0].map((side) => {
     const line = element("span", "", {className: "swatch"});
     line.style.background = COLOURS[side];
     return element("li", "", {}, line, names[side]);
   }));
   for (const chart of CHARTS) drawChart(chart, flows);
-  showSeen();
-}
-
-/** Read a point of the charts; null: none.
- * @param {number | null} point
- */
-function read(point) {
-  const {flows} = store.series;
-  if (!flows) return;
-  seen = point === null ? null : Math.max(0, Math.min(flows[0].length - 1, point));
-  show();
+  showReading();
 }
 
 /** Return the point of a chart at which the pointer is.
@@ -167,26 +155,31 @@ function onKey(event) {
   const way = event.key === "ArrowLeft" ? -1 : event.key === "ArrowRight" ? 1 : 0;
   if (!way || !store.series.flows) return;
   event.preventDefault();
-  read((seen ?? (way > 0 ? -1 : store.series.flows[0].length)) + way);
+  const {point, flows: [one]} = store.series;
+  readPoint((point ?? (way > 0 ? -1 : one.length)) + way);
 }
 
 /** Fill the choice of a detector by the plan. */
 function showPlan() {
-  $("seriesSite").replaceChildren(...known("plan").detectors.map((cell, index) =>
+  $("seriesSite").replaceChildren(...need("plan").detectors.map((cell, index) =>
     new Option(`${kmText(cell)} km`, String(index))));
 }
 
 /** Listen to the store and to the page. */
 export function begin() {
-  $("series").open = window.innerHeight >= TALL_ENOUGH;
+  setOpen("series", window.innerHeight >= TALL_ENOUGH);
   for (const {id} of CHARTS) {
-    on(id, "pointermove", (event) => read(pointAt(event, $(id))));
-    on(id, "pointerleave", () => read(null));
+    on(id, "pointermove", (event) => readPoint(pointAt(event, $(id))));
+    on(id, "pointerleave", () => readPoint(null));
     on(id, "keydown", onKey);
   }
-  on("seriesSite", "change", show);
-  on("series", "toggle", () => { if (store.plan) askSeries(); show(); });
+  on("seriesSite", "change", () => chooseSite(Number($("seriesSite").value)));
+  on("series", "toggle", () => {
+    setOpen("series", $("series").open);
+    if (store.plan) askSeries();
+  });
   new ResizeObserver(show).observe($("flowChart"));
-  when(["plan"], showPlan);
-  when(["series"], show);
+  watch(["plan"], showPlan);
+  watch(["series", "isOpen"], show);
+  show();
 }

@@ -3,7 +3,7 @@
 
 import {Words} from "./listing.mjs";
 import {byStamp} from "./stamps.mjs";
-import {dayText, kmText, plural} from "./units.mjs";
+import {kmText, plural} from "./units.mjs";
 
 /** @typedef {import("./types.mjs").DaysFigures} DaysFigures */
 /** @typedef {import("./types.mjs").DetectorFigures} DetectorFigures */
@@ -126,9 +126,9 @@ export function tableOfDays(plan, of, {figures, days}) {
  */
 export function tableOfChanges(layers) {
   const words = new Words(layers, NOBODY);
-  const lines = [...layers.lines.values()].sort((one, other) => byStamp(one.name, other.name));
+  const changes = [...layers.changes.values()].sort((one, other) => byStamp(one.name, other.name));
   return [["change", "who", "what", "when", "does", "shared", "in force", "covered"],
-          ...lines.flatMap((line, index) => line.operations.map((done) =>
-            [index + 1, done.who, done.note || words.text(line), dayText(done.when), done.does,
-             done.shared ? "yes" : "no", words.parts(line, true), words.parts(line, false)]))];
+          ...changes.flatMap((change, index) => change.operations.map((done) =>
+            [index + 1, done.who, done.note || words.text(change), layers.day.dateText(done.when), done.does,
+             done.shared ? "yes" : "no", words.parts(change, true), words.parts(change, false)]))];
 }

@@ -115,6 +115,7 @@
  * A road by which the curves of its inlets are known at each step; null: it is measured just now.
  * @typedef {object} MeasuredRoad
  * @property {Plan} plan
+ * @property {import("./dayclock.mjs").DayClock} day
  * @property {(inlet: number, step: number) => Curve | null} curveAt
  */
 
@@ -176,8 +177,12 @@
  * @property {{rows: number, bytes: number, days: number}} [most]
  * @property {Broker | null} broker
  * @property {string} [standing]
- * @property {{begin: number | null, zone: string | null, date?: string | null} | null} [day]  the
- *   time of day of step 0, in seconds after midnight, the time zone, and the date
+ * @property {ToldDay | null} [day]
+ */
+
+/**
+ * The time of day of step 0 in seconds after midnight, the time zone, and the date.
+ * @typedef {{begin: number | null, zone: string | null, date?: string | null}} ToldDay
  */
 
 /**
@@ -220,19 +225,19 @@
  */
 
 /**
- * What is looked at before sharing or taking.
+ * What is asked before sharing or taking.
  * @typedef {object} Preview
  * @property {"mine" | "shared" | "both"} whose   the road that was seen before
  * @property {boolean} takes
  * @property {string[] | undefined} names         of the changes to share; undefined: all
- * @property {Change[]} lines         what is shared
+ * @property {Change[]} changes       what is shared
  * @property {Stamp[]} stamps
  * @property {ReturnType<typeof setTimeout>} [soon]   until figures are asked for
  */
 
 /**
  * What sharing or taking would change. What is not known yet is null.
- * @typedef {object} Previewed
+ * @typedef {object} Outcome
  * @property {string} why             why it cannot be said; "": it can
  * @property {import("./layers.mjs").Layers | null} layers    of the road that it would be
  * @property {Stamp[]} names          of the changes that would be shown otherwise

@@ -60,9 +60,9 @@ PRESS = FOUND + "one.click(); return true;"
 SETTLED = """
     const [done] = arguments;
     import("/page/store.mjs").then(({store}) => {
-      const isQuiet = () => store.pending.size === 0 && store.asking === 0 && !store.line.waits()
-        && [...store.line.open.values()].every(({command}) => command.figures ?? command.days)
-        && !store.drawing && !store.idle && !store.figures.asking;
+      const isQuiet = () => store.pending.size === 0 && store.openRowQuestions === 0 && !store.connection.countWaiting()
+        && [...store.connection.questions.values()].every(({command}) => command.figures ?? command.days)
+        && !store.isDrawing && !store.idleTimer && !store.figures.asking;
       const end = performance.now() + 1000;
       let since = null;
       const look = () => {
@@ -112,12 +112,12 @@ TRUTH = """
       const one = document.getElementById(id);
       return `${id}${one?.checkVisibility() ? "" : " (hidden)"}: ${one?.textContent.trim().replace(/\\s+/g, " ")}`;
     };
-    const {line, pending, asking, drawing, idle, figures} = store ?? {};
-    return [document.title, ...["said", "line", "clock", "news", "own", "held", "before"].map(shown),
+    const {connection, pending, openRowQuestions, isDrawing, idleTimer, figures} = store ?? {};
+    return [document.title, ...["said", "line", "clock", "news", "own", "held", "preview"].map(shown),
             `save is open: ${document.getElementById("save")?.open}`,
             `is hidden: ${document.hidden}, has the focus: ${document.hasFocus()}`,
-            JSON.stringify({open: line && [...line.open.values()].map(({command}) => command), waits: line?.waits(),
-                            pending: pending?.size, asking, drawing, idle, figures: figures?.asking}),
+            JSON.stringify({open: connection && [...connection.questions.values()].map(({command}) => command), waits: connection?.countWaiting(),
+                            pending: pending?.size, openRowQuestions, isDrawing, idleTimer, figures: figures?.asking}),
             window.over ?? "", "what befell it:", ...(window.befell ?? [])];"""
 
 
@@ -372,8 +372,8 @@ class Tab:
 
 def before_rows(tab: Tab) -> dict[str, tuple[float, ...]]:
     """The table of what sharing or taking would change: now, then, the change."""
-    tab.until(lambda: tab.script("return document.querySelector('#before table') !== null"), "the figures")
-    rows = tab.script("return [...document.querySelectorAll('#before tbody tr')].map((line) => "
+    tab.until(lambda: tab.script("return document.querySelector('#preview table') !== null"), "the figures")
+    rows = tab.script("return [...document.querySelectorAll('#preview tbody tr')].map((line) => "
                       "[...line.children].map((one) => one.textContent))")
     number = lambda text: float(text.replace(",", "").replace("−", "-").replace("+", "") or "nan")
     return {name: tuple(map(number, values)) for name, *values in rows}

@@ -185,7 +185,7 @@ class OneFreeway(BrowserCase):
         said = "Closed, 3–3.3 km, 0:20:00–0:25:00"
         self.assertEqual(tab.text("readout"), said)
         tab.script("runAnHour()")
-        tab.until(lambda: tab.script("return store.look.step") == 3600, "an hour later")
+        tab.until(lambda: tab.script("return store.extent.step") == 3600, "an hour later")
         self.assertEqual(tab.text("readout"), said)
         tab.drop()
         self.assertEqual(tab.lines("own"), ["Closed 3–3.3 km, 0:20:00–0:25:00 private"])

@@ -134,7 +134,7 @@ class OneFreeway(BrowserCase):
             const take = line.take.bind(line), send = socket.send.bind(socket);
             line.take = (value) => (value.rows ? setTimeout(() => take(value), 1000) : take(value));
             socket.send = (text) => {
-              if (store.asking) beside.push(Object.keys(JSON.parse(text))[1]);
+              if (store.openRowQuestions) beside.push(Object.keys(JSON.parse(text))[1]);
               send(text);
             };""")
         tab.tool("block")

@@ -36,12 +36,12 @@ class OneTab(BrowserCase):
         self.assertNotEqual(self.pointer(tab, 300, 1200), "ns-resize")
         self.assertEqual(self.pointer(tab, 300, 2400), "ns-resize")
         tab.tool("look")
-        step = tab.script("return store.look.step")
+        step = tab.script("return store.extent.step")
         tab.drag((300, 1800), (300, 2000))  # (where only the covered one had an edge, at its side)
         self.assertEqual(len(tab.lines("own")), 2)
-        spans = "return [...store.layers.mine.lines.values()].map(({shape: {from, to}}) => [from, to])"
+        spans = "return [...store.layers.mine.changes.values()].map(({shape: {from, to}}) => [from, to])"
         self.assertEqual(tab.script(spans), [[1200, 1800], [600, 2400]])
-        self.assertEqual(tab.script("return store.look.step"), max(0, step - 200) if step else 0)
+        self.assertEqual(tab.script("return store.extent.step"), max(0, step - 200) if step else 0)
 
     def test_edges_that_are_not_seen_cannot_be_drawn(self) -> None:
         tab, = self.open(FREEWAY)
@@ -93,7 +93,7 @@ class OneTab(BrowserCase):
         tab.until(lambda: tab.script("return store.pending.size") == 0, "confirmed")
         tab.settled()
         shown = """
-            return [...store.layers.mine.lines.values()].sort((one, other) => byStamp(one.name, other.name))
+            return [...store.layers.mine.changes.values()].sort((one, other) => byStamp(one.name, other.name))
               .map(({shown}) => shown.map(({by}) => by === null));"""
         # Each is in force before and behind the next one, in which it is covered by all that follow; the last one is whole.
         wanted = [[True, *[False] * (2 * (119 - count) - 1), True] for count in range(119)] + [[True]]
@@ -196,7 +196,7 @@ class OneForm(BrowserCase):
         self.assertFalse(tab.part("dropChange").is_displayed())
         self.assertEqual(tab.text("apply"), "Close")
         tab.in_figures(kmFrom="1.5", kmTo="1.65", timeTo="0:35")
-        self.assertEqual([line["does"] for gesture in tab.script("return [...store.layers.mine.lines.values()]")
+        self.assertEqual([line["does"] for gesture in tab.script("return [...store.layers.mine.changes.values()]")
                           for line in gesture["operations"]], ["put"])
 
     def test_another_tool_leaves_the_line_as_it_is(self) -> None:

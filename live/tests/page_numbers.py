@@ -44,7 +44,7 @@ class Numbers(BrowserCase):
             tab.until(lambda: "…" not in tab.text("figures") and tab.text("period") == "0:00:00 to 0:07:00", "the figures")
             edits = tab.driver.execute_async_script("""
                 const [done] = arguments;
-                Promise.all(["shared", store.me.at].map((at) => store.line.ask({scenario: {at}}))).then((said) => done(said.map(({edits}) => edits)));""")
+                Promise.all(["shared", store.me.at].map((at) => store.connection.ask({scenario: {at}}))).then((said) => done(said.map(({edits}) => edits)));""")
             before, after = (Run(plan, one, STEPS) for one in edits)
             cost = compare(before, after, 0, STEPS)
             self.shown_is(tab, plan, before, after, cost)

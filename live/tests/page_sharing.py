@@ -20,7 +20,7 @@ class Sharing(BrowserCase):
         self.assertFalse(ben.part("news").is_displayed())
         ada.press("Share all")
         ada.settled()
-        self.assertIn("Nothing would be covered.", ada.text("beforeBody"))
+        self.assertIn("Nothing would be covered.", ada.text("previewBody"))
         self.assertIn("then sloweras fastthen faster", ada.text("legend"))
         jam = ada.pixel(17.5, 22.5)
         ada.press("Share now")
@@ -28,7 +28,7 @@ class Sharing(BrowserCase):
         ben.press("Look first")
         ben.settled()
         self.assertFalse(ben.part("news").is_displayed())  # "Take now" is asked: there is one way to take
-        self.assertIn("Closed 0.18–0.188 km, 0:00:12–0:00:24 Ada, ", ben.text("beforeBody"))
+        self.assertIn("Closed 0.18–0.188 km, 0:00:12–0:00:24 Ada, ", ben.text("previewBody"))
         # In the cells 15 to 19 of the steps 20 to 24 Ada's cars have, by the example's rows, the speeds 3, 1, 3, 0, 3, 0, 0,
         # 2, 0, 0, 3, 0, 0, 0, and Ben's drive 3: hers are slower, by half of the scale, which is a middling red;
         # for both, as the legend says.
@@ -66,9 +66,9 @@ class Sharing(BrowserCase):
         self.assertEqual(ada.covers("held"), ["Wholly covered by your limit of 27 km/h."])
         self.assertEqual(ada.value_at("limit", 0, 1200, 1500, 1800, 2400), [1, 1, 1, 3])
         ada.press("Share all")
-        ada.until(lambda: "then: wholly covered by your limit" in ada.text("beforeBody"), "who is covered")
+        ada.until(lambda: "then: wholly covered by your limit" in ada.text("previewBody"), "who is covered")
         self.assertIn("Ben: 54 km/h, 0–0.3 km, 0:25:00–0:30:00 – then: wholly covered by your limit of 27 km/h.",
-                      ada.text("beforeBody"))
+                      ada.text("previewBody"))
         ada.press("Share now")
         ada.settled()
         ben.take()
@@ -116,15 +116,15 @@ class Sharing(BrowserCase):
         ada.press("Share all")
         ada.settled()
         ada.script("""
-            const {left, top} = document.querySelector("#before .buttons button").getBoundingClientRect();
+            const {left, top} = document.querySelector("#preview .buttons button").getBoundingClientRect();
             const beneath = Object.assign(document.createElement("button"), {textContent: "what comes there"});
             Object.assign(beneath.style, {position: "fixed", left: `${left}px`, top: `${top}px`, width: "8rem",
                                           height: "3rem"});
-            Object.assign($("before").style, {position: "relative", zIndex: 1});
+            Object.assign($("preview").style, {position: "relative", zIndex: 1});
             window.pressed = 0;
             beneath.addEventListener("click", () => { pressed++; });
             document.body.append(beneath);""")
-        first = ada.part("beforeBody").find_element(By.TAG_NAME, "button")
+        first = ada.part("previewBody").find_element(By.TAG_NAME, "button")
         ActionChains(ada.driver, duration=0).double_click(first).perform()
         ada.until(lambda: ada.text("said") == "Shared 1 change.", "shared")
         self.assertEqual(ada.script("return pressed"), 0)
@@ -308,15 +308,15 @@ class Sharing(BrowserCase):
         self.assertEqual(self.looked_at(ada)[0], "Share 1 change?")
         ada.press("Withdraw: 54 km/h")
         ada.settled()
-        self.assertFalse(ada.part("before").is_displayed())
+        self.assertFalse(ada.part("preview").is_displayed())
         self.assertEqual(ada.script("return store.layers.shared.valueAt('limit', 0, 2400)"), 3)
         ben.take()
         self.assertEqual(ben.lines("held"), ["27 km/h, 0–0.3 km, 0:20:00–0:35:00 shared"])
 
     def looked_at(self, tab: Tab) -> list[str]:
         """What is looked at before it is shared or taken: how much, and what."""
-        return [tab.text("beforeTitle"), *tab.script(
-            "return [...document.querySelectorAll('#beforeBody > ul > li')].map((one) => one.firstChild.data)")]
+        return [tab.text("previewTitle"), *tab.script(
+            "return [...document.querySelectorAll('#previewBody > ul > li')].map((one) => one.firstChild.data)")]
 
     def test_what_comes_while_it_is_looked_at_is_looked_at_too(self) -> None:
         ada, ben = self.open(FREE_ROAD)

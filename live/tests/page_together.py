@@ -38,7 +38,7 @@ class TwoTabs(BrowserCase):
         ada.until(lambda: ada.text("news").startswith("Cron shared 3 changes: “night”, “works”."), "news")
         ada.press("Look first")
         ada.settled()
-        lines = ("return [...document.querySelectorAll('#beforeBody > p, #beforeBody > ul')].slice(0, 2).flatMap((one) => "
+        lines = ("return [...document.querySelectorAll('#previewBody > p, #previewBody > ul')].slice(0, 2).flatMap((one) => "
                  "one.children.length ? [...one.children].map((line) => line.firstChild.data) : [one.textContent])")
         ada.until(lambda: "cars/h" in str(ada.script(lines)), "what the inlet admits is measured")
         title, *said = ada.script(lines)
@@ -259,7 +259,7 @@ class TwoTabs(BrowserCase):
     def test_what_is_pending_is_kept_in_the_tab(self) -> None:
         ada, _ = self.open(FREE_ROAD)
         ada.run_an_hour()
-        ada.script("store.line.connect = () => {}")  # so that it stays away until it is loaded anew
+        ada.script("store.connection.connect = () => {}")  # so that it stays away until it is loaded anew
         self.server.kill()
         ada.until(lambda: "is kept in this tab, also when it is loaded anew" in ada.text("said"), "it is told")
         ada.tool("limit")
@@ -275,7 +275,7 @@ class TwoTabs(BrowserCase):
         ada.until(lambda: ada.lines("own") == wanted, "what was pending")
         ada.settled()
         # Where nothing is kept, it is not said.
-        ada.script("Storage.prototype.setItem = () => { throw new Error('full') }; store.line.connect = () => {}")
+        ada.script("Storage.prototype.setItem = () => { throw new Error('full') }; store.connection.connect = () => {}")
         self.server.kill()
         ada.until(lambda: "as long as this tab is not closed" in ada.text("said"), "it is told")
         ada.tool("limit")
@@ -347,7 +347,7 @@ class ThreeTabs(BrowserCase):
             tab.share_all()
         for tab in tabs:
             tab.take()
-        held = [tab.script("return [...store.layers.mine.lines.values()].map(({name, shape, shown}) => "
+        held = [tab.script("return [...store.layers.mine.changes.values()].map(({name, shape, shown}) => "
                            "JSON.stringify([name, shape, shown])).sort()") for tab in tabs]
         self.assertEqual(held[0], held[1])
         self.assertEqual(held[0], held[2])

@@ -57,7 +57,7 @@ test("changes are named as on the page, with real names, and what covers them", 
     height: name, standing: true, shared: true, shown,
     operations: [{stamp: name, who, note: "", when: 0, does: "put", shared: true, undoes: null, lost: null}]});
   const layers = new Layers(PLAN);
-  layers.take(decodeList({next: 1, layers: [line([6, 66], "=Ben", 900, [["limit", 2, 3, 900, 1800, 2, null]]),
+  layers.update(decodeList({next: 1, layers: [line([6, 66], "=Ben", 900, [["limit", 2, 3, 900, 1800, 2, null]]),
     line(stamp, "Ada", 600, [["limit", 2, 3, 600, 900, 2, null], ["limit", 2, 3, 900, 1800, 2, [6, 66]]])]}));
   assert.deepEqual(csvOf("x", tableOfChanges(layers)).split("\n").slice(1), [
     "change,who,what,when,does,shared,in force,covered",
