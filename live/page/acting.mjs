@@ -10,10 +10,10 @@ import {isCovered, privateOf} from "./layers.mjs";
 import {askSeries} from "./fetching.mjs";
 import {listChanges} from "./listing.mjs";
 import {refreshDiagram} from "./looking.mjs";
+import * as messages from "./messages.mjs";
 import {Road} from "./rows.mjs";
 import {keyOf} from "./stamps.mjs";
 import {isOwn, layersOf, need, notify, roadOf, store, tell} from "./store.mjs";
-import {plural} from "./units.mjs";
 import {periodShown} from "./view.mjs";
 
 /** @typedef {import("./types.mjs").Area} Area */
@@ -33,8 +33,6 @@ const PREVIEWED = ["before", "after"];
 const TIMINGS = 50;             // that are kept
 const LOOKS = 500;              // milliseconds: who shares sooner wants no figures
 const LONGEST_NOTE = 200;
-const UNSHARED = "Nothing was shared, since the connection is lost: share it once it is back.";
-const UNTAKEN = "Nothing was taken, since the connection is lost: take it once it is back.";
 
 /** Put a shape, or alter a change by it.
  * @param {Area} area
@@ -83,7 +81,7 @@ export function putAgain(change, {stamp}) {
  * @param {boolean} [out]
  */
 export function excludeSite(site, out = true) {
-  const note = `Site ${site} is ${out ? "left out" : "let in again"}`;
+  const note = `Site ${site} is ${out ? "excluded" : "included again"}`;
   act({site: {site, out, note}}, {note});
 }
 
@@ -93,9 +91,8 @@ export const undoNewest = () => queuePress("undo");
 /** Redo the last own operation that was undone, pending or not. */
 export const redoNewest = () => queuePress("redo");
 
-const NOTHING = {undo: "There is nothing of yours to undo.",
-                 redo: "There is nothing of yours to redo."};
-const DONE = {undo: "Taken back", redo: "Put again"};
+const NOTHING = {undo: messages.NOTHING_TO_UNDO, redo: messages.NOTHING_TO_REDO};
+const DONE = {undo: "Undone", redo: "Redone"};
 
 /** Return what an operation was first called, by its stamp, or by its key while it is pending; ""
  * if that is not known any more.
@@ -104,7 +101,7 @@ const DONE = {undo: "Taken back", redo: "Put again"};
 function noteOf(called) {
   const note = typeof called === "string" ? store.pending.get(called)?.note ?? ""
     : layersOf("mine").findByOperation(called)?.note || store.notes.get(keyOf(called)) || "";
-  return note.replace(/^(Taken back|Put again)(: |$)/, "")
+  return note.replace(/^(Undone|Redone)(: |$)/, "")
     .replace(/^On top: /, "the place on top of ");
 }
 
@@ -141,11 +138,7 @@ function warnOfBlocked(stamp) {
   const [blocked] = store.pending.size ? [] : layersOf("mine").blocked;
   if (!blocked || keyOf(blocked.stamp) === store.passedOver) return false;
   store.passedOver = keyOf(blocked.stamp);
-  const what = noteOf(blocked.stamp);
-  const more = stamp === null ? "There is nothing else of yours to undo."
-    : "Z again undoes the change before it.";
-  tell(`${blocked.by.join(" and ") || "Somebody"} changed your last change since`
-    + `${what ? ` (${what})` : ""}: it cannot be undone. ${more}`, true);
+  tell(messages.undoBlocked(blocked.by, noteOf(blocked.stamp), stamp === null), true);
   return true;
 }
 
@@ -170,7 +163,7 @@ function act(command, {note, shape, first, does = "lay", undoes, taken = ""}) {
 export function persistPending() {
   store.isPersisted = keep(sessionStorage, need("me").at, store.pending);
   if (!store.isPersisted && store.isAway && store.pending.size) {
-    tell("This tab keeps nothing: close it, and what is pending is lost.", true);
+    tell(messages.NOT_PERSISTED, true);
   }
 }
 
@@ -180,7 +173,7 @@ export function restorePending() {
   if (acts.length && at === need("me").at) {
     store.pending = new Map([...acts, ...store.pending]);
   } else if (acts.length) {
-    tell(`${plural(acts.length, "change")} of another seat could not be sent, and is lost.`, true);
+    tell(messages.pendingOfOtherSeat(acts.length), true);
     persistPending();
   }
 }
@@ -201,7 +194,7 @@ export async function send(key) {
   if (timing) assign(timing, {confirmed: performance.now(), us: isDone ? said.us : undefined});
   if (isDone) {
     store.notes.set(keyOf(said.stamp), note);
-    tell(`${note}: done${store.whose === "shared" ? ", on your own road" : ""}.${taken}`);
+    tell(messages.done(note, act.does !== "lay", store.whose === "shared") + taken);
     if (said.touched !== null && said.touched < first) roadOf("mine").invalidate(said.touched);
     await takeLayers("mine", said);
   }
@@ -298,9 +291,9 @@ export function refreshLists() {
  */
 async function share(changes, stamps) {
   const told = {at: need("me").at, name: "shared", stamps: stamps.map(encodeStamp)};
-  const said = await ask({send: told}, {away: UNSHARED});
+  const said = await ask({send: told}, {away: messages.NOT_SHARED});
   if (!said || "refused" in said) return;
-  tell(`Shared ${plural(changes.length, "change")}.`);
+  tell(messages.shared(changes.length));
   if (said.touched !== null) roadOf("shared").invalidate(said.touched);
   await Promise.all([refreshChanges("mine"), refreshChanges("shared")]);
   refreshDiagram();
@@ -311,13 +304,12 @@ export async function take() {
   closePreview();
   const covered = coveredOwn();
   const fresh = untaken();
-  const from = makers(fresh).join(", ");
-  const said = await ask({take: {at: need("me").at, message: "shared"}}, {away: UNTAKEN});
+  const said = await ask({take: {at: need("me").at, message: "shared"}}, {away: messages.NOT_TAKEN});
   if (!said || "refused" in said) return;
   if (said.touched !== null) roadOf("mine").invalidate(said.touched);
   await takeLayers("mine", said);
   refreshLists();
-  tellTaken(`${plural(fresh.length, "change")}${from ? " of " + from : ""}`, covered);
+  tellTaken(fresh.length, makers(fresh), covered);
   refreshDiagram();
 }
 
@@ -327,17 +319,14 @@ export async function take() {
 const coveredOwn = () => new Map([...layersOf("mine").changes.values()].filter(isOwn)
   .filter(isCovered).map((change) => [keyOf(change.name), words().cover(change)]));
 
-/** Say what was taken, and which own changes it covers.
- * @param {string} changes
+/** Say what was taken, and how many own changes it covers.
+ * @param {number} count
+ * @param {string[]} from
  * @param {Map<string, string>} before       what covered own changes before
  */
-function tellTaken(changes, before) {
+function tellTaken(count, from, before) {
   const lost = [...coveredOwn()].filter(([name, cover]) => before.get(name) !== cover);
-  const losses = lost.length
-    ? `${plural(lost.length, "change")} of yours ${lost.length === 1 ? "is" : "are"} covered by `
-      + "them, whole or in part."
-    : "Nothing of yours is covered by them.";
-  tell(`Took ${changes}. ${losses}`, lost.length > 0);
+  tell(messages.taken(count, from, lost.length), lost.length > 0);
 }
 
 // The preview of sharing or taking.

@@ -2,6 +2,7 @@
 
 import {decodeAnswer} from "./decoding.mjs";
 import {Disconnected} from "./connection.mjs";
+import * as messages from "./messages.mjs";
 import {need, tell} from "./store.mjs";
 
 const BUSY = 1000;              // milliseconds until it is asked again of one who was busy
@@ -36,7 +37,7 @@ export async function ask(command, {first = false, quiet = [], stands = always, 
     const said = /** @type {ToldAnswers[Verb] | Refusal} */ (await connection.ask(command, first));
     if (!isRefusal(said)) return decodeAnswer(verb, said);
     const isTold = !quiet.includes(said.refused) && stands();
-    if (isTold) tell(said.why ?? `Refused: ${said.refused}`, true);
+    if (isTold) tell(said.why ?? messages.refusedWithoutReason(said.refused), true);
     return said;
   } catch (fault) {
     if (!(fault instanceof Disconnected)) throw fault;

@@ -16,9 +16,8 @@ const overText = () => `Over ${daysAsked()} days`;
 /** @param {DaysFigures} said */
 const daysText = ({days, stopped}) =>
   (stopped ? `Over ${days} of ${daysAsked()} days, stopped` : overText());
-const READ_MEANS = "each has drivers of its own, the same on both roads. \u00b1 reaches to both "
-  + "ends of the 95 % interval; where that of a difference has 0 in it, the difference may be "
-  + "chance.";
+const READ_MEANS = "each day has its own drivers, the same on both roads. \u00b1 is half the width "
+  + "of the 95 % interval. If the interval of a difference contains 0, the difference may be chance.";
 /** @param {DaysFigures} said */
 const readText = ({days}) => (days > 1 ? `Means of ${days} days: ${READ_MEANS}`
   : "One day alone does not say what is chance.");
@@ -31,16 +30,10 @@ const NAMES = {vehicle_hours: "Vehicle hours", lost: "Lost demand, cars",
  */
 function nameOf({name}) {
   const [what, place] = name.split(" ");
-  return NAMES[name] ?? (what === "cars"
-    ? `Cars at ${kmText(need("plan").detectors[Number(place)])} km` : "Seconds to the road's end");
+  const cell = need("plan").detectors[Number(place)];
+  return NAMES[name] ?? (what === "cars" ? `Cars at ${kmText(cell)} km`
+    : `Seconds to ${cell === undefined ? "the road's end" : `${kmText(cell)} km`}`);
 }
-
-/** Ask whether the table has a figure. The seconds to detectors are saved alone: it would be too
- * high.
- * @param {DaysFigure} figure
- */
-const isShown = ({name}) => !name.startsWith("seconds ")
-  || need("plan").detectors[Number(name.split(" ")[1])] === undefined;
 
 /** @type {(text: string, small: string) => HTMLElement} */
 const cell = (text, small) => element("td", text, {}, element("small", small));
@@ -55,7 +48,7 @@ function tableOf(said, isPreview) {
   const sides = order.map(([side]) => side);
   const heads = [...order.map(([, head]) => head),
                  isPreview ? "change" : "mine \u2212\u00a0shared"];
-  const lines = figures.filter(isShown).map((one) => row(headCell(nameOf(one), "row"),
+  const lines = figures.map((one) => row(headCell(nameOf(one), "row"),
     ...sides.map((side) => (one.name === "delay" ? element("td")
       : cell(meanText(one[side]), halfText(one[side])))),
     cell(changeText(one.difference), sureText(one.difference))));

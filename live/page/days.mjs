@@ -1,6 +1,7 @@
 // Actions: the two roads that are compared are asked over many days, and that is stopped.
 
 import {ask} from "./asking.mjs";
+import * as messages from "./messages.mjs";
 import {notify, need, layersOf, store, tell} from "./store.mjs";
 import {periodShown} from "./view.mjs";
 
@@ -22,7 +23,7 @@ export const daysShown = () => (store.days?.of === comparedNow() ? store.days : 
 export async function askDays() {
   const [from, to] = periodShown();
   if (to <= from) {
-    tell("Nothing is computed yet.", true);
+    tell(messages.NOTHING_COMPUTED, true);
     return;
   }
   /** @type {import("./types.mjs").Days} */
@@ -63,5 +64,5 @@ export function dropOldDays() {
   if (!store.days || store.days.key === keyNow()) return;
   const {said} = store.days;
   dropDays();
-  if (!said) tell(`A road has changed: the question over ${daysAsked()} days was stopped.`);
+  if (!said) tell(messages.daysStopped(daysAsked()));
 }

@@ -8,6 +8,7 @@ import {curveSoon} from "./demand.mjs";
 import {demandInForm, fieldsOf, readForm, takenText} from "./formvalues.mjs";
 import {sameShape, within} from "./geometry.mjs";
 import {moveBy} from "./looking.mjs";
+import * as messages from "./messages.mjs";
 import {layersOf, need, notify, store, tell} from "./store.mjs";
 import {LAST_STEP} from "./units.mjs";
 import {strideNow} from "./view.mjs";
@@ -101,7 +102,7 @@ export function applyArea(area) {
     tell(area.fault, true);
     return false;
   }
-  if (isAsItWas(area)) tell(`${area.note}: nothing is changed.`);
+  if (isAsItWas(area)) tell(messages.nothingChanged(area.note));
   else put(area);
   return true;
 }

@@ -6,11 +6,11 @@ import {assign} from "./assign.mjs";
  * The elements by their ids. A preview has those that begin with "preview" and follow the title.
  * @typedef {Record<"me" | "clock" | "figuresPart" | "news" | "preview" | "hint", HTMLElement>
  *   & Record<"line" | "said" | "who" | "helloSaid" | "readout" | "days" | "figuresNote" | "emptyHint"
- *            | "pastRest" | "seriesRead" | "previewTitles", HTMLParagraphElement>
+ *            | "pastRest" | "seriesRead" | "travelRead" | "previewTitles", HTMLParagraphElement>
  *   & Record<"others" | "rates" | "stop" | "values" | "exactTitle" | "toolHint" | "stride" | "period"
  *            | "previewDays", HTMLSpanElement>
  *   & Record<"hour" | "ahead" | "back" | "savePicture" | "saveTranscript" | "saveScript"
- *            | "saveFigures" | "saveReport" | "saveCounts" | "saveChanges" | "undo" | "redo" | "apply"
+ *            | "saveFigures" | "saveTravel" | "saveReport" | "saveCounts" | "saveChanges" | "undo" | "redo" | "apply"
  *            | "dropChange" | "closer" | "farther" | "wholeRoad" | "shareAll", HTMLButtonElement>
  *   & Record<"follow" | "name" | "demand" | "slow" | "start" | "kmFrom" | "kmTo" | "timeFrom"
  *            | "timeTo" | "letters", HTMLInputElement>
@@ -18,13 +18,14 @@ import {assign} from "./assign.mjs";
  *   & Record<"hello", HTMLDialogElement>
  *   & Record<"helloForm" | "exact", HTMLFormElement>
  *   & Record<"previewTitle", HTMLHeadingElement>
- *   & Record<"seats" | "over" | "oneDay" | "previewBody" | "previewCovers" | "previewOver"
+ *   & Record<"seats" | "over" | "oneDay" | "travelPart" | "previewBody" | "previewCovers" | "previewOver"
  *            | "previewFigures", HTMLDivElement>
  *   & Record<"seatList" | "stays" | "legend" | "warnings" | "previewList" | "seriesLegend", HTMLUListElement>
  *   & Record<"tools" | "whose", HTMLFieldSetElement>
- *   & Record<"limit" | "inlet" | "site" | "watch" | "span" | "paint" | "seriesSite", HTMLSelectElement>
+ *   & Record<"limit" | "inlet" | "site" | "watch" | "span" | "paint" | "seriesSite" | "seriesEnd",
+            HTMLSelectElement>
  *   & Record<"kmFromLabel" | "kmToLabel", HTMLLabelElement>
- *   & Record<"diagram" | "flowChart" | "speedChart", HTMLCanvasElement>
+ *   & Record<"diagram" | "flowChart" | "speedChart" | "travelChart", HTMLCanvasElement>
  *   & Record<"speeds" | "figures", HTMLTableElement>
  *   & Record<"own" | "held" | "siteList" | "history", HTMLOListElement>} PageElements
  */

@@ -234,13 +234,20 @@ export function chooseSite(site) {
   notify("series");
 }
 
-/** Read a point of the series; null: none.
- * @param {number | null} point
+/** Show travel times to another detector; null: to the road's end.
+ * @param {number | null} end
  */
-export function readPoint(point) {
-  const {flows} = store.series;
-  if (!flows) return;
-  store.series.point = point === null ? null : Math.max(0, Math.min(flows[0].length - 1, point));
+export function chooseEnd(end) {
+  store.series.end = end;
+  notify("series");
+}
+
+/** Read a point of the series, or a minute of entry; null: none.
+ * @param {"point" | "minute"} what
+ * @param {number | null} index
+ */
+export function readPoint(what, index) {
+  store.series[what] = index;
   notify("series");
 }
 

@@ -8,9 +8,10 @@ import {$, element, headCell, on, row, showList} from "./elements.mjs";
 import {exactOf, refreshFigures} from "./fetching.mjs";
 import {countTrapped} from "./layers.mjs";
 import {setOpen} from "./looking.mjs";
+import * as messages from "./messages.mjs";
 import {placesText} from "./sentences.mjs";
 import {need, layersOf, roadOf, store, watch, whoseShown} from "./store.mjs";
-import {HOUR, KMH_A_CELL, durationText, kmText, plural, signedText, whole} from "./units.mjs";
+import {HOUR, KMH_A_CELL, durationText, kmText, signedText, whole} from "./units.mjs";
 import {everyShown} from "./view.mjs";
 
 /** @typedef {import("./store.mjs").RoadName} RoadName */
@@ -21,6 +22,8 @@ import {everyShown} from "./view.mjs";
 /** @typedef {ReturnType<typeof boxSums>} BoxSums */
 
 const AWAITED = "\u2026";
+/** Write what is counted car by car, and is not known: nothing while the clock runs. */
+const unknownText = () => (store.clock.rate ? "" : AWAITED);
 const AS_WIDE = "0,000/h, 000 km/h";    // as what is awaited, and not seen
 const NO_CAR = "\u2013";         // of a travel time that no car has
 const LOST = 0.05;              // of the demand of an inlet: more that is lost is warned of
@@ -73,7 +76,7 @@ function travelRow(exact) {
   const place = need("plan").detectors.length;
   const text = (/** @type {number | null} */ value) =>
     (value === null ? NO_CAR : `${whole(value)} s`);
-  const cells = !exact ? [AWAITED, AWAITED, AWAITED]
+  const cells = !exact ? Array(3).fill(unknownText())
     : [text(exact.after.travel[place].seconds), text(exact.before.travel[place].seconds),
        laterText(exact, place) || NO_CAR];
   return row(headCell("Time to the road's end", "row"), ...cells.map((cell) => element("td", cell)));
@@ -112,15 +115,16 @@ function hoursOf(whose, period) {
   return minutes && sum(minutes) / HOUR;
 }
 
-/** Make a row of two values and their difference; a value that is null is awaited.
+/** Make a row of two values and their difference.
  * @param {string} name
- * @param {(number | null)[]} values     mine and shared
+ * @param {(number | null)[]} values     mine and shared; null: not known
  * @param {number} digits
+ * @param {string} unknown
  */
-function sumRow(name, [one, other], digits) {
-  const text = (/** @type {number | null} */ value) => (value === null ? AWAITED
+function sumRow(name, [one, other], digits, unknown) {
+  const text = (/** @type {number | null} */ value) => (value === null ? unknown
     : value.toLocaleString("en", {minimumFractionDigits: digits, maximumFractionDigits: digits}));
-  const difference = one === null || other === null ? AWAITED : signedText(one - other, digits);
+  const difference = one === null || other === null ? unknown : signedText(one - other, digits);
   return row(headCell(name, "row"), element("td", text(one)), element("td", text(other)),
     element("td", difference));
 }
@@ -129,9 +133,20 @@ function sumRow(name, [one, other], digits) {
  * @param {Figures | null} exact
  */
 function delayRow(exact) {
-  const text = exact ? signedText(exact.delay_hours, 1) : AWAITED;
+  const text = exact ? signedText(exact.delay_hours, 1) : unknownText();
   return row(headCell("Delay, vehicle hours", "row"), element("td", ""), element("td", ""),
     element("td", text));
+}
+
+/** Say how the figures are to be read, or why some are not there.
+ * @param {Figures | null} exact
+ */
+function noteText(exact) {
+  if (!exact && store.clock.rate) return messages.PAUSE_FOR_FIGURES;
+  const scatter = exact ? Math.hypot(...exact.after.scatter) : 0;
+  return "Lost demand: cars asked for minus cars admitted"
+    + (scatter >= 1 ? ` (\u00b1 ${whole(scatter)} by chance)` : "")
+    + ". Seconds count from the inlet; in the last column they are delay.";
 }
 
 /** Show the figures that are wanted, as far as they are there; while the clock runs only all. */
@@ -146,20 +161,17 @@ function showFigures() {
   const heads = ["mine", "shared", "mine \u2212\u00a0shared"].map((name) => headCell(name));
   $("figures").replaceChildren(
     element("thead", "", {}, row(element("td"), ...heads)),
-    element("tbody", "", {}, sumRow("Vehicle hours", hours, 1),
-      sumRow("Lost demand, cars", lost, 0), delayRow(exact),
+    element("tbody", "", {}, sumRow("Vehicle hours", hours, 1, AWAITED),
+      sumRow("Lost demand, cars", lost, 0, unknownText()), delayRow(exact),
       ...detectorRows(period, exact), travelRow(exact)));
-  const scatter = exact ? Math.hypot(...exact.after.scatter) : 0;
-  $("figuresNote").textContent = "Lost: cars asked for, less those let in"
-    + (scatter >= 1 ? ` (\u00b1 ${whole(scatter)} by chance)` : "")
-    + ". Seconds: from the inlet; on the right, delay.";
+  $("figuresNote").textContent = noteText(exact);
   showWarnings(exact);
   if (store.isOpen.asTable) showSpeeds(period);
 }
 
 // Warnings.
 
-/** Return warnings of inlets that let in clearly less than they were asked for, and than on the
+/** Return warnings of inlets that admit clearly less than they were asked for, and than on the
  * shared road. Arrivals are random: what may be so by chance is not warned of.
  * @param {Figures} exact
  */
@@ -168,16 +180,14 @@ function lostWarnings({after, before}) {
     const [lost, asked] = [after.lost[inlet], after.asked[inlet]];
     const isByChance = lost <= Math.max(LOST * asked, after.scatter[inlet]);
     if (isByChance || lost <= before.lost[inlet]) return [];
-    return [`The inlet at ${kmText(cell)} km lets in ${whole(asked - lost)} of the `
-      + `${plural(asked, "car")} that it is asked for, and ${whole(lost)} are lost: counts and `
-      + "vehicle hours look too good."];
+    return [messages.demandLost(kmText(cell), asked, lost)];
   });
 }
 
 /** Return how many cars stand in a closure near its end, as far as it is computed.
  * @param {Frame} frame
  */
-function caught(frame) {
+function countTrappedIn(frame) {
   const {from, to} = frame;
   const mine = roadOf("mine");
   const level = mine.level(everyShown());
@@ -190,12 +200,10 @@ function caught(frame) {
 /** Return warnings of cars that stand in closures. */
 function closureWarnings() {
   return layersOf("mine").frames.flatMap((frame) => {
-    const cars = frame.kind === "block" && frame.value ? caught(frame) : 0;
+    const cars = frame.kind === "block" && frame.value ? countTrappedIn(frame) : 0;
     if (!cars) return [];
-    const until = frame.to === null ? "and it does not open"
-      : `until it opens at ${store.day.timeText(frame.to)}`;
-    return [`${plural(cars, "car stands", "cars stand")} in the closure `
-      + `${placesText(need("plan"), "block", frame.first, frame.last)}, ${until}.`];
+    return [messages.carsTrapped(cars, placesText(need("plan"), "block", frame.first, frame.last),
+      frame.to === null ? null : store.day.timeText(frame.to))];
   });
 }
 

@@ -3,6 +3,7 @@
 
 import {faultOfValue} from "./area.mjs";
 import {OF_ONE, OF_ZONES, cellsOf, objectsNearest} from "./geometry.mjs";
+import * as messages from "./messages.mjs";
 import {layersOf, need, now, store} from "./store.mjs";
 import {ALWAYS, LAST_STEP, cellOfKm, chanceOfDemand, demandOfChance, kmOf, kmText, roundedKm, whole}
   from "./units.mjs";
@@ -52,13 +53,8 @@ export function demandText() {
 /** Say what is wrong with a written time.
  * @param {string} text
  */
-const faultOfTime = (text) => (store.day.isSkipped(text)
-  ? `${text.trim()} does not exist: a clock change skips it.` : timeHint());
-
-/** Say in a sentence how times are written on this page. */
-export const timeHint = () => (store.day.begin === null
-  ? "A time is written as 0:20, 0:20:30 or, in minutes, 20."
-  : `A time is written as 7:00, 07:00:30 or, in minutes after ${store.day.timeText(0)}, 20.`);
+const faultOfTime = (text) => (store.day.isSkipped(text) ? messages.skippedTime(text.trim())
+  : messages.timeHint(store.day.begin === null ? null : store.day.timeText(0)));
 
 /** Return the shape that the form has, or a sentence of what is wrong with it.
  * @returns {Shape | string}
@@ -70,7 +66,7 @@ export function readForm() {
   const to = form.timeTo.trim() === "" ? null : day.readStep(form.timeTo);
   if (Number.isNaN(from)) return faultOfTime(form.timeFrom);
   if (to !== null && Number.isNaN(to)) return faultOfTime(form.timeTo);
-  if (to !== null && to <= from) return "The end must be later than the beginning.";
+  if (to !== null && to <= from) return messages.END_BEFORE_BEGIN;
   const range = readRange(kind);
   if (typeof range === "string") return range;
   const [first, last] = range;
@@ -88,7 +84,7 @@ function readRange(kind) {
   const [from, to] = readPlaces().map(cellOfKm);
   const {length} = need("plan");
   if (!(from >= 0 && from < length && to <= length && from <= to)) {
-    return `Give two places from 0 to ${kmText(length)} km, the greater one second.`;
+    return messages.placesOutOfRange(kmText(length));
   }
   return objectsNearest(need("plan"), kind, [from, to]);
 }

@@ -13,6 +13,7 @@ import {OF_ONE, edgeNear, nearestIn, rectangleBetween, sameShape, shapeWithEdge,
   from "./geometry.mjs";
 import {isInForce} from "./layers.mjs";
 import {moveBy, moveTo, setFollowing, showRoad, zoomBy} from "./looking.mjs";
+import * as messages from "./messages.mjs";
 import {cornersOf} from "./picture.mjs";
 import {isOwn, layersOf, layersShown, need, roadOf, store, tell, watch, whoseShown}
   from "./store.mjs";
@@ -279,7 +280,7 @@ function stretchArea(all = false) {
 /** Begin a rectangle at the cursor. */
 function onSpace() {
   if (store.tool === "look") {
-    tell("Choose a tool first: C closes, L limits, and so on.", true);
+    tell(messages.CHOOSE_TOOL, true);
     return;
   }
   beginCorner();

@@ -4,6 +4,7 @@ import {$, button, childrenOf, closest, element, on, showList} from "./elements.
 import {excludeSite} from "./acting.mjs";
 import {chooseSeat, closeNote, join} from "./joining.mjs";
 import {backToClock, setFollowing, lookAhead, runAnHour, setRate} from "./looking.mjs";
+import * as messages from "./messages.mjs";
 import {holdButton, need, now, releaseButton, store, watch} from "./store.mjs";
 import {plural} from "./units.mjs";
 
@@ -50,7 +51,7 @@ function showSites() {
   $("sites").hidden = !store.sites.length;
   showList($("siteList"), store.sites.map(({site, when: at}) => ({key: String(site),
     sign: String(at), make: () => element("li", `Site ${site}, heard ${store.day.dateText(at)} `, {},
-      button("Leave out", () => excludeSite(site), `site ${site}`))})));
+      button("Exclude", () => excludeSite(site), `site ${site}`))})));
 }
 
 /** Show who this is. */
@@ -98,7 +99,7 @@ function showHello() {
     const label = `${of}, seat ${seat}${unshared}`;
     const ask = () => chooseSeat(seat);
     return store.hello?.takes !== seat ? element("li", "", {}, button(label, ask))
-      : element("li", `Who had it, or a script that uses it, loses the seat of ${of}. `, {},
+      : element("li", messages.takeOver(of), {},
                 button(`Take over ${label}`, () => join({take: seat})));
   }));
   if (!$("name").value) $("name").value = name ?? "";

@@ -9,10 +9,10 @@ import {curveAt} from "./demand.mjs";
 import {Connection, TAKEN_OVER} from "./connection.mjs";
 import {DayClock} from "./dayclock.mjs";
 import {Layers} from "./layers.mjs";
+import * as messages from "./messages.mjs";
 import {Road} from "./rows.mjs";
 import {notify, need, layersOf, roadOf, store, tell} from "./store.mjs";
 import {titlesOf} from "./listing.mjs";
-import {plural} from "./units.mjs";
 
 /** @typedef {import("./types.mjs").Broker} Broker */
 /** @typedef {import("./types.mjs").News} News */
@@ -117,8 +117,8 @@ async function welcome(said) {
   assign(roadOf("mine"), {at: said.at, horizon: 0});
   roadOf("shared").horizon = 0;
   need("connection").admit();
-  setConnectionText("connected", false);
-  if (store.isAway) tell("The connection is back.");
+  setConnectionText(messages.CONNECTED, false);
+  if (store.isAway) tell(messages.CONNECTION_BACK);
   HANDLERS.broker(said.broker);
   store.isAway = false;
   notify("me");
@@ -162,13 +162,9 @@ function noteLost(again, reason, code) {
   store.openRowQuestions = 0;
   if (code === TAKEN_OVER) sessionStorage.removeItem("key");
   for (const road of Object.values(store.roads)) road.isAdvancing = false;
-  const text = again ? "connection lost, trying again" : reason || "connection closed";
-  setConnectionText(text, true);
+  setConnectionText(again ? messages.RECONNECTING : reason || messages.CONNECTION_CLOSED, true);
   if (store.me) persistPending();
-  const kept = store.isPersisted ? "is kept in this tab, also when it is loaded anew, and sent then."
-    : "is sent then, as long as this tab is not closed or loaded anew.";
-  const told = again ? `Connection lost, trying again. What you do meanwhile ${kept}`
-    : `The connection was closed: ${reason}.`;
+  const told = again ? messages.connectionLost(store.isPersisted) : messages.connectionClosed(reason, code === TAKEN_OVER);
   if (!store.me) {
     store.hello = {free: [], ...store.hello, why: told};
     notify("hello");
@@ -184,7 +180,7 @@ const HANDLERS = {
     const {rate: ran, stop: wanted} = store.clock;
     assign(store.clock, {now, rate, stop});
     const hasStopped = ran && !rate && wanted && now >= wanted;
-    if (hasStopped) tell("The clock stopped: so fast it runs for an hour.");
+    if (hasStopped) tell(messages.CLOCK_STOPPED);
     notify("clock");
     if (ran && !rate) roadOf("shared").version++;
     refreshDiagram();
@@ -208,10 +204,8 @@ const HANDLERS = {
   broker(said) {
     if (!said) return;
     const {state, unsent, sites, told, stays = [], sealed} = said;
-    const others = sites?.length ? `, with ${plural(sites.length, "other site")}`
-      + (sealed === false ? ", trusted wholly" : "") : "";
-    const text = state !== "away" ? `connected${others}`
-      : `connected, but the broker is away; ${plural(unsent ?? 0, "change")} to be sent`;
+    const others = sites?.length ? messages.otherSites(sites.length, sealed !== false) : "";
+    const text = state === "away" ? messages.brokerAway(unsent ?? 0) : messages.CONNECTED + others;
     setConnectionText(text, state === "away");
     const newest = told?.at(-1) ?? "";
     if (newest && newest !== store.brokerText) tell(newest, true);
@@ -222,13 +216,13 @@ const HANDLERS = {
   /** @param {string | null} text */
   trouble(text) {
     if (text) tell(text, true);
-    else if (store.trouble) tell("The server's trouble is over.");
+    else if (store.trouble) tell(messages.TROUBLE_OVER);
     store.trouble = text ?? "";
     notify("siteFaults");
   },
   /** @param {{why?: string}} told */
   async program({why}) {
-    if (why) tellReplaced(`The program was replaced: ${why}`);
+    if (why) tellReplaced(messages.programReplaced(why));
     await refreshChanges("mine");  // what was pending, and the disk refused, may have been in the list
     refreshDiagram();
   },
@@ -260,10 +254,7 @@ export function closeNote() {
  */
 function hearNews(news) {
   const {size, from} = news;
-  const titles = titlesOf(news);
-  const count = plural(untaken().length || size, "change");
-  const text = size ? `${from.join(", ") || "Somebody"} shared ${count}${titles && ": " + titles}.`
-    : "";
+  const text = size ? messages.newlyShared(from, untaken().length || size, titlesOf(news)) : "";
   const isNew = text && text !== store.news.text;
   store.news = {...news, text};
   if (isNew) tell(text);

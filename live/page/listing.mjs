@@ -21,12 +21,12 @@ import {byStamp, keyOf} from "./stamps.mjs";
 const MOST_PARTS = 4;           // of a change, that are told
 /** @type {Record<Deed, string>} */
 const DONE = {put: "put", change: "changed", withdraw: "withdrawn", top: "put on top",
-              undo: "undone", redo: "redone", edits: "edited", exclude: "left out",
-              include: "let in again"};
+              undo: "undone", redo: "redone", edits: "edited", exclude: "excluded",
+              include: "included again"};
 /** @type {Record<Deed, string>} */
-const LAID = {put: "put it", change: "changed it", withdraw: "withdrew it", top: "put it on top",
+const DID = {put: "put it", change: "changed it", withdraw: "withdrew it", top: "put it on top",
               undo: "undid a change of it", redo: "redid a change of it", edits: "edited there",
-              exclude: "left it out", include: "let it in again"};
+              exclude: "excluded it", include: "included it again"};
 
 /** Write what a withdrawn change was.
  * @param {Change} change
@@ -34,7 +34,7 @@ const LAID = {put: "put it", change: "changed it", withdraw: "withdrew it", top:
 function goneText(change) {
   const {does, note} = lastOf(change);
   if (does === "withdraw" && note) return note;
-  if (change.note) return `Taken back: ${change.note}`;
+  if (change.note) return `Undone: ${change.note}`;
   return `${change.kind && change.kind !== "site" ? THINGS[change.kind] : "Change"} withdrawn`;
 }
 
@@ -76,7 +76,7 @@ export class Words {
   text(change) {
     const {shape, edits, standing, note, isRaw} = change;
     if (!standing) return goneText(change);
-    if (change.site !== null) return `Site ${change.site} is left out`;
+    if (change.site !== null) return `Site ${change.site} is excluded`;
     if (shape && !(isRaw && note)) return shapeText(this.layers, shape);
     return note || (edits.length ? editsText(this.layers, edits) : "Edits");
   }
@@ -167,7 +167,7 @@ export class Words {
     if (!found) return "";
     const {stamp, who, does} = found.theirs;
     const name = stamp.number === this.number ? "You" : who || "Somebody";
-    return `${name} ${LAID[does] ?? "changed it"} at the same time, a moment later.`;
+    return `${name} ${DID[does] ?? "changed it"} at the same time, and that counts.`;
   }
 
   /** Write what others would have made of a change that is lost when it is taken, and who won; null
@@ -185,7 +185,7 @@ export class Words {
     const name = won.number === this.number ? "you" : winner?.who || "somebody";
     const text = last.shape ? shapeText(this.layers, last.shape) : last.note || DONE[last.does];
     return [text, `${last.who || "somebody"}: no effect, ${name} `
-      + `${LAID[winner?.does ?? "change"]} at the same time, a moment later`];
+      + `${DID[winner?.does ?? "change"]} at the same time, and that counts`];
   }
 
   /** Write what becomes of a change by a preview: "then ..".

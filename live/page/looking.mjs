@@ -4,6 +4,7 @@ import {ask} from "./asking.mjs";
 import {assign} from "./assign.mjs";
 import {fetchRows} from "./fetching.mjs";
 import {cellsOf} from "./geometry.mjs";
+import * as messages from "./messages.mjs";
 import {notify, need, last, now, store, tell} from "./store.mjs";
 import {HOUR, LAST_STEP} from "./units.mjs";
 
@@ -172,7 +173,7 @@ export function setOpen(fold, isOpen) {
 
 // The clock.
 
-const away = "The clock was not set, since the connection is lost.";
+const away = messages.CLOCK_NOT_SET;
 
 /** Let the clock run at so many steps a second; 0: it stands.
  * @param {number} rate
@@ -186,7 +187,7 @@ export function lookAhead() {
   const {ahead} = need("me");
   const most = Math.min(LAST_STEP, now() + ahead);
   if (last() >= most) {
-    tell(`A road runs at most ${ahead / HOUR} hours ahead of the clock.`, true);
+    tell(messages.farthestAhead(ahead / HOUR), true);
     return;
   }
   store.ahead = Math.min(most, last() + AHEAD);

@@ -6,6 +6,7 @@ import {freshOf, untaken, words} from "./changes.mjs";
 import {$, activeIn, button, element, findElement, headCell, row} from "./elements.mjs";
 import {affectedBy, newestFirst, titlesOf} from "./listing.mjs";
 import {focusOnLists} from "./lists.mjs";
+import * as messages from "./messages.mjs";
 import {need, layersOf, store, watch} from "./store.mjs";
 import {kmText, plural, signedText} from "./units.mjs";
 
@@ -16,10 +17,9 @@ import {kmText, plural, signedText} from "./units.mjs";
 /** @typedef {import("./types.mjs").RoadFigures} RoadFigures */
 /** @typedef {import("./types.mjs").Span} Span */
 
-const IS_COMPUTED = "This is computed just now: both roads are driven once more, car by car.";
-const READ_BOTH = "Lost demand is what inlets were asked for, less the cars that they let in: such "
-  + "a car spends no vehicle hours. Seconds are from the inlet; their change is the delay of the "
-  + "cars on both roads.";
+const READ_BOTH = "Lost demand is the cars that inlets were asked for minus those that they "
+  + "admitted; a lost car spends no vehicle hours. Seconds count from the inlet; their change is the "
+  + "delay of the cars on both roads.";
 
 /** @param {[text: string, hint: string]} item */
 const itemOf = ([text, hint]) => element("li", text, {},
@@ -80,7 +80,7 @@ function showOutcome() {
   }
   const place = $("previewFigures");
   if (figures && !("why" in figures)) place.replaceChildren(figuresOf(figures));
-  else place.replaceChildren(element("p", (figures?.why || why) || IS_COMPUTED));
+  else place.replaceChildren(element("p", (figures?.why || why) || messages.COMPUTING));
 }
 
 /** Make elements that say what would be covered, or in force again.
@@ -92,8 +92,8 @@ function coversOf(changes, said) {
   const below = changes.filter((change) => !change.was && said.cover(change))
     .map((change) => said.effect(change));
   const all = [...affected, ...below];
-  if (!all.length) return [element("p", "Nothing would be covered.")];
-  return [element("h3", "What covers what"),
+  if (!all.length) return [element("p", messages.NOTHING_COVERED)];
+  return [element("h3", "What would be covered"),
           element("ul", "", {}, ...all.map((text) => element("li", text)))];
 }
 
@@ -106,10 +106,10 @@ const sum = (numbers) => numbers.reduce((one, other) => one + other, 0);
 function figuresOf({before, after, delay_hours: delay, later, from, to}) {
   /** @type {FigureLine[]} */
   const lines = [["Vehicle hours", before.vehicle_hours, after.vehicle_hours, 1],
-                 ["Cars let in", sum(before.entered), sum(after.entered), 0],
+                 ["Cars admitted", sum(before.entered), sum(after.entered), 0],
                  ["Lost demand, cars", sum(before.lost), sum(after.lost), 0],
                  ...lostLines(before.lost, after.lost),
-                 ["Delay of cars in both, vehicle hours", null, delay, 1],
+                 ["Delay of cars on both roads, vehicle hours", null, delay, 1],
                  ...placeLines(before, after, later)];
   return element("div", "", {}, previewTable([from, to], lines),
     element("p", READ_BOTH, {className: "hint"}));
@@ -143,7 +143,7 @@ function placeLines(before, after, later) {
 function lostLines(before, after) {
   const {inlets} = need("plan");
   return inlets.length === 1 ? [] : inlets.map(([cell], inlet) =>
-    [`\u2013 of them at ${kmText(cell)} km`, before[inlet], after[inlet], 0]);
+    [`\u2013 at ${kmText(cell)} km`, before[inlet], after[inlet], 0]);
 }
 
 /**

@@ -7,10 +7,11 @@ import {comparedNow, daysShown} from "./days.mjs";
 import {withoutCursor} from "./drafting.mjs";
 import {$, activeIn, closest, download, on} from "./elements.mjs";
 import {Words, newestFirst} from "./listing.mjs";
+import * as messages from "./messages.mjs";
 import {drawDiagram, legendEntries} from "./picture.mjs";
 import {claimFileName} from "./saving.mjs";
 import {need, layersOf, now, store, tell} from "./store.mjs";
-import {csvOf, tableOfChanges, tableOfDays, tableOfFigures} from "./tables.mjs";
+import {csvOf, tableOfChanges, tableOfDays, tableOfFigures, tableOfTravel} from "./tables.mjs";
 import {METRES_A_CELL, kmText, plural} from "./units.mjs";
 import {partShown, periodShown} from "./view.mjs";
 
@@ -91,12 +92,12 @@ function diagramWithLegend() {
 function savePicture() {
   diagramWithLegend().toBlob((blob) => {
     if (!blob) {
-      tell("The browser made no picture of the diagram. Make its window smaller, and try again.", true);
+      tell(messages.NO_PICTURE, true);
       return;
     }
     const whose = store.whose === "both" ? `${need("me").name}-less-shared` : fileRoad();
     const name = saveAs("diagram.png", [blob], "image/png", whose);
-    tell(`Saved ${name}: the diagram as it is seen.`);
+    tell(messages.savedPicture(name));
   });
 }
 
@@ -104,7 +105,7 @@ function savePicture() {
  * null if something was refused.
  */
 async function transcriptLines() {
-  tell("Saving …");
+  tell(messages.SAVING);
   const [at, [from, to]] = [roadShown(), periodShown()];
   /** @type {string[]} */
   const pieces = [];
@@ -125,8 +126,7 @@ async function saveTranscript() {
   const lines = await transcriptLines();
   if (!lines) return;
   const name = saveAs("transcript.jsonl", lines, "application/jsonl");
-  tell(`Saved ${name}: choose it in the viewer, with ${METRES_A_CELL} metres a cell and `
-    + "1 second a step.");
+  tell(messages.savedTranscript(name, METRES_A_CELL));
 }
 
 /** Save the commands of both roads, up to the clock, a file each. */
@@ -137,7 +137,7 @@ async function saveScripts() {
     if (!said || "refused" in said) return;
     saved.push(saveAs("script.jsonl", [said.lines], "application/jsonl", fileRoad(at), [0, said.to]));
   }
-  tell(`Saved ${saved.join(" and ")}: road_lab runs each, and recipes/delay compares them.`);
+  tell(messages.savedScripts(saved));
 }
 
 /** Return what a table of the two roads is of.
@@ -158,7 +158,7 @@ async function saveFigures() {
   const days = daysShown()?.said;
   const [from, to] = days ? [days.from, days.to] : periodShown();
   if (to <= from) {
-    tell("Nothing is computed yet.", true);
+    tell(messages.NOTHING_COMPUTED, true);
     return;
   }
   if (days) {
@@ -172,6 +172,20 @@ async function saveFigures() {
   }
 }
 
+/** Save travel times by the minute of entry, of the roads that are compared. */
+async function saveTravel() {
+  const {at, name} = need("me");
+  const [of, [from, to]] = [comparedNow(), periodShown()];
+  if (to <= from) {
+    tell(messages.NOTHING_COMPUTED, true);
+    return;
+  }
+  const said = await askUntilFree({figures: {at, of, from, to}});
+  if (!said || "refused" in said) return;
+  saveLines(`travel times of ${comparedText(from, to)}`, tableOfTravel(need("plan"), of, said, store.day),
+    "travel-times.csv", of === "preview" ? "now-then" : `${name}-shared`, [from, to]);
+}
+
 /** Save a table.
  * @param {string} title
  * @param {(string | number)[][]} lines
@@ -180,7 +194,7 @@ async function saveFigures() {
  * @param {Span} period      steps
  */
 function saveLines(title, lines, what, whose, period) {
-  tell(`Saved ${saveAs(what, [csvOf(title, lines)], "text/csv", whose, period)}.`);
+  tell(messages.savedFile(saveAs(what, [csvOf(title, lines)], "text/csv", whose, period)));
 }
 
 const MOST_WORKS = 200;         // lines of a report
@@ -213,18 +227,18 @@ async function saveReport() {
   const [from, to] = periodShown();
   const of = comparedNow();
   if (to <= from || (of === "preview" && !store.layers.after)) {
-    tell("Nothing is computed yet.", true);
+    tell(messages.NOTHING_COMPUTED, true);
     return;
   }
   const date = day?.date ? `, ${day.date}` : "";
   const title = `${of === "preview" ? "A road, now and then" : `The road of ${name}, and the shared one`}: `
     + `${store.day.timeText(from)} to ${store.day.timeText(to)}${date}`;
-  tell("Making the report: both roads are simulated on five days \u2026");
+  tell(messages.MAKING_REPORT);
   const said = await askUntilFree({report: {at, of, from, to, title, works: worksText()}});
   if (!said || "refused" in said) return;
   const whose = of === "preview" ? "now-then" : `${name}-shared`;
   const saved = saveAs("report.html", [said.html], "text/html", whose, [from, to]);
-  tell(`Saved ${saved}: any browser shows it, and prints it on A4.`);
+  tell(messages.savedReport(saved));
 }
 
 /** Return what a table of the road that is shown is of. */
@@ -241,11 +255,11 @@ function saveChanges() {
 async function saveCounts() {
   const [from, to] = periodShown();
   if (to <= from) {
-    tell("Nothing is computed yet.", true);
+    tell(messages.NOTHING_COMPUTED, true);
     return;
   }
   const said = await ask({csv: {at: roadShown(), what: "counts", from, to, each: SPAN_OF_COUNTS}});
-  if (said && !("refused" in said)) tell(`Saved ${saveAs("counts.csv", [said.csv], "text/csv")}.`);
+  if (said && !("refused" in said)) tell(messages.savedFile(saveAs("counts.csv", [said.csv], "text/csv")));
 }
 
 /** Close the menu, which would lie over what is said. A focus in it goes to its name. */
@@ -262,6 +276,7 @@ export function begin() {
   on("saveScript", "click", saveScripts);
   on("saveReport", "click", saveReport);
   on("saveFigures", "click", saveFigures);
+  on("saveTravel", "click", saveTravel);
   on("saveCounts", "click", saveCounts);
   on("saveChanges", "click", saveChanges);
   on("save", "click", (event) => { if (closest(event, "button")) closeMenu(); });

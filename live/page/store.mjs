@@ -132,10 +132,11 @@ import {HOUR} from "./units.mjs";
  */
 /**
  * Flow and speed by time of two roads: what each is called, steps, steps of a point, and for each road
- * what its detectors counted in each span; the detector that is shown, and the point that is read.
+ * what its detectors counted in each span; the detector that is shown, and the one to which travel
+ * times are (null: the road's end); the point and the minute of entry that are read.
  * @typedef {{key: string, names: string[], from: number, to: number, each: number,
- *            flows: DetectorFigures[][][] | null, asking: boolean, site: number,
- *            point: number | null}} Series
+ *            flows: DetectorFigures[][][] | null, asking: boolean, site: number, end: number | null,
+ *            point: number | null, minute: number | null}} Series
  */
 /**
  * The figures of a period, mine first.
@@ -175,7 +176,7 @@ export const store = {
   figures: {counts: null, period: null, wanted: [0, 0], key: "", exact: null, exactKey: "",
             asking: false, counting: false, soon: undefined},
   series: {key: "", names: [], from: 0, to: 0, each: 60, flows: null, asking: false, site: 0,
-           point: null},
+           end: null, point: null, minute: null},
   savedFiles: new Set(),
 
   openRowQuestions: 0, idleTimer: null, isDrawing: false, changedRows: null, held: null,

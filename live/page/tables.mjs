@@ -3,8 +3,9 @@
 
 import {Words} from "./listing.mjs";
 import {byStamp} from "./stamps.mjs";
-import {kmText, plural} from "./units.mjs";
+import {MINUTE, kmText, plural} from "./units.mjs";
 
+/** @typedef {import("./dayclock.mjs").DayClock} DayClock */
 /** @typedef {import("./types.mjs").DaysFigures} DaysFigures */
 /** @typedef {import("./types.mjs").DetectorFigures} DetectorFigures */
 /** @typedef {import("./types.mjs").Figures} Figures */
@@ -88,7 +89,34 @@ export function tableOfFigures({inlets, detectors}, of, said) {
   return [["figure", "unit", first, second, changeOf(of)],
           lineOf("vehicle hours", "h", (side) => side.vehicle_hours),
           ["delay of cars on both roads", "vehicle hours", "", "", plain(said.delay_hours)],
-          ...OF_INLETS.map(([name, cars]) => lineOf(name, "cars", (side) => sum(cars(side)))), ...atInlets, ...atDetectors, ...times];
+          ...OF_INLETS.map(([name, cars]) => lineOf(name, "cars", (side) => sum(cars(side)))),
+          ...atInlets, ...atDetectors, ...times];
+}
+
+/** Return the table of travel times by the minute of entry: a line for each minute and place.
+ * @param {Plan} plan
+ * @param {Comparison} of
+ * @param {Figures} said
+ * @param {DayClock} day
+ */
+export function tableOfTravel({detectors}, of, said, day) {
+  const [[one, first], [other, second]] = ORDER[of];
+  /** @type {(side: Side, step: number, place: number) => Figure[]} */
+  const cellsOf = (side, step, place) => {
+    const trip = said[side].entries.find((entry) => entry.step === step)?.trips[place];
+    return [trip?.cars ?? 0, trip?.seconds];
+  };
+  const places = [...detectors.map((cell) => `${kmText(cell)} km`), "the road's end"];
+  const steps = Array.from({length: Math.ceil((said.to - said.from) / MINUTE)}, (_, minute) =>
+    said.from + minute * MINUTE);
+  return [["entered from", "to", `cars, ${first}`, `travel time (s), ${first}`, `cars, ${second}`,
+           `travel time (s), ${second}`, `${changeOf(of)} (s)`],
+          ...steps.flatMap((step) => places.map((place, index) => {
+            const [cars, seconds] = cellsOf(one, step, index);
+            const [others, theirs] = cellsOf(other, step, index);
+            const change = of === "mine" ? less(seconds, theirs) : less(theirs, seconds);
+            return [day.timeText(step), place, plain(cars), plain(seconds), plain(others), plain(theirs), plain(change)];
+          }))];
 }
 
 /** Return the name of a figure of many days, and its unit.

@@ -129,6 +129,7 @@
  * @property {number[]} scatter       cars by which the demand of each inlet scatters by chance
  * @property {DetectorFigures[]} flows
  * @property {Trip[]} travel          to each detector, and last to the road's end
+ * @property {Entry[]} entries        the same by the minute of entry, in their order
  */
 
 /**
@@ -139,6 +140,9 @@
  *
  * Cars, and the mean of their seconds; null: there was none.
  * @typedef {{cars: number, seconds: number | null}} Trip
+ *
+ * Travel times of the cars that entered in the minute from a step on.
+ * @typedef {{step: number, trips: Trip[]}} Entry
  */
 
 /**
@@ -344,7 +348,8 @@
  * @property {ToldStamp | null} [redo]
  * @property {{stamp: ToldStamp, by: string[]}[]} [blocked]
  *
- * @typedef {Omit<RoadFigures, "travel"> & {travel: ToldTrip[]}} ToldRoadFigures
+ * @typedef {Omit<RoadFigures, "travel" | "entries">
+ *   & {travel: ToldTrip[], travel_by_entry?: Record<string, ToldTrip[]>}} ToldRoadFigures
  * @typedef {Omit<Figures, "before" | "after" | "later">
  *   & {before: ToldRoadFigures, after: ToldRoadFigures, later: ToldTrip[]}} ToldFigures
  * @typedef {{name: string, before: ToldMean, after: ToldMean, difference: ToldMean}} ToldDaysFigure

@@ -86,12 +86,12 @@ test("what is not of this road is left out, whatever it is", () => {
   assert.deepEqual(road({...ada([]), shown: "all"}).frames, []);
 });
 
-test("a site that is left out has a line, and nothing of it is drawn", () => {
+test("a site that is excluded has a line, and nothing of it is drawn", () => {
   const out = {...ada([]), kind: "site", shape: ["site", 3, 3, 0, null, 1],
                shown: [["site", 3, 3, 0, null, 1, null]], isRaw: false};
   const layers = road(out);
   assert.deepEqual([layers.frames, layers.find(nameOf(1, ADA)).site], [[], 3]);
-  assert.equal(new Words(layers, ADA).text(layers.find(nameOf(1, ADA))), "Site 3 is left out");
+  assert.equal(new Words(layers, ADA).text(layers.find(nameOf(1, ADA))), "Site 3 is excluded");
 });
 
 test("edits that are one rectangle have its shape, so that they can be changed", () => {
@@ -215,7 +215,7 @@ test("who lost to another at the same time is told, until it is laid again", () 
     {stamp: [5, 67], who: "Cleo", note: "", when: 0, does: "withdraw", shared: true, lost: null}];
   Object.assign(mine, {standing: false, shape: null});
   const [one] = listChanges(road(mine), BEN);
-  assert.equal(one.lost, "Cleo withdrew it at the same time, a moment later.");
+  assert.equal(one.lost, "Cleo withdrew it at the same time, and that counts.");
   assert.deepEqual(lostOf(decodeChange(mine), BEN).mine.stamp, nameOf(5, BEN));
   assert.equal(lostOf(decodeChange(mine), ADA), null);
   mine.operations.push({stamp: [6, BEN], who: "Ben", note: "", when: 0, does: "put", shared: true,
@@ -258,7 +258,7 @@ test("what is lost when it is taken is told as it was, with who won", () => {
   const [, ben, own] = then.operations;
   const said = (number, ...fresh) => new Words(layers, number).losing(then, fresh);
   assert.deepEqual(said(ADA, ben), ["81 km/h, 1.5\u20132.25 km, 0:25:00\u20130:30:00",
-    "Ben: no effect, you changed it at the same time, a moment later"]);
+    "Ben: no effect, you changed it at the same time, and that counts"]);
   assert.match(said(67, ben)[1], /no effect, Ada changed it/);
   assert.deepEqual([said(ADA, own), said(ADA)], [null, null]);
 });

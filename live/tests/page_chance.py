@@ -59,7 +59,7 @@ class TwoTabs(BrowserCase):
         found = over_days(ada, "#over")
         self.assertFalse(ada.part("oneDay").is_displayed())
         self.assertEqual(list(found), ["Vehicle hours", "Lost demand, cars", "Delay, vehicle hours", "Cars at 0.21 km",
-                                       "Seconds to the road's end"])
+                                       "Seconds to 0.21 km", "Seconds to the road's end"])
         self.assertIn("Over 3 days, 0:00:00 to 0:15:00", ada.text("over"))
         mine, shared, more = map(numbers, found["Vehicle hours"])
         self.assertAlmostEqual(more[0], mine[0] - shared[0], delta=0.11)

@@ -94,7 +94,7 @@ class OneFreeway(BrowserCase):
             self.assertIn(said, tab.text("said"))
         tab.tool("inflow")
         tab.in_figures(demand="1710", timeFrom="0:05", timeTo="0:10")
-        said = re.fullmatch(r"This inlet admits 0 to (1,7\d\d) cars per hour \(limit 135 km/h, slowing 10 %\).", tab.text("said"))
+        said = re.fullmatch(r"The demand is out of range: this inlet admits 0 to (1,7\d\d) cars per hour \(limit 135 km/h, slowing 10 %\).", tab.text("said"))
         self.assertTrue(said and demand_is(int(said[1].replace(",", "")), 65_536, FREEWAY), tab.text("said"))
         self.assertEqual(operations_of(self.server), [])
 
@@ -121,7 +121,7 @@ class OneFreeway(BrowserCase):
         # Some 1,250 cars an hour come, for 30 minutes but those that fill 300 m.
         self.assertTrue(480 <= more <= 640, more)
         self.assertAlmostEqual(more, mine - shared, delta=1)
-        self.assertRegex(tab.text("warnings"), r"The inlet at 0 km lets in [\d,]+ of the [\d,]+ cars that it is asked for, and \d+ are lost")
+        self.assertRegex(tab.text("warnings"), r"The inlet at 0 km admits [\d,]+ of the [\d,]+ cars that it is asked for\. The other \d+ are lost")
 
     def test_figures_wait_for_the_picture(self) -> None:
         """Nothing else is asked for while rows that are seen are on their way, here for a second."""
@@ -182,11 +182,11 @@ class OneFreeway(BrowserCase):
         rows = before_rows(tab)
         self.assertEqual(rows["Vehicle hours"], (hours[1], hours[0], hours[2]))
         self.assertEqual(rows["Lost demand, cars"], (lost[1], lost[0], lost[2]))
-        self.assertEqual(rows["Delay of cars in both, vehicle hours"][2], delay[2])
-        parts = [rows[name][2] for name in ("– of them at 0 km", "– of them at 1.5 km")]
+        self.assertEqual(rows["Delay of cars on both roads, vehicle hours"][2], delay[2])
+        parts = [rows[name][2] for name in ("– at 0 km", "– at 1.5 km")]
         self.assertEqual(sum(parts), lost[2])
         # On the free road no more is lost than by chance: two standard deviations of some 1,250 arrivals.
-        self.assertLess(abs(rows["– of them at 0 km"][0]), 2 * math.sqrt(1_250))
+        self.assertLess(abs(rows["– at 0 km"][0]), 2 * math.sqrt(1_250))
 
     def test_flow_and_speed_by_time_are_drawn_and_read(self) -> None:
         tab, = self.open(FREEWAY)
@@ -235,7 +235,7 @@ class OneFreeway(BrowserCase):
         tab, = self.open(FREEWAY)
         tab.script("sessionStorage.clear()")
         tab.driver.get(tab.driver.current_url)  # as it was copied from the address bar
-        said = "The connection was closed: the address lacks the right token: open it as live/serve printed it."
+        said = "The server closed the connection: the address lacks the right token: open it as live/serve printed it."
         tab.until(lambda: tab.part("helloSaid").text == said, "it is told where a name is asked for")
         tab.script("$('helloSaid').textContent = ''")
         tab.part("name").send_keys("Ben", Keys.ENTER)

@@ -57,7 +57,7 @@ class OneTab(BrowserCase):
         self.assertEqual(tab.lines("own"), ["Closed 3–3.15 km, 0:20:00–0:30:00 private"])
         tab.keys("z")
         tab.settled()
-        said = "Taken back: Closed 3–3.15 km, 0:20:00–0:30:00: done"
+        said = "Undone: Closed 3–3.15 km, 0:20:00–0:30:00"
         self.assertEqual(tab.text("said"), f"{said}, on your own road.")  # of which nothing is seen
 
     def test_one_rectangle_after_the_other_is_drawn_at_one_place(self) -> None:

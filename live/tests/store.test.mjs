@@ -9,7 +9,7 @@ const SOURCES = new Map(readdirSync(PAGE).filter((name) => name.endsWith(".mjs")
   [name.replace(".mjs", ""), readFileSync(new URL(name, PAGE), "utf8")]));
 const ACTIONS = ["acting", "days", "demand", "drafting", "fetching", "joining", "looking", "saving", "store"];
 const PURE = ["assign", "chain", "connection", "dayclock", "decoding", "estimates", "geometry", "kept", "labels",
-              "layers", "listing", "rows", "sentences", "stamps", "tables", "units"];
+              "layers", "listing", "messages", "rows", "sentences", "stamps", "tables", "units"];
 // The store's own watchers, and a cache of what is painted.
 const KEPT_OUTSIDE = ["store watchers", "picture tilesKept"];
 const importsOf = (source) =>
