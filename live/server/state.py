@@ -21,7 +21,7 @@ from .journal import Broken
 from .model.changes import all_lines, altered, lines_of, operations_on
 from .model.choices import shareable
 from .model.forgetting import forgettable
-from .model.operations import SEATS, Operation, Stamp
+from .model.operations import SEATS, Operation, Stamp, same_int
 from .model.road import Road
 from .model.stamping import stamped_anew
 from .stamps import StampClock
@@ -101,7 +101,7 @@ class Replica:
         fresh = []
         for one in operations:
             if one not in self.places:
-                self.places[one] = self.size
+                self.places[one] = same_int(self.size)
                 self.size += 1
                 fresh.append(one)
         if self._road is not None:
@@ -248,7 +248,7 @@ class State:
         self.rate: float = 0
         self.now = 0
         self.stop: int | None = None
-        self.by_stamp: dict[Stamp, list[Operation]] = {}
+        self.by_stamp: dict[Stamp, tuple[Operation, ...]] = {}
         self.lately: dict[int, tuple[Road, Road]] = {}  # of a seat: the shared road, and that with all private operations
         self._clock = clock or StampClock()
         self._former: Former | None = None
@@ -282,10 +282,10 @@ class State:
 
     def interned(self, one: Operation) -> Operation:
         """Return the operation that is held and the same, or this one."""
-        known = self.by_stamp.setdefault(one.stamp, [])
+        known = self.by_stamp.get(one.stamp, ())
         found = next((other for other in known if other.is_same(one)), None)
         if found is None:
-            known.append(one)
+            self.by_stamp[one.stamp] = *known, one
         return found or one
 
     def hold_own(self, seat: Seat, one: Operation) -> None:
@@ -352,8 +352,7 @@ class State:
         old = [one for one in self.private(seat) if one.stamp in stamps]
         new = stamped_anew(old, stamps)
         for one in old:
-            del seat.own[one], seat.places[one]
-            self.by_stamp[one.stamp].remove(one)
+            self._drop(seat, one)
         for one in map(self.interned, new):
             self.hold_own(seat, one)
         seat.done = {key: stamps.get(stamp, stamp) for key, stamp in seat.done.items()}
@@ -362,6 +361,15 @@ class State:
         seat.rebuild()
 
     # Forgetting
+
+    def _drop(self, seat: Seat, one: Operation) -> None:
+        """Let a private operation go."""
+        del seat.own[one], seat.places[one]
+        left = tuple(other for other in self.by_stamp[one.stamp] if other is not one)
+        if left:
+            self.by_stamp[one.stamp] = left
+        else:
+            del self.by_stamp[one.stamp]
 
     def forget(self, seat: Seat, kept: int) -> None:
         """Let private operations go that say nothing any more, but for the newest: no layer differs without them."""
@@ -373,8 +381,7 @@ class State:
             return
         lines = {line for one in gone for line in lines_of(seat.road, one)}
         for one in gone:
-            del seat.own[one], seat.places[one]
-            self.by_stamp[one.stamp].remove(one)
+            self._drop(seat, one)
         seat.forgot(lines)
 
     # Compaction
