@@ -124,7 +124,8 @@ TRUTH = """
 def example_rows(which: int) -> list[str]:
     """The rows of a diagram of the example: 0 closed from step 12 on, 1 from 12 to 24; both begin at step 12, or 24."""
     with open(TOP / "examples" / "closed_cell.out", encoding="utf-8") as replies:
-        return [reply["rows"] for reply in map(json.loads, replies) if "rows" in reply][which]
+        rows: list[list[str]] = [reply["rows"] for reply in map(json.loads, replies) if "rows" in reply]
+    return rows[which]
 
 
 def free_server(plan: dict[str, Any], *more: str, **environment: str) -> Server:
@@ -212,13 +213,16 @@ class Tab:
 
     def covers(self, ident: str) -> list[str]:
         """What the lines of a list say of what covers them."""
-        return self.script("return [...document.querySelectorAll(`#${arguments[0]} > li > .loss`)].map((one) => "
-                           "one.textContent)", ident)
+        found = self.script("return [...document.querySelectorAll(`#${arguments[0]} > li > .loss`)].map((one) => "
+                            "one.textContent)", ident)
+        return list(map(str, found))
 
     def value_at(self, kind: str, index: int, *steps: int) -> list[int]:
         """What holds on the own road, as the page says it."""
-        return self.script("const [kind, index, steps] = arguments;"
-                           "return steps.map((step) => store.layers.mine.valueAt(kind, index, step))", kind, index, steps)
+        found: list[int] = self.script(
+            "const [kind, index, steps] = arguments;"
+            "return steps.map((step) => store.layers.mine.valueAt(kind, index, step))", kind, index, steps)
+        return found
 
     def faults(self) -> list[str]:
         return [entry["message"] for entry in self.driver.get_log("browser")
@@ -255,9 +259,9 @@ class Tab:
         """Saves two files by one press: that of the own road, and that of the shared one."""
         self.open_part("save")
         self.press(name, "#save")
-        shared = lambda: [path for path in self.saved(file) if "-shared-" in path.name]
-        self.until(lambda: shared() and len(self.saved(file)) == 2, f"two of {file}")
-        return sorted(self.saved(file), key=lambda path: path in shared())
+        is_shared = lambda path: "-shared-" in path.name
+        self.until(lambda: any(map(is_shared, self.saved(file))) and len(self.saved(file)) == 2, f"two of {file}")
+        return sorted(self.saved(file), key=is_shared)
 
     def saved(self, file: str) -> list[Path]:
         """The files that were saved whose names begin and end as this one's."""
@@ -353,14 +357,15 @@ class Tab:
               Math.round(topOf(view, step + 0.5)), 1, 1).data].slice(0, 3);
             return Array.from({length: count}, (_, step) =>
               Array.from({length}, (_, cell) => pixel(cell, first + step)));""", first, count, length)
-        by_colour = {colour: sign for sign, colour in COLOURS.items()}
+        by_colour: dict[tuple[int, ...], str] = {colour: sign for sign, colour in COLOURS.items()}
         return ["".join(by_colour.get(tuple(pixel), "?") for pixel in row) for row in found]
 
     def pixel(self, cell: float, step: float) -> tuple[int, int, int]:
-        return tuple(self.script("""
+        red, green, blue = self.script("""
             const [cell, step] = arguments, view = viewNow();
             return [...$("diagram").getContext("2d").getImageData(Math.round(leftOf(view, cell)),
-              Math.round(topOf(view, step)), 1, 1).data].slice(0, 3);""", cell, step))
+              Math.round(topOf(view, step)), 1, 1).data].slice(0, 3);""", cell, step)
+        return red, green, blue
 
     def point(self, cell: float, step: float) -> str:
         """Moves the pointer to a place, and gives what the page says of it."""

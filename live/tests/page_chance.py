@@ -17,7 +17,8 @@ SEEDED = {**FREE_ROAD, "length": 200, "zone": 200, "words": 1, "zones": [[3, 6_5
 
 def over_days(tab: Tab, within: str) -> dict[str, list[str]]:
     """The table over many days, once it is there: each cell with its small line."""
-    is_there = lambda: tab.script("return document.querySelector(`${arguments[0]} .over`) !== null", within)
+    def is_there() -> bool:
+        return bool(tab.script("return document.querySelector(`${arguments[0]} .over`) !== null", within))
     for _ in range(3):  # what is nice comes late where the machine has other work
         with contextlib.suppress(AssertionError):
             tab.until(is_there, "the days")
@@ -121,7 +122,8 @@ class TwoTabs(BrowserCase):
         saved = ada.save_both("Script", "script.jsonl")
         hours = ada.script("return [...document.querySelectorAll('#figures tbody tr')].find((line) => "
                            "line.firstChild.textContent === 'Vehicle hours').lastChild.textContent")
-        for words in ([], ["--days", "2"]):
+        choices: list[list[str]] = [[], ["--days", "2"]]
+        for words in choices:
             ran = subprocess.run([TOP / "recipes" / "delay" / "run", *words, "--out", new_folder(), *reversed(saved)],
                                  stdout=subprocess.PIPE, stderr=subprocess.PIPE, text=True, check=False)
             self.assertEqual(ran.returncode, 0, ran.stderr)

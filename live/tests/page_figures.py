@@ -17,11 +17,11 @@ from selenium.webdriver.common.keys import Keys
 def demand_is(demand: float, chance: int, plan: dict[str, Any]) -> bool:
     """Whether a chance at the first inlet admits a demand, by 400,000 steps of another seed on a short road."""
     from zegdrut import RoadLab
-    road = {**plan, "length": 100, "zone": 100, "zones": [plan["zones"][0]], "inlets": [[0, chance]], "detectors": [50], "words": 77,
+    road: Any = {**plan, "length": 100, "zone": 100, "zones": [plan["zones"][0]], "inlets": [[0, chance]], "detectors": [50], "words": 77,
             "replicas": ["A"]}
     with RoadLab(road) as lab:
         lab.advance("A", 401_000)
-        cars = lab.count("A", 0, 1_000, 401_000).cars
+        cars = int(lab.count("A", 0, 1_000, 401_000).cars)
     wanted = demand * 400_000 / 3_600
     return abs(cars - wanted) <= max(0.005 * wanted, 2 * math.sqrt(wanted))
 
@@ -74,7 +74,8 @@ class OneFreeway(BrowserCase):
             tab.settled()
         tab.in_figures(kmFrom="3", kmTo="3.375")
         self.assertEqual(tab.text("said"), "54 km/h, 3–3.375 km, from 0:20:00 on: done.")
-        self.assertEqual((tab.tool("look"), tab.text("apply"))[1], "Close cells")  # what it does
+        tab.tool("look")
+        self.assertEqual(tab.text("apply"), "Close cells")  # what it does
         tab.tool("block")
         tab.in_figures(kmFrom="3.3", kmTo="3.32")
         self.assertEqual(tab.text("said"), "Closed 3.3–3.323 km, from 0:20:00 on: done. In whole cells of 7.5 m: about 3.3–3.323 km.")
@@ -94,8 +95,9 @@ class OneFreeway(BrowserCase):
             self.assertIn(said, tab.text("said"))
         tab.tool("inflow")
         tab.in_figures(demand="1710", timeFrom="0:05", timeTo="0:10")
-        said = re.fullmatch(r"The demand is out of range: this inlet admits 0 to (1,7\d\d) cars per hour \(limit 135 km/h, slowing 10 %\).", tab.text("said"))
-        self.assertTrue(said and demand_is(int(said[1].replace(",", "")), 65_536, FREEWAY), tab.text("said"))
+        found = re.fullmatch(r"The demand is out of range: this inlet admits 0 to (1,7\d\d) cars per hour "
+                             r"\(limit 135 km/h, slowing 10 %\).", tab.text("said"))
+        self.assertTrue(found and demand_is(int(found[1].replace(",", "")), 65_536, FREEWAY), tab.text("said"))
         self.assertEqual(operations_of(self.server), [])
 
     def figures(self, tab: Tab, name: str) -> list[float]:

@@ -1,6 +1,8 @@
 """The page for those who use no mouse, see little, or want less motion; names and tokens as they must be."""
 from __future__ import annotations
 
+from typing import Any
+
 from browsers import FREEWAY, BrowserCase
 from selenium.webdriver.common.action_chains import ActionChains
 from selenium.webdriver.common.by import By
@@ -169,7 +171,8 @@ class ForAll(BrowserCase):
 
     def test_a_pressed_button_is_read_under_the_pointer_too(self) -> None:
         tab, = self.open(FREEWAY)
-        pressed = lambda: tab.driver.find_elements(By.CSS_SELECTOR, "#rates [aria-pressed=true]")
+        def pressed() -> list[Any]:
+            return list(tab.driver.find_elements(By.CSS_SELECTOR, "#rates [aria-pressed=true]"))
         tab.until(pressed, "the rate is there")
         ActionChains(tab.driver, duration=0).move_to_element(pressed()[0]).perform()
         colours = tab.script("const style = getComputedStyle(document.querySelector('#rates [aria-pressed=true]:hover'));"

@@ -2,6 +2,7 @@
 from __future__ import annotations
 
 import csv
+import math
 import os
 import re
 from pathlib import Path
@@ -181,7 +182,7 @@ class OneForm(BrowserCase):
             tab.fill(timeFrom=begin)
             tab.until(lambda: tab.text("toolHint").startswith("inflow chance"), "it is measured")
             said = re.fullmatch(r"inflow chance (0\.\d+); this inlet admits up to [\d,]+ cars/h here", tab.text("toolHint"))
-            found.append(float(said[1]) if said else None)
+            found.append(float(said[1]) if said else math.nan)
         beside, alone, now = found
         # Where nobody passes, a chance q lets in some q / (1 + q q) cars a step; beside the cars of the main road fewer.
         self.assertAlmostEqual(alone / (1 + alone ** 2), 300 / 3_600, delta=0.002)
@@ -301,7 +302,8 @@ class TwoTabs(BrowserCase):
                            "[...line.children].map((one) => one.firstChild?.data ?? ''))")
         rows = {row["figure"]: [row["mine"], row["shared"], row["mine less shared"]]
                 for row in self.rows(ada.save("Figures as CSV", "figures.csv"))}
-        number = lambda text: float(text.replace(",", "").replace("−", "-").replace("+", "") or "nan")
+        def number(text: str) -> float:
+            return float(text.replace(",", "").replace("−", "-").replace("+", "") or "nan")
         for name, saved, digits in (("Vehicle hours", "vehicle hours", 1), ("Lost demand, cars", "lost demand", 0),
                                     ("Delay, vehicle hours", "delay of cars on both roads", 1),
                                     ("Cars at 2.25 km", "cars at 2.25 km", 0)):

@@ -192,11 +192,13 @@ class Sharing(BrowserCase):
         ada.until(lambda: ada.part("news").is_displayed(), "news")
         # The jams before the closures, half way down: at cell 590 her own, at cell 390 Ben's, at cell 125 what she shares.
         own, his, shared = (590, 1700), (390, 1700), (125, 1700)
-        jam = lambda tab, place: (lambda red, green, blue: green < 130 and red > 150)(*tab.pixel(*place))
+        def is_jam(tab: Tab, place: tuple[float, float]) -> bool:
+            red, green, _ = tab.pixel(*place)
+            return green < 130 and red > 150
         for what, wanted in (("Share…: Closed 1.05", [False, False, True]), ("Look first", [False, True, False])):
             ada.press(what)
             ada.settled()
-            self.assertEqual([jam(ada, place) for place in (own, his, shared)], wanted, what)
+            self.assertEqual([is_jam(ada, place) for place in (own, his, shared)], wanted, what)
             rows = before_rows(ada)
             steps = ada.driver.execute_async_script("""
                 const done = arguments[0];
