@@ -33,6 +33,7 @@ use crossbeam_channel::{Sender, bounded};
 use road_cells::Road;
 use road_detector::Ran;
 use road_ends::{OutOfMemory, Span, StepInput};
+use road_plan::limits::GREATEST_HORIZON;
 use std::alloc::Global;
 use std::marker::Model;
 use std::sync::{Arc, Wait};
@@ -189,6 +190,12 @@ impl<R: Wait> Crew for Pool<R> {
         };
         self.gone = gone_after(&answer, self.gone);
         answer
+    }
+
+    fn most_steps(&self) -> u32
+        ensures { 0 < result }
+    {
+        GREATEST_HORIZON
     }
 
     fn run(

@@ -15,7 +15,7 @@ pub(crate) mod joining;
 
 use crate::kept_run::KeptRun;
 use crate::stretch::cutting::cut_out;
-use crate::whole::{begun_on, kept_of, make_steps, take_up};
+use crate::whole::{make_steps, reusable_run, start_run, take_up};
 use road_cells::{Car, GREATEST_SPEED, Road};
 use road_columns::UnderWay;
 use road_detector::Ran;
@@ -78,7 +78,7 @@ pub(crate) fn run_near(
     requires runnable { IsRunnableNear stretch.first stretch.end span.now near.now }
     ensures { IfOk result (λ ran. IsRunOf stretch.first stretch.end span.now near.now ran) }
 {
-    let kept_run = kept_of(span, kept.run.take());
+    let kept_run = reusable_run(span, kept.run.take());
     let Some(mut run) = run_on(alloc, span, with_margins(span, stretch), near, kept_run)? else {
         unreachable!();
     };
@@ -103,7 +103,7 @@ fn run_on(
     ensures some { IfOk result (λ run. IsRunnable stretch.first stretch.end span.now.plan near.now → IsSome run) }
 {
     let Some(mut run) = kept else {
-        return begun_on(alloc, span, stretch, near);
+        return start_run(alloc, span, stretch, near);
     };
     if !take_up(alloc, span, stretch, near, &mut run)? {
         return Ok(None);
