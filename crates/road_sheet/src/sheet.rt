@@ -327,7 +327,7 @@ impl Sheet {
         }) }
     {
         let start = &self.interval(interval as usize).start;
-        let (open_interval, at_horizon) = begin_interval(alloc, start, self.plan.detectors().len())?;
+        let (open_interval, at_horizon) = start_from(alloc, start, self.plan.detectors().len())?;
         let (plan, intervals) = share_with_plan(
             alloc,
             &self.plan,
@@ -537,7 +537,7 @@ impl Sheet {
 }
 
 // Begin the interval of a checkpoint, and return the road there.
-fn begin_interval(
+fn start_from(
     alloc: Global,
     start: &Checkpoint,
     detectors: usize,

@@ -13,15 +13,15 @@ use Rattle.road_detector.proofs.CarsPassOneByOne.{one_from}
 use Rattle.road_workers.specs.Private.Stretches.{road_after}
 use Rattle.road_workers.proofs.StretchTotals.{road_after-more, sums_fit}
 
--- what a detector counts in so many steps of a span
+-- what a detector counts in k steps of a span
 abbrev pub count_of : Span → ℕ → Array → ℕ → Totals
 count_of span k a d = total_from span.plan (λ _. span.settings) span.step k a d
 
--- what it counts in the step after so many, from the road before that step
+-- what it counts in the step after k, from the road before that step
 abbrev pub step_count : Span → ℕ → Array → ℕ → Totals
 step_count span k here d = passes_from span.plan span.settings (span.step + k) here d
 
--- each detector has counted so many steps
+-- each detector has counted k steps
 abbrev pub AreCounted : Span → ℕ → Array → List Totals → Type 0
 AreCounted span k a totals = (d : ℕ) → d < length totals → slice_index_or totals d no_totals ≡ count_of span k a d
 
