@@ -12,7 +12,7 @@ more_ticks_after meter n (suc k) =
     let one : suc (n + k) ≡ n + suc k = omega arith in
     ap (λ (m : ℕ). min (m + 1) (2 ^ 64 - 1)) (more_ticks_after meter n k) ∙ ap (meter_after meter) one
 
--- so many ticks at once, and at least one
+-- several ticks at once, and at least one
 at_once : (meter k : ℕ) → min (meter + suc k) (2 ^ 64 - 1) ≡ meter_after meter (suc k)
 at_once meter zero = refl
 at_once meter (suc k) =

@@ -53,7 +53,7 @@ pub fn grown<C: Crew>(
     ensures new_steps { IfOk result (λ _.
         kept_step sheet.now.horizon (touched_step sheet.now scenario.now) ≡ sheet.now.horizon
         → meter.new ≡ meter_after meter.old (max sheet.now.horizon to - sheet.now.horizon)) }
-    // Else, and if it is refused, at most so many.
+    // Else, and if it is refused, at most `most_steps`.
     ensures few_steps { TicksAtMost
         (most_steps sheet.now.horizon (max sheet.now.horizon to) (touched_step sheet.now scenario.now))
         meter.old meter.new }

@@ -46,7 +46,7 @@ impl<R> Model for Scoped<R> {
 }
 
 impl<R: Threads + Wait> Scoped<R> {
-    /// Make a crew of so many workers, 1 to 16. Each passes the gate before it computes its piece.
+    /// Make a crew of 1 to 16 workers. Each passes the gate before it computes its piece.
     pub fn new(rt: R, workers: u32, gate: SharedGate) -> Scoped<R>
         requires some { 0 < workers }
         requires few { workers ≤ MOST_WORKERS }

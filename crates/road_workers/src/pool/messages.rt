@@ -35,8 +35,8 @@ pub(super) fn result_of_send(given: Result<(), SendError<Job>>) -> Result<(), Cr
     }
 }
 
-// Send so many workers a job each by this send, in their order, up to the first that is refused. Return how many were
-// sent, and why the next one was not. So the caller waits for no answer that nobody was asked for.
+// Send a job to each of the first `workers` workers, in their order, up to the first that is refused. Return how many
+// were sent, and why the next one was not. So the caller waits only for answers to jobs that were sent.
 pub(super) fn send_each<F: Fn(u32) -> Result<(), CrewFault>>(
     workers: u32,
     send: F,
@@ -64,7 +64,7 @@ pub(super) fn next_done<R: Wait>(rt: &R, inbox: &mut Inbox) -> Result<Done, Crew
     result_of_receive(inbox.replies.recv(rt))
 }
 
-// Return what was said, if anything was.
+// Return the finished job that was received, or that a worker or all workers have gone.
 fn result_of_receive(heard: Result<Reply, RecvError>) -> Result<Done, CrewFault>
     ensures done { (done : Done) → heard ≡ Ok (Said.Done done) → result ≡ Ok done }
     ensures one_gone { heard ≡ Ok Said.Gone → result ≡ Err Fault.WorkersGone }

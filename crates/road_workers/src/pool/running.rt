@@ -129,8 +129,8 @@ fn send_stretch<R: Wait>(
     result_of_send(jobs.send(rt, Job::Stretch(job)))
 }
 
-// Run the caller's stretch, in front of those of so many workers, in the run that is lent to it. If it has none, that
-// is nothing.
+// Run the caller's stretch, in front of those of the workers, in the run that is lent to it. If the caller has none,
+// return no cars and no counts.
 fn run_own_stretch(
     alloc: Global,
     shares: Shares,
@@ -153,7 +153,7 @@ fn run_own_stretch(
     Ok(join_first(ran, first.end))
 }
 
-// Take what so many workers, from the first on, answer for this span. What comes twice or from elsewhere is dropped.
+// Take what the first `workers` workers answer for this span. Duplicates and other answers are dropped.
 fn take_stretches<R: Wait>(
     rt: &R,
     inbox: &mut Inbox,

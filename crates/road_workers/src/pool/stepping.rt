@@ -61,7 +61,7 @@ fn send_job<R: Wait>(
     result_of_send(jobs.send(rt, Job::Piece(job)))
 }
 
-// Take what so many workers, from the first on, answer for this step. What comes twice or from elsewhere is dropped.
+// Take what the first `workers` workers answer for this step. Duplicates and other answers are dropped.
 fn take_pieces<R: Wait>(
     rt: &R,
     inbox: &mut Inbox,

@@ -44,7 +44,7 @@ pub(crate) fn join_first(ran: Ran, end: u32) -> Joined
     Joined { cars, totals }
 }
 
-// Make room for so many more cars.
+// Make room for more cars.
 pub(crate) fn with_room(joined: Joined, more: usize) -> Result<Joined, OutOfMemory>
     ensures { (end : ℕ) (span : Span) (a : Array) → IsJoined end span a joined → IfOk result (IsJoined end span a) }
 {
