@@ -11,7 +11,7 @@ use crate::faults::CrewFault;
 use crate::kept_run::KeptRun;
 use crate::step_by_step::{count_passes, enter_step};
 use road_cells::Road;
-use road_detector::{Ran, Totals};
+use road_detector::{SpanResult, Totals};
 use road_ends::{Span, StepInput, finish};
 use std::alloc::Global;
 use std::sync::Arc;
@@ -52,7 +52,7 @@ pub trait Crew {
         span: &Span,
         road: &Road,
         _kept: &mut KeptRun,
-    ) -> Result<Option<Ran>, CrewFault>
+    ) -> Result<Option<SpanResult>, CrewFault>
         ensures road { IfOk result (λ done. IfSome done (λ ran. ran.road ≡ span_road span.now road.now)) }
         ensures totals { IfOk result (λ done. IfSome done (λ ran. ran.totals.items ≡ span_totals span.now road.now)) }
         ensures some { IfOk result (λ done. CanBeRun span.now road.now → IsSome done) }
@@ -67,7 +67,7 @@ pub trait Crew {
             count_passes(&mut totals, &input, &speeds);
             before = finish(alloc, &input, &speeds)?;
         }
-        Ok(Some(Ran {
+        Ok(Some(SpanResult {
             road: before,
             totals,
         }))
