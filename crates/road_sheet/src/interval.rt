@@ -34,12 +34,11 @@ impl Interval {
         Ok(Interval { start, totals })
     }
 
-    // Copy the counts, and share the road.
     pub(crate) fn copied(&self) -> Result<Interval, OutOfMemory>
         ensures start { IfOk result (λ interval. interval.start ≡ self.now.start) }
         ensures totals { IfOk result (λ interval. interval.totals.items ≡ self.now.totals.items) }
     {
-        let start = self.start.share()?;
+        let start = self.start.copied()?;
         let totals = self.totals.clone()?;
         Ok(Interval { start, totals })
     }
