@@ -1,5 +1,5 @@
 -- A sheet's next span can be run from its road at the horizon.
-use Rattle.std.proofs.Common.{◌≡◌, ◌≤◌, ◌+◌, subst, sym, arith}
+use Rattle.std.proofs.Common.{◌≤◌, ◌+◌, subst, sym, arith}
 use Rattle.road_plan.specs.Plan.{IsWithinLimits, Plan}
 use Rattle.road_plan.specs.declared.limits.TheConstants.{GREATEST_HORIZON}
 use Rattle.road_ends.specs.Laws.{StayOnRoad}
