@@ -53,8 +53,8 @@ total_after run d =
     plus (slice_index_or run.totals d no_totals) (passes_at (next_input run) (input_speeds (next_input run)) d)
 
 -- a run after its next step: its cells end 9 cells later, since no car drives farther in a step
-abbrev pub stepped : UnderWay → UnderWay
-stepped run = record {
+abbrev pub run_after_step : UnderWay → UnderWay
+run_after_step run = record {
   plan = run.plan;
   settings = run.settings;
   step = run.step + 1;
@@ -65,21 +65,21 @@ stepped run = record {
 }
 
 -- the totals of the detectors of a plan that have counted nothing
-abbrev pub nothing_counted : Plan → List Totals
-nothing_counted p = map (λ d. no_totals) (range_with_len 0 (length p.detectors))
+abbrev pub zero_counts : Plan → List Totals
+zero_counts p = map (λ d. no_totals) (range_with_len 0 (length p.detectors))
 
 -- a run of a plan that starts at a step from a road, on the cells from lo to before hi
-abbrev pub begun_on : Plan → Settings → ℕ → ℕ → ℕ → Array → UnderWay
-begun_on p s t lo hi a = record {
+abbrev pub run_on : Plan → Settings → ℕ → ℕ → ℕ → Array → UnderWay
+run_on p s t lo hi a = record {
   plan = p;
   settings = s;
   step = t;
   lo = lo;
   hi = hi;
   road = a;
-  totals = nothing_counted p;
+  totals = zero_counts p;
 }
 
 -- a run that starts on the whole road, which is empty
-abbrev pub begun : Plan → Settings → UnderWay
-begun p s = begun_on p s 0 0 p.cells []
+abbrev pub new_run : Plan → Settings → UnderWay
+new_run p s = run_on p s 0 0 p.cells []

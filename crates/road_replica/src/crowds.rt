@@ -36,7 +36,7 @@ pub trait Crowds {
     /// # Errors
     ///
     /// `WorkersGone` if a session's thread could not be started, else `OutOfMemory`.
-    fn gathered(
+    fn gather(
         &self,
         alloc: Global,
         plan: &Arc<Plan>,

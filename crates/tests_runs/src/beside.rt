@@ -76,7 +76,7 @@ impl Beside {
     }
 
     /// Go on from a road at a step, the run under way with the cars of the road on a stretch. Fail if it cannot.
-    pub(crate) fn take_up(
+    pub(crate) fn restart_on(
         &mut self,
         alloc: Global,
         settings: &Settings,
@@ -85,7 +85,7 @@ impl Beside {
         road: &Road,
     ) -> Result<(), Fail> {
         let near = cars_on(alloc, road, stretch)?;
-        if !self.try_take_up(alloc, settings, step, stretch, &near)? {
+        if !self.try_restart(alloc, settings, step, stretch, &near)? {
             return Err(Fail::new("a road that a run cannot go on from"));
         }
         Ok(self.begin_plainly(alloc, settings, step, road)?)
@@ -107,7 +107,7 @@ impl Beside {
     }
 
     /// Let only the run under way go on from a road at a step, if it can.
-    pub(crate) fn try_take_up(
+    pub(crate) fn try_restart(
         &mut self,
         alloc: Global,
         settings: &Settings,
@@ -119,7 +119,7 @@ impl Beside {
         if step > GREATEST_HORIZON || stretch.end > self.plan.length() {
             return Err(Fail::new("a step or a stretch beyond the end"));
         }
-        Ok(self.run.take_up(alloc, own, step, stretch, road)?)
+        Ok(self.run.restart_on(alloc, own, step, stretch, road)?)
     }
 
     /// Take changed settings from the next step on.

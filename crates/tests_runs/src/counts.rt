@@ -61,21 +61,21 @@ fn go_on(alloc: Global, beside: &mut Beside, steps: u32) -> Result<(), Fail> {
 }
 
 // Let both go on from their own road at a step.
-fn take_up_own(alloc: Global, beside: &mut Beside, step: u32) -> Result<(), Fail> {
+fn restart_own(alloc: Global, beside: &mut Beside, step: u32) -> Result<(), Fail> {
     let road = beside.road().copied()?;
     let settings = Settings::of_plan(alloc, beside.plan())?;
     let stretch = Stretch {
         first: 0,
         end: beside.plan().length(),
     };
-    beside.take_up(alloc, &settings, step, stretch, &road)
+    beside.restart_on(alloc, &settings, step, stretch, &road)
 }
 
 // Return whether something is counted in a hundred steps, and nothing once both go on from the road.
 fn check_restart_from_road(alloc: Global, beside: &mut Beside) -> Result<bool, Fail> {
     go_on(alloc, beside, 100)?;
     let counted = counts_something(alloc, beside)?;
-    take_up_own(alloc, beside, 100)?;
+    restart_own(alloc, beside, 100)?;
     Ok(counted && !counts_something(alloc, beside)?)
 }
 

@@ -55,7 +55,7 @@ impl Hasher for AllAlike {
 pub(crate) struct Unmanned;
 
 impl Crowds for Unmanned {
-    fn gathered(
+    fn gather(
         &self,
         _alloc: Global,
         _plan: &Arc<Plan>,

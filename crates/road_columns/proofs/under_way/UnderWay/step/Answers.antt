@@ -8,7 +8,7 @@ use Rattle.road_ends.specs.Input.{StepInput, input_next, input_speeds}
 use Rattle.road_ends.specs.EntriesBetween.{input_between}
 use Rattle.road_detector.specs.Passes.{no_totals, passes_at, plus}
 use Rattle.road_detector.specs.declared.counts.Totals.{Totals}
-use Rattle.road_columns.specs.UnderWay.{stepped}
+use Rattle.road_columns.specs.UnderWay.{run_after_step}
 use Rattle.road_columns.specs.Private.Cars.{road_of}
 use Rattle.road_columns.specs.Private.Counts.{totals_in}
 use Rattle.road_columns.specs.Private.Interval.{HaveRoom}
@@ -66,8 +66,8 @@ returns-in_err-make_room-clause-err c =
     })
     ∙ c.self.view_is)
 
-pub returns-clause-stepped : goal.returns-clause-stepped
-returns-clause-stepped c =
+pub returns-clause-run_after_step : goal.returns-clause-run_after_step
+returns-clause-run_after_step c =
     let x = c.self.inside in
     let r = c.run_step in
     let inside : c.self.inside.cars.tail ≤ length c.self.inside.cars.cells.items = let within = c.self.invariant.running.standing.cars_are.inside in omega arith in
@@ -82,4 +82,4 @@ returns-clause-stepped c =
       road = (r.ensures.road ∙ (λ k. input_next (input_between x.stretch.first x.stretch.end (c.deref-2.ensures k) (c.deref-3.ensures k) x.step (same k)))) j;
       totals = (r.ensures.totals ∙ (λ k. counted (input_between x.stretch.first x.stretch.end (c.deref-2.ensures k) (c.deref-3.ensures k) x.step (same k)) (totals_in x.counts.passes.items x.counts.totals.items))) j;
     })
-    ∙ ap stepped c.self.view_is
+    ∙ ap run_after_step c.self.view_is
