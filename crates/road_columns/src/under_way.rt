@@ -62,8 +62,8 @@ impl Model for UnderWay {
     ghost invariant = { IsRunning };
 }
 
-/// Return whether a run can start from a road on the cells of a stretch: [`UnderWay::restart_on`] says when. It takes no
-/// memory.
+/// Return whether a run can start from a road on the cells of a stretch ([`UnderWay::restart_on`] says when). It takes
+/// no memory.
 pub fn is_runnable(plan: &Plan, stretch: Stretch, road: &Road) -> bool
     ensures { IsTrue result ↔ IsRunnable stretch.first stretch.end plan.now road.now }
 {
@@ -89,8 +89,8 @@ impl UnderWay {
         UnderWay::of_cars(alloc, plan, settings, 0, Stretch { first: 0, end }, &nobody)
     }
 
-    /// Start a run of a plan from a road, at a step, on the cells of a stretch. Return `None` if [`UnderWay::restart_on`]
-    /// would return `false`. The settings must fit the plan.
+    /// Start a run of a plan from a road, at a step, on the cells of a stretch. Return `None` if
+    /// [`UnderWay::restart_on`] would return `false`. The settings must fit the plan.
     ///
     /// # Errors
     ///
@@ -220,9 +220,9 @@ impl UnderWay {
     ///
     /// # Errors
     ///
-    /// `OutOfMemory` if an allocation fails, and for no other reason. Nothing changes then, so the step can be made
-    /// again later. A step takes memory only if there is no room for the cars that may enter: in `ahead` steps (64 at
-    /// most) where the words of an interval are drawn, else in this step.
+    /// `OutOfMemory` if an allocation fails, and for no other reason. Nothing changes then, so the step can be retried
+    /// later. A step allocates only if there is no room for the cars that may enter: those of `ahead` steps (at most
+    /// 64) if it draws the words of an interval, else those of this step.
     pub fn step(&mut self, alloc: Global, ahead: u32) -> Result<(), OutOfMemory>
         requires { self.old.step < GREATEST_HORIZON }
         ensures run_after_step { OnOk result (self.new ≡ run_after_step self.old) }
@@ -273,7 +273,7 @@ impl UnderWay {
         text_of(alloc, &self.plan, self.settings.blocks(), &self.cars)
     }
 
-    /// Return the totals of each detector since its counts began.
+    /// Return the totals of each detector since its counts were last zero.
     ///
     /// # Errors
     ///

@@ -16,9 +16,9 @@ returns-clause-write g c =
     let seen : List Entry = c.args.membership.now.seen in
     let journal : List Entry = c.args.self.now.journal.items in
     let before : IsPrefix seen journal = subst (λ (l : List Entry). IsPrefix seen l) c.args.self.now.journalled c.know.ensures.prefix in
-    let after : c.seen.result ≡ c.write.new.self.journal.items = c.seen.ensures.same ∙ c.write.new.self.journalled in
-    let legal : IsLegal r c.seen.result = subst (λ (l : List Entry). IsLegal r l) (sym c.seen.ensures.same) c.seen.ensures.legal in
-    is_write g.J.Naming.limit r c.args.session c.args.wish.now seen journal c.seen.result (view c.args.membership.now.reader.place) (view c.enter_after_write_here.new.reader.place) c.in_ok-place.place c.in_ok-place.reply c.args.meter.now c.write.new.meter
+    let after : c.prefix.result ≡ c.write.new.self.journal.items = c.prefix.ensures.same ∙ c.write.new.self.journalled in
+    let legal : IsLegal r c.prefix.result = subst (λ (l : List Entry). IsLegal r l) (sym c.prefix.ensures.same) c.prefix.ensures.legal in
+    is_write g.J.Naming.limit r c.args.session c.args.wish.now seen journal c.prefix.result (view c.args.membership.now.reader.place) (view c.enter_after_write_here.new.reader.place) c.in_ok-place.place c.in_ok-place.reply c.args.meter.now c.write.new.meter
     before (after ∙ c.in_ok-place.ensures.journal) legal c.in_ok-place.ensures.reply.0 c.in_ok-place.ensures.reply.1 c.enter_after_write_here.ensures
     (subst (λ (n : ℕ). IsAccepted n c.args.wish.now r journal c.args.meter.now c.write.new.meter) c.args.self.now.room c.in_ok-place.ensures.write)
 
