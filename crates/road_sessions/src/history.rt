@@ -119,7 +119,7 @@ fn new_pen(word: &Word<Page, u64, PageRule>, seen: &Seen<Page, u64, PageRule>) -
     requires { word.now ≡ first_word seen.now.book }
     ensures { (result.book ≡ seen.now.book) × (result.nib.right ≡ may_write) }
 {
-    let mut later = seen.copied();
+    let mut later = seen.again();
     let mut offer: Offer<Page, u64, PageRule, NoGain> = later.plain::<NoGain, (), MakePen>(&());
     let mut pen = later.no_pen();
     word.compare_exchange::<MakePen, NoGain>(0, 0, &mut later, &mut offer, &mut pen);
@@ -225,7 +225,7 @@ impl<J: Naming> Whole<J> {
     {
         Prefix {
             count: self.count,
-            seen: self.seen.copied(),
+            seen: self.seen.again(),
             of: PhantomData,
         }
     }
@@ -236,7 +236,7 @@ impl<J: Naming> Whole<J> {
         ensures same { self.new ≡ self.old }
         ensures legal { IsLegal J.replica self.old }
     {
-        let mut both = self.seen.copied();
+        let mut both = self.seen.again();
         both.learn(&seen.seen);
         let mut offer: Offer<Page, u64, PageRule, NoGain> = both.plain::<NoGain, (), KnowAll>(&());
         head.word
@@ -294,13 +294,13 @@ impl<J: Naming> Model for Prefix<J> {
 
 impl<J: Naming> Prefix<J> {
     // Return another value that has seen the same prefix.
-    pub(crate) fn copied(&self) -> Prefix<J>
+    pub(crate) fn again(&self) -> Prefix<J>
         ensures same { result ≡ self.now }
         ensures legal { IsLegal J.replica self.now }
     {
         Prefix {
             count: self.count,
-            seen: self.seen.copied(),
+            seen: self.seen.again(),
             of: PhantomData,
         }
     }
@@ -312,7 +312,7 @@ impl<J: Naming> Prefix<J> {
         ensures legal { IsLegal J.replica self.now }
         ensures other_legal { IsLegal J.replica other.now }
     {
-        let mut both = self.seen.copied();
+        let mut both = self.seen.again();
         both.learn(&other.seen);
         self.count <= other.count
     }

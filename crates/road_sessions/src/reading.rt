@@ -71,7 +71,7 @@ fn enter<J: Naming>(reader: StoreReader<J>, query: &Query) -> (StoreReader<J>, O
     match reader.enter_as::<ToLook>() {
         Ok(reading) => {
             let published = reading.get();
-            let history = published.history().copied();
+            let history = published.history().again();
             let sheet = published.sheet();
             let sheet = owner_for(query, sheet, || Arc::try_clone(sheet));
             (reading.leave(), Some((history, sheet)))

@@ -249,7 +249,7 @@ impl<J: Naming> Session<J> {
             .lock(rt)
             .serve(number, wish, crew, meter, &mut self.membership)?;
         let receipt = Receipt {
-            history: self.membership.seen.copied(),
+            history: self.membership.seen.again(),
         };
         Ok(Wrote {
             place,
@@ -343,7 +343,7 @@ impl<J: Naming> Session<J> {
         ensures same { (self.new.number ≡ self.old.number) × (self.new.view ≡ self.old.view) }
     {
         if self.membership.seen.is_prefix_of(&receipt.history) {
-            self.membership.seen = receipt.history.copied();
+            self.membership.seen = receipt.history.again();
         }
     }
 

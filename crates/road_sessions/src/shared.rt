@@ -183,9 +183,9 @@ fn store_of<J: Naming>(
     ensures refused { IfErr result (λ fault. fault ≡ openings.OutOfMemory) }
 {
     let sheet = Arc::try_clone(sheet)?;
-    let published = Published::new(sheet, history.copied());
-    let first = published.copied()?;
-    let second = published.copied()?;
+    let published = Published::new(sheet, history.again());
+    let first = published.again()?;
+    let second = published.again()?;
     let writer = new_store(alloc, first, second, readers)?;
     Ok((writer, published))
 }

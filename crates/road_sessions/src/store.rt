@@ -68,13 +68,13 @@ impl<J: Naming> Published<J> {
     }
 
     // Copy it. This is refused if the sheet can have no more owners.
-    pub(crate) fn copied(&self) -> Result<Published<J>, OutOfMemory>
+    pub(crate) fn again(&self) -> Result<Published<J>, OutOfMemory>
         ensures { IfOk result (λ same. same ≡ self.now) }
     {
         let sheet = Arc::try_clone(&self.sheet)?;
         Ok(Published {
             sheet,
-            history: self.history.copied(),
+            history: self.history.again(),
         })
     }
 }
@@ -92,7 +92,7 @@ impl<J: Naming> Absorb<Published<J>> for Published<J> {
         operation: &Published<J>,
         _other: &Published<J>,
     ) -> Result<(), AllocError> {
-        *self = operation.copied()?;
+        *self = operation.again()?;
         Ok(())
     }
 
@@ -206,7 +206,7 @@ fn publish<J: Naming, R: Wait>(rt: &R, writer: StoreWriter<J>, next: Published<J
     requires { IsPrefix writer.desk.shown.value next }
     ensures { result.desk.shown.value ≡ next }
 {
-    let history = next.history().copied();
+    let history = next.history().again();
     let writer = hand_over(rt, writer, next);
     publish_pending(rt, writer, &history)
 }

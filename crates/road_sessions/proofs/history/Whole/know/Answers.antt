@@ -15,7 +15,7 @@ compare_exchange-requires g c =
     let same = ap (λ w. w.book) word in
     let offer = c.plain-offer.ensures in (
       ap (λ w. w.tracked) word,
-      c.learn.ensures.0 ∙ (ap (λ s. s.book) c.copied-both.ensures ∙ (book ∙ sym same)),
+      c.learn.ensures.0 ∙ (ap (λ s. s.book) c.again-both.ensures ∙ (book ∙ sym same)),
       c.self.invariant.3 ∙ sym same,
       offer.0,
       rw (ap (λ w. w.key) word, offer.3) (may_know_all c.learn.new.self.log c.plain-offer.result.ask c.self.inside.pen.nib c.self.invariant.4),
@@ -28,7 +28,7 @@ returns-clause-prefix g c =
     let theirs : List Page = c.seen.inside.seen.log in
     let both : List Page = c.learn.new.self.log in
     let all : List Page = c.compare_exchange.new.seen.log in
-    let front : IsPrefix mine both = subst (λ (l : List Page). IsPrefix l both) (ap (λ s. s.log) c.copied-both.ensures) c.learn.ensures.2 in
+    let front : IsPrefix mine both = subst (λ (l : List Page). IsPrefix l both) (ap (λ s. s.log) c.again-both.ensures) c.learn.ensures.2 in
     let told = c.compare_exchange.ensures in
     let whole = told.7.1 first mine front (sym c.self.invariant.5) in
     let known : IsPrefix theirs all = prefix_of_longer theirs both all c.learn.ensures.3 told.6 in
