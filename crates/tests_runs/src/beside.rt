@@ -147,8 +147,8 @@ impl Beside {
         Ok(())
     }
 
-    /// Make one step of both. The run under way is told of only a few steps ahead, so that it needs memory again and
-    /// again.
+    /// Make one step of both. The caller announces only a few steps to the run under way, so that it needs memory again
+    /// and again.
     pub(crate) fn step(&mut self, alloc: Global) -> Result<(), Fail> {
         if self.run.next_step() >= GREATEST_HORIZON {
             return Err(Fail::new("a step beyond the greatest horizon"));
@@ -171,7 +171,7 @@ impl Beside {
         Ok(())
     }
 
-    /// Begin all counts anew.
+    /// Set all counts to zero.
     pub(crate) fn restart_counts(&mut self, alloc: Global) -> Result<(), OutOfMemory> {
         self.totals = nothing(alloc, &self.plan)?;
         self.run.restart_counts();

@@ -1,4 +1,5 @@
--- All sessions came back, so the store is closed; the journal is what they wrote, so the sheet is that of the crowd.
+-- All sessions have come back, so the store can be closed. The journal is what they wrote, so the sheet is that of the
+-- crowd.
 use Rattle.std.proofs.Common.{◌≡◌, ◌∙◌, ap, arith, subst, sym}
 use Rattle.std.specs.Prelude.{IfOk, string_bytes, ℕ}
 use Rattle.std.specs.Arc.{arc_value}

@@ -1,4 +1,4 @@
--- The last session has written nothing yet; once it has worked it stands behind the others.
+-- The last session has written nothing yet. Once it has made its writes, it is appended to the others.
 use Rattle.std.proofs.Common.{◌≡◌, ◌∙◌, ◌+◌, ◌++◌, ◌∷◌, [], List, ap, arith, length, length-append, map, subst, sym}
 use Rattle.std.proofs.lemmas.List.{length-map, map-append}
 use Rattle.road_scenario.specs.declared.edit.Edit.{Edit}

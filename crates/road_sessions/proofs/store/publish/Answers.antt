@@ -1,4 +1,4 @@
--- What is pending ends in what was handed over.
+-- The last pending operation is the one that was handed over.
 use Rattle.std.proofs.Common.{◌∙◌, ◌++◌, ◌∷◌, [], List, ap, drop, sym}
 use Rattle.road_sessions.specs.declared.entry.Entry.{Entry}
 use Rattle.road_sessions.proofs.store.publish.Goals as goal

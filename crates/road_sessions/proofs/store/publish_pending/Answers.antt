@@ -1,4 +1,4 @@
--- What is published next is the given history, which goes on from the published one.
+-- The given history is published next. It extends the published one.
 use Rattle.std.proofs.Common.{◌≡◌, ◌∙◌, List, sym, subst}
 use mathlib.Core.List.{IsPrefix}
 use Rattle.road_sessions.specs.declared.entry.Entry.{Entry}

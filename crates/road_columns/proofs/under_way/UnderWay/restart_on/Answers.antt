@@ -1,4 +1,4 @@
--- The cars of the road are put in, and all that is kept for the settings is computed again.
+-- The cars of the road are put in, and everything stored for the settings is computed again.
 use Rattle.std.proofs.Common.{◌≡◌, ◌∙◌, ◌-◌, ◌<◌, ◌≤◌, length, sym, ap, subst, arith, refl}
 use Rattle.std.specs.List.{All}
 use Rattle.std.proofs.Math.Path.{transport}

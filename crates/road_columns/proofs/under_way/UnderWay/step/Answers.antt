@@ -1,4 +1,4 @@
--- The parts after a step.
+-- After a step the parts of the run fit together again, and the run that callers see is the next one.
 use Rattle.std.proofs.Common.{◌≡◌, ◌≤◌, ◌∙◌, ◌+◌, List, length, map, min, sym, ap, subst, slice_index_or, arith}
 use Rattle.std.specs.List.{range_with_len}
 use Rattle.std.specs.Arc.{arc_value}
@@ -17,7 +17,7 @@ use Rattle.road_columns.proofs.IntervalStarts.{few_cars}
 use Rattle.road_columns.proofs.LongerColumns.{on_err, road_longer, running_longer}
 use Rattle.road_columns.proofs.under_way.UnderWay.step.Goals as goal
 
--- what is counted after a step of an input
+-- the totals after a step of an input
 abbrev counted : StepInput → List Totals → List Totals
 counted input totals = map (λ d. plus (slice_index_or totals d no_totals) (passes_at input (input_speeds input) d)) (range_with_len 0 (length totals))
 

@@ -1,5 +1,5 @@
--- What a session has seen is a prefix of the journal, so its accepted write is one of a legal history, and a refused one
--- is refused behind that.
+-- What a session has seen is a prefix of the journal. So its accepted write extends a legal history, and its refused
+-- write is refused after one.
 use Rattle.std.proofs.Common.{◌≡◌, ◌∙◌, ℕ, List, subst, sym}
 use mathlib.Core.List.{IsPrefix}
 use Rattle.left_right.specs.Sides.{view}

@@ -1,4 +1,4 @@
--- What the session wrote is what its share says.
+-- The session wrote its share.
 use Rattle.std.proofs.Common.{◌≡◌, List, IfOk, subst}
 use Rattle.road_scenario.specs.declared.edit.Edit.{Edit}
 use Rattle.road_sessions.specs.Sessions.{Session}
