@@ -116,7 +116,12 @@ impl Draft {
     /// # Errors
     ///
     /// `OutOfMemory` if an allocation failed. The draft is then as it was.
-    pub fn push_span(&mut self, alloc: Global, span: &Span, ran: SpanResult) -> Result<(), OutOfMemory>
+    pub fn push_span(
+        &mut self,
+        alloc: Global,
+        span: &Span,
+        ran: SpanResult,
+    ) -> Result<(), OutOfMemory>
         requires next { IsNextSpan self.old span.now }
         requires road { ran.road ≡ span_road span.now (state_of self.old self.old.horizon) }
         requires totals { ran.totals.items ≡ span_totals span.now (state_of self.old self.old.horizon) }

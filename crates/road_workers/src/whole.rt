@@ -140,7 +140,12 @@ pub(crate) fn take_up(
 }
 
 // Go on with a run for the steps of a span.
-fn ran_on(alloc: Global, span: &Span, road: &Road, run: &mut UnderWay) -> Result<SpanResult, OutOfMemory>
+fn ran_on(
+    alloc: Global,
+    span: &Span,
+    road: &Road,
+    run: &mut UnderWay,
+) -> Result<SpanResult, OutOfMemory>
     requires { IsReady 0 span.now.plan.cells span.now road.now run.old }
     ensures road { IfOk result (λ ran. ran.road ≡ span_road span.now road.now) }
     ensures totals { IfOk result (λ ran. ran.totals.items ≡ span_totals span.now road.now) }
