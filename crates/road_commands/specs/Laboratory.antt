@@ -205,8 +205,7 @@ query_fault sheet (commands.Count detector from to) = totals_fault sheet detecto
 query_fault sheet (commands.Diagram from to) = rows_fault sheet from to
 query_fault sheet commands.Scenario = None
 
--- the answer of a sheet to a query that it does not refuse: the row of a step; its cars; the counts of a detector in
--- the steps from `from` to before `to`; the rows of the steps from `from` to `to`, both included; the winners
+-- the answer of a sheet to a query that it does not refuse
 abbrev pub sheet_answer : Sheet → Query → Answer
 sheet_answer sheet (commands.Cells step) = replies.Cells (sheet_row sheet step)
 sheet_answer sheet (commands.Cars step) = replies.Cars (cars_of_state (state_of sheet step))

@@ -21,14 +21,15 @@ use Rattle.road_format.specs.declared.refusal.Refusal.TheVariants.{NotJson, NotA
 
 -- a query of a replica, with the values of its fields
 pub data Query : Type 0 where
-  -- step
+  -- step; the row of that step
   Cells : ℕ → Query
-  -- step
+  -- step; the cars of that step
   Cars : ℕ → Query
-  -- detector, from, to
+  -- detector, from, to; the counts of that detector in the steps from `from` to before `to`
   Count : ℕ → ℕ → ℕ → Query
-  -- from, to
+  -- from, to; the rows of the steps from `from` to `to`, both included
   Diagram : ℕ → ℕ → Query
+  -- the winners, by object and step
   Scenario : Query
 
 -- a command with the values of its fields; a name is given by its text
