@@ -22,4 +22,4 @@ of_outcome o (Err crew_faults.OutOfMemory) old new count later is = record { ans
 pub of_query : (lab : Laboratory) (r : ℕ) (command : Command) (result : Result Answer CrewFault) (new : Laboratory) (count : ℕ) → IsSome (query_of command)
     → IsOutcome (query_outcome lab (answer_to_query (sheet_at lab.world r) command)) result lab new count count → IsAnswered (is_gathered lab.world.plan command) (outcome_at lab r command) result lab new count count
 of_query lab r (commands.Ask at query) result new count asks is = of_outcome _ result lab new count count is
-of_query lab r command result new count asks is = absurd asks
+of_query lab r command result new count asks is = absurd (cc)

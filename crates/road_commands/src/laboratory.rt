@@ -232,7 +232,7 @@ impl<S: BuildHasher + Copy> Laboratory<S> {
             Command::Take { message, .. } => self.take(alloc, at, &message, crew),
             Command::Advance { to, .. } => self.change(alloc, &Event::Advance { at, to }, crew),
             Command::Crowd { shares, to } => self.gather(alloc, shares.as_slice(), to, crowds),
-            _ => self.ask(alloc, at, &command),
+            query => self.ask(alloc, at, &query),
         }
     }
 
