@@ -76,7 +76,7 @@ near_more lo hi span k a run more is =
           ∙ ap (λ n. total_on lo hi span n a d) (add-one k);
     }
 
--- so many steps
+-- several steps
 pub near_after : (lo hi : ℕ) (span : Span) (k : ℕ) (a : Array) (run : UnderWay) → k ≤ span.steps → IsAfter lo hi span 0 a run → IsAfter lo hi span k a (after_steps k run)
 near_after lo hi span zero a run most is = is
 near_after lo hi span (suc k) a run most is = near_more lo hi span k a (after_steps k run) (omega arith) (near_after lo hi span k a run (omega arith) is)

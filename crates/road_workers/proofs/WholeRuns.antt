@@ -57,7 +57,7 @@ whole_more span k a run is =
           ∙ ap (λ n. total_from span.plan (λ _. span.settings) span.step n a d) (add-one k);
     }
 
--- so many steps
+-- several steps
 pub whole_after : (span : Span) (k : ℕ) (a : Array) (run : UnderWay) → IsWhole span 0 a run → IsWhole span k a (after_steps k run)
 whole_after span zero a run is = is
 whole_after span (suc k) a run is = whole_more span k a (after_steps k run) (whole_after span k a run is)

@@ -17,11 +17,11 @@ pub record IsReady (lo hi : ℕ) (span : Span) (a : Array) (run : UnderWay) : Ty
   pub to : run.hi ≡ hi
   pub road : run.road ≡ a
 
--- a run whose counts begin anew
+-- a run whose counts are set to zero
 abbrev pub uncounted : UnderWay → UnderWay
 uncounted run = record run { totals = zero_counts run.plan }
 
--- a run after so many more steps
+-- a run after k more steps
 abbrev pub after_steps : ℕ → UnderWay → UnderWay
 after_steps zero run = run
 after_steps (suc k) run = run_after_step (after_steps k run)
