@@ -74,7 +74,7 @@ impl ShownRun {
         };
         cars_stay_on_road(sheet.plan());
         let plan = Arc::try_clone(sheet.plan())?;
-        let begun = UnderWay::begin_on(alloc, plan, settings, state.step, whole, &state.road)?;
+        let begun = UnderWay::start_on(alloc, plan, settings, state.step, whole, &state.road)?;
         let Some(run) = begun else {
             unreachable!();
         };
@@ -143,7 +143,7 @@ impl ShownRun {
         cars_stay_on_road(sheet.plan());
         let _taken = self
             .run
-            .take_up(alloc, settings, kept.step, whole, &kept.road)?;
+            .restart_on(alloc, settings, kept.step, whole, &kept.road)?;
         self.under = kept.step;
         Ok(())
     }

@@ -93,7 +93,7 @@ pub(crate) fn start_run(
     prove!(span.steps() <= GREATEST_HORIZON);
     let plan = Arc::try_clone(span.plan())?;
     let settings = Arc::try_clone(span.settings())?;
-    UnderWay::begin_on(alloc, plan, settings, span.step(), stretch, road)
+    UnderWay::start_on(alloc, plan, settings, span.step(), stretch, road)
 }
 
 // Make a run stand before the steps of a span, under its settings: if it does not go on, it takes the road up.
@@ -136,7 +136,7 @@ pub(crate) fn take_up(
 {
     prove!(span.steps() <= GREATEST_HORIZON);
     let settings = Arc::try_clone(span.settings())?;
-    run.take_up(alloc, settings, span.step(), stretch, road)
+    run.restart_on(alloc, settings, span.step(), stretch, road)
 }
 
 // Go on with a run for the steps of a span.

@@ -1,4 +1,4 @@
-use Rattle.tests_failures.proofs.sessions.opened.Given as goal
+use Rattle.tests_failures.proofs.sessions.open_again.Given as goal
 
 -- the store that was just prepared
 abbrev pub ghosts-opens-J-Naming : goal.ghosts-opens-J-Naming

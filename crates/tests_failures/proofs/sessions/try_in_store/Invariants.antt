@@ -1,4 +1,4 @@
-use Rattle.tests_failures.proofs.sessions.tried_in_store.Given as goal
+use Rattle.tests_failures.proofs.sessions.try_in_store.Given as goal
 
 -- the store that was just prepared
 abbrev pub ghosts-goes-J-Naming : goal.ghosts-goes-J-Naming

@@ -1,4 +1,4 @@
--- The cars of the road are put in, and all that is kept for the settings is computed again.
+-- The cars of the road are put in, and everything stored for the settings is computed again.
 use Rattle.std.proofs.Common.{◌≡◌, ◌∙◌, ◌-◌, ◌<◌, ◌≤◌, length, sym, ap, subst, arith, refl}
 use Rattle.std.specs.List.{All}
 use Rattle.std.proofs.Math.Path.{transport}
@@ -7,7 +7,7 @@ use Rattle.std.specs.Arc.{arc_value}
 use Rattle.road_plan.specs.Plan.{Plan, exit_start}
 use Rattle.road_plan.specs.Settings.{Fits}
 use Rattle.road_cells.specs.declared.car.Car.{Car}
-use Rattle.road_columns.specs.UnderWay.{CanRun, UnderWay, nothing_counted}
+use Rattle.road_columns.specs.UnderWay.{CanRun, UnderWay, zero_counts}
 use Rattle.road_columns.specs.Private.Entering.{ArePlacesFrom}
 use Rattle.road_columns.specs.Private.Held.{StandOn}
 use Rattle.road_columns.specs.Private.Counts.{AreCounts, totals_in}
@@ -18,7 +18,7 @@ use Rattle.road_columns.proofs.Refilled.{refilled}
 use Rattle.road_columns.proofs.StretchSteps.{stand_all}
 use Rattle.road_columns.proofs.TakenUp.{all_before}
 use Rattle.road_columns.proofs.TotalsKept.{counts_cleared, totals_cleared}
-use Rattle.road_columns.proofs.under_way.UnderWay.take_up.Goals as goal
+use Rattle.road_columns.proofs.under_way.UnderWay.restart_on.Goals as goal
 
 pub hold-requires-clause-room : goal.hold-requires-clause-room
 hold-requires-clause-room c =
@@ -142,5 +142,5 @@ returns-clause-taken c _ =
       hi = c.args.stretch.end;
       road = (c.hold.ensures.road ∙ c.cars-2.ensures.road) j;
       totals = ((λ k. totals_in (passes_is k) (totals_is k)) ∙ totals_cleared (length (arc_value c.self.inside.plan).detectors) c.args.step c.clear_counts.new.passes c.clear_counts.new.totals a b
-          (λ d below. c.clear_counts.ensures.passes d (omega arith)) (λ d below. c.clear_counts.ensures.totals d (omega arith)) ∙ ap nothing_counted plan_is) j;
+          (λ d below. c.clear_counts.ensures.passes d (omega arith)) (λ d below. c.clear_counts.ensures.totals d (omega arith)) ∙ ap zero_counts plan_is) j;
     })
