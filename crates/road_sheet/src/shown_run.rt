@@ -36,7 +36,7 @@ impl ShownRun {
 
     // Begin at the last state that a sheet keeps and that is not after a step, in the memory of another run of its plan
     // if there is one.
-    pub(crate) fn begun(
+    pub(crate) fn resume(
         alloc: Global,
         sheet: &Sheet,
         spare: Option<UnderWay>,
@@ -48,7 +48,7 @@ impl ShownRun {
         ensures { IfOk result (IsShownBy sheet.now) }
     {
         let Some(run) = spare else {
-            return ShownRun::begun_anew(alloc, sheet, step);
+            return ShownRun::start(alloc, sheet, step);
         };
         let mut shown = ShownRun {
             run,
@@ -60,7 +60,7 @@ impl ShownRun {
     }
 
     // Begin a run of a sheet's plan at the last state that the sheet keeps and that is not after a step.
-    fn begun_anew(alloc: Global, sheet: &Sheet, step: u32) -> Result<ShownRun, OutOfMemory>
+    fn start(alloc: Global, sheet: &Sheet, step: u32) -> Result<ShownRun, OutOfMemory>
         requires simulated { step ≤ sheet.now.horizon }
         requires horizon { step ≤ GREATEST_HORIZON }
         ensures { IfOk result (IsShownBy sheet.now) }

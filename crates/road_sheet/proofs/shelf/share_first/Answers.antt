@@ -2,7 +2,7 @@
 use Rattle.std.proofs.Common.{arith}
 use Rattle.std.proofs.lemmas.Grind.{common_steps}
 use Rattle.std.proofs.lemmas.List.{take-map}
-use Rattle.road_sheet.proofs.shelf.shared.Goals as goal
+use Rattle.road_sheet.proofs.shelf.share_first.Goals as goal
 
 pub returns : goal.returns
 returns g c = rw take-map (grind (arith, common_steps))

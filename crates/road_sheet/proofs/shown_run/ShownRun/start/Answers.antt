@@ -10,7 +10,7 @@ use Rattle.road_scenario.specs.Settings.{settings_of}
 use Rattle.road_columns.specs.UnderWay.{IsRunnable}
 use Rattle.road_columns.specs.declared.under_way.UnderWay.{UnderWay}
 use Rattle.road_sheet.proofs.SmallCars.{runnable}
-use Rattle.road_sheet.proofs.shown_run.ShownRun.begun_anew.Goals as goal
+use Rattle.road_sheet.proofs.shown_run.ShownRun.start.Goals as goal
 
 pub unreachable-requires : goal.unreachable-requires
 unreachable-requires c =

@@ -1,7 +1,7 @@
 -- Values are shared, one after another.
 use Rattle.std.proofs.Common.{◌≡◌, map, take}
 use Rattle.std.specs.Arc.{arc_value}
-use Rattle.road_sheet.proofs.shelf.shared.Given as goal
+use Rattle.road_sheet.proofs.shelf.share_first.Given as goal
 
 -- those so far
 abbrev pub invariant-loop-value : goal.invariant-loop-value

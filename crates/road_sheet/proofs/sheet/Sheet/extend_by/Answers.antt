@@ -5,7 +5,7 @@ use Rattle.road_detector.specs.declared.counts.Totals.{Totals}
 use Rattle.road_sheet.specs.Private.Intervals.{AreTotals}
 use Rattle.road_sheet.specs.Sheets.{state_of}
 use Rattle.road_sheet.proofs.Spans.{road_after, totals_in}
-use Rattle.road_sheet.proofs.sheet.Sheet.grow_by.Goals as goal
+use Rattle.road_sheet.proofs.sheet.Sheet.extend_by.Goals as goal
 
 pub span_to_end-requires-clause-road : goal.span_to_end-requires-clause-road
 span_to_end-requires-clause-road c =

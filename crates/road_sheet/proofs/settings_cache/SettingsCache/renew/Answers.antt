@@ -7,7 +7,7 @@ use Rattle.road_scenario.specs.Faults.{AreInRange}
 use Rattle.road_scenario.specs.Settings.{settings_of}
 use Rattle.road_sheet.specs.SettingsCaches.{AreInForce}
 use Rattle.road_sheet.specs.declared.settings_cache.InForce.{InForce}
-use Rattle.road_sheet.proofs.settings_cache.SettingsCache.renewed.Goals as goal
+use Rattle.road_sheet.proofs.settings_cache.SettingsCache.renew.Goals as goal
 
 the_one : {a b : InForce} → Some a ≡ Some b → a ≡ b
 the_one h = cc
