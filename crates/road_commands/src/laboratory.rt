@@ -151,7 +151,7 @@ impl<S: BuildHasher + Copy> Laboratory<S> {
             edits,
             journal,
             row,
-        } = crowds.gathered(alloc, plan, shares, to)?;
+        } = crowds.gather(alloc, plan, shares, to)?;
         Ok(Answer::Crowd {
             edits,
             journal,

@@ -23,7 +23,7 @@ impl<R: Threads + Wait> OnThreads<R> {
 }
 
 impl<R: Threads + Wait> Crowds for OnThreads<R> {
-    fn gathered(
+    fn gather(
         &self,
         alloc: Global,
         plan: &Arc<Plan>,

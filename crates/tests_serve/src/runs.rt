@@ -51,11 +51,11 @@ impl Hasher for AllAlike {
     }
 }
 
-/// A gatherer that gathers no crowd: the thread of its first session cannot be started.
+/// Fails to run any crowd: the thread of the first session cannot be started.
 pub(crate) struct Unmanned;
 
 impl Crowds for Unmanned {
-    fn gathered(
+    fn gather(
         &self,
         _alloc: Global,
         _plan: &Arc<Plan>,
@@ -206,7 +206,7 @@ const CROWDS: &str = r#"{"crowd":{"form":2,"shares":[[["limit",0,0,1,3,1]]],"to"
 {"advance":{"at":"A","to":1}}
 "#;
 
-// A crowd that cannot be gathered ends the run. The crew was not used, and has not failed. A refused crowd starts
+// A crowd that cannot be run ends the run. The crew was not used, and has not failed. A refused crowd starts
 // nothing.
 #[test]
 fn a_crowd_without_threads(rt: HostRuntime) -> Result<(), Fail> {
