@@ -1,9 +1,9 @@
--- What is published next is the given history, which goes on from the published one.
+-- The given history is published next. It extends the published one.
 use Rattle.std.proofs.Common.{◌≡◌, ◌∙◌, List, sym, subst}
 use mathlib.Core.List.{IsPrefix}
 use Rattle.road_sessions.specs.declared.entry.Entry.{Entry}
 use Rattle.road_sessions.proofs.StoreRule.{ends_so, may_publish}
-use Rattle.road_sessions.proofs.store.show.Goals as goal
+use Rattle.road_sessions.proofs.store.publish_pending.Goals as goal
 
 pub publish_as-after-requires : goal.publish_as-after-requires
 publish_as-after-requires g c next is =

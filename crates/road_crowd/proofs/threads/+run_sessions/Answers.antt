@@ -1,4 +1,4 @@
--- The last session has written nothing yet; once it has worked it stands behind the others.
+-- The last session has written nothing yet. Once it has made its writes, it is appended to the others.
 use Rattle.std.proofs.Common.{◌≡◌, ◌∙◌, ◌+◌, ◌++◌, ◌∷◌, [], List, ap, arith, length, length-append, map, subst, sym}
 use Rattle.std.proofs.lemmas.List.{length-map, map-append}
 use Rattle.road_scenario.specs.declared.edit.Edit.{Edit}
@@ -7,7 +7,7 @@ use Rattle.road_sessions.specs.Sessions.{AreNewSessions, Session}
 use Rattle.road_crowd.specs.Private.Works.{AreAccepted, share_entries, work_of, works_from}
 use Rattle.road_crowd.proofs.CrowdRefusals.{accepted_last}
 use Rattle.road_crowd.proofs.CrowdSessions.{all_with_last, new_last}
-use Rattle.road_crowd.proofs.threads.+all_worked.Goals as goal
+use Rattle.road_crowd.proofs.threads.+run_sessions.Goals as goal
 
 pub start-requires-clause-new : goal.start-requires-clause-new
 start-requires-clause-new g t c κs within =
@@ -22,16 +22,16 @@ start-requires-clause-accepted g t c κs within =
     (accepted_last plan c.args.task.now.to (shares_of c.in-Some.others.now) c.in-Some.share.now.items
     (subst (λ (l : List (List Edit)). AreAccepted plan c.args.task.now.to l) shares c.requires.accepted)).1
 
-pub all_worked-requires-clause-accepted : goal.all_worked-requires-clause-accepted
-all_worked-requires-clause-accepted g t c κs within =
+pub run_sessions-requires-clause-accepted : goal.run_sessions-requires-clause-accepted
+run_sessions-requires-clause-accepted g t c κs within =
     let plan = g.J.Naming.replica.sheet.plan in
     let shares : shares_of c.args.shares.now ≡ shares_of c.in-Some.others.now ++ c.in-Some.share.now.items ∷ [] =
     ap shares_of c.in-Some.ensures.cases.0 ∙ map-append (λ v. v.items) c.in-Some.others.now (c.in-Some.share.now ∷ []) in
     (accepted_last plan c.args.task.now.to (shares_of c.in-Some.others.now) c.in-Some.share.now.items
     (subst (λ (l : List (List Edit)). AreAccepted plan c.args.task.now.to l) shares c.requires.accepted)).0
 
-pub all_worked-requires-clause-new : goal.all_worked-requires-clause-new
-all_worked-requires-clause-new g t c κs within =
+pub run_sessions-requires-clause-new : goal.run_sessions-requires-clause-new
+run_sessions-requires-clause-new g t c κs within =
     (new_last 0 c.pop.new.self.items c.in-Some-pop.session (subst (λ (ss : List Session). AreNewSessions 0 ss) c.in-Some-pop.ensures.items c.requires.new)).0
 
 pub returns : goal.returns
