@@ -190,7 +190,6 @@ function show() {
   const {isOpen, series: {point, minute, site, end}} = store;
   const charts = detectorCharts();
   $("series").hidden = !charts.length;
-  if ($("series").open !== isOpen.series) $("series").open = isOpen.series;
   if (!charts.length || !isOpen.series) return;
   $("seriesSite").value = String(site);
   $("seriesEnd").value = end === null ? "" : String(end);
@@ -256,7 +255,8 @@ function showPlan() {
 
 /** Listen to the store and to the page. */
 export function begin() {
-  setOpen("series", window.innerHeight >= TALL_ENOUGH);
+  $("series").open = window.innerHeight >= TALL_ENOUGH;
+  setOpen("series", $("series").open);
   /** @type {ChartId[]} */
   const ids = ["flowChart", "speedChart", "travelChart"];
   for (const id of ids) {
