@@ -97,7 +97,7 @@ class TwoTabs(BrowserCase):
         for tab in (ada, ben):
             tab.until(lambda: not tab.part("emptyHint").is_displayed(), "the road is not empty")
             self.assertTrue(tab.part("hint").is_displayed())
-            self.assertTrue(tab.text("hint").endswith("Nobody else sees it before you share it."))
+            self.assertTrue(tab.text("hint").endswith("Nobody else sees it until you share it."))
         ben.driver.refresh()
         ben.until(lambda: ben.text("clock") == "1:00:00", "the same seat")
         self.assertFalse(ben.part("emptyHint").is_displayed())

@@ -46,7 +46,7 @@ class OneTab(BrowserCase):
         self.begin_limit(ada, "2")
         ada.until(lambda: "The program was restarted: the program ended with status -9" in ada.text("stays"), "the next one, too")
         self.assertNotIn(sentence, ada.text("stays"))
-        ada.until(lambda: "replaced" not in ada.text("stays"), "it has been read")
+        ada.until(lambda: "restarted" not in ada.text("stays"), "it has been read")
 
     def test_a_disk_that_does_not_answer_is_told_until_it_does(self) -> None:
         with mock.patch.object(Server, "serve", LIVE / "tests" / "stalling.py"):
