@@ -92,7 +92,7 @@ export const undoNewest = () => queuePress("undo");
 export const redoNewest = () => queuePress("redo");
 
 const NOTHING = {undo: messages.NOTHING_TO_UNDO, redo: messages.NOTHING_TO_REDO};
-const DONE = {undo: "Undone", redo: "Redone"};
+const UNDO_NOTES = {undo: "Undone", redo: "Redone"};
 
 /** Return what an operation was first called, by its stamp, or by its key while it is pending; ""
  * if that is not known any more.
@@ -123,7 +123,7 @@ function runPresses() {
     if (does === "undo" && warnOfBlocked(stamp)) continue;
     if (stamp === null) tell(NOTHING[does], true);
     else {
-      const note = [DONE[does], noteOf(stamp)].filter(Boolean).join(": ");
+      const note = [UNDO_NOTES[does], noteOf(stamp)].filter(Boolean).join(": ");
       const told = typeof stamp === "string" ? stamp : encodeStamp(stamp);
       act({undo: {stamp: told}}, {note, does, undoes: stamp});
     }
@@ -384,14 +384,14 @@ export async function askPreview() {
     for (const name of PREVIEWED) store.roads[name] = new Road(name, need("plan").length);
     store.outcome = {why: "", layers, names: said.layers.map(({name}) => name), figures: null};
     clearTimeout(preview.soon);
-    preview.soon = setTimeout(askFigures, LOOKS);
+    preview.soon = setTimeout(askPreviewFigures, LOOKS);
   }
   notify("outcome");
   refreshDiagram();
 }
 
 /** Ask for the figures of both roads, counted car by car. */
-async function askFigures() {
+async function askPreviewFigures() {
   const {preview, outcome} = store;
   const [from, to] = periodShown();
   if (!preview || !outcome || to <= from) return;
@@ -400,7 +400,7 @@ async function askFigures() {
     {quiet: ["busy"], stands});
   if (!said || !stands()) return;
   if ("refused" in said && said.refused === "busy") {
-    preview.soon = setTimeout(askFigures, LOOKS);
+    preview.soon = setTimeout(askPreviewFigures, LOOKS);
     return;
   }
   outcome.figures = "refused" in said ? {why: said.why ?? ""} : said;

@@ -22,16 +22,16 @@ const READ_MEANS = "each day has its own drivers, the same on both roads. \u00b1
 const readText = ({days}) => (days > 1 ? `Means of ${days} days: ${READ_MEANS}`
   : "One day alone does not say what is chance.");
 /** @type {Record<string, string>} */
-const NAMES = {vehicle_hours: "Vehicle hours", lost: "Lost demand, cars",
+const FIGURE_NAMES = {vehicle_hours: "Vehicle hours", lost: "Lost demand, cars",
                delay: "Delay, vehicle hours"};
 
 /** Return the name of a figure.
  * @param {DaysFigure} figure
  */
-function nameOf({name}) {
+function nameOfFigure({name}) {
   const [what, place] = name.split(" ");
   const cell = need("plan").detectors[Number(place)];
-  return NAMES[name] ?? (what === "cars" ? `Cars at ${kmText(cell)} km`
+  return FIGURE_NAMES[name] ?? (what === "cars" ? `Cars at ${kmText(cell)} km`
     : `Seconds to ${cell === undefined ? "the road's end" : `${kmText(cell)} km`}`);
 }
 
@@ -48,7 +48,7 @@ function tableOf(said, isPreview) {
   const sides = order.map(([side]) => side);
   const heads = [...order.map(([, head]) => head),
                  isPreview ? "change" : "mine \u2212\u00a0shared"];
-  const lines = figures.map((one) => row(headCell(nameOf(one), "row"),
+  const lines = figures.map((one) => row(headCell(nameOfFigure(one), "row"),
     ...sides.map((side) => (one.name === "delay" ? element("td")
       : cell(meanText(one[side]), halfText(one[side])))),
     cell(changeText(one.difference), sureText(one.difference))));

@@ -9,7 +9,7 @@ import {periodShown} from "./view.mjs";
 export const daysAsked = () => store.limits.days;
 
 /** Return a key that differs once one of the two roads has changed. */
-const keyNow = () => [layersOf("mine").next, layersOf("shared").next].join();
+const keyOfRoads = () => [layersOf("mine").next, layersOf("shared").next].join();
 
 /** Return what is compared: the roads of the preview if there is one, else mine and shared.
  * @returns {"preview" | "mine"}
@@ -27,7 +27,7 @@ export async function askDays() {
     return;
   }
   /** @type {import("./types.mjs").Days} */
-  const days = {of: comparedNow(), key: keyNow(), done: 0, said: null};
+  const days = {of: comparedNow(), key: keyOfRoads(), done: 0, said: null};
   store.days = days;
   notify("days");
   const said = await ask({days: {at: need("me").at, of: days.of, from, to}},
@@ -61,7 +61,7 @@ export function dropDays() {
 
 /** Forget what was asked about roads that have changed since. */
 export function dropOldDays() {
-  if (!store.days || store.days.key === keyNow()) return;
+  if (!store.days || store.days.key === keyOfRoads()) return;
   const {said} = store.days;
   dropDays();
   if (!said) tell(messages.daysStopped(daysAsked()));

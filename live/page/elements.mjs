@@ -171,7 +171,7 @@ export function showList(list, items) {
     assign(made.dataset, {key, sign});
     return made;
   });
-  put(list, now);
+  arrange(list, now);
   if (active && !active.isConnected) refocus(list, at?.dataset.key, place, active.textContent);
   else if (active && document.activeElement !== active) active.focus();
 }
@@ -180,7 +180,7 @@ export function showList(list, items) {
  * @param {HTMLElement} list
  * @param {HTMLElement[]} children
  */
-function put(list, children) {
+function arrange(list, children) {
   /** @type {Set<Element>} */
   const stay = new Set(children);
   for (const one of [...list.children]) if (!stay.has(one)) one.remove();

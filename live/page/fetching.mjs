@@ -3,7 +3,7 @@
 import {ask} from "./asking.mjs";
 import {assign} from "./assign.mjs";
 import {keyOf} from "./stamps.mjs";
-import {notify, need, last, roadOf, store, whoseShown} from "./store.mjs";
+import {BOTH, notify, need, last, roadOf, store, whoseShown} from "./store.mjs";
 import {everyShown, periodShown} from "./view.mjs";
 
 /** @typedef {import("./rows.mjs").Road} Road */
@@ -11,8 +11,6 @@ import {everyShown, periodShown} from "./view.mjs";
 /** @typedef {import("./types.mjs").DetectorFigures} DetectorFigures */
 /** @typedef {import("./types.mjs").Span} Span */
 
-/** @type {RoadName[]} */
-const BOTH = ["mine", "shared"];
 const ASKING = 2;               // questions for rows at a time
 const IDLE = 120;               // milliseconds without news after which figures are reckoned anew
 const QUIET = 400;              // milliseconds without news before cars are counted one by one
@@ -176,13 +174,13 @@ async function askFigures(period) {
  * @param {DetectorFigures | DetectorFigures[]} count
  * @returns {count is DetectorFigures[]}
  */
-const isSpan = (count) => Array.isArray(count);
+const isOfSpan = (count) => Array.isArray(count);
 
 /** Ask whether a count is that of a detector in the whole period.
  * @param {DetectorFigures | DetectorFigures[]} count
  * @returns {count is DetectorFigures}
  */
-const isWhole = (count) => !Array.isArray(count);
+const isOfPeriod = (count) => !Array.isArray(count);
 
 /** Return how many steps a point of the series is of: at most some 150 points.
  * @param {number} steps     of the period
@@ -215,7 +213,7 @@ export async function askSeries(period = periodShown()) {
     const each = eachOf(to - from);
     const said = await Promise.all(sides.map((side) =>
       ask({counts: {at: roadOf(side).at, from, to, each}}, {quiet: ["busy", "no preview"]})));
-    const flows = said.flatMap((one) => (one && "flows" in one ? [one.flows.filter(isSpan)] : []));
+    const flows = said.flatMap((one) => (one && "flows" in one ? [one.flows.filter(isOfSpan)] : []));
     if (flows.length < said.length) return;
     const names = outcome?.layers ? ["now", "then"] : ["shared", "mine"];
     const isThere = series.point !== null && series.point < flows[0].length;
@@ -266,7 +264,7 @@ function askExactSoon(period) {
 /** Return a key of a period's figures, which differs once a road has changed.
  * @param {Span} period
  */
-const keyNow = (period) => [...period, ...BOTH.map((whose) => roadOf(whose).version)].join();
+const keyOfPeriod = (period) => [...period, ...BOTH.map((whose) => roadOf(whose).version)].join();
 
 /** Ask for the counts of both roads, if they may differ from those that are shown. Return whether
  * they came.
@@ -275,12 +273,12 @@ const keyNow = (period) => [...period, ...BOTH.map((whose) => roadOf(whose).vers
 async function askCounts(period) {
   const [from, to] = period;
   const {figures} = store;
-  const key = keyNow(period);
+  const key = keyOfPeriod(period);
   if (key === figures.key) return false;
   for (const whose of BOTH) if (!await computed(roadOf(whose), to)) return false;
   const said = await Promise.all([need("me").at, "shared"].map((at) =>
     ask({counts: {at, from, to}}, {quiet: ["busy"]})));
-  const counts = said.flatMap((one) => (one && "flows" in one ? [one.flows.filter(isWhole)] : []));
+  const counts = said.flatMap((one) => (one && "flows" in one ? [one.flows.filter(isOfPeriod)] : []));
   if (counts.length < said.length) return false;
   assign(figures, {key, period, counts});
   return true;
@@ -307,7 +305,7 @@ async function askSums(whose, period) {
  */
 async function askExact(period) {
   const {figures} = store;
-  const key = keyNow(period);
+  const key = keyOfPeriod(period);
   if (key === figures.exactKey || figures.counting || store.preview) return;
   const [from, to] = period;
   figures.counting = true;
@@ -315,7 +313,7 @@ async function askExact(period) {
   figures.counting = false;
   if (said && "refused" in said && said.refused === "busy") setTimeout(refreshFigures, BUSY);
   if (!said || "refused" in said) return;
-  if (keyNow(period) === key) assign(figures, {exactKey: key, exact: said});
+  if (keyOfPeriod(period) === key) assign(figures, {exactKey: key, exact: said});
   refreshFigures();
 }
 
@@ -323,7 +321,7 @@ async function askExact(period) {
  * @param {Span} period
  */
 export const exactOf = (period) =>
-  (store.figures.exactKey === keyNow(period) ? store.figures.exact : null);
+  (store.figures.exactKey === keyOfPeriod(period) ? store.figures.exact : null);
 
 /** Let a road run to a step. Return whether it has; if not, figures are reckoned again later.
  * @param {Road} road

@@ -11,7 +11,7 @@ import {setOpen} from "./looking.mjs";
 import * as messages from "./messages.mjs";
 import {placesText} from "./sentences.mjs";
 import {need, layersOf, roadOf, store, watch, whoseShown} from "./store.mjs";
-import {HOUR, KMH_A_CELL, durationText, kmText, signedText, whole} from "./units.mjs";
+import {HOUR, KMH_A_CELL, durationText, kmText, signedText, sum, whole} from "./units.mjs";
 import {everyShown} from "./view.mjs";
 
 /** @typedef {import("./store.mjs").RoadName} RoadName */
@@ -103,8 +103,6 @@ function detectorRows(period, exact) {
   });
 }
 
-/** @param {number[]} numbers */
-const sum = (numbers) => numbers.reduce((one, other) => one + other, 0);
 
 /** Return the vehicle hours of the minutes of a period; null if one is missing.
  * @param {RoadName} whose

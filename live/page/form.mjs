@@ -48,17 +48,17 @@ function showTool() {
   }
   $("kmFromLabel").hidden = $("kmToLabel").hidden = OF_ONE.includes(kind);
   $("apply").textContent = store.changeInForm ? "Change" : VERBS[kind];
-  showHint();
+  showToolHint();
 }
 
 /** Show what is written. A field that has it already is not touched: its caret stays. */
 function showForm() {
   for (const id of FIELDS) if ($(id).value !== store.form[id]) $(id).value = store.form[id];
-  showHint();
+  showToolHint();
 }
 
 /** Say what is changed, or what the tool does. */
-function showHint() {
+function showToolHint() {
   const kind = store.tool;
   const zones = store.plan && zonesText(store.plan, kind);
   $("toolHint").textContent = store.changeInForm ? `changes ${words().text(store.changeInForm)}`
@@ -98,6 +98,6 @@ export function begin() {
   watch(["form"], showForm);
   watch(["changeInForm"], showChangeInForm);
   watch(["changes"], followChangeInForm);
-  watch(["changes", "curves"], showHint);
+  watch(["changes", "curves"], showToolHint);
   showTool();
 }

@@ -29,7 +29,7 @@ import {everyShown, strideNow, viewNow} from "./view.mjs";
 /** @typedef {import("./types.mjs").Place} Place */
 /** @typedef {import("./types.mjs").Shape} Shape */
 
-const NAMES = {mine: "mine", shared: "shared", before: "now", after: "then"};
+const ROAD_NAMES = {mine: "mine", shared: "shared", before: "now", after: "then"};
 const AT_EDGE = 6;              // pixels from an edge at which it is taken
 
 // Drags.
@@ -229,7 +229,7 @@ function textAt([cell, step]) {
     signText(rowAt(roadOf(whose).level(everyShown()), moment)?.[at]));
   const limit = layersShown().valueAt("limit", Math.floor(at / zone), moment);
   const said = texts.length === 2
-    ? roads.map((whose, which) => `${NAMES[whose]}: ${texts[which]}`).join("; ") : texts[0];
+    ? roads.map((whose, which) => `${ROAD_NAMES[whose]}: ${texts[which]}`).join("; ") : texts[0];
   const place = `${roundedKm(kmOf(at), 2).toFixed(2)} km, ${store.day.timeText(moment)}`;
   return `${place}: ${said}; limit ${limitText(limit ?? 0)}`;
 }

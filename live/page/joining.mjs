@@ -11,7 +11,7 @@ import {DayClock} from "./dayclock.mjs";
 import {Layers} from "./layers.mjs";
 import * as messages from "./messages.mjs";
 import {Road} from "./rows.mjs";
-import {notify, need, layersOf, roadOf, store, tell} from "./store.mjs";
+import {BOTH, notify, need, layersOf, roadOf, store, tell} from "./store.mjs";
 import {titlesOf} from "./listing.mjs";
 
 /** @typedef {import("./types.mjs").Broker} Broker */
@@ -24,8 +24,6 @@ import {titlesOf} from "./listing.mjs";
 /** @typedef {import("./types.mjs").Told} Told */
 /** @typedef {{welcome: Welcome} | (Refusal & {seats?: Seat[]})} HelloAnswer */
 
-/** @type {("mine" | "shared")[]} */
-const BOTH = ["mine", "shared"];
 const FORM = 3;                 // of what is spoken with the server
 const REPLACED_SHOWN = 60_000;  // milliseconds for which a replaced program is told
 /** @type {(name: string) => string} */

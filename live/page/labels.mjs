@@ -1,6 +1,8 @@
 // Where the labels of frames stand: not on a closure, not on each other, not on steps that are not
 // computed, and whole within the plot.
 
+import {within} from "./geometry.mjs";
+
 /** @typedef {import("./types.mjs").Box} Box */
 /** @typedef {[wide: number, high: number]} Size     pixels */
 /** @typedef {[x: number, y: number]} Point          pixels */
@@ -16,9 +18,6 @@ const TOUCH = 2;                // pixels between frames that touch
 /** @type {(box: Box, other: Box) => boolean} */
 const meet = ([left, top, right, bottom], other) =>
   left < other[2] && other[0] < right && top < other[3] && other[1] < bottom;
-
-/** @type {(value: number, least: number, most: number) => number} */
-const within = (value, least, most) => Math.max(least, Math.min(most, value));
 
 /** Return places at which a label of a size may stand, the best first: in the frame's upper left
  * corner, beside it, above it, below it; then farther and farther from there.

@@ -56,7 +56,7 @@ const signOf = ({change, text, state, cover, lost, meta}) =>
   JSON.stringify([text, state, cover, lost, meta, change.operations.map(({stamp}) => stamp)]);
 
 /** @type {(shown: Listed) => Item} */
-const itemOf = (shown) => ({key: keyOf(shown.change.name), sign: signOf(shown),
+const listedItem = (shown) => ({key: keyOf(shown.change.name), sign: signOf(shown),
                             make: () => changeElement(shown)});
 
 /** @type {(pending: [key: string, act: Pending]) => Item} */
@@ -71,7 +71,7 @@ export const focusOnLists = () =>
 /** Show the lists of changes. */
 function showLists() {
   /** @type {(where: Listed["where"]) => Item[]} */
-  const of = (where) => store.changes.filter((one) => one.where === where).map(itemOf);
+  const of = (where) => store.changes.filter((one) => one.where === where).map(listedItem);
   showList($("own"), [...[...store.pending].reverse().map(pendingItem), ...of("own")]);
   showList($("held"), of("held"));
   const hadLast = [$("own"), $("held")].some((list) =>
@@ -102,7 +102,7 @@ function showHistory() {
 }
 
 /** Say how to begin, until there are changes; that the road is empty only if it is. */
-function showHint() {
+function showFirstSteps() {
   $("emptyHint").hidden = now() > 0;
   $("hint").hidden = store.changes.length > 0 || store.pending.size > 0;
 }
@@ -135,6 +135,6 @@ export function begin() {
   watch(["changes"], showLists);
   watch(["changes", "isOpen"], showHistory);
   watch(["curves"], refreshLists);
-  watch(["changes", "clock"], showHint);
+  watch(["changes", "clock"], showFirstSteps);
   watch(["news", "preview"], showNews);
 }

@@ -8,7 +8,7 @@ import {affectedBy, newestFirst, titlesOf} from "./listing.mjs";
 import {focusOnLists} from "./lists.mjs";
 import * as messages from "./messages.mjs";
 import {need, layersOf, store, watch} from "./store.mjs";
-import {kmText, plural, signedText} from "./units.mjs";
+import {kmText, plural, signedText, sum} from "./units.mjs";
 
 /** @typedef {import("./listing.mjs").Words} Words */
 /** @typedef {import("./types.mjs").Change} Change */
@@ -22,7 +22,7 @@ const READ_BOTH = "Lost demand is the cars that inlets were asked for minus thos
   + "delay of the cars on both roads.";
 
 /** @param {[text: string, hint: string]} item */
-const itemOf = ([text, hint]) => element("li", text, {},
+const changeItem = ([text, hint]) => element("li", text, {},
   element("span", ` ${hint}`, {className: "hint"}));
 
 /** Return what would be shared or taken: what each change is, and who made it when. Of a change that
@@ -73,7 +73,7 @@ function showOutcome() {
   $("previewTitle").textContent = `${takes ? "Take" : "Share"} ${plural(changes.length, "change")}?`;
   $("previewTitles").textContent = takes ? titlesOf(store.news) : "";
   $("previewTitles").hidden = !$("previewTitles").textContent;
-  $("previewList").replaceChildren(...changes.map(itemOf));
+  $("previewList").replaceChildren(...changes.map(changeItem));
   if (layers) {
     const affected = newestFirst(names.flatMap((name) => layers.find(name) ?? []));
     $("previewCovers").replaceChildren(...coversOf(affected, words(layers)));
@@ -97,8 +97,6 @@ function coversOf(changes, said) {
           element("ul", "", {}, ...all.map((text) => element("li", text)))];
 }
 
-/** @param {number[]} numbers */
-const sum = (numbers) => numbers.reduce((one, other) => one + other, 0);
 
 /** Make the table of figures.
  * @param {Figures} figures

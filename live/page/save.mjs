@@ -35,7 +35,7 @@ const fileRoad = (at = roadShown()) => (at === "shared" ? "shared" : need("me").
  * @param {string} whose
  * @param {Span} period      steps
  */
-function nameOf(what, whose, period) {
+function nameFile(what, whose, period) {
   const dot = what.lastIndexOf(".");
   const [stem, ending] = [what.slice(0, dot), what.slice(dot)];
   const times = period.map((step) => store.day.fileText(Math.round(step)));
@@ -51,7 +51,7 @@ function nameOf(what, whose, period) {
  * @param {Span} [period]    steps
  */
 function saveAs(what, lines, type, whose = fileRoad(), period = periodShown()) {
-  const own = nameOf(what, whose, period);
+  const own = nameFile(what, whose, period);
   download(lines, own, type);
   return own;
 }

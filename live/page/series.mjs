@@ -193,7 +193,7 @@ function show() {
   if (!charts.length || !isOpen.series) return;
   $("seriesSite").value = String(site);
   $("seriesEnd").value = end === null ? "" : String(end);
-  showLegend();
+  showRoadColours();
   for (const chart of charts) drawChart(chart, point);
   $("seriesRead").textContent = readingText(charts);
   const travel = travelChart();
@@ -204,7 +204,7 @@ function show() {
 }
 
 /** Show which colour is which road. */
-function showLegend() {
+function showRoadColours() {
   const {names} = store.series;
   $("seriesLegend").replaceChildren(...[1, 0].map((side) => {
     const line = element("span", "", {className: "swatch"});
@@ -217,11 +217,11 @@ function showLegend() {
  * @param {ChartId} id
  * @param {PointerEvent} event
  */
-function onMove(id, {offsetX}) {
+function onPoint(id, {offsetX}) {
   const chart = chartOf(id);
   if (!chart) return;
   const part = (offsetX - LEFT) / ($(id).clientWidth - LEFT - RIGHT);
-  moveTo(id, chart, Math.floor(part * (chart.to - chart.from) / chart.each));
+  readAt(id, chart, Math.floor(part * (chart.to - chart.from) / chart.each));
 }
 
 /** Read the next point of a chart, or the one before.
@@ -234,7 +234,7 @@ function onKey(id, event) {
   if (!way || !chart) return;
   event.preventDefault();
   const read = id === "travelChart" ? store.series.minute : store.series.point;
-  moveTo(id, chart, (read ?? (way > 0 ? -1 : chart.sides[0].length)) + way);
+  readAt(id, chart, (read ?? (way > 0 ? -1 : chart.sides[0].length)) + way);
 }
 
 /** Read a point of a chart, or the nearest that it has.
@@ -242,11 +242,11 @@ function onKey(id, event) {
  * @param {Chart} chart
  * @param {number} point
  */
-const moveTo = (id, {sides: [one]}, point) =>
+const readAt = (id, {sides: [one]}, point) =>
   readPoint(id === "travelChart" ? "minute" : "point", Math.max(0, Math.min(one.length - 1, point)));
 
 /** Fill the choices of places by the plan. */
-function showPlan() {
+function showPlaces() {
   const options = () => need("plan").detectors.map((cell, index) =>
     new Option(`${kmText(cell)} km`, String(index)));
   $("seriesSite").replaceChildren(...options());
@@ -260,7 +260,7 @@ export function begin() {
   /** @type {ChartId[]} */
   const ids = ["flowChart", "speedChart", "travelChart"];
   for (const id of ids) {
-    on(id, "pointermove", (event) => onMove(id, event));
+    on(id, "pointermove", (event) => onPoint(id, event));
     on(id, "pointerleave", () => readPoint(id === "travelChart" ? "minute" : "point", null));
     on(id, "keydown", (event) => onKey(id, event));
   }
@@ -272,7 +272,7 @@ export function begin() {
     if (store.plan) askSeries();
   });
   new ResizeObserver(show).observe($("flowChart"));
-  watch(["plan"], showPlan);
+  watch(["plan"], showPlaces);
   watch(["series", "isOpen", "figures", "outcome"], show);
   show();
 }

@@ -182,6 +182,11 @@ export const store = {
   openRowQuestions: 0, idleTimer: null, isDrawing: false, changedRows: null, held: null,
 };
 
+/** The roads that are always there.
+ * @type {("mine" | "shared")[]}
+ */
+export const BOTH = ["mine", "shared"];
+
 /** Return a part of the store that is there once the page has joined. Throw if it is not.
  * @template {keyof Store} Part
  * @param {Part} part

@@ -3,7 +3,7 @@
 
 import {Words} from "./listing.mjs";
 import {byStamp} from "./stamps.mjs";
-import {MINUTE, kmText, plural} from "./units.mjs";
+import {MINUTE, kmText, plural, sum} from "./units.mjs";
 
 /** @typedef {import("./dayclock.mjs").DayClock} DayClock */
 /** @typedef {import("./types.mjs").DaysFigures} DaysFigures */
@@ -17,8 +17,6 @@ import {MINUTE, kmText, plural} from "./units.mjs";
 /** @typedef {"mine" | "preview"} Comparison */
 /** @typedef {number | null | undefined} Figure     null: it is not known */
 
-/** @param {number[]} numbers */
-const sum = (numbers) => numbers.reduce((one, other) => one + other, 0);
 /** @param {Figure} value */
 const plain = (value) => (typeof value === "number" ? String(Number(value.toFixed(4))) : "");
 /** @type {(one: Figure, other: Figure) => Figure} */

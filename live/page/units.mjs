@@ -41,6 +41,11 @@ export const metresText = (cells) => `${cells * METRES_A_CELL} m`;
  * @param {number} value
  */
 export const whole = (value) => Math.round(value).toLocaleString("en");
+/** Return the sum of numbers.
+ * @param {number[]} numbers
+ */
+export const sum = (numbers) => numbers.reduce((one, other) => one + other, 0);
+
 /** Write a count with its noun.
  * @param {number} count
  * @param {string} one       the noun of one thing
