@@ -28,11 +28,14 @@ def list_chances(plan: PlanLine, edits: Sequence[Edit], inlet: int, last: int) -
 
 
 def find_drivers(plan: PlanLine, edits: Sequence[Edit], cell: int) -> Drivers:
-    """Return the drivers of the zone of a cell in the plan. Slow-to-start is not in plans: it comes from an edit of step 0."""
+    """Return the drivers of the zone of a cell in the plan. Slow-to-start is not in plans: it comes from an edit of step 0.
+
+    Zones without slowing at the beginning of the road are the entry of the drivers after them."""
     zone = cell // plan["zone"]
     limit, slowing = plan["zones"][zone]
     start = next((edit.value for edit in edits if tuple(edit.object) == ("start", zone) and edit.step == 0), None)
-    return Drivers(limit, slowing, start)
+    entry = next(index for index, (_, chance) in enumerate([*plan["zones"], (0, 1)]) if chance) * plan["zone"]
+    return Drivers(limit, slowing, start, entry if entry <= cell else 0)
 
 
 def compute_demands(plan: PlanLine, edits: Sequence[Edit], last: int, effort: Effort = Effort()) -> list[Rates]:

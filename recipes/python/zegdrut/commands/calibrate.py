@@ -4,10 +4,11 @@
 
 ROAD.json and COUNTS.csv are as `zegdrut measured` reads them. The bounds are {"slowing": [0, 0.4], "start": [0, 0.7], "factor":
 [0.9, 1.1]}, or those of a JSON file. Several rounds of points are simulated in parallel on all processors, each over some days. On a
-terminal it shows the progress and the best point.
+terminal it shows the progress and the best point; in a log, a line every ten seconds.
 
-It prints the result and the ten best points. It writes calibrated-NAME.json (ROAD.json with the fitted drivers), tried-NAME.csv (all
-points with their errors) and surface-NAME.svg (a picture of the errors). zegdrut/calibration.py defines the error; an error of about
+It prints the result and the ten best points. It writes calibrated-NAME.json (ROAD.json with the fitted drivers, and the measured demand
+of the main road and of the ramps times the fitted factor), tried-NAME.csv (all points with their errors) and surface-NAME.svg (a picture
+of the errors). zegdrut/calibration.py defines the error; an error of about
 2 is as good as chance allows.
 """
 from __future__ import annotations
@@ -20,11 +21,12 @@ import sys
 from pathlib import Path
 from typing import Sequence
 
-from ..calibration import NAMES, Bounds, Calibration, Search, Trial, calibrate, is_congested
+from ..calibration import NAMES, Bounds, Calibration, Point, Search, Trial, calibrate, is_congested, make_calibrated
 from ..demand import BeyondCapacity
 from ..comparison import with_measured_demand
 from ..errors import Fault, LabError
-from ..freeway import make_road
+from ..freeway import Figures, make_road, measure_chances
+from ..freeway_files import write_road
 from ..pictures import draw_points, stack_drawings
 from .measured import add_data_arguments, report_progress, read_data, print_lines
 
@@ -87,7 +89,8 @@ def run_calibration(given: argparse.Namespace, out: Path) -> None:
     if given.points < 10 or given.days < 1:
         raise Fault("--points must be 10 or more, and --days 1 or more")
     search = dataclasses.replace(Search(), points=given.points, days=given.days, elite=max(given.points // 4, 4))
-    print_lines(make_road(with_measured_demand(figures, measured)).notes)
+    point = Point(figures.slowing, figures.start or 0.0, 1.0)
+    print_lines([*make_road(make_calibrated(figures, measured, point)).notes, *with_measured_demand(figures, measured)[1]])
     if not is_congested(measured):
         print_lines([NO_CONGESTION])
     report_progress(f"trying {search.total} points")
@@ -98,12 +101,22 @@ def run_calibration(given: argparse.Namespace, out: Path) -> None:
     for quantity, value, spread in zip(("slowing chance", "slow-to-start chance", "demand factor"), found.best, found.spread):
         print(f"{quantity},{value:.3f},{spread:.3f}")
     print("\n" + "\n".join(format_trials(found.best_ten())))
-    road = json.loads(given.road.read_text(encoding="utf-8"))
-    road.update(slowing=round(found.best.slowing, 4), start=round(found.best.start, 4))
-    (folder / f"calibrated-{name}.json").write_text(json.dumps(road, indent=1) + "\n", encoding="utf-8")
+    best = found.best._replace(slowing=round(found.best.slowing, 4), start=round(found.best.start, 4))
+    calibrated = make_calibrated(figures, measured, best)
+    write_road(folder / f"calibrated-{name}.json", given.road, calibrated)
     (folder / f"tried-{name}.csv").write_text("".join(f"{line}\n" for line in format_trials(found.tried)), encoding="utf-8")
     (folder / f"surface-{name}.svg").write_text(draw_surface(found), encoding="utf-8")
-    print(f"The calibrated road, the points and the picture are in {folder}", file=sys.stderr)
+    check_admission(calibrated)
+    print(f"The calibrated road, the points and the picture are in {folder}. Compare the road with its counts by "
+          f"`measured {folder / f'calibrated-{name}.json'} {given.counts} --demand road`", file=sys.stderr)
+
+
+def check_admission(figures: Figures) -> None:
+    """Print a line if an inlet of the calibrated road does not admit its demand."""
+    try:
+        measure_chances(make_road(figures))
+    except Fault as fault:
+        print_lines([f"the calibrated road would be refused: {fault}"])
 
 
 def main(words: Sequence[str] | None = None, out: Path = Path("out")) -> int:

@@ -33,7 +33,7 @@ from ..clock import InvalidTime
 from ..control import RampMeter, run_control
 from ..demand import Admission, AdmissionBeside, Drivers, Inlet, count_demand, measure_admission, count_processors, find_rate
 from ..errors import Fault, LabError
-from ..freeway import Figures, Road, measure_chances, make_road
+from ..freeway import Figures, Road, measure_chances, make_road, widen_inlet
 from ..freeway_files import is_number, check_names
 from ..intervals import estimate_mean, estimate_paired
 from ..lab import RoadLab
@@ -114,7 +114,7 @@ def read_control(path: Path, figures: Figures) -> Control:
 
 def make_site(name: str, figures: Figures, control: Control) -> Site:
     """Make the road with detectors at and after the ramp, and measure the admission of the ramp beside the main demand."""
-    road = make_road(figures)
+    road = make_road(widen_inlet(figures))
     wanted = to_cells(control.ramp)
     inlet = next((index for index, (cell, _) in enumerate(road.inlets) if index and cell == wanted), None)
     if inlet is None:
