@@ -91,6 +91,23 @@ class Clock:
         begin = datetime.datetime.combine(self.date, self._time(self.begin))
         return round((moment.replace(tzinfo=None) - begin).total_seconds())
 
+    def find_moment(self, time: datetime.time) -> datetime.datetime:
+        """Return the date and time of a clock time: on the day of the begin, or on the next day if it is before the begin."""
+        seconds = time.hour * 3_600 + time.minute * 60 + time.second
+        return datetime.datetime.combine(self._day(0 if seconds >= self.begin else 1), time)
+
+    def comes_twice(self, moment: datetime.datetime) -> bool:
+        """Return whether a date and time without an offset comes twice, because the clock is put back."""
+        return self.zone is not None and moment.tzinfo is None and not self.skips(moment) and (
+            moment.replace(tzinfo=self.zone, fold=0).utcoffset() != moment.replace(tzinfo=self.zone, fold=1).utcoffset())
+
+    def skips(self, moment: datetime.datetime) -> bool:
+        """Return whether a date and time without an offset does not exist, because the clock is put forward."""
+        if self.zone is None or moment.tzinfo is not None:
+            return False
+        there = moment.replace(tzinfo=self.zone).astimezone(datetime.timezone.utc).astimezone(self.zone)
+        return there.replace(tzinfo=None) != moment.replace(fold=0)
+
     # Texts
 
     def to_text(self, step: int) -> str:

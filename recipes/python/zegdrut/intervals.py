@@ -84,6 +84,19 @@ def average_known(values: Sequence[float | None]) -> float | None:
     return math.fsum(known) / len(known) if known else None
 
 
+def may_be_chance(difference: Estimate) -> bool:
+    """Return whether the interval of a difference contains 0. Values that do not differ on any day have no chance."""
+    return difference.half > 0 and abs(difference.mean) <= difference.half
+
+
+CHANCE = "may be chance"
+
+
+def describe_chance(difference: Estimate) -> str:
+    """Return a remark on a difference whose interval contains 0; an empty string for any other."""
+    return CHANCE if may_be_chance(difference) else ""
+
+
 def warn_few_days(days: int) -> list[str]:
     """Return a warning if an interval of so few days is wide for want of days."""
     if not 2 <= days < FEW_DAYS:

@@ -34,8 +34,13 @@ def find_drivers(plan: PlanLine, edits: Sequence[Edit], cell: int) -> Drivers:
     zone = cell // plan["zone"]
     limit, slowing = plan["zones"][zone]
     start = next((edit.value for edit in edits if tuple(edit.object) == ("start", zone) and edit.step == 0), None)
+    return Drivers(limit, slowing, start, find_entry(plan, cell))
+
+
+def find_entry(plan: PlanLine, cell: int) -> int:
+    """Return the cells at the beginning of the road where nobody is slowed, if the inlet at a cell is after them; else 0."""
     entry = next(index for index, (_, chance) in enumerate([*plan["zones"], (0, 1)]) if chance) * plan["zone"]
-    return Drivers(limit, slowing, start, entry if entry <= cell else 0)
+    return entry if entry <= cell else 0
 
 
 def compute_demands(plan: PlanLine, edits: Sequence[Edit], last: int, effort: Effort = Effort()) -> list[Rates]:

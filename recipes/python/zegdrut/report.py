@@ -11,7 +11,7 @@ from dataclasses import dataclass
 from typing import Any, Callable, NamedTuple, Sequence
 
 from .demand import Rates, count_demand, count_processors
-from .intervals import average_known, estimate_mean, estimate_paired
+from .intervals import Estimate, average_known, estimate_mean, estimate_paired, may_be_chance
 from .lab import RoadLab
 from .scripts import Script
 from .trips import (DetectorCount, Trips, Window, compare_trips, compute_travel_times, compute_vehicle_hours, count_admitted_cars,
@@ -104,7 +104,7 @@ class Row(NamedTuple):
     def may_be_chance(self) -> bool | None:
         """Return whether the interval of the difference contains 0, or None if it is unknown. Roads that do not differ have no chance."""
         mean, half = self.difference or (None, None)
-        return None if mean is None or half is None else abs(mean) <= half and half > 0
+        return None if mean is None or half is None else may_be_chance(Estimate(mean, half))
 
 
 def estimate_side(values: Sequence[float | None]) -> tuple[float | None, float | None]:

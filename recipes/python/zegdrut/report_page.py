@@ -10,7 +10,7 @@ from pathlib import Path
 from typing import Sequence
 
 from .clock import Clock
-from .intervals import FEW_DAYS, warn_few_days
+from .intervals import CHANCE, FEW_DAYS, warn_few_days
 from .pictures import AFTER, BEFORE, Chart, Line, draw_field, draw_scale, make_speed_field
 from .programs import program_path, read_record, sum_file
 from .report import PERIOD, Row, Side, SideDay, make_flow_series, make_speed_series
@@ -18,7 +18,6 @@ from .trips import Window
 from .units import CELLS_A_KM, count_things, format_km
 
 CELLS_A_PIECE, STEPS_A_PIECE = 7, 30
-CHANCE = "may be chance"
 NO_BANDS = f'<p class="note">With fewer than {FEW_DAYS} days the charts have no intervals.</p>'
 MISSING = ("more than one lane: there is no overtaking, and all figures are per lane", "off-ramps, junctions and trucks: all cars behave "
            "as their zone says", "a queue before an inlet: demand that finds no place is lost", "speeds between whole cells per second, "

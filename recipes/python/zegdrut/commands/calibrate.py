@@ -21,6 +21,7 @@ import sys
 from pathlib import Path
 from typing import Sequence
 
+from ..bars import Bar
 from ..calibration import NAMES, Bounds, Calibration, Point, Search, Trial, calibrate, is_congested, make_calibrated
 from ..demand import BeyondCapacity
 from ..comparison import with_measured_demand
@@ -33,6 +34,8 @@ from .measured import add_data_arguments, report_progress, read_data, print_line
 
 NO_CONGESTION = ("no station is congested (more than 10 km/h below its greatest speed): these counts cannot determine the slow-to-start "
                  "chance, and its value is arbitrary. Use counts of a day with a jam")
+SHORT_SEARCH = (f"fewer than {Search.points} points or {Search.days} days: the result may be off by more than its spread, which is that of the "
+                "best points (recipes/measured/README.md has examples)")
 
 
 def read_arguments(words: Sequence[str] | None) -> argparse.Namespace:
@@ -55,12 +58,10 @@ def read_bounds(path: Path | None) -> Bounds:
         raise Fault(f"{path} is not JSON: {fault}") from None
 
 
-def show_progress(done: int, total: int, best: Trial) -> None:
-    """Draw how far the search is, where standard error is a terminal."""
-    if sys.stderr.isatty():
-        point = ", ".join(f"{name} {value:.3f}" for name, value in zip(NAMES, best.point))
-        end = "\n" if done == total else ""
-        print(f"\r{done} of {total} points; the best of the round: {point}, error {best.error:.2f}   ", end=end, file=sys.stderr, flush=True)
+def describe_best(best: Trial) -> str:
+    """Return the best point of a round, for the progress."""
+    point = ", ".join(f"{name} {value:.3f}" for name, value in zip(NAMES, best.point))
+    return f"; the best of the round: {point}, error {best.error:.2f}"
 
 
 def format_trials(tried: Sequence[Trial]) -> list[str]:
@@ -83,18 +84,22 @@ def draw_surface(found: Calibration) -> str:
 
 def run_calibration(given: argparse.Namespace, out: Path) -> None:
     """Read the data, search, and write the results."""
+    if given.points < 10 or given.days < 1:
+        raise Fault("--points must be 10 or more, and --days 1 or more")
     bounds = read_bounds(given.bounds)
     figures, measured = read_data(given)
     print_lines(measured.notes)
-    if given.points < 10 or given.days < 1:
-        raise Fault("--points must be 10 or more, and --days 1 or more")
     search = dataclasses.replace(Search(), points=given.points, days=given.days, elite=max(given.points // 4, 4))
     point = Point(figures.slowing, figures.start or 0.0, 1.0)
     print_lines([*make_road(make_calibrated(figures, measured, point)).notes, *with_measured_demand(figures, measured)[1]])
+    if given.points < Search.points or given.days < Search.days:
+        print_lines([SHORT_SEARCH])
     if not is_congested(measured):
         print_lines([NO_CONGESTION])
     report_progress(f"trying {search.total} points")
-    found = calibrate(given.road.stem, figures, measured, bounds, search, show_progress)
+    bar = Bar("points", in_log=True)
+    found = calibrate(given.road.stem, figures, measured, bounds, search, lambda done, total, best: bar.show(done, total, describe_best(best)))
+    bar.end()
     name, folder = given.road.stem, given.out or out / given.road.stem
     folder.mkdir(parents=True, exist_ok=True)
     print("quantity,found,spread of the best points")

@@ -18,7 +18,7 @@ sections or stalled cars, without.jsonl is the same road and seed without them.
 the command lists, and their tables are then_demand.csv and so on.
 --plan runs nothing. It prints the plan and the shapes of sections and stalled cars for live/serve.
 
-The stretch is measured by Edie's definitions over its rows. With N the number of cars on its cells in all rows and V the sum of
+The stretch is measured by Edie's definitions over its rows, which are those that the steps of the period lead to. With N the number of cars on its cells in all rows and V the sum of
 their speeds, density is N and flow is V, both per cell and step, and the space-mean speed is V / N.
 """
 from __future__ import annotations
@@ -146,9 +146,9 @@ def list_counts(road: Road) -> list[Fields]:
 
 
 def list_diagrams(road: Road) -> Iterator[Fields]:
-    """Yield the queries for all rows but the last, in diagrams of the allowed length."""
-    for first in range(0, road.steps, MOST_ROWS):
-        yield {"diagram": {"at": "A", "from": first, "to": min(first + MOST_ROWS, road.steps) - 1}}
+    """Yield the queries for all rows, in diagrams of the allowed length."""
+    for first in range(0, road.steps + 1, MOST_ROWS):
+        yield {"diagram": {"at": "A", "from": first, "to": min(first + MOST_ROWS - 1, road.steps)}}
 
 
 # The tables
@@ -178,7 +178,9 @@ def format_detectors(figures: Figures, road: Road, counted: list[CountReply]) ->
 
 
 def format_stretch(figures: Figures, road: Road, counted: list[CountReply], rows: list[str]) -> Lines:
-    """Return the table of the stretch, with the detector nearest to its middle if the periods are whole minutes."""
+    """Return the table of the stretch, with the detector nearest to its middle if the periods are whole minutes.
+
+    A period has the rows that its steps lead to, as all figures of windows (`trips`)."""
     middle, every = sum(figures.stretch) / 2, to_steps(figures.piece)
     beside = min(range(len(figures.detectors)), key=lambda one: abs(figures.detectors[one] - middle), default=None)
     lines = [f"{'time' if road.clock else 'minute'},cars an hour,cars a km,space-mean km/h"]
@@ -193,7 +195,7 @@ def format_stretch(figures: Figures, road: Road, counted: list[CountReply], rows
         if beside is not None:
             of_piece = counted[beside * a_detector:][first // 60:-(-last // 60)]
             words = format_rate(sum(one["cars"] for one in of_piece), sum(one["speeds"] for one in of_piece), last - first)
-        lines.append(",".join([format_time(road, first), *format_traffic(rows[first:last], figures.stretch), *words]))
+        lines.append(",".join([format_time(road, first), *format_traffic(rows[first + 1:last + 1], figures.stretch), *words]))
     return lines
 
 

@@ -25,7 +25,7 @@ from ..comparison import (Day, Hour, Model, compare_hours, compare_speeds, list_
                           simulate_day, simulate_days, with_measured_demand, with_stations)
 from ..demand import BeyondCapacity
 from ..errors import Fault, LabError
-from ..freeway import Figures, widen_inlet
+from ..freeway import Figures, make_road, widen_inlet
 from ..freeway_files import write_road
 from ..intervals import FEW_DAYS, warn_few_days
 from ..measured import Measured, put_on_road
@@ -83,13 +83,15 @@ def read_pairs(given: list[str], word: str) -> dict[str, str]:
 
 
 def read_data(given: argparse.Namespace) -> tuple[Figures, Measured]:
-    """Read the road and its counts. Fault: one of them is invalid."""
+    """Read the road and its counts, and check that they fit. Fault: one of them is invalid."""
     figures = FIGURES.override(given.road)
     if figures.begin is None:
         raise Fault(f'{given.road} has no begin: add the clock time at which the window begins, such as "begin": "06:30"')
     table = read_stations(given.stations) if given.stations else None
     counts = read_counts(given.counts, table, read_pairs(given.column, "column"), read_pairs(given.unit, "unit"))
-    return figures, put_on_road(counts, figures.clock, round(figures.minutes * 60), given.origin, given.reverse)
+    measured = put_on_road(counts, figures.clock, round(figures.minutes * 60), given.origin, given.reverse)
+    make_road(with_measured_demand(with_stations(figures, measured), measured)[0])
+    return figures, measured
 
 
 def print_lines(sentences: Sequence[str]) -> None:
@@ -230,8 +232,8 @@ def compare(given: argparse.Namespace, out: Path) -> None:
         report_progress(f"measuring the inflow chances of inlet {inlet}")
     model = make_model(given.road.stem, figures, measured, choose_factor(given), progress=tell_inlet)
     print_lines(model.road.notes)
-    report_progress(f"simulating {given.days} days")
-    bar = Bar("days")
+    report_progress(f"simulating {count_things(given.days, 'day')}")
+    bar = Bar("days", in_log=True)
     days = simulate_days(model, given.days, bar.show)
     bar.end()
     hours = compare_hours(measured, days)
