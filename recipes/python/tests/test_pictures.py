@@ -37,7 +37,7 @@ class Charts(unittest.TestCase):
             self.assertEqual("95 % interval of the mean" in self.chart("Flow", ["a"], has_band), has_band)
 
     def test_a_short_closure_is_seen(self) -> None:
-        """A cell of a road of 6 km is a quarter of a pixel high, and six minutes of three hours are 28 wide."""
+        """Draw a cell of a road of 6 km, which is a fifth of a pixel high, for six minutes of three hours, which are 28 wide."""
         svg = draw_field([[90.0]], "Speed", Clock(), 0, 3 * HOUR, 6.0, width=900, height=210, closed=[(HOUR, HOUR + 360, 4.2, 4.2075)])
         found = re.search('class="closure" x="([^"]*)" y="([^"]*)" width="([^"]*)" height="([^"]*)"', svg)
         assert found
