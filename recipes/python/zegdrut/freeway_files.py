@@ -263,7 +263,7 @@ class Reader:
 
 
 def write_road(path: Path, source: Path, figures: Figures) -> None:
-    """Write the file of a road: the one of `source`, with the demand, drivers, entry and detectors of some figures."""
+    """Write the file of a road: the one of `source`, with the demand, drivers, entry, date and detectors of some figures."""
     clock = figures.clock
 
     def write_demand(demand: Demand) -> Json:
@@ -273,7 +273,8 @@ def write_road(path: Path, source: Path, figures: Figures) -> None:
     found: dict[str, Json] = {
         **json.loads(source.read_text(encoding="utf-8")), "main": write_demand(figures.main), "slowing": figures.slowing,
         "ramps": [[km, write_demand(demand)] for km, demand in figures.ramps], "detectors": [*figures.detectors]}
-    found.update({name: value for name, value in (("start", figures.start), ("entry", figures.entry)) if value is not None})
+    more = (("start", figures.start), ("entry", figures.entry), ("date", figures.date))
+    found.update({name: value for name, value in more if value is not None})
     path.parent.mkdir(parents=True, exist_ok=True)
     path.write_text("{" + ",\n ".join(f"{json.dumps(name)}: {json.dumps(value, ensure_ascii=False)}" for name, value in found.items())
                     + "}\n", encoding="utf-8")

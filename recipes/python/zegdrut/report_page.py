@@ -27,9 +27,9 @@ STYLE = """
 body { font: 10.5pt/1.35 sans-serif; color: #111; max-width: 1000px; margin: 1.5em auto; padding: 0 1em }
 h1 { font-size: 17pt; margin: 0 0 .2em } h2 { font-size: 12.5pt; margin: 1em 0 .3em; break-after: avoid }
 p, ul { margin: .3em 0 } ul { padding-left: 1.3em }
-table { border-collapse: collapse; width: 100%; font-size: 9.5pt; break-inside: avoid } thead { display: table-header-group }
+table { border-collapse: collapse; width: 100%; font-size: 9pt; break-inside: avoid; margin-bottom: .8em } thead { display: table-header-group }
 th, td { text-align: right; padding: .12em .5em; border-bottom: 1px solid #ccc } th:first-child, td:first-child { text-align: left }
-tr { break-inside: avoid }
+td { white-space: nowrap } tr { break-inside: avoid }
 svg { max-width: 100%; height: auto; display: block; break-inside: avoid }
 .pairs { display: grid; grid-template-columns: 1fr 1fr; gap: 0 10px } .pairs > div { break-inside: avoid }
 .note { color: #555; font-size: 9pt } .window { font-size: 12pt; margin: 0 0 .5em } .warning { font-weight: bold }

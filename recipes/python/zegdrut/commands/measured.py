@@ -15,6 +15,8 @@ from __future__ import annotations
 
 import argparse
 import csv
+import dataclasses
+import datetime
 import io
 import sys
 from pathlib import Path
@@ -30,7 +32,7 @@ from ..freeway_files import write_road
 from ..intervals import FEW_DAYS, warn_few_days
 from ..measured import Measured, put_on_road
 from ..pictures import MEASURED, SIMULATED, Chart, Field, Line, draw_field, draw_scale, stack_drawings, make_speed_field
-from ..stations import read_counts, read_stations
+from ..stations import Counts, read_counts, read_stations
 from ..units import HOUR, count_things, format_km
 from ..wire import Record
 from .freeway import FIGURES
@@ -89,9 +91,16 @@ def read_data(given: argparse.Namespace) -> tuple[Figures, Measured]:
         raise Fault(f'{given.road} has no begin: add the clock time at which the window begins, such as "begin": "06:30"')
     table = read_stations(given.stations) if given.stations else None
     counts = read_counts(given.counts, table, read_pairs(given.column, "column"), read_pairs(given.unit, "unit"))
+    figures = with_date_of(figures, counts)
     measured = put_on_road(counts, figures.clock, round(figures.minutes * 60), given.origin, given.reverse)
     make_road(with_measured_demand(with_stations(figures, measured), measured)[0])
     return figures, measured
+
+
+def with_date_of(figures: Figures, counts: Counts) -> Figures:
+    """Return the figures with the date of the counts, if they have one date and the road has none."""
+    dates = {row.time.date() for row in counts.rows if isinstance(row.time, datetime.datetime)}
+    return dataclasses.replace(figures, date=str(min(dates))) if figures.date is None and len(dates) == 1 else figures
 
 
 def print_lines(sentences: Sequence[str]) -> None:

@@ -187,7 +187,7 @@ def run_again(site: Site, seed: int, start: int) -> tuple[Numbers, Numbers, Ramp
 
 def format_table(days: Sequence[tuple[Numbers, Numbers]]) -> list[str]:
     """Return the table of means over the days with 95 % intervals: without control, with it, and the difference, paired by day."""
-    lines = ["mean of a day,no control,±,ALINEA,±,difference,±,"]
+    lines = ["mean of a day,no control,±,ALINEA,±,difference,±,remark"]
     for name in days[0][0]:
         before, after = [one[name] for one, _ in days], [other[name] for _, other in days]
         difference = estimate_paired(before, after)

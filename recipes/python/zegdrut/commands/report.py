@@ -96,7 +96,11 @@ def read_request(given: argparse.Namespace) -> Request:
     else:
         names = ("", "simulated")
     make_roads(figures, other)  # (a road that cannot be made is refused here)
-    measured = read_data(given)[1] if given.counts is not None else None
+    measured = None
+    if given.counts is not None:
+        dated, measured = read_data(given)
+        figures = dataclasses.replace(figures, date=dated.date)
+        other = None if other is None else dataclasses.replace(other, date=dated.date)
     return Request(figures, other, names, warm_up_minutes(figures) if given.warm_up is None else given.warm_up, measured)
 
 
@@ -156,7 +160,7 @@ def make_counts_html(given: argparse.Namespace, model: Model) -> str:
     hours = compare_hours(measured, days)
     told = "".join(f"<li>{escape(one)}</li>" for one in measured.notes)
     whose = "the measured demand" if given.demand == "counts" else f"the demand of {given.road.name}"
-    shares = " ".join(f"{one}." for one in format_shares(measured, hours))
+    shares = "; ".join(format_shares(measured, hours)) + "."
     return (f"<h2>Comparison with measured counts</h2><p>{escape(make_title(model))}, mean of {count_things(given.days, 'day')} with {escape(whose)}. "
             f"{escape(shares)}</p>" + (f"<ul>{told}</ul>" if told else "") + make_lines_html(format_hours(model, hours))
             + make_lines_html(format_speeds(model, days))
