@@ -147,7 +147,7 @@ function warnOfBlocked(stamp) {
  * @param {Pending["command"]} command
  * @param {{note: string} & Partial<Pending>} about
  */
-function act(command, {note, shape, first, does = "lay", undoes, taken = ""}) {
+function act(command, {note, shape, first, does = "apply", undoes, taken = ""}) {
   const key = crypto.randomUUID();
   store.pending.set(key, {command, note, shape, first, does, undoes, taken});
   persistPending();
@@ -182,9 +182,9 @@ export function restorePending() {
  * @param {string} key
  */
 export async function send(key) {
-  const act = store.pending.get(key);
-  if (!act) return;
-  const {command, note, first = Infinity, taken} = act;
+  const pending = store.pending.get(key);
+  if (!pending) return;
+  const {command, note, first = Infinity, taken, does} = pending;
   const said = await ask(withFields(command, {at: need("me").at, key}), {first: true});
   if (!said) return;
   store.pending.delete(key);
@@ -194,7 +194,7 @@ export async function send(key) {
   if (timing) assign(timing, {confirmed: performance.now(), us: isDone ? said.us : undefined});
   if (isDone) {
     store.notes.set(keyOf(said.stamp), note);
-    tell(messages.done(note, act.does !== "lay", store.whose === "shared") + taken);
+    tell(messages.done(note, does !== "apply", store.whose === "shared") + taken);
     if (said.touched !== null && said.touched < first) roadOf("mine").invalidate(said.touched);
     await takeLayers("mine", said);
   }

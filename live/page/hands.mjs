@@ -346,8 +346,10 @@ export function begin() {
   const showCursor = () => { $("diagram").style.cursor = cursorOfTool(); };
   watch(["tool"], showCursor);
   watch(["extent"], showStride);
-  watch(["hasLetters"], () => { $("letters").checked = store.hasLetters; });
+  const showLetters = () => { $("letters").checked = store.hasLetters; };
+  watch(["hasLetters"], showLetters);
   watch(["reading", "area"], () => showReadout(store.reading?.byKey));
   watch(["extent", "changedRows", "changes"], () => showReadout());
+  showLetters();
   showCursor();
 }

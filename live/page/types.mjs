@@ -265,7 +265,7 @@
  * @property {string} note
  * @property {Shape | null} [shape]   what it puts
  * @property {number} [first]         the first step that it changes, if that is known
- * @property {"lay" | "undo" | "redo"} does
+ * @property {"apply" | "undo" | "redo"} does
  * @property {Stamp | string} [undoes]    the stamp, or the key, of what it takes back
  * @property {string} taken           a sentence of the stretch that it takes
  */
