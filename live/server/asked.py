@@ -14,7 +14,7 @@ from zegdrut.grammar import GREATEST, kind, list_of, put, row_of, shown, value_o
 from zegdrut.refusals import Reasons
 
 from .journal import packed
-from .model.operations import Shape
+from .model.operations import Shape, same_int
 
 NOT_A_COMMAND = "not a command"
 MOST_EDITS = 1_200  # of a gesture: its line is one import
@@ -179,7 +179,8 @@ class Asked:
         return found
 
     def shape(self) -> Shape:
-        return Shape(*self._checked("shape", SHAPE))
+        kind, *numbers = self._checked("shape", SHAPE)
+        return Shape(kind, *(None if one is None else same_int(one) for one in numbers))
 
     def is_null(self, name: str) -> bool:
         return self.has(name) and self._fields[name] is None

@@ -60,7 +60,7 @@ class Keeper:
         self.state = State(self.stamps, time.time_ns() // 1_000)
         self.wanted: dict[int, int] = {}  # how far each replica shall have run
         self.here: set[int] = set()  # seats with a tab
-        self.turns = Turns(self._around)
+        self.turns = Turns(self._around, may_be_within=lambda: self.journal.failures == self._forgotten)
         self.changes = 0  # of the program
         self.why_changed: str | None = None  # for people, where it was not to be
         self.undone = 0  # operations that were undone or withdrawn since the oldest were forgotten

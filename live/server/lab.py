@@ -248,9 +248,9 @@ class Lab:
     def list_of(self, replica: Replica, version: int) -> Reply:
         """Return the lines that are other than in a version of a list, and what Z and Redo would do."""
         marks = replica.begin_list()
-        lines, after = Lister(self.state, replica).since(marks, version, LIST_AT_ONCE)
+        lines, after = Lister(self.state, replica).since(marks, version - replica.begun, LIST_AT_ONCE)
         found = undoable(replica.road, replica.number)
-        return {"layers": lines, "since": version, "next": replica.version if after is None else after,
+        return {"layers": lines, "since": version, "next": replica.version if after is None else replica.begun + after,
                 "more": after is not None, "undo": found.undo and found.undo.stamp, "redo": found.redo and found.redo.stamp,
                 "blocked": self._blocked(replica.road, found.blocked)}
 

@@ -376,7 +376,7 @@ class Sites:
 
     def _tell_if_twice(self, one: Operation) -> None:
         """Tell of two operations of one stamp; each is shown, and all sites have one road all the same."""
-        twins = self._keeper.state.by_stamp.get(one.stamp, [])
+        twins = self._keeper.state.of_stamp(one.stamp)
         if len(twins) > 1:
             people = sorted({f"{each.about.who}, {each.about.note}" if each.about.note else each.about.who for each in twins})
             self._say(f"Two changes have one stamp, {list(one.stamp)}: of {' and of '.join(people)}")

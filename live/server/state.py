@@ -21,7 +21,7 @@ from .journal import Broken
 from .model.changes import all_lines, altered, lines_of, operations_on
 from .model.choices import shareable
 from .model.forgetting import forgettable
-from .model.operations import SEATS, Operation, Stamp
+from .model.operations import SEATS, Operation, Stamp, same_int
 from .model.road import Road
 from .model.stamping import stamped_anew
 from .stamps import StampClock
@@ -54,7 +54,7 @@ class Replica:
     def __init__(self, index: int, state: State) -> None:
         self.index, self._state = index, state
         self.begun = self.version = state.begun  # of its list
-        self.marks: dict[Stamp, int] | None = None  # by line the version that altered it last, once the list was asked for
+        self.marks: dict[Stamp, int] | None = None  # by line the version, from `begun` on, that altered it last; if it was asked for
         self.places: dict[Operation, int] = {}  # what it holds, each with how many came before
         self.size: int = 0  # so many came
         self._road: Road | None = None
@@ -101,7 +101,7 @@ class Replica:
         fresh = []
         for one in operations:
             if one not in self.places:
-                self.places[one] = self.size
+                self.places[one] = same_int(self.size)
                 self.size += 1
                 fresh.append(one)
         if self._road is not None:
@@ -113,7 +113,7 @@ class Replica:
         if self.marks is not None:
             for line in lines:
                 self.version += 1
-                self.marks[line] = self.version
+                self.marks[line] = same_int(self.version - self.begun)
 
     def begin_list(self) -> dict[Stamp, int]:
         """Return the marks; the first time all lines are new."""
@@ -248,7 +248,8 @@ class State:
         self.rate: float = 0
         self.now = 0
         self.stop: int | None = None
-        self.by_stamp: dict[Stamp, list[Operation]] = {}
+        self.by_stamp: dict[Stamp, Operation] = {}
+        self._twins: dict[Stamp, tuple[Operation, ...]] = {}  # others of a stamp
         self.lately: dict[int, tuple[Road, Road]] = {}  # of a seat: the shared road, and that with all private operations
         self._clock = clock or StampClock()
         self._former: Former | None = None
@@ -282,11 +283,24 @@ class State:
 
     def interned(self, one: Operation) -> Operation:
         """Return the operation that is held and the same, or this one."""
-        known = self.by_stamp.setdefault(one.stamp, [])
+        known = self.of_stamp(one.stamp)
         found = next((other for other in known if other.is_same(one)), None)
         if found is None:
-            known.append(one)
+            self._set_stamp(one.stamp, (*known, one))
         return found or one
+
+    def of_stamp(self, stamp: Stamp) -> tuple[Operation, ...]:
+        """Return the operations of a stamp: none, one, or twins."""
+        first = self.by_stamp.get(stamp)
+        return () if first is None else (first, *self._twins.get(stamp, ()))
+
+    def _set_stamp(self, stamp: Stamp, some: tuple[Operation, ...]) -> None:
+        self.by_stamp.pop(stamp, None)
+        self._twins.pop(stamp, None)
+        if some:
+            self.by_stamp[stamp] = some[0]
+        if len(some) > 1:
+            self._twins[stamp] = some[1:]
 
     def hold_own(self, seat: Seat, one: Operation) -> None:
         """A seat holds an operation of its own."""
@@ -345,15 +359,14 @@ class State:
         return [one for one in self.shared.order(seat.upto, upto) if one not in seat.places]
 
     def held_by(self, seat: Seat, stamp: Stamp) -> list[Operation]:
-        return [one for one in self.by_stamp.get(stamp, ()) if one in seat.places]
+        return [one for one in self.of_stamp(stamp) if one in seat.places]
 
     def stamp_anew(self, seat: Seat, stamps: Mapping[Stamp, Stamp]) -> None:
         """Give private operations of a seat other stamps. They are called by the old ones, too."""
         old = [one for one in self.private(seat) if one.stamp in stamps]
         new = stamped_anew(old, stamps)
         for one in old:
-            del seat.own[one], seat.places[one]
-            self.by_stamp[one.stamp].remove(one)
+            self._drop(seat, one)
         for one in map(self.interned, new):
             self.hold_own(seat, one)
         seat.done = {key: stamps.get(stamp, stamp) for key, stamp in seat.done.items()}
@@ -362,6 +375,11 @@ class State:
         seat.rebuild()
 
     # Forgetting
+
+    def _drop(self, seat: Seat, one: Operation) -> None:
+        """Let a private operation go."""
+        del seat.own[one], seat.places[one]
+        self._set_stamp(one.stamp, tuple(other for other in self.of_stamp(one.stamp) if other is not one))
 
     def forget(self, seat: Seat, kept: int) -> None:
         """Let private operations go that say nothing any more, but for the newest: no layer differs without them."""
@@ -373,8 +391,7 @@ class State:
             return
         lines = {line for one in gone for line in lines_of(seat.road, one)}
         for one in gone:
-            del seat.own[one], seat.places[one]
-            self.by_stamp[one.stamp].remove(one)
+            self._drop(seat, one)
         seat.forgot(lines)
 
     # Compaction

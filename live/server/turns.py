@@ -9,6 +9,9 @@ second at the most.
 
 Before the turn of a seat whose turns are long, those who have used little time are done with first: what they ask
 now, and what follows from it, which a moment is waited for. So a gesture and its rows wait for one long turn, not two.
+
+A job that is said to be short (`takes_long=False`) needs no program. It does not wait for the turn of another seat: it is done
+while that waits for the program or for a thread.
 """
 from __future__ import annotations
 
@@ -55,9 +58,10 @@ class Turns:
     """The queues of all seats, and one task that works through them."""
 
     def __init__(self, around: Callable[[Job], Awaitable[Any]], clock: Callable[[], float] = time.monotonic,
-                 most_waited: float = MOST_WAITED) -> None:
-        """`around` calls a job; it may mend what the job stands on, and call it again."""
-        self._around, self._clock, self._most_waited = around, clock, most_waited
+                 most_waited: float = MOST_WAITED, may_be_within: Callable[[], bool] = lambda: True) -> None:
+        """`around` calls a job; it may mend what the job stands on, and call it again. `may_be_within` says whether a short job
+        may be called within the turn of another seat, as it is."""
+        self._around, self._clock, self._most_waited, self._may_be_within = around, clock, most_waited, may_be_within
         self._queues: Dict[int, Queue] = collections.defaultdict(collections.deque)
         self._later: Dict[int, Queue] = collections.defaultdict(collections.deque)  # what is done at leisure
         self._turn: Deque[int] = collections.deque()
@@ -66,8 +70,8 @@ class Turns:
         self._number = 0  # of the last turn of all
 
     def ask(self, seat: int, job: Job, at_leisure: bool = False, takes_long: bool | None = None) -> asyncio.Future[Any]:
-        """A future with what the job gives, once it is its seat's turn. Whether it takes long is as with the seat's last one,
-        if that is not said."""
+        """Return a future with what the job gives, once it is its seat's turn. Whether it takes long is as with the seat's last
+        one, if that is not said."""
         future: asyncio.Future[Any] = asyncio.get_running_loop().create_future()
         future.add_done_callback(lambda one: one.cancelled() or one.exception())
         if not self._first(seat):
@@ -131,12 +135,33 @@ class Turns:
                 await self._work.wait()
         return self._work.is_set()
 
-    async def _one_turn(self, seat: int) -> None:
+    async def _with_short_ones(self, seat: int, job: Job) -> Any:
+        """Do a job, and while it waits the short jobs of others."""
+        turn = asyncio.ensure_future(self._around(job))
+        turn.add_done_callback(lambda _: self._work.set())
+        try:
+            while not turn.done():
+                short = next(filter(self._is_short, self._turn), None) if self._may_be_within() else None
+                if short is None:
+                    self._work.clear()
+                    await self._work.wait()
+                else:
+                    self._turn.remove(short)
+                    await self._one_turn(short, is_within=True)
+        finally:
+            turn.cancel()
+            await asyncio.wait([turn])
+        return turn.result()
+
+    def _is_short(self, seat: int) -> bool:
+        return self._first(seat)[0][3] is False
+
+    async def _one_turn(self, seat: int, is_within: bool = False) -> None:
         queue = self._first(seat)
         job, future, *_ = queue[0]
         began = self._clock()
         try:
-            result = MORE if future.cancelled() else await self._around(job)
+            result = MORE if future.cancelled() else await (job() if is_within else self._with_short_ones(seat, job))
         except Exception as fault:  # pylint: disable=broad-except
             if not future.done():
                 future.set_exception(fault)

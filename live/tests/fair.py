@@ -142,6 +142,42 @@ class FairTurns(unittest.IsolatedAsyncioTestCase):
         self.assertLess(self.done.count("t"), 62)
         await asyncio.gather(*takes)
 
+    async def test_what_is_short_is_done_within_the_long_turn_of_another(self) -> None:
+        """In its seat's order, one at a time, and not if the turn mends what jobs stand on."""
+        self.task.cancel()
+        may, ends = [True], asyncio.Event()
+        self.turns = Turns(self.around, may_be_within=lambda: may[0])
+        self.task = asyncio.create_task(self.turns.run())
+        running: list[str] = []
+
+        async def long() -> None:
+            self.done.append("L")
+            await ends.wait()
+            self.done.append("l")
+
+        def short(name: str) -> Job:
+            async def work() -> None:
+                running.append(name)
+                await asyncio.sleep(0)
+                self.assertEqual(running, [name])
+                running.remove(name)
+                self.done.append(name)
+            return work
+
+        async def asks(seat: int, names: str) -> None:
+            await asyncio.gather(*(self.turns.ask(seat, short(name), takes_long=False) for name in names))
+        asked = [self.turns.ask(1, long, takes_long=True), self.turns.ask(1, short("b"), takes_long=False)]
+        await asyncio.wait_for(asyncio.gather(asks(2, "cd"), asks(3, "e")), PATIENCE)
+        self.assertEqual("".join(self.done), "Lced")
+        may[0] = False
+        asked += [self.turns.ask(2, short("f"), takes_long=False), self.turns.ask(3, self.job("n"))]
+        for _ in range(20):
+            await asyncio.sleep(0)
+        self.assertEqual("".join(self.done), "Lced")
+        ends.set()
+        await asyncio.gather(*asked)
+        self.assertEqual("".join(self.done[:5]), "Lcedl")
+
     async def test_it_is_waited_only_for_who_was_answered_since(self) -> None:
         await self.beside()
         for _ in range(3):

@@ -12,7 +12,7 @@ ghost use Rattle.road_sheet.specs.Spans.{IsNextSpan, sheet_after_span};
 use crate::settings_cache::SettingsCache;
 use crate::sheet::Sheet;
 use road_cells::Road;
-use road_detector::Ran;
+use road_detector::SpanResult;
 use road_ends::{Span, StepInput, finish};
 use road_plan::OutOfMemory;
 use std::alloc::Global;
@@ -82,7 +82,7 @@ impl Draft {
         ensures unchanged { OnErr result (self.new ≡ self.old) }
     {
         let road = finish(alloc, input, speeds)?;
-        self.sheet.grow(alloc, input, speeds, road)
+        self.sheet.extend(alloc, input, speeds, road)
     }
 
     /// Return the road at the horizon.
@@ -116,14 +116,19 @@ impl Draft {
     /// # Errors
     ///
     /// `OutOfMemory` if an allocation failed. The draft is then as it was.
-    pub fn push_span(&mut self, alloc: Global, span: &Span, ran: Ran) -> Result<(), OutOfMemory>
+    pub fn push_span(
+        &mut self,
+        alloc: Global,
+        span: &Span,
+        ran: SpanResult,
+    ) -> Result<(), OutOfMemory>
         requires next { IsNextSpan self.old span.now }
         requires road { ran.road ≡ span_road span.now (state_of self.old self.old.horizon) }
         requires totals { ran.totals.items ≡ span_totals span.now (state_of self.old self.old.horizon) }
         ensures grown { OnOk result (self.new ≡ sheet_after_span span.now self.old) }
         ensures unchanged { OnErr result (self.new ≡ self.old) }
     {
-        self.sheet.grow_by(alloc, span, ran)
+        self.sheet.extend_by(alloc, span, ran)
     }
 
     /// Return the sheet.

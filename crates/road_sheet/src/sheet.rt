@@ -31,7 +31,7 @@ use lattice_core::both::Both;
 use lattice_core::greatest::Greatest;
 use road_cells::Road;
 use road_detector::laws::{cars_pass_one_by_one, totals_are_bounded};
-use road_detector::{Ran, Totals};
+use road_detector::{SpanResult, Totals};
 use road_ends::laws::{cars_stay_on_road, runs_depend_on_earlier_settings};
 use road_ends::{Span, StepInput, enter};
 use road_plan::{OutOfMemory, Plan};
@@ -91,11 +91,8 @@ impl Sheet {
         ensures sheet { IfOk result (λ sheet. sheet ≡ opening_sheet (arc_value plan)) }
         ensures within { IsWithinLimits (arc_value plan) }
     {
-        let open_interval = Interval::begin(
-            alloc,
-            Checkpoint::empty(alloc),
-            plan.detectors().len(),
-        )?;
+        let detectors = plan.detectors().len();
+        let open_interval = Interval::begin(alloc, Checkpoint::empty(alloc)?, detectors)?;
         let intervals = SharedIntervals::empty(alloc)?;
         Ok(Sheet {
             plan,
@@ -289,8 +286,8 @@ impl Sheet {
           horizon = self.now.horizon;
         }) }
     {
-        let (open_interval, at_horizon) = copies(&self.open_interval, &self.at_horizon)?;
-        let (plan, intervals) = shared_with_plan(
+        let (open_interval, at_horizon) = copy_open(&self.open_interval, &self.at_horizon)?;
+        let (plan, intervals) = share_with_plan(
             alloc,
             &self.plan,
             &self.intervals,
@@ -327,8 +324,8 @@ impl Sheet {
         }) }
     {
         let start = &self.interval(interval as usize).start;
-        let (open_interval, at_horizon) = begun(alloc, start, self.plan.detectors().len())?;
-        let (plan, intervals) = shared_with_plan(
+        let (open_interval, at_horizon) = start_from(alloc, start, self.plan.detectors().len())?;
+        let (plan, intervals) = share_with_plan(
             alloc,
             &self.plan,
             &self.intervals,
@@ -386,7 +383,7 @@ impl Sheet {
     }
 
     // Add one more step, whose road is made already. What can fail for memory is done before the sheet is changed.
-    pub(crate) fn grow(
+    pub(crate) fn extend(
         &mut self,
         alloc: Global,
         input: &StepInput,
@@ -460,11 +457,11 @@ impl Sheet {
     }
 
     // Add the steps of a span, from the road after it and what each detector counts in it.
-    pub(crate) fn grow_by(
+    pub(crate) fn extend_by(
         &mut self,
         alloc: Global,
         span: &Span,
-        ran: Ran,
+        ran: SpanResult,
     ) -> Result<(), OutOfMemory>
         requires next { IsNextSpan self.old span.now }
         requires road { ran.road ≡ span_road span.now (state_of self.old self.old.horizon) }
@@ -481,7 +478,7 @@ impl Sheet {
     }
 
     // Add the steps up to one that does not end the interval.
-    fn span_within(&mut self, end: u32, ran: Ran)
+    fn span_within(&mut self, end: u32, ran: SpanResult)
         requires within { IsWithinInterval self.old end }
         requires within_interval { end % INTERVAL_STEPS ≢ 0 }
         requires road { ran.road ≡ state_of self.old end }
@@ -495,7 +492,7 @@ impl Sheet {
     }
 
     // Add the steps up to the end of the interval.
-    fn span_to_end(&mut self, alloc: Global, end: u32, ran: Ran) -> Result<(), OutOfMemory>
+    fn span_to_end(&mut self, alloc: Global, end: u32, ran: SpanResult) -> Result<(), OutOfMemory>
         requires within { IsWithinInterval self.old end }
         requires at_end { end % INTERVAL_STEPS ≡ 0 }
         requires road { ran.road ≡ state_of self.old end }
@@ -537,31 +534,31 @@ impl Sheet {
 }
 
 // Begin the interval of a checkpoint, and return the road there.
-fn begun(
+fn start_from(
     alloc: Global,
     start: &Checkpoint,
     detectors: usize,
 ) -> Result<(Interval, Road), OutOfMemory>
-    ensures start { IfOk result (λ begun. begun.0.start ≡ start.now) }
-    ensures totals { IfOk result (λ begun. begun.0.totals.items ≡ replicate detectors no_totals) }
-    ensures road { IfOk result (λ begun. begun.1 ≡ start.now) }
+    ensures start { IfOk result (λ first. first.0.start ≡ start.now) }
+    ensures totals { IfOk result (λ first. first.0.totals.items ≡ replicate detectors no_totals) }
+    ensures road { IfOk result (λ first. first.1 ≡ start.now) }
 {
     let road = start.road(alloc)?;
-    let interval = Interval::begin(alloc, start.copied()?, detectors)?;
+    let interval = Interval::begin(alloc, start.share()?, detectors)?;
     Ok((interval, road))
 }
 
-fn copies(interval: &Interval, road: &Road) -> Result<(Interval, Road), OutOfMemory>
-    ensures start { IfOk result (λ copies. copies.0.start ≡ interval.now.start) }
-    ensures totals { IfOk result (λ copies. copies.0.totals.items ≡ interval.now.totals.items) }
-    ensures road { IfOk result (λ copies. copies.1 ≡ road.now) }
+fn copy_open(interval: &Interval, road: &Road) -> Result<(Interval, Road), OutOfMemory>
+    ensures start { IfOk result (λ both. both.0.start ≡ interval.now.start) }
+    ensures totals { IfOk result (λ both. both.0.totals.items ≡ interval.now.totals.items) }
+    ensures road { IfOk result (λ both. both.1 ≡ road.now) }
 {
     let copy = interval.copied()?;
     Ok((copy, road.copied()?))
 }
 
 // Share a plan, and the first of these intervals.
-fn shared_with_plan(
+fn share_with_plan(
     alloc: Global,
     plan: &Arc<Plan>,
     intervals: &SharedIntervals,

@@ -1,6 +1,6 @@
 //! The crew of one.
 
-ghost use Rattle.std.specs.Prelude.{◌≡◌, ◌≢◌, IfOk, IfSome, IsSome, Err};
+ghost use Rattle.std.specs.Prelude.{◌≡◌, ◌≢◌, ◌<◌, IfOk, IfSome, IsSome, Err};
 ghost use Rattle.std.specs.Arc.{arc_value};
 ghost use Rattle.road_ends.specs.Input.{input_speeds};
 ghost use Rattle.road_ends.specs.Span.{span_road};
@@ -13,8 +13,9 @@ use crate::faults::CrewFault;
 use crate::kept_run::KeptRun;
 use crate::whole::run_alone;
 use road_cells::Road;
-use road_detector::Ran;
+use road_detector::SpanResult;
 use road_ends::{Span, StepInput};
+use road_plan::limits::GREATEST_HORIZON;
 use std::alloc::Global;
 use std::sync::Arc;
 
@@ -35,13 +36,19 @@ impl Crew for Alone {
         Ok(input.speeds(alloc)?)
     }
 
+    fn most_steps(&self) -> u32
+        ensures { 0 < result }
+    {
+        GREATEST_HORIZON
+    }
+
     fn run(
         &mut self,
         alloc: Global,
         span: &Span,
         road: &Road,
         kept: &mut KeptRun,
-    ) -> Result<Option<Ran>, CrewFault>
+    ) -> Result<Option<SpanResult>, CrewFault>
         ensures road { IfOk result (λ done. IfSome done (λ ran. ran.road ≡ span_road span.now road.now)) }
         ensures totals { IfOk result (λ done. IfSome done (λ ran. ran.totals.items ≡ span_totals span.now road.now)) }
         ensures some { IfOk result (λ done. CanBeRun span.now road.now → IsSome done) }

@@ -31,8 +31,9 @@ use crate::pool::stepping::speeds_by;
 use crate::pool::working::{Ends, work};
 use crossbeam_channel::{Sender, bounded};
 use road_cells::Road;
-use road_detector::Ran;
+use road_detector::SpanResult;
 use road_ends::{OutOfMemory, Span, StepInput};
+use road_plan::limits::GREATEST_HORIZON;
 use std::alloc::Global;
 use std::marker::Model;
 use std::sync::{Arc, Wait};
@@ -75,7 +76,7 @@ impl<R> Model for Pool<R> {
 }
 
 impl<R: Threads + Wait + Clone + Drop + Send + 'static> Pool<R> {
-    /// Start a crew of so many workers, 1 to 16.
+    /// Start a crew of 1 to 16 workers.
     ///
     /// # Errors
     ///
@@ -89,8 +90,8 @@ impl<R: Threads + Wait + Clone + Drop + Send + 'static> Pool<R> {
         Pool::start_gated(rt, alloc, workers, no_gate(alloc)?)
     }
 
-    /// Start a crew of 1 to 16 workers, as [`Pool::start`], each of which passes the gate before each piece and each
-    /// stretch that it computes; [`Gate`] says what is tested of that.
+    /// Start a crew of 1 to 16 workers, as [`Pool::start`]. Each worker passes the gate before each piece and each
+    /// stretch that it computes; [`Gate`] says which tests use that.
     ///
     /// # Errors
     ///
@@ -110,7 +111,7 @@ impl<R: Threads + Wait + Clone + Drop + Send + 'static> Pool<R> {
         Pool::start_on(rt, alloc, workers, gate, processors)
     }
 
-    /// Start such a crew as it is on a machine of so many processors, however many there are. Its speeds and runs are the
+    /// Start such a crew as on a machine of `processors` processors, however many there are. Its speeds and runs are the
     /// same; workers run stretches only if each has a processor, and the caller one more if it has one besides.
     ///
     /// # Errors
@@ -191,13 +192,19 @@ impl<R: Wait> Crew for Pool<R> {
         answer
     }
 
+    fn most_steps(&self) -> u32
+        ensures { 0 < result }
+    {
+        GREATEST_HORIZON
+    }
+
     fn run(
         &mut self,
         alloc: Global,
         span: &Span,
         road: &Road,
         kept: &mut KeptRun,
-    ) -> Result<Option<Ran>, CrewFault>
+    ) -> Result<Option<SpanResult>, CrewFault>
         ensures road { IfOk result (λ done. IfSome done (λ ran. ran.road ≡ span_road span.now road.now)) }
         ensures totals { IfOk result (λ done. IfSome done (λ ran. ran.totals.items ≡ span_totals span.now road.now)) }
         ensures some { IfOk result (λ done. CanBeRun span.now road.now → IsSome done) }

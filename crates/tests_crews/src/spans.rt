@@ -7,7 +7,7 @@ ghost use Rattle.road_plan.specs.Settings.{Fits};
 use crate::holds;
 use crate::rows::shared_plan;
 use road_cells::Road;
-use road_detector::{Ran, Totals, passes};
+use road_detector::{SpanResult, Totals, passes};
 use road_ends::{Meter, Span, step_alone};
 use road_plan::{Plan, Settings};
 use road_workers::{Alone, Crew, KeptRun, Pool};
@@ -16,7 +16,7 @@ use std::process::Abort;
 use std::sync::{Arc, Wait};
 use std::test::Fail;
 use std::thread::Threads;
-use tests_plans::{Counter, FREE, LONG, queue, random_settings};
+use tests_plans::{Counter, Counting, FREE, LONG, queue, random_settings};
 
 /// Cells on both sides of the places where the road may be divided.
 const BLOCKS: &[u32] = &[
@@ -68,7 +68,7 @@ pub(crate) fn is_run_of_one(
     alloc: Global,
     span: &Span,
     road: &Road,
-    ran: &Option<Ran>,
+    ran: &Option<SpanResult>,
 ) -> Result<bool, Fail> {
     match (ran, Alone.run(alloc, span, road, &mut KeptRun::none())?) {
         (Some(ran), Some(wanted)) => Ok(are_same(ran, &wanted)),
@@ -78,7 +78,7 @@ pub(crate) fn is_run_of_one(
 }
 
 // Return whether two runs have the same result.
-fn are_same(ran: &Ran, other: &Ran) -> bool {
+fn are_same(ran: &SpanResult, other: &SpanResult) -> bool {
     ran.road.cars() == other.road.cars() && ran.totals == other.totals
 }
 
@@ -111,7 +111,7 @@ fn run_one_by_one(
     step: u32,
     steps: u32,
     road: &Road,
-) -> Result<Ran, Fail> {
+) -> Result<SpanResult, Fail> {
     let mut totals = vec![in alloc; Totals { cars: 0, speeds: 0 }; plan.detectors().len()]?;
     let mut road = road.copied()?;
     for done in 0..steps {
@@ -124,7 +124,7 @@ fn run_one_by_one(
             &mut totals,
         )?;
     }
-    Ok(Ran { road, totals })
+    Ok(SpanResult { road, totals })
 }
 
 /// Spans, one after another: the kind of settings and the steps of each.
@@ -135,7 +135,7 @@ const SPANS: &[(u32, u32)] = &[(0, 64), (1, 64), (2, 63), (3, 1), (1, 21), (3, 3
 pub(crate) struct Course<'a> {
     spans: &'a [(u32, u32)],
     queue: Road,
-    ran: Vec<Ran>,
+    ran: Vec<SpanResult>,
 }
 
 // Run a span one by one, and add its results. Return the road after it.
@@ -145,7 +145,7 @@ fn run_and_add(
     (kind, steps): (u32, u32),
     step: u32,
     road: &Road,
-    all: &mut Vec<Ran>,
+    all: &mut Vec<SpanResult>,
 ) -> Result<Road, Fail> {
     let ran = run_one_by_one(alloc, plan, kind, step, steps, road)?;
     let road = ran.road.copied()?;
@@ -159,7 +159,7 @@ fn run_and_add_all(
     plan: &Arc<Plan>,
     mut road: Road,
     spans: &[(u32, u32)],
-    all: &mut Vec<Ran>,
+    all: &mut Vec<SpanResult>,
 ) -> Result<(), Fail> {
     let mut step = 0_u32;
     for span in spans {
@@ -192,11 +192,11 @@ fn compare_span<C: Crew>(
     crew: &mut C,
     span: &Span,
     road: &Road,
-    wanted: &Ran,
+    wanted: &SpanResult,
     kept: &mut KeptRun,
 ) -> Result<Road, Fail> {
     let Some(ran) = crew.run(alloc, span, road, kept)? else {
-        return Err(Fail::new("a crew that runs no spans"));
+        return Err(Fail::new("a crew that does not run a span"));
     };
     holds(rt, span.steps() as usize, are_same(&ran, wanted));
     Ok(ran.road)
@@ -367,6 +367,19 @@ fn one_runs_spans_as_they_are_one_by_one(rt: HostRuntime) -> Result<(), Fail> {
     let plan = shared_plan(alloc, &LONG)?;
     let courses = courses_of(alloc, &plan, &[0, 200, 8_000], SPANS)?;
     one_runs(&rt, alloc, &plan, &courses)
+}
+
+#[test]
+fn a_crew_that_computes_speeds_runs_spans_one_step_after_another(
+    rt: HostRuntime,
+) -> Result<(), Fail> {
+    let alloc = rt.alloc();
+    let plan = shared_plan(alloc, &LONG)?;
+    let course = run_course(alloc, &plan, 200, SPANS)?;
+    let mut crew = Counting { calls: 0 };
+    compare_course(&rt, alloc, &mut crew, &plan, &course, &mut KeptRun::none())?;
+    assert!(rt; crew.calls == 310 && crew.most_steps() == 1);
+    Ok(())
 }
 
 // Let lasting workers run the courses of a case.

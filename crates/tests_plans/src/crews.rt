@@ -4,7 +4,7 @@ ghost use Rattle.std.specs.Prelude.{◌≡◌};
 ghost use Rattle.road_workers.specs.Crews.{gone_after};
 
 use road_cells::Road;
-use road_detector::Ran;
+use road_detector::SpanResult;
 use road_ends::{Span, StepInput};
 use road_workers::{Crew, CrewFault, KeptRun};
 use std::alloc::Global;
@@ -60,7 +60,7 @@ impl Crew for Counting {
     }
 }
 
-/// A crew that asks another crew for the speeds of each step, because it runs no spans.
+/// A crew that asks another crew for the speeds of one step after another.
 #[derive(Drop)]
 pub struct StepByStep<C> {
     /// The crew that computes.
@@ -136,6 +136,10 @@ impl<C> Running<C> {
 impl<C: Crew> Crew for Running<C> {
     ghost times_gone = { λ crew. crew.gone };
 
+    fn most_steps(&self) -> u32 {
+        self.crew.most_steps()
+    }
+
     fn speeds(&mut self, alloc: Global, input: &Arc<StepInput>) -> Result<Vec<u8>, CrewFault> {
         let answer = self.crew.speeds(alloc, input);
         self.note(&answer);
@@ -148,7 +152,7 @@ impl<C: Crew> Crew for Running<C> {
         span: &Span,
         road: &Road,
         kept: &mut KeptRun,
-    ) -> Result<Option<Ran>, CrewFault> {
+    ) -> Result<Option<SpanResult>, CrewFault> {
         let answer = match self.fault_of_run() {
             Some(fault) => Err(fault),
             None => self.crew.run(alloc, span, road, kept),

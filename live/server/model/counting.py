@@ -62,6 +62,8 @@ class Record:
         fresh = {one for one in operations if self._hold(one)}
         waiting = fresh.union(one for stamp in self._of_exclusions - before for one in self.held.get(stamp, ()))
         flipped = self._settle(in_order(waiting))
+        if len(fresh) > len(self.void):
+            self.void = set(self.void)  # which had room for all that are new
         excluded = self.excluded_if()
         if excluded != self.excluded:
             changed, self.excluded = excluded ^ self.excluded, excluded

@@ -15,7 +15,7 @@ from __future__ import annotations
 import json
 from dataclasses import dataclass, field
 from types import MappingProxyType
-from typing import Iterable, Mapping, NamedTuple, TypeGuard, Union
+from typing import Generic, Iterable, Iterator, Mapping, NamedTuple, TypeGuard, TypeVar, Union
 
 Json = Union[None, bool, int, float, str, "list[Json]", "dict[str, Json]"]
 Stamp = tuple[int, int]
@@ -27,6 +27,13 @@ Name = Union[Stamp, RawName]
 
 SEATS = 64  # numbers of a site; 0 is the site itself
 END = 1 << 20  # after every step
+SMALL = tuple(range(1 << 14))
+K, V = TypeVar("K"), TypeVar("V")
+
+
+def same_int(value: int) -> int:
+    """Return the same object for equal small numbers: most objects and steps of a large room are among them."""
+    return SMALL[value] if 0 <= value < len(SMALL) else value
 
 
 class Shape(NamedTuple):
@@ -38,6 +45,36 @@ class Shape(NamedTuple):
     begin: int
     end: int | None
     value: int
+
+
+class Single(Mapping[K, V], Generic[K, V]):
+    """A mapping of one key, in 48 bytes where a dict takes 250: most operations set one layer."""
+
+    __slots__ = "_key", "_value"
+
+    def __init__(self, key: K, value: V) -> None:
+        self._key, self._value = key, value
+
+    def __getitem__(self, key: K) -> V:
+        if key != self._key:
+            raise KeyError(key)
+        return self._value
+
+    def __contains__(self, key: object) -> bool:
+        return key == self._key
+
+    def __iter__(self) -> Iterator[K]:
+        return iter((self._key,))
+
+    def __len__(self) -> int:
+        return 1
+
+
+def small_mapping(some: Mapping[K, V], empty: Mapping[K, V]) -> Mapping[K, V]:
+    """Return a mapping in as few bytes as it needs."""
+    if len(some) > 1:
+        return some
+    return Single(*next(iter(some.items()))) if some else empty
 
 
 NO_LAYERS: Mapping[Name, Shape | None] = MappingProxyType({})
@@ -77,6 +114,8 @@ class Operation:
         others = [*self.heights.values(), *(name for name in self.names if not is_raw(name))]
         if any(one >= self.stamp for one in older) or any(one > self.stamp for one in others):
             raise ValueError("an operation can only refer to older ones, and lifts nothing above itself")
+        object.__setattr__(self, "sets", small_mapping(self.sets, NO_LAYERS))
+        object.__setattr__(self, "heights", small_mapping(self.heights, NO_HEIGHTS))
 
     def __lt__(self, other: Operation) -> bool:
         return self.stamp < other.stamp or self.stamp == other.stamp and self.text() < other.text()

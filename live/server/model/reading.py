@@ -9,8 +9,7 @@ import json
 import sys
 from typing import Callable, Mapping, Sequence, TypeVar
 
-from .operations import (NO_HEIGHTS, NO_LAYERS, NO_MORE, About, Json, Name, Operation, RawName, Shape, Stamp, is_line, is_raw,
-                         raw_shape)
+from .operations import (NO_MORE, About, Json, Name, Operation, RawName, Shape, Stamp, is_line, is_raw, raw_shape, same_int)
 
 GREATEST_COUNT, GREATEST_NUMBER, GREATEST_VALUE = 1 << 48, 65_535, (1 << 32) - 1
 MOST_RAW = 1_200  # raw edits of an operation
@@ -38,8 +37,7 @@ def read_operation(value: Json) -> Operation:
     about = About(read_text(value, "who", LONGEST_NAME), read_text(value, "note", LONGEST_NOTE), read_time(value.get("when")),
                   None if value.get("shape") is None else read_shape(value["shape"]), more)
     try:
-        one = Operation(stamp, read_sets(value.get("sets"), stamp) or NO_LAYERS,
-                        read_heights(value.get("heights")) or NO_HEIGHTS,
+        one = Operation(stamp, read_sets(value.get("sets"), stamp), read_heights(value.get("heights")),
                         optional(value, "undoes", read_stamp), optional(value, "excludes", read_exclusion),
                         optional(value, "seen", read_stamp), about)
     except ValueError as fault:
@@ -139,7 +137,7 @@ def whole(value: Json, most: int, what: str) -> int:
     """Return a whole number from 0 on."""
     if type(value) is not int or not 0 <= value <= most:
         raise Malformed(f"{what} {str(value)[:40]} is no whole number from 0 to {most}")
-    return value
+    return same_int(value)
 
 
 def word(value: Json) -> str:

@@ -12,8 +12,7 @@ from typing import AbstractSet, Callable, Iterable
 
 from .counting import NONE, Record, inserted
 from .layers import Layer, Stretch, from_the_top, touches
-from .operations import (END, NOTHING, About, Name, Operation, RawName, Shape, Stamp, is_line, is_raw,
-                         line_of)
+from .operations import END, NOTHING, About, Name, Operation, RawName, Shape, Stamp, in_order, is_line, is_raw, line_of
 
 Plan = Callable[[str, int], "int | None"]
 """The value of an object by the plan; None of cars that start, about which the plan says nothing."""
@@ -38,14 +37,19 @@ class Road:
         self.raws: dict[tuple[str, int], dict[int, Layer]] = {}  # of an object the raw edits, by step
         self.members: dict[Stamp, frozenset[RawName]] = {}  # the raw edits that stand, by line
         self.step: Step | None = None  # how it was made
-        self._setters: dict[Name, tuple[Operation, ...]] = {}  # of a layer, the oldest first
+        self._setters: dict[Name, tuple[Operation, ...]] = {}  # of a layer, the oldest first; not of one that was only put
         self._lifters: dict[Name, tuple[Operation, ...]] = {}
 
     def __contains__(self, one: Operation) -> bool:
         return one in self.record
 
     def setters_of(self, name: Name) -> tuple[Operation, ...]:
-        return self._setters.get(name, ())
+        some = self._setters.get(name)
+        if some is not None or not is_line(name):
+            return some or ()
+        puts = self.record.held.get(name, ())
+        return puts if all(name in one.sets for one in puts) and len(puts) < 2 else tuple(
+            in_order(one for one in puts if name in one.sets))
 
     def lifters_of(self, name: Name) -> tuple[Operation, ...]:
         return self._lifters.get(name, ())
@@ -70,7 +74,9 @@ class Road:
         fresh, flipped = road.record.add(some)
         for one in fresh:
             for name in one.sets:
-                road._setters[name] = inserted(road.setters_of(name), one)
+                some = road.setters_of(name)
+                if name != one.stamp or one not in some:
+                    road._setters[name] = inserted(some, one)
             for name in one.heights:
                 road._lifters[name] = inserted(road.lifters_of(name), one)
         names = {name for one in flipped for name in one.names}
