@@ -1,8 +1,9 @@
 // Questions to the server.
 
 import {decodeAnswer} from "./decoding.mjs";
-import {Away} from "./line.mjs";
-import {known, tell} from "./store.mjs";
+import {Disconnected} from "./connection.mjs";
+import * as messages from "./messages.mjs";
+import {need, tell} from "./store.mjs";
 
 const BUSY = 1000;              // milliseconds until it is asked again of one who was busy
 
@@ -29,17 +30,17 @@ const always = () => true;
  * @returns {Promise<Answers[Verb] | Refusal | null>}
  */
 export async function ask(command, {first = false, quiet = [], stands = always, away = ""} = {}) {
-  const line = known("line");
-  const isAway = !line.greeted;
+  const connection = need("connection");
+  const isAway = !connection.isAdmitted;
   const [verb] = /** @type {Verb[]} */ (Object.keys(command));
   try {
-    const said = /** @type {ToldAnswers[Verb] | Refusal} */ (await line.ask(command, first));
+    const said = /** @type {ToldAnswers[Verb] | Refusal} */ (await connection.ask(command, first));
     if (!isRefusal(said)) return decodeAnswer(verb, said);
     const isTold = !quiet.includes(said.refused) && stands();
-    if (isTold) tell(said.why ?? `Refused: ${said.refused}`, true);
+    if (isTold) tell(said.why ?? messages.refusedWithoutReason(said.refused), true);
     return said;
   } catch (fault) {
-    if (!(fault instanceof Away)) throw fault;
+    if (!(fault instanceof Disconnected)) throw fault;
     if (isAway && away) tell(away, true);
     return null;
   }

@@ -151,7 +151,10 @@ const decodeTrip = ([cars, seconds]) => ({cars, seconds});
  * @param {ToldRoadFigures} told
  * @returns {RoadFigures}
  */
-const decodeRoad = ({travel, ...told}) => ({...told, travel: travel.map(decodeTrip)});
+const decodeRoad = ({travel, travel_by_entry: byEntry = {}, ...told}) => ({...told,
+  travel: travel.map(decodeTrip), entries: Object.entries(byEntry)
+    .map(([step, trips]) => ({step: Number(step), trips: trips.map(decodeTrip)}))
+    .sort((one, other) => one.step - other.step)});
 
 /** Return the figures of two roads.
  * @param {ToldFigures} told

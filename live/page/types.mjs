@@ -115,6 +115,7 @@
  * A road by which the curves of its inlets are known at each step; null: it is measured just now.
  * @typedef {object} MeasuredRoad
  * @property {Plan} plan
+ * @property {import("./dayclock.mjs").DayClock} day
  * @property {(inlet: number, step: number) => Curve | null} curveAt
  */
 
@@ -128,6 +129,7 @@
  * @property {number[]} scatter       cars by which the demand of each inlet scatters by chance
  * @property {DetectorFigures[]} flows
  * @property {Trip[]} travel          to each detector, and last to the road's end
+ * @property {Entry[]} entries        the same by the minute of entry, in their order
  */
 
 /**
@@ -138,6 +140,9 @@
  *
  * Cars, and the mean of their seconds; null: there was none.
  * @typedef {{cars: number, seconds: number | null}} Trip
+ *
+ * Travel times of the cars that entered in the minute from a step on.
+ * @typedef {{step: number, trips: Trip[]}} Entry
  */
 
 /**
@@ -176,8 +181,12 @@
  * @property {{rows: number, bytes: number, days: number}} [most]
  * @property {Broker | null} broker
  * @property {string} [standing]
- * @property {{begin: number | null, zone: string | null, date?: string | null} | null} [day]  the
- *   time of day of step 0, in seconds after midnight, the time zone, and the date
+ * @property {ToldDay | null} [day]
+ */
+
+/**
+ * The time of day of step 0 in seconds after midnight, the time zone, and the date.
+ * @typedef {{begin: number | null, zone: string | null, date?: string | null}} ToldDay
  */
 
 /**
@@ -220,19 +229,19 @@
  */
 
 /**
- * What is looked at before sharing or taking.
+ * What is asked before sharing or taking.
  * @typedef {object} Preview
  * @property {"mine" | "shared" | "both"} whose   the road that was seen before
  * @property {boolean} takes
  * @property {string[] | undefined} names         of the changes to share; undefined: all
- * @property {Change[]} lines         what is shared
+ * @property {Change[]} changes       what is shared
  * @property {Stamp[]} stamps
  * @property {ReturnType<typeof setTimeout>} [soon]   until figures are asked for
  */
 
 /**
  * What sharing or taking would change. What is not known yet is null.
- * @typedef {object} Previewed
+ * @typedef {object} Outcome
  * @property {string} why             why it cannot be said; "": it can
  * @property {import("./layers.mjs").Layers | null} layers    of the road that it would be
  * @property {Stamp[]} names          of the changes that would be shown otherwise
@@ -256,7 +265,7 @@
  * @property {string} note
  * @property {Shape | null} [shape]   what it puts
  * @property {number} [first]         the first step that it changes, if that is known
- * @property {"lay" | "undo" | "redo"} does
+ * @property {"apply" | "undo" | "redo"} does
  * @property {Stamp | string} [undoes]    the stamp, or the key, of what it takes back
  * @property {string} taken           a sentence of the stretch that it takes
  */
@@ -339,7 +348,8 @@
  * @property {ToldStamp | null} [redo]
  * @property {{stamp: ToldStamp, by: string[]}[]} [blocked]
  *
- * @typedef {Omit<RoadFigures, "travel"> & {travel: ToldTrip[]}} ToldRoadFigures
+ * @typedef {Omit<RoadFigures, "travel" | "entries">
+ *   & {travel: ToldTrip[], travel_by_entry?: Record<string, ToldTrip[]>}} ToldRoadFigures
  * @typedef {Omit<Figures, "before" | "after" | "later">
  *   & {before: ToldRoadFigures, after: ToldRoadFigures, later: ToldTrip[]}} ToldFigures
  * @typedef {{name: string, before: ToldMean, after: ToldMean, difference: ToldMean}} ToldDaysFigure
