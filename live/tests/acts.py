@@ -314,6 +314,17 @@ class Acts(Case):
         self.assertEqual((await self.ada.ask("take", message="shared"))["size"], 0)
         self.assertGreater(await lay(self.ada, "2", SLOW), other)  # above all that it holds
 
+    async def test_an_operation_has_one_time_at_all_seats(self) -> None:
+        """When it was made, and not when it was shared or taken."""
+        mine = await lay(self.ada, "1", CLOSED)
+        made = (await lines(self.ada))[tuple(mine)]["operations"][0]["when"]
+        await asyncio.sleep(1.1)
+        await self.ada.ask("send", name="shared")
+        await asyncio.sleep(1.1)
+        took = await self.ben.ask("take", message="shared")
+        found = [(await lines(seat))[tuple(mine)]["operations"][0]["when"] for seat in (self.ada, self.ben)]
+        self.assertEqual([*found, took["changes"][0]["when"]], [made] * 3)
+
     async def test_anothers_shared_change_is_withdrawn_and_taken_back(self) -> None:
         mine = await lay(self.ada, "1", CLOSED, note="mine")
         await self.ada.ask("send", name="shared")

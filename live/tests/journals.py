@@ -21,10 +21,13 @@ from unittest import mock
 import running
 from faulty import Disk
 from server.client import Seat
-from server.journal import Broken, Journal, NotWritten, lock, put_in_place, read
+from server.journal import Broken, Entries, Journal, NotWritten, lock, put_in_place, read
+from server.keeper import Keeper
+from server.settings import Settings
 from crashes import numbers
 from running import LIVE, SMALL, Case
 from server.state import State
+from working import takes_at_most
 
 GESTURES = [{"gesture": {"seat": 1, "key": f"k{count}", "stamp": [count, 65], "who": "Ada", "when": 1,
                          "note": "Closed é €",
@@ -83,6 +86,18 @@ class Reading(unittest.TestCase):
         self.path.write_bytes(whole + bytes(len(last)) + self.lines[2])  # a later write: the zeros were confirmed
         with self.assertRaisesRegex(Broken, "line 2"):
             read(self.path)
+
+    def test_10_000_operations_are_read_in_a_second(self) -> None:
+        """However long the journal is; until the shared road can be asked."""
+        size = 20_000
+        entries = [{"lab": {"plan": SMALL, "site": 1, "folder": "f", "form": 3}}]
+        entries += [{"made": {"seat": 1 + count % 20, "operation": {
+            "stamp": [count, 65 + count % 20], "sets": [[[count, 65 + count % 20], ["block", count % 90, count % 90 + 19, count, count + 60, 1]]],
+            "who": "Ada", "when": count}, "key": f"key {count}", "shared": True}} for count in range(1, size + 1)]
+        self.path.write_bytes(b"".join(map(line_of, entries)))
+        with takes_at_most(size / 10_000):
+            state, _, _ = Keeper(self.path.parent, "", Settings())._read(Entries(self.path))
+            self.assertEqual(len(state.shared.road.layers), size)
 
     def test_a_folder_is_held_by_one(self) -> None:
         with lock(self.path.parent), self.assertRaisesRegex(Broken, "another server"), lock(self.path.parent):
