@@ -106,9 +106,18 @@ const notes = new Map();        // of what this tab did, by stamps
  */
 function noteOf(called) {
   const note = typeof called === "string" ? store.pending.get(called)?.note ?? ""
-    : layersOf("mine").changeWith(called)?.note || notes.get(keyOf(called)) || "";
+    : notedOf(called) || notes.get(keyOf(called)) || "";
   return note.replace(/^(Taken back|Put again)(: |$)/, "")
     .replace(/^On top: /, "the place on top of ");
+}
+
+/** Return the note of an operation in the list; that of its change if it has none of its own.
+ * @param {Stamp} stamp
+ */
+function notedOf(stamp) {
+  const change = layersOf("mine").changeWith(stamp);
+  const operation = change?.operations.find((one) => keyOf(one.stamp) === keyOf(stamp));
+  return operation?.note || change?.note;
 }
 
 /** Take a press of Z or Redo.
@@ -422,9 +431,9 @@ async function askFigures() {
   if (!before || !preview || to <= from) return;
   const stands = () => store.preview === preview;
   const said = await ask({figures: {at: known("me").at, of: "preview", from, to}},
-    {quiet: ["busy"], stands});
+    {quiet: ["Busy"], stands});
   if (!said || !stands()) return;
-  if ("refused" in said && said.refused === "busy") {
+  if ("refused" in said && said.refused === "Busy") {
     before.soon = setTimeout(askFigures, LOOKS);
     return;
   }

@@ -30,7 +30,7 @@ export async function askDays() {
   store.days = days;
   changed("days");
   const said = await ask({days: {at: known("me").at, of: days.of, from, to}},
-    {quiet: ["stopped"], stands: () => store.days === days});
+    {quiet: ["Stopped"], stands: () => store.days === days});
   if (store.days !== days) return;
   if (said && !("refused" in said)) days.said = said;
   else store.days = null;

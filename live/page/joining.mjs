@@ -25,7 +25,7 @@ import {beginClock, dayIn, plural} from "./units.mjs";
 
 /** @type {("mine" | "shared")[]} */
 const BOTH = ["mine", "shared"];
-const FORM = 3;                 // of what is spoken with the server
+const FORM = 4;                 // of what is spoken with the server
 const STANDS = 60_000;          // milliseconds that it is said that the program was replaced
 /** @type {(name: string) => string} */
 const stored = (name) => sessionStorage.getItem(name) ?? "";

@@ -1,4 +1,4 @@
-"""What a tab asks, taken apart field by field; and refusals, each with a sentence for people.
+"""What a tab asks, taken apart field by field.
 
     with Asked(verb, fields) as asked:
         step = asked.whole("step")
@@ -15,8 +15,8 @@ from zegdrut.refusals import Reasons
 
 from .journal import packed
 from .model.operations import Shape, same_int
+from .refusals import NOT_A_COMMAND, Refused, not_a_command
 
-NOT_A_COMMAND = "not a command"
 MOST_EDITS = 1_200  # of a gesture: its line is one import
 LONGEST_NAME, LONGEST_NOTE, LONGEST_KEY = 64, 200, 40
 TOLD = 3  # so many faults of a list are told
@@ -32,21 +32,6 @@ SHAPE = row_of(("kind", kind), ("first index", whole), ("last index", whole), ("
                ("to", whole_or_none), ("value", whole))
 STAMP = row_of(("count", lambda value: whole(value, 1 << 48)), ("number", lambda value: whole(value, 65_535)))
 PAIR = row_of(("index", whole), ("chance", whole))
-
-
-class Refused(Exception):
-    """A refusal: `text` names it, `why` is a sentence, `more` are further fields of the reply."""
-
-    def __init__(self, text: str, why: str, **more: Any) -> None:
-        super().__init__(text)
-        self.text, self.why, self.more = text, why, more
-
-    def reply(self) -> dict[str, Any]:
-        return {"refused": self.text, "why": self.why, **self.more}
-
-
-def not_a_command(why: str) -> Refused:
-    return Refused(NOT_A_COMMAND, why)
 
 
 def words(value: Any, most: int) -> str:
@@ -171,7 +156,7 @@ class Asked:
         if type(edits) is not list or 1 <= len(edits) <= MOST_EDITS:
             edits = self._checked("edits", EDITS)
         if not 1 <= len(edits) <= MOST_EDITS:
-            raise Refused("too many edits" if edits else NOT_A_COMMAND,
+            raise Refused("TooManyEdits" if edits else NOT_A_COMMAND,
                           f"a gesture has 1 to {MOST_EDITS} edits, not {len(edits)}")
         if len({tuple(edit[:3]) for edit in edits}) < len(edits):
             raise not_a_command("an object and step stands twice in a gesture")
@@ -179,8 +164,8 @@ class Asked:
         return found
 
     def shape(self) -> Shape:
-        kind, *numbers = self._checked("shape", SHAPE)
-        return Shape(kind, *(None if one is None else same_int(one) for one in numbers))
+        kind, first, last, begin, end, value = self._checked("shape", SHAPE)
+        return Shape(kind, same_int(first), same_int(last), same_int(begin), None if end is None else same_int(end), value)
 
     def is_null(self, name: str) -> bool:
         return self.has(name) and self._fields[name] is None

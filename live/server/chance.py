@@ -19,8 +19,8 @@ from concurrent.futures import ProcessPoolExecutor, as_completed
 from typing import TYPE_CHECKING, Any, Callable, Iterator
 
 from . import LIVE, figures
-from .asked import Refused
 from .journal import packed
+from .refusals import Refused
 
 if TYPE_CHECKING:
     from zegdrut.days import Day
@@ -62,9 +62,9 @@ class Question:
             self.stop(done=True)
             await self._process.wait()
         if self.is_stopped and not self.done:
-            raise Refused("stopped", "the question was stopped before a day was done")
+            raise Refused("Stopped", "the question was stopped before a day was done")
         if "fault" in told or self.done < self.days and not self.is_stopped:
-            raise Refused("failed", told.get("fault", "the figures failed; the server's log says why"))
+            raise Refused("Failed", told.get("fault", "the figures failed; the server's log says why"))
         return {"days": self.done, "stopped": self.done < self.days, "figures": told["figures"]}
 
     def stop(self, done: bool = False) -> None:
@@ -84,7 +84,7 @@ class Questions:
         """A question of a seat, in the place of the one that it had; another seat's is not disturbed."""
         now = self.now
         if now is not None and now.index != index:
-            raise Refused("busy", f"{name(now.index)} asks about {now.days} days just now, of which {now.done} are done: one "
+            raise Refused("Busy", f"{name(now.index)} asks about {now.days} days just now, of which {now.done} are done: one "
                           "such question at a time")
         self.stop(index)
         self.now = Question(index, days)

@@ -19,9 +19,9 @@ from collections import OrderedDict
 from typing import TYPE_CHECKING, Any, AsyncIterator, Sequence
 
 from . import LIVE
-from .asked import Refused
 from .journal import packed
 from .program import LONGEST_REPLY, dies_with_us, import_lines
+from .refusals import Refused
 
 if TYPE_CHECKING:
     from zegdrut import Edit, RoadLab
@@ -47,7 +47,7 @@ ENTRY = 60  # steps of entry whose travel times are told together
 async def alone(index: int) -> AsyncIterator[None]:
     """What runs a road beside the laboratory: one at a time, and one of each seat."""
     if index in WAITING or len(WAITING) >= MOST_WAITING:
-        raise Refused("busy", "another road is run for this: ask again later")
+        raise Refused("Busy", "another road is run for this: ask again later")
     WAITING.append(index)
     try:
         async with RUNNING:
@@ -84,7 +84,7 @@ class Beside:
             if not line.endswith(b"\n"):
                 self.close()
         if not line.endswith(b"\n"):
-            raise Refused("failed", "the figures failed; the server's log says why")
+            raise Refused("Failed", "the figures failed; the server's log says why")
         said: dict[str, Any] = json.loads(line)
         return said
 
@@ -111,7 +111,7 @@ class Figures(Beside):
                 if "done" not in said:
                     return said
                 if time.monotonic() > until:
-                    raise Refused("busy", f"the figures are computed to step {said['done']} of {asked['last']} so far: ask again")
+                    raise Refused("Busy", f"the figures are computed to step {said['done']} of {asked['last']} so far: ask again")
 
 
 def environment(path: str) -> dict[str, str]:

@@ -16,13 +16,14 @@ import time
 from pathlib import Path
 from typing import Any, Awaitable, Callable, Dict, Iterable
 
-from .asked import Refused, why_refused
+from .asked import why_refused
 from .records import JOURNAL_FORM, AnyEntry, Clock, Folder, Made, Upgraded
 from .journal import Broken, Entries, Entry, Journal, NotWritten, packed, put_in_place, sync_folder
 from .listeners import Listeners
 from .model.operations import Operation
 from .model.road import Road
 from .program import Gone, Program, command_of, start
+from .refusals import Refused
 from .screen import Differences, Screen
 from .settings import Settings
 from .stamps import StampClock
@@ -44,7 +45,7 @@ class NotKept(Refused):
     """What is not on the disk."""
 
     def __init__(self, fault: object) -> None:
-        super().__init__("not written", f"it could not be kept, and was not done: {fault}. Try again later")
+        super().__init__("NotWritten", f"it could not be kept, and was not done: {fault}. Try again later")
 
 
 async def nothing() -> None:
@@ -302,7 +303,7 @@ class Keeper:
                     await self.replace(str(fault))
         except Gone as fault:
             logging.error("%s", fault)
-        raise Refused("no program", "the program ended over this, twice; the server's log says why")
+        raise Refused("NoProgram", "the program ended over this, twice; the server's log says why")
 
     async def replace(self, why: str | None = None) -> None:
         """Start another program in the place of this one. Its replicas are shown their roads when they are next asked."""

@@ -10,7 +10,6 @@ import contextlib
 import time
 from typing import Any, Awaitable, Callable, TypeVar, Union
 
-from .asked import Refused
 from .checks import Checks
 from .keeper import SHARED, Keeper, Times
 from .lines import Lister
@@ -19,6 +18,7 @@ from .model.operations import About, Operation, RawName, Shape, Stamp, edit, exc
 from .model.road import Road, change, repeat, stands
 from .model.stamping import stamped_anew
 from .records import Bound, Came, CameBack, Made, Share, StampedAnew, Take, Works
+from .refusals import Refused
 from .screen import first_step
 from .seating import Seating
 from .state import Replica, Seat, State
@@ -116,7 +116,7 @@ class Lab:
         def makes(seat: Seat, new: Stamp, about: About) -> Operation:
             undone = self._held_by(seat, stamp)
             if not would_change(seat.road, undone):
-                raise Refused("nothing to take back", self._why_nothing(seat, undone))
+                raise Refused("NothingToUndo", self._why_nothing(seat, undone))
             return undo(new, undone, about)
         return await self._make(index, key, note, times, makes)
 
@@ -125,20 +125,20 @@ class Lab:
         def makes(seat: Seat, new: Stamp, about: About) -> Operation:
             old = self._held_by(seat, stamp)
             if not old.names:
-                raise Refused("nothing to put", "an undo cannot be put again: change the line itself")
+                raise Refused("NothingToPut", "an undo cannot be put again: change the line itself")
             return repeat(seat.road, new, old, About(about.who, old.about.note, about.when, old.about.shape))
         return await self._make(index, key, "", times, makes)
 
     async def exclude_site(self, index: int, times: Times, *, key: str, note: str, site: int, out: bool) -> Reply:
         """Let nothing count that a site made and will make; or let it count again."""
         if site == self.state.site:
-            raise Refused("own site", f"{site} is this site: who leaves it out must be of another")
+            raise Refused("OwnSite", f"{site} is this site: who leaves it out must be of another")
         return await self._make(index, key, note, times, lambda seat, stamp, about: exclude(stamp, site, out, about))
 
     def _called(self, seat: Seat, called: Called) -> Stamp:
         stamp = seat.done.get(called) if isinstance(called, str) else seat.renamed.get(called, called)
         if stamp is None:
-            raise Refused("no such change", f"you made no change of the key {called}")
+            raise Refused("NoSuchChange", f"you made no change of the key {called}")
         return stamp
 
     def _line(self, seat: Seat, called: Called) -> Stamp:
@@ -146,14 +146,14 @@ class Lab:
         stamp = self._called(seat, called)
         held = self.state.held_by(seat, stamp)
         if not held and not stands(seat.road, stamp) and not seat.road.setters_of(stamp):
-            raise Refused("no such change", f"you hold no change of the name {list(stamp)}")
+            raise Refused("NoSuchChange", f"you hold no change of the name {list(stamp)}")
         return stamp
 
     def _held_by(self, seat: Seat, called: Called) -> Operation:
         stamp = self._called(seat, called)
         held = self.state.held_by(seat, stamp)
         if not held:
-            raise Refused("no such change", f"you hold no change of the stamp {list(stamp)}")
+            raise Refused("NoSuchChange", f"you hold no change of the stamp {list(stamp)}")
         return held[0]
 
     def _why_nothing(self, seat: Seat, one: Operation) -> str:

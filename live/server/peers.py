@@ -9,9 +9,10 @@ from __future__ import annotations
 import time
 from typing import Any, Callable, Iterator, NamedTuple
 
-from .asked import Refused, words
+from .asked import words
 from .floods import only_newest
 from .lab import Lab
+from .refusals import Refused
 from .state import SITE_FORM, State
 
 EVERY = 3.0  # seconds between two announcements

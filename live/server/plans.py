@@ -11,10 +11,11 @@ from typing import Any
 
 from zegdrut.clock import Clock
 
-from .asked import LONGEST_NAME, Asked, Refused, words
+from .asked import LONGEST_NAME, Asked, words
 from .journal import Broken, packed
 from .lab import Lab
 from .model.operations import Shape
+from .refusals import Refused
 
 KEPT = "freeway.json"  # in a folder: the freeway in km that it began with
 FREEWAY = Path(__file__).resolve().parents[2] / "recipes" / "freeway" / "run"

@@ -11,11 +11,10 @@ from zegdrut.rows import count_cars
 from zegdrut.trips import DetectorCount, Window, count_seconds_on
 
 from . import admissions, chance, figures, reports, rows, saving
-from .asked import Refused
 from .journal import packed
 from .keeper import LAST_STEP, SHARED, Times
-from .lab import LIST_AT_ONCE, Lab
-from .lines import Lister, clock
+from .lab import Lab
+from .lines import Lister
 from .model.changes import all_lines, altered
 from .model.choices import sendable
 from .model.operations import Operation, Stamp
@@ -23,6 +22,7 @@ from .model.projection import Edits
 from .model.road import Road as RoadValue
 from .plans import clock_of
 from .program import LONG_ROAD
+from .refusals import Refused
 from .roads import SIDES, KeptRoad, Preview, Previews, Road, Side
 from .screen import first_step, rows_of
 from .state import Replica
@@ -92,7 +92,7 @@ class Questions:
         if to > LAST_STEP:
             raise Refused("Horizon", f"`to` is at most {LAST_STEP}, not {to}")
         if to > now + AHEAD:
-            raise Refused("too far ahead", f"at most {AHEAD} steps ahead of the clock, which is at {now}")
+            raise Refused("TooFarAhead", f"at most {AHEAD} steps ahead of the clock, which is at {now}")
 
     # Rows
 
@@ -198,7 +198,7 @@ class Questions:
         async def part() -> Any:
             if marks[-1:] != [road.mark()]:
                 if len(marks) > MOST_ANEW:
-                    raise Refused("busy", "the road is changed all the time: ask again later")
+                    raise Refused("Busy", "the road is changed all the time: ask again later")
                 marks.append(road.mark())
                 found.clear()
             return await body()
@@ -325,7 +325,7 @@ class Questions:
             return {"stopped": self._chance.stop(index)}
         plan, listeners, days = self._keeper.state.plan, self._keeper.listeners, self._keeper.settings.days
         if type(plan["words"]) is not int:
-            raise Refused("one day", "the words of this road are steady, drawn by no seed: it has one day, and its figures are "
+            raise Refused("OneDay", "the words of this road are steady, drawn by no seed: it has one day, and its figures are "
                           "those of each")
         question = self._chance.begin(index, days, lambda other: self._keeper.state.seats[other].name)
         try:
@@ -361,24 +361,6 @@ class Questions:
                                           "days": reports.DAYS}, self._keeper.path)
         return {"from": first, "to": last, "html": html}
 
-    async def table_of_changes(self, index: int, replica: Replica) -> Reply:
-        """Each operation, with who covers its layer from when to when."""
-        marks: list[RoadValue] = []
-        found: list[saving.Changes] = []
-
-        async def body() -> Any:
-            state = self._keeper.state
-            now = state.replica(replica.index)
-            if marks[-1:] != [now.road]:
-                if len(marks) > MOST_ANEW:
-                    raise Refused("busy", "the road is changed all the time: ask again later")
-                marks.append(now.road)
-                found[:] = [saving.Changes(Lister(state, now).table())]
-            found[0].add(LIST_AT_ONCE)
-            return MORE if found[0].has_more else found[0].reply()
-        reply: bytes = await self._keeper.ask(index, (), body)
-        return reply
-
     async def table_of_counts(self, road: Road, times: Times, first: int, last: int, each: int) -> Reply:
         """What detectors count, span by span."""
         said = await self.counts(road, times, first=first, last=last, each=each)
@@ -397,7 +379,7 @@ class Questions:
     def say_time(self, step: int) -> str:
         """Return a time of the road's clock: of the day, if it has one."""
         day = clock_of(self._keeper.folder)
-        return clock(step) if day is None else day.to_text(step)
+        return f"{step // 3600}:{step // 60 % 60:02}:{step % 60:02}" if day is None else day.to_text(step)
 
     async def script(self, index: int, replica: Replica) -> Reply:
         """The commands that make a road as it is, up to the clock."""

@@ -7,10 +7,10 @@ import json
 import time
 from typing import Any, Protocol
 
-from .asked import Refused
 from .journal import packed
 from .keeper import Keeper, Times
 from .program import Gone, Program, command_of, import_lines, start
+from .refusals import Refused
 from .turns import MORE, Job
 
 SIDES = ("before", "after")
@@ -204,4 +204,4 @@ class Previews:
 
 
 def no_preview() -> Refused:
-    return Refused("no preview", "the two roads are not kept any more: ask for the preview again")
+    return Refused("NoPreview", "the two roads are not kept any more: ask for the preview again")

@@ -9,10 +9,9 @@ from typing import Any, Callable, Iterable, Iterator, Sequence
 from zegdrut.trips import Window
 from zegdrut.units import to_km
 
-from .asked import Refused
 from .journal import packed
-from .lines import HEAD
 from .program import Program, command_of, import_lines, start
+from .refusals import Refused
 
 MOST = 64_000_000  # bytes of rows in a transcript
 MOST_PIECE = 1_000_000
@@ -77,7 +76,7 @@ class Saved:
         before = self._clock() - UNUSED
         self._of = {one: (pieces, used) for one, (pieces, used) in self._of.items() if used > before}
         if len(self._of) >= MOST_SAVED:
-            raise Refused("busy", f"{MOST_SAVED} others are saving just now: ask again later")
+            raise Refused("Busy", f"{MOST_SAVED} others are saving just now: ask again later")
 
     def put(self, index: int, pieces: list[str]) -> None:
         self._of[index] = pieces, self._clock()
@@ -124,32 +123,3 @@ def table_of_counts(plan: dict[str, Any], title: str, say_time: Callable[[int], 
 def rounded(value: float | None, digits: int) -> float | str:
     """Return a number with so many digits; nothing if there is none."""
     return "" if value is None else round(value, digits)
-
-
-class Changes:
-    """The table of who changed what when, and who covers it, a piece at a time."""
-
-    def __init__(self, lines: Iterable[list[Any]]) -> None:
-        self._lines = iter(lines)
-        self._pieces = [as_text(table(HEAD, []))]
-        self.has_more = True
-
-    def add(self, seconds: float) -> None:
-        """Add lines for about so long."""
-        until, found = time.perf_counter() + seconds, list[list[Any]]()
-        for line in self._lines:
-            found.append(line)
-            if time.perf_counter() > until:
-                break
-        else:
-            self.has_more = False
-        self._pieces.append(as_text(table([], found)))
-
-    def reply(self) -> bytes:
-        """Return the reply with the table."""
-        return b'{"csv":"' + b"".join(self._pieces) + b'"}'
-
-
-def as_text(text: str) -> bytes:
-    """Return what stands between the quotes of a text in JSON."""
-    return packed(text)[1:-1].encode()

@@ -17,7 +17,7 @@ import time
 from types import TracebackType
 from typing import TYPE_CHECKING, Any, Callable, Deque, Iterator, NamedTuple
 
-from .asked import LONGEST_NAME, LONGEST_NOTE, Refused, words
+from .asked import LONGEST_NAME, LONGEST_NOTE, words
 from .brokers import broker_of, connack_string, new_client
 from .floods import FLOOD, STRANGERS, UNSEALED, Floods, only_newest
 from .journal import packed
@@ -29,6 +29,7 @@ from .model.projection import Edits
 from .model.reading import Malformed, read_operation
 from .model.road import Road
 from .peers import EVERY, Peers, Site
+from .refusals import Refused
 from .seals import LATE, Again, Late, Seal, Unsealed, key_of
 from .state import SITE_FORM, State
 from .supervised import supervised

@@ -26,7 +26,7 @@ from .model.road import Road
 from .model.stamping import stamped_anew
 from .stamps import StampClock
 
-TAB_FORM = 3  # the protocol of tabs
+TAB_FORM = 4  # the protocol of tabs
 SITE_FORM = 3  # the protocol of sites
 MOST_NEWS = 100
 AT_ONCE = 100  # operations that are worked out before others are heard

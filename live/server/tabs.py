@@ -20,11 +20,12 @@ from aiohttp import WSMsgType, web
 from zegdrut.programs import describe_standing
 
 from . import plans, verbs
-from .asked import LONGEST_NAME, MOST_EDITS, Asked, Refused, not_a_command
+from .asked import LONGEST_NAME, MOST_EDITS, Asked
 from .journal import packed
 from .keeper import Times
 from .lab import Lab
 from .questions import MOST_BYTES, MOST_ROWS, Questions
+from .refusals import Refused, not_a_command
 from .state import TAB_FORM
 from .supervised import supervised
 from .timing import AHEAD
@@ -143,7 +144,7 @@ class Tab:
         elif self.index is None:
             self.let_go(1008, "hello comes first")
         elif len(self._asked) >= WAITING or verb in verbs.CHANGES and self._tabs.changing[self.index] >= MOST_CHANGING:
-            self._send({"id": number, **Refused("busy", f"{WAITING} questions wait: ask again later").reply()})
+            self._send({"id": number, **Refused("Busy", f"{WAITING} questions wait: ask again later").reply()})
             await asyncio.sleep(PAUSE)
         else:
             task = asyncio.ensure_future(self._answered(self.index, number, verb, fields, came))
@@ -182,7 +183,7 @@ class Tab:
             reply = fault.reply()
         except Exception:  # pylint: disable=broad-except
             logging.exception("`%s` failed", verb)
-            reply = Refused("failed", "the server could not do this, and says why in its log").reply()
+            reply = Refused("Failed", "the server could not do this, and says why in its log").reply()
         finally:
             self._tabs.changing[index] -= changes
         times["server"] = time.perf_counter() - came
@@ -249,7 +250,7 @@ class Tabs:
             name, key = asked.text("name", LONGEST_NAME, ""), asked.text("key", 100, "")
             take = asked.whole("take") if asked.has("take") else None
             if asked.whole("form", default=TAB_FORM) != TAB_FORM:
-                raise Refused("another form", "this page is older or newer than the server: reload it")
+                raise Refused("OtherVersion", "this page is older or newer than the server: reload it")
         index, key = await self.lab.seating.join(name, key, take)
         for other in self._all:
             if other.index == index:

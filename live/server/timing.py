@@ -5,9 +5,9 @@ import asyncio
 import time
 from typing import Any
 
-from .asked import Refused
 from .keeper import A_MOMENT, LAST_STEP, SHARED, Keeper
 from .records import Clock
+from .refusals import Refused
 from .writing import confirmed
 
 AHEAD = 36_000  # steps that a replica may run past the clock, and that the clock may be set forward

@@ -69,7 +69,7 @@ def read_times(given: Sequence[str], clock: Clock) -> tuple[int, int | None]:
         steps = [clock.to_step(float(one) if one.replace(".", "", 1).isdigit() else one, name) for one, name in zip(given, ("BEGIN", "END"))]
     except InvalidTime as fault:
         raise InvalidWords(str(fault)) from None
-    begin, end = (*steps, None)[:2]
+    begin, end = steps[0], steps[1] if len(steps) > 1 else None
     if end is not None and end <= begin:
         raise InvalidWords(f"END: {given[1]} is not later than {given[0]}")
     return begin, end

@@ -17,7 +17,7 @@ from unittest import mock
 
 from faulty import Bus, Disk, Here, Message, soon
 from running import ALL, Case, new_folder
-from server.asked import Refused
+from server.refusals import Refused
 from server.journal import read
 from server.program import Program
 from server.state import State

@@ -341,7 +341,7 @@ class Folders(Case):
         async with server.seat(key=seat.key) as seat:
             self.assertEqual(len((await seat.ask("scenario"))["edits"]), 1)
             said = await seat.reply("gesture", at=seat.at, key="x", edits=[["limit", 2, 50, 1]])
-            self.assertEqual(said["refused"], "not written")
+            self.assertEqual(said["refused"], "NotWritten")
 
     async def test_a_plan_that_is_refused_leaves_a_folder_that_can_be_used(self) -> None:
         folder = running.new_folder()
@@ -398,14 +398,14 @@ class Folders(Case):
         async with server.seat(key=ada.key) as ada:
             self.assertEqual(numbers((await ada.ask("scenario"))["edits"]), numbers(scenario["edits"]))
             said = await ada.reply("gesture", at=ada.at, key="x", edits=[["limit", 2, 50, 1]])
-            self.assertEqual(said["refused"], "not written")
+            self.assertEqual(said["refused"], "NotWritten")
             self.assertIn("Read-only file system", said["why"])
             trouble = ada.welcome["trouble"] or next(one["trouble"] for one in reversed(ada.told) if "trouble" in one)
             self.assertIn("Read-only file system", trouble)
             async with server.seat("Ben") as ben:  # who comes now looks, too
                 self.assertEqual((await ben.ask("scenario"))["edits"], [])
                 said = await ben.reply("gesture", at=ben.at, key="x", edits=[["limit", 2, 50, 1]])
-                self.assertEqual(said["refused"], "not written")
+                self.assertEqual(said["refused"], "NotWritten")
             self.assertEqual({path: path.read_bytes() for path in before}, before)
             switch.touch()
             await self.shared(ada, 2)
@@ -433,7 +433,7 @@ class Folders(Case):
             said = await asyncio.gather(*(seat.reply("gesture", at=seat.at, key=f"full {step}",
                                                      edits=[["block", 60, step, 1], ["limit", 0, step, 0]])
                                           for step in range(10, 13) for seat in (ada, ben)))
-            self.assertEqual({one.get("refused") for one in said}, {"not written"})
+            self.assertEqual({one.get("refused") for one in said}, {"NotWritten"})
             self.assertTrue(all("could not be kept" in one["why"] for one in said))
             self.assertEqual((server.folder / "journal.jsonl").stat().st_size, size)
             after = await ada.ask("diagram", **{"from": 0, "to": 60}), await ada.ask("scenario")

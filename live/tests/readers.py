@@ -23,8 +23,8 @@ THERE = {"block": 60, "limit": 3}
 HOURS, ROUNDS = (12 if ALL else 1), (20 if ALL else 6)
 
 KEPT = 20  # of its own operations that are not shared the newest, after a restart too
-NOT_THERE = "no such change"
-REFUSED = ("nothing to take back", "nothing to put", "NoEffect")
+NOT_THERE = "NoSuchChange"
+REFUSED = ("NothingToUndo", "NothingToPut", "NoEffect")
 
 
 class Reader:

@@ -59,7 +59,7 @@ class Acts(Case):
             else:
                 await seat.ask("advance", to=chance.randrange(LAST + 1))
         except Refused as fault:
-            self.assertIn(fault.reply["refused"], ("nothing to take back", "nothing to put", "NoEffect", "no such change"))
+            self.assertIn(fault.reply["refused"], ("NothingToUndo", "NothingToPut", "NoEffect", "NoSuchChange"))
 
     async def act_on(self, seat: Seat, chance: random.Random, key: str) -> None:
         """Something that is done to what is there."""

@@ -15,7 +15,8 @@ from crashes import numbers
 from faulty import Bus, Here, Message, message_of, told
 from running import SMALL, Case, new_folder
 from server import seals, stamps, verbs
-from server.asked import Asked, Refused
+from server.asked import Asked
+from server.refusals import Refused
 from server.floods import Floods
 from server.model.operations import About, edit
 from server.sites import Sites

@@ -120,35 +120,6 @@ class Failing(Case):
 class Pieces(Case):
     """What takes long is done in pieces, between which others are answered."""
 
-    async def test_the_table_of_changes(self) -> None:
-        """Of shapes that cover each other; the clock's piece and its own are all that is written meanwhile."""
-        here = await self.enterAsyncContext(Here())
-        ada, ben = await here.join("Ada", "Ben")
-        for number in range(SHAPES):
-            await here.ask(ada, "gesture", key=f"{number}", note="",
-                           shape=["limit", number % 3, 5 - number % 2, number, 4 * SHAPES - number, number % 5])
-        asked = asyncio.create_task(here.ask(ada, "csv", what="changes"))
-        answers = 0
-        while not asked.done():
-            await here.ask(ben, "scenario")
-            answers += 1
-        lines = (await asked)["csv"].splitlines()
-        self.assertEqual((len(lines), lines[0].split(",")[:2]), (SHAPES + 1, ["change", "who"]))
-        self.assertGreater(answers, 2)
-
-    async def test_the_table_of_changes_is_of_one_moment(self) -> None:
-        """What is put meanwhile is in it, and nothing twice."""
-        here = await self.enterAsyncContext(Here())
-        ada, = await here.join("Ada")
-        for number in range(20):
-            await here.ask(ada, "gesture", key=f"{number}", note="", shape=["limit", 1, 4, number, 100 - number, number % 5])
-        with mock.patch("server.questions.LIST_AT_ONCE", 0, create=True):
-            asked = asyncio.create_task(here.ask(ada, "csv", what="changes"))
-            await asyncio.sleep(0)
-            await here.ask(ada, "gesture", key="more", note="", shape=["limit", 0, 0, 5, 9, 1])
-            lines = (await asked)["csv"].splitlines()
-        self.assertEqual(sorted(int(line.split(",")[0]) for line in lines[1:]), list(range(1, len(lines))))
-
     async def test_what_comes_and_is_taken(self) -> None:
         """Many operations of another site, and then a take of them."""
         here = await self.enterAsyncContext(Here())

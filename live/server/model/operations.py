@@ -28,7 +28,8 @@ Name = Union[Stamp, RawName]
 SEATS = 64  # numbers of a site; 0 is the site itself
 END = 1 << 20  # after every step
 SMALL = tuple(range(1 << 14))
-K, V = TypeVar("K"), TypeVar("V")
+K = TypeVar("K")
+V = TypeVar("V", covariant=True)
 
 
 def same_int(value: int) -> int:

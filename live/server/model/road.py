@@ -74,9 +74,9 @@ class Road:
         fresh, flipped = road.record.add(some)
         for one in fresh:
             for name in one.sets:
-                some = road.setters_of(name)
-                if name != one.stamp or one not in some:
-                    road._setters[name] = inserted(some, one)
+                others = road.setters_of(name)
+                if name != one.stamp or one not in others:
+                    road._setters[name] = inserted(others, one)
             for name in one.heights:
                 road._lifters[name] = inserted(road.lifters_of(name), one)
         names = {name for one in flipped for name in one.names}
