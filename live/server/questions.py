@@ -1,4 +1,4 @@
-"""What a tab may ask of the roads that it sees; nothing changes by it."""
+"""Answer what a tab asks about the roads that it sees. Nothing changes by it."""
 from __future__ import annotations
 
 import asyncio
@@ -34,7 +34,7 @@ MOST_COUNTS = 4_096
 MINUTE = 60  # steps
 MOST_MINUTES = 120  # of a question for sums
 LINES_AT_ONCE = 128
-MOST_ANEW = 16  # times that a question is begun anew since its road has become another
+MOST_AGAIN = 16  # times that a question begins again since its road has changed
 PIECE_OF_LIST = 1_000_000  # bytes, about, of a list of operations
 LINES_FOR = 0.02  # seconds for lines of a preview, until others get their turn
 
@@ -42,7 +42,7 @@ Reply = Union[bytes, "dict[str, Any]"]
 
 
 def detector_count(said: dict[str, Any], edits: list[Edit], detector: int, window: Window) -> DetectorCount:
-    """What a detector counted by the program's reply, and for how long it was on by the edits of detectors."""
+    """Return what a detector counted, given the program's reply; the edits of detectors say for how long it was on."""
     return DetectorCount(said["cars"], said["speeds"], count_seconds_on(edits, detector, window), window.steps)
 
 
@@ -55,7 +55,7 @@ class Questions:
         self._saved, self._admissions = saving.Saved(), admissions.Admissions()
 
     def road(self, index: int, at: str) -> Road:
-        """The road that a seat means: the own or the shared one, or one of its preview."""
+        """Return the road that a seat means: its own or the shared one, or one of its preview."""
         if at in SIDES:
             return Side(self._previews.get(index), at)
         return KeptRoad(self._keeper, index, 0 if at == "shared" else index)
@@ -67,13 +67,13 @@ class Questions:
         self._admissions.close()
 
     def left(self, index: int) -> None:
-        """A tab of this seat has gone."""
+        """Drop what was kept for a seat whose tab has gone."""
         self._previews.put(index, None)
         self._chance.stop(index)
         self._saved.drop(index)
 
     async def plain(self, road: Road, times: Times, verb: str, fields: dict[str, Any]) -> bytes:
-        """What the program answers."""
+        """Return what the program answers."""
         line = packed({verb: {"at": road.name, **fields}}).encode()
 
         async def body() -> bytes:
@@ -87,7 +87,7 @@ class Questions:
         return {"horizon": await road.advance(to)}
 
     def _reaches(self, to: int) -> None:
-        """No road runs further than a clock may be set."""
+        """Raise `Refused` if a road would run further than the clock may be set."""
         now = self._keeper.now()
         if to > LAST_STEP:
             raise Refused("Horizon", f"`to` is at most {LAST_STEP}, not {to}")
@@ -98,7 +98,7 @@ class Questions:
 
     async def diagram(self, road: Road, times: Times, *, first: int, last: int, every: int,
                       cells: tuple[int, int] | None) -> Reply:
-        """Each so manieth row of some steps, and of these a stretch of cells, or all."""
+        """Return every n-th row of some steps, all cells or a stretch of them."""
         left, right = cells or (0, self._length - 1)
         if not left <= right < self._length:
             raise Refused("Range", f"the cells are 0 to {self._length - 1}, the first at most the last")
@@ -112,7 +112,7 @@ class Questions:
         return rows.diagram_of([row[left:right + 1] for row in found])
 
     async def _rows(self, road: Road, steps: list[int], times: Times) -> list[bytes]:
-        """The rows of steps at equal distances, as many in a turn as a reply may have."""
+        """Return the rows of steps at equal distances. Each turn gets as many as a reply may have."""
         found: list[bytes] = []
 
         async def body() -> Any:
@@ -143,7 +143,7 @@ class Questions:
         return found
 
     async def sums(self, road: Road, times: Times, *, first: int, last: int) -> Reply:
-        """Of each whole minute the steps that cars spend on the road: the cars in the rows that its steps lead to."""
+        """Return for each whole minute the steps that cars spend on the road: the cars in the rows that its steps lead to."""
         if first % MINUTE or last % MINUTE or not 0 < last - first <= MOST_MINUTES * MINUTE:
             raise Refused("Range", f"1 to {MOST_MINUTES} whole minutes, `from` and `to` in steps")
         cars: list[int] = []
@@ -157,7 +157,7 @@ class Questions:
         return {"sums": [sum(cars[begin:begin + MINUTE]) for begin in range(0, len(cars), MINUTE)]}
 
     async def counts(self, road: Road, times: Times, *, first: int, last: int, each: int | None) -> Reply:
-        """What all detectors count, in spans of so many steps or as a whole."""
+        """Return what all detectors count, in spans of `each` steps or as a whole."""
         if first > last:
             raise Refused("Range", f"`from` {first} is above `to` {last}")
         starts = range(first, last, each) if each else range(first, first + 1)
@@ -179,7 +179,7 @@ class Questions:
         return {"counts": [pairs[part] for part in parts], "flows": [flows[part] for part in parts]}
 
     async def _lines(self, road: Road, lines: list[bytes], times: Times) -> tuple[list[bytes], list[Any]]:
-        """The replies to lines, all of one road, and its edits as an import has them."""
+        """Return the replies to lines, all of one road, and its edits as an import has them."""
         found: list[bytes] = []
 
         async def body() -> Any:
@@ -197,7 +197,7 @@ class Questions:
 
         async def part() -> Any:
             if marks[-1:] != [road.mark()]:
-                if len(marks) > MOST_ANEW:
+                if len(marks) > MOST_AGAIN:
                     raise Refused("Busy", "the road is changed all the time: ask again later")
                 marks.append(road.mark())
                 found.clear()
@@ -284,8 +284,8 @@ class Questions:
 
     async def _lines_of(self, replica: Replica, before: RoadValue, after: RoadValue,
                         added: set[Stamp]) -> list[dict[str, Any]]:
-        """Return the lines that show something else on another road, or of which an added operation is lost there, each with
-        what it showed, a few at a time."""
+        """Return the lines that show something else on another road, or whose added operation is lost there, with what they
+        showed before."""
         now, then = (Lister(self._keeper.state, replica, road) for road in (before, after))
         listed = all_lines(before)
         found, began = [], time.perf_counter()
@@ -300,13 +300,13 @@ class Questions:
         return found
 
     async def figures(self, index: int, own: Replica, of: str, first: int, last: int) -> Reply:
-        """What two roads differ by: those of the preview, or the shared and the own one."""
+        """Return the figures of two roads: those of the preview, or the shared and the own one."""
         asked = await self._both(index, own, of, first, last)
         slots = [f"{index} before", f"{index} after"] if of == "preview" else ["shared", f"{index} own"]
         return {"from": first, "to": last, **await self._figures.of(index, {**asked, "slots": slots})}
 
     async def _both(self, index: int, own: Replica, of: str, first: int, last: int) -> dict[str, Any]:
-        """What a program is asked that runs both roads beside."""
+        """Return the question to a program that runs both roads."""
         if first >= last:
             raise Refused("Range", f"`from` {first} is not below `to` {last}")
         self._reaches(last)
@@ -320,7 +320,7 @@ class Questions:
                 **edits}
 
     async def days(self, index: int, own: Replica, of: str | None, first: int, last: int) -> Reply:
-        """The same over many days, with the mean of each figure, and how sure it is; or the end of that question."""
+        """Return the same over many days, with the mean of each figure and its interval; or end that question."""
         if of is None:
             return {"stopped": self._chance.stop(index)}
         plan, listeners, days = self._keeper.state.plan, self._keeper.listeners, self._keeper.settings.days
@@ -338,7 +338,7 @@ class Questions:
     # What is saved
 
     async def transcript(self, index: int, replica: Replica, first: int, last: int, piece: int) -> Reply:
-        """A piece of what the viewer opens."""
+        """Return a piece of a transcript, which the viewer opens."""
         if first > last:
             raise Refused("Range", f"`from` {first} is above `to` {last}")
         self._reaches(last)
@@ -362,7 +362,7 @@ class Questions:
         return {"from": first, "to": last, "html": html}
 
     async def table_of_counts(self, road: Road, times: Times, first: int, last: int, each: int) -> Reply:
-        """What detectors count, span by span."""
+        """Return a table of what detectors count, span by span."""
         said = await self.counts(road, times, first=first, last=last, each=each)
         assert isinstance(said, dict)
         title = f"counts of {self._road_name(road.name)}, {self.say_time(first)} to {self.say_time(last)}"
@@ -370,7 +370,7 @@ class Questions:
         return {"csv": saving.table_of_counts(self._keeper.state.plan, title, self.say_time, windows, said["flows"])}
 
     def _road_name(self, at: str) -> str:
-        """What a road is called in what is saved."""
+        """Return the name of a road in saved files."""
         if at == "shared":
             return "the shared road"
         name = next((seat.name for seat in self._keeper.state.seats if seat.at == at), "")
@@ -382,7 +382,7 @@ class Questions:
         return f"{step // 3600}:{step // 60 % 60:02}:{step % 60:02}" if day is None else day.to_text(step)
 
     async def script(self, index: int, replica: Replica) -> Reply:
-        """The commands that make a road as it is, up to the clock."""
+        """Return the commands that make a road as it is, up to the clock."""
         to = self._keeper.now()
         name = "shared" if replica.at == "shared" else self._keeper.state.seats[replica.index].name or replica.at
         edits = rows_of(await self._timeline(replica.road))

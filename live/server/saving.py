@@ -1,4 +1,4 @@
-"""What is saved: a transcript that the viewer opens and road_lab runs again, and tables for a spreadsheet."""
+"""Write what is saved: a transcript that the viewer opens and road_lab runs again, and tables for a spreadsheet."""
 from __future__ import annotations
 
 import csv
@@ -22,7 +22,7 @@ LONGEST_REPLICA = 64  # bytes of a replica's name
 
 
 def script(plan: dict[str, Any], name: str, edits: list[Any], first: int, last: int) -> Iterator[dict[str, Any]]:
-    """The lines that show a road from a step to another: plan, edits, rows, and counts of a minute each."""
+    """Yield the lines that show a road from a step to another: plan, edits, rows, and counts of a minute each."""
     if (last - first + 1) * (plan["length"] + 3) > MOST:
         raise Refused("Range", f"at most {MOST // (plan['length'] + 3)} rows are saved at once")
     at = name.encode()[:LONGEST_REPLICA].decode(errors="ignore")
@@ -45,7 +45,7 @@ def commands(plan: dict[str, Any], name: str, edits: list[Any], last: int) -> st
 
 
 async def transcript(path: str, plan: dict[str, Any], lines: Iterable[dict[str, Any]]) -> list[str]:
-    """The lines and a program's replies by turns, in pieces of some megabyte."""
+    """Return lines and a program's replies, alternating, in pieces of some megabyte."""
     pieces = [""]
     program: Program | None = None
     try:
@@ -85,7 +85,7 @@ class Saved:
         """Return a piece of a seat's transcript, and the number of the next one; the last is not kept."""
         pieces, _ = self._of.pop(index, (list[str](), 0.0))
         if piece >= len(pieces):
-            raise Refused("Range", "there is no such piece: begin anew")
+            raise Refused("Range", "there is no such piece: begin again")
         if piece + 1 == len(pieces):
             return pieces[piece], None
         self.put(index, pieces)
@@ -96,7 +96,7 @@ class Saved:
 
 
 def harmless(value: Any) -> Any:
-    """A cell that no spreadsheet runs as a formula."""
+    """Return a cell that no spreadsheet runs as a formula."""
     return f"'{value}" if isinstance(value, str) and value.lstrip()[:1] in ("=", "+", "-", "@") else value
 
 
@@ -112,7 +112,7 @@ def table(head: list[str], lines: Iterable[list[Any]]) -> str:
 
 def table_of_counts(plan: dict[str, Any], title: str, say_time: Callable[[int], str], windows: Sequence[Window],
                     counts: Sequence[Sequence[dict[str, Any]]]) -> str:
-    """What detectors counted, window by window: the first line says of what it is, the second has the units."""
+    """Return what detectors counted, window by window. The first line is the title, the second has the units."""
     lines = [[say_time(window.first), say_time(window.last), detector, rounded(to_km(plan["detectors"][detector]), 4),
               one["cars"], rounded(one["flow"], 1), rounded(one["speed"], 1), one["on"]]
              for window, span in zip(windows, counts) for detector, one in enumerate(span)]
@@ -121,5 +121,5 @@ def table_of_counts(plan: dict[str, Any], title: str, say_time: Callable[[int], 
 
 
 def rounded(value: float | None, digits: int) -> float | str:
-    """Return a number with so many digits; nothing if there is none."""
+    """Return a rounded number; an empty text if there is none."""
     return "" if value is None else round(value, digits)

@@ -1,12 +1,12 @@
-"""What a folder's journal says: the plan, the seats, and each operation with who holds it.
+"""Hold what a folder's journal says: the plan, the seats, and each operation with who holds it.
 
     state = State()
     for entry in read(path): state.read(entry)
     entry.apply(state)                     a new entry
     entries = list(state.entries())        the same in as few entries as possible
 
-Seat 0 is the shared road. Its operations stand in the order in which they came, and a seat that takes has the first so many
-of them, beside its own.
+Seat 0 is the shared road. Its operations stand in the order in which they came. A seat that takes has the first of them, up to
+a place, beside its own.
 """
 from __future__ import annotations
 
@@ -54,20 +54,20 @@ class Replica:
     def __init__(self, index: int, state: State) -> None:
         self.index, self._state = index, state
         self.begun = self.version = state.begun  # of its list
-        self.marks: dict[Stamp, int] | None = None  # by line the version, from `begun` on, that altered it last; if it was asked for
+        self.marks: dict[Stamp, int] | None = None  # by line the version that altered it last, from `begun` on
         self.places: dict[Operation, int] = {}  # what it holds, each with how many came before
-        self.size: int = 0  # so many came
+        self.size: int = 0  # how many came
         self._road: Road | None = None
         self._waiting: list[Operation] = []
 
     @property
     def at(self) -> str:
-        """Its name in the program."""
+        """Return its name in the program."""
         return f"seat{self.index}" if self.index else "shared"
 
     @property
     def number(self) -> int:
-        """The number in its stamps."""
+        """Return the number in its stamps."""
         return SEATS * self._state.site + self.index
 
     @property
@@ -145,7 +145,7 @@ class Shared(Replica):
         return self._order[since:until]
 
     def upto(self, size: int) -> Road:
-        """Return the road of the first so many operations."""
+        """Return the road of the first `size` operations."""
         if size not in self._roads:
             base = max((one for one in self._roads if one < size), default=0)
             road = self._roads[base] if base in self._roads else self._state.empty
@@ -176,11 +176,11 @@ class Seat(Replica):
         super().__init__(index, state)
         self.name, self.key = "", ""  # the hash of its tab's key; empty: nobody has the seat
         self.count = count  # the greatest in its stamps
-        self.upto = 0  # so many operations of the shared road it has taken
+        self.upto = 0  # how many operations of the shared road it has taken
         self.used: float = 0  # when a tab of it was last there
         self.own: dict[Operation, None] = {}  # made at this seat, in their order
         self.done: dict[str, Stamp] = {}  # its operations by their keys
-        self.renamed: dict[Stamp, Stamp] = {}  # the stamps of operations that were stamped anew
+        self.renamed: dict[Stamp, Stamp] = {}  # the stamps of operations that were stamped again
         self.idle: frozenset[Operation] = frozenset()  # private ones that need not be shared, as the list says
         self._shareable: tuple[Road, Road, list[Operation]] | None = None
 
@@ -188,13 +188,13 @@ class Seat(Replica):
         return self._state.shared.upto(self.upto).adding(self.own)
 
     def rebuild(self) -> None:
-        """Make its road anew, from all that it holds."""
+        """Make its road again, from all that it holds."""
         if self._road is not None:
             self._waiting = []
             self.become(self.built())
 
     def forgot(self, lines: set[Stamp]) -> None:
-        """Build its road anew, without what was forgotten on these lines. Those of which nothing is left were gone before."""
+        """Build its road again, without what was forgotten on these lines. Lines that have nothing left were gone before."""
         self._road = self.built()
         left = {line for line in lines if operations_on(self._road, line)}
         self.mark(sorted(left))
@@ -202,7 +202,7 @@ class Seat(Replica):
             self.marks = {line: version for line, version in self.marks.items() if line in left or line not in lines}
 
     def shareable(self) -> list[Operation]:
-        """Return the private operations by which the shared road would differ."""
+        """Return the private operations that would change the shared road."""
         if not self._state.private(self):
             return []
         road, shared = self.road, self._state.shared.road
@@ -211,7 +211,7 @@ class Seat(Replica):
         return self._shareable[2]
 
     def _all_shared(self, shared: Road) -> Road:
-        """Return the shared road with all private operations, of which most were there when it was asked for last."""
+        """Return the shared road with all private operations. Most of them were there when it was asked for last."""
         lately = self._state.lately
         known, then = lately.pop(self.index, (shared, shared))
         lately[self.index] = shared, (then if known is shared else shared).adding(self._state.private(self))
@@ -244,7 +244,7 @@ class State:
         self.unsent: dict[Operation, None] = {}  # shared here, and not yet come back from the broker
         self.titles: dict[Operation, str] = {}  # under which operations were shared
         self.shares: list[News] = []
-        self.works = 0  # so many operations of the shared road every new seat has
+        self.works = 0  # how many operations of the shared road every new seat has
         self.rate: float = 0
         self.now = 0
         self.stop: int | None = None
@@ -265,7 +265,7 @@ class State:
     # Entries
 
     def read(self, entry: Mapping[str, Fields]) -> None:
-        """Apply an entry as a journal has it, of any form; raise `Broken` if it is none."""
+        """Apply an entry as a journal has it, of any form; raise `Broken` if it is malformed."""
         (kind, value), = entry.items()
         try:
             if self._former is None or not self._former.apply(kind, value):
@@ -278,7 +278,7 @@ class State:
         self._former = Former(self) if form < JOURNAL_FORM else None
 
     def end_reading(self) -> None:
-        """The whole journal is read: from now on entries are of this form."""
+        """Note that the whole journal is read: from now on entries are of this form."""
         self.form, self._former = JOURNAL_FORM, None
 
     def interned(self, one: Operation) -> Operation:
@@ -303,13 +303,13 @@ class State:
             self._twins[stamp] = some[1:]
 
     def hold_own(self, seat: Seat, one: Operation) -> None:
-        """A seat holds an operation of its own."""
+        """Let a seat hold an operation of its own."""
         seat.own[one] = None
         seat.hold([one])
         self._raise_count(one)
 
     def hold_shared(self, operations: Iterable[Operation], is_unsent: bool, title: str = "") -> list[Operation]:
-        """The shared road holds operations. Return those that are new there."""
+        """Let the shared road hold operations. Return those that are new there."""
         fresh = self.shared.hold(operations)
         for one in fresh:
             self._raise_count(one)
@@ -323,7 +323,7 @@ class State:
         return fresh
 
     def _raise_count(self, one: Operation) -> None:
-        """A number's counts rise, also if an operation of it came from outside."""
+        """Raise a number's count, also if an operation of it came from outside."""
         count, number = one.stamp
         if number // SEATS == self.site:
             own = self.seats[number % SEATS]

@@ -1,4 +1,5 @@
-"""The commands of a tab, in one table: its name, who may ask it of which road, what it reads of its fields, what does it."""
+"""Answer the commands of a tab. One table has for each its name, the roads that may be asked, the reader of its fields, and what
+answers it."""
 from __future__ import annotations
 
 import secrets
@@ -28,7 +29,7 @@ CHANGES = frozenset({"gesture", "edit", "withdraw", "undo", "again", "site", "se
 
 @dataclass
 class Call:
-    """Who asks, of which road, and how long what takes."""
+    """A question: the seat that asks, the road, and how long each part takes."""
 
     lab: Lab
     questions: Questions
@@ -38,7 +39,7 @@ class Call:
 
     @property
     def replica(self) -> Replica:
-        """The seat, or the shared road, that is asked about."""
+        """Return the seat, or the shared road, that is asked about."""
         return self.lab.state.replica(SHARED if self.at == "shared" else self.index)
 
     @property
@@ -48,8 +49,7 @@ class Call:
 
 @dataclass(frozen=True)
 class Verb:
-    """A command. `lists` are the roads of which the answer may show what others did by what is held, which is told once it
-    is on the disk; the program holds of what was shared what is there."""
+    """A command. If the road is one of `lists`, the answer may show what others did. It waits until that is on the disk."""
 
     of: frozenset[str]
     reads: Callable[[Asked], dict[str, Any]]
@@ -58,7 +58,7 @@ class Verb:
 
 
 async def answer(lab: Lab, questions: Questions, index: int, asked: Asked, times: Times) -> Reply:
-    """The answer to a seat; `Refused` says why there is none."""
+    """Answer a seat; raise `Refused` if that cannot be done."""
     if asked.verb not in VERBS:
         raise not_a_command(f"`{asked.verb}` is no command of a tab")
     verb = VERBS[asked.verb]
@@ -73,7 +73,7 @@ async def answer(lab: Lab, questions: Questions, index: int, asked: Asked, times
 
 
 def where(lab: Lab, index: int, asked: Asked, verb: Verb) -> str:
-    """The road that is meant by `at`."""
+    """Return the road that `at` names."""
     if verb.of == ALL:
         return "own"
     at, own = asked.raw("at"), lab.state.seats[index].at
@@ -96,7 +96,7 @@ def read_steps(asked: Asked) -> dict[str, Any]:
 
 
 def read_gesture(asked: Asked) -> dict[str, Any]:
-    """What a gesture does, and its fields."""
+    """Return what a gesture does, and its fields."""
     fields: dict[str, Any] = {"key": asked.key(), "note": asked.text("note", LONGEST_NOTE, "")}
     if asked.has("edits"):
         shape = None if not asked.has("shape") or asked.is_null("shape") else asked.shape()
@@ -112,7 +112,7 @@ def read_gesture(asked: Asked) -> dict[str, Any]:
 
 
 def read_edit(asked: Asked) -> dict[str, Any]:
-    """The `edit` and `withdraw` of the format, as raw edits."""
+    """Read the `edit` and `withdraw` of the format, as raw edits."""
     thing = asked.raw("object")
     edit = [*(thing if type(thing) is list else [thing]), asked.raw("step"),
             asked.raw("value") if asked.verb == "edit" else None]
@@ -160,19 +160,19 @@ def read_comparison(asked: Asked) -> dict[str, Any]:
 
 
 def read_report(asked: Asked) -> dict[str, Any]:
-    """A comparison with its title, and sentences of what lies on the roads."""
+    """Read a comparison with its title, and sentences about the works on the roads."""
     return {**read_comparison(asked), "title": asked.text("title", LONGEST_NOTE), "works": asked.texts("works", MOST_WORKS, LONGEST_NOTE)}
 
 
 def read_days(asked: Asked) -> dict[str, Any]:
-    """A comparison over many days; of null ends the one that runs."""
+    """Read a comparison over many days; `of` null ends the one that runs."""
     if asked.is_null("of"):
         return {"of": None, "first": 0, "last": 0}
     return read_comparison(asked)
 
 
 def read_admission(asked: Asked) -> dict[str, Any]:
-    """An inlet, the slow-to-start chance there, and the chances of inlets before it."""
+    """Read an inlet, the slow-to-start chance there, and the chances of inlets before it."""
     inlet = asked.whole("inlet")
     start = None if asked.is_null("start") else asked.whole("start", 0, 65_536)
     before = asked.pairs("before")

@@ -81,12 +81,12 @@ def small_mapping(some: Mapping[K, V], empty: Mapping[K, V]) -> Mapping[K, V]:
 NO_LAYERS: Mapping[Name, Shape | None] = MappingProxyType({})
 NO_HEIGHTS: Mapping[Name, Stamp] = MappingProxyType({})
 NO_MORE: Mapping[str, Json] = MappingProxyType({})
-"""What most operations lack, once for all of them."""
+"""Most operations have none of these; so the empty ones are made once."""
 
 
 @dataclass(frozen=True, slots=True)
 class About:
-    """What people are told about an operation. `shape` is how raw edits were drawn; `more` are fields of later versions."""
+    """Who made an operation, and when. `shape` is how raw edits were drawn; `more` are fields of later versions."""
 
     who: str = ""
     note: str = ""
@@ -100,7 +100,7 @@ NOTHING = About()
 
 @dataclass(frozen=True, eq=False, slots=True)
 class Operation:
-    """What somebody did. Two operations with one stamp are twins: the one with the greater text counts as the later one."""
+    """An act of somebody. Two operations with one stamp are twins: the one with the greater text counts as the later one."""
 
     stamp: Stamp
     sets: Mapping[Name, Shape | None] = field(default_factory=lambda: NO_LAYERS)  # what layers are from now on; None: nothing
@@ -126,7 +126,7 @@ class Operation:
 
     @property
     def names(self) -> set[Name]:
-        """The layers that it sets or lifts."""
+        """Return the layers that it sets or lifts."""
         return {*self.sets, *self.heights}
 
     @property
@@ -135,7 +135,7 @@ class Operation:
 
     @property
     def is_empty(self) -> bool:
-        """Whether it says nothing at all."""
+        """Return whether it says nothing at all."""
         return not self.sets and not self.heights and self.undoes is None and self.excludes is None
 
     def written(self) -> dict[str, Json]:
@@ -151,7 +151,7 @@ class Operation:
         return {"stamp": [*self.stamp], **{name: value for name, value in fields.items() if value not in (None, [], "")}}
 
     def text(self) -> str:
-        """Return the text by which equal operations are known."""
+        """Return a text that equal operations have alike."""
         return json.dumps(self.written(), sort_keys=True)
 
 
