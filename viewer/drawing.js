@@ -1,6 +1,7 @@
 "use strict";
-// Drawing of a road: colours, units, tiles, pictures, axes, plan, legend, charts. A classic script
-// for pages that also open as a file; it reads no element and keeps no state of a page.
+// Drawing of a road: colours, units, tiles, pictures, axes, plan, legend, charts. A classic script,
+// because browsers load no module from a file, and the viewer is opened as one; modules import the
+// same names from drawing.mjs. It reads no element and keeps no state of a page.
 //
 // What is passed around:
 //   picture  {from, every, length, rows}: rows[i] is the row of step from + i * every, undefined
@@ -732,3 +733,12 @@ function drawCurve(context, {points, colour, width, dash, square}, across, down)
     context.fill();
   }
 }
+
+// 10. For modules: drawing.mjs exports these names.
+
+globalThis.drawing = {
+  MARGIN, BOX, FASTEST_COLOUR, EMPTY, BLOCKED, SLOWER, FASTER, NO_ROW, INK, OF_PLAN, speedColour,
+  unitOf, rowAt, leftOf, topOf, cellAt, stepAt, sizeOfCell, inView, meansAreSeen, pen, cleared,
+  clip, Tiles, boxSums, paintCells, paintMeans, paintClosures, paintDifference, drawDetails,
+  drawAxes, drawPlan, drawWedge, drawFrame, drawLegend,
+};

@@ -3,6 +3,7 @@
 // table. They come from all rows of these minutes, so that one change has the same figures at each
 // zoom.
 
+import {boxSums} from "../../viewer/drawing.mjs";
 import {$, element, headCell, on, row, showList} from "./elements.mjs";
 import {exactOf, reckon} from "./fetching.mjs";
 import {caughtIn} from "./layers.mjs";

@@ -1,6 +1,7 @@
 // View: mouse, touch and keys on the diagram, which make the shapes of gestures; what is read out
 // of a place.
 
+import {cellAt, rowAt, stepAt} from "../../viewer/drawing.mjs";
 import {redoNewest, undoNewest} from "./acting.mjs";
 import {areaOfShape} from "./area.mjs";
 import {curveSoon} from "./demand.mjs";

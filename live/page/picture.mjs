@@ -2,6 +2,10 @@
 // and over them the frames of what is in force, the clock, the rectangle that is dragged and the
 // cursor; below it what the colours mean.
 
+import {BLOCKED, EMPTY, FASTER, FASTEST_COLOUR, INK, MARGIN, NO_ROW, OF_PLAN, SLOWER, Tiles, cleared,
+        clip, drawAxes, drawDetails, drawFrame, drawPlan, drawWedge, inView, leftOf, paintCells,
+        paintClosures, paintDifference, paintMeans, sizeOfCell, speedColour, topOf, unitOf}
+  from "../../viewer/drawing.mjs";
 import {assign} from "./assign.mjs";
 import {waitingShapes, wordsShown} from "./changes.mjs";
 import {$, choose, chosen, element, on, oneOf} from "./elements.mjs";
@@ -15,6 +19,8 @@ import {isOwn, known, last, layersShown, now, roadOf, store, when, whoseShown} f
 import {HOUR, KMH_A_CELL, LAST_STEP, METRES_A_CELL} from "./units.mjs";
 import {byMeans, everyShown, partShown, viewNow} from "./view.mjs";
 
+/** @typedef {import("../../viewer/drawing.mjs").LegendEntry} LegendEntry */
+/** @typedef {import("../../viewer/drawing.mjs").View} View */
 /** @typedef {import("./labels.mjs").Label} Label */
 /** @typedef {import("./types.mjs").Area} Area */
 /** @typedef {import("./types.mjs").Box} Box */

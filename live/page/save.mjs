@@ -1,6 +1,7 @@
 // View: the menu that saves: the diagram as a picture, what the viewer opens and road_lab runs
 // again, and tables for a spreadsheet.
 
+import {EMPTY, drawLegend, pen} from "../../viewer/drawing.mjs";
 import {ask, askUntilFree} from "./asking.mjs";
 import {comparedNow, daysShown} from "./days.mjs";
 import {withoutCursor} from "./drafting.mjs";

@@ -1,9 +1,11 @@
 // What follows from what is looked at: the view of drawing.js, which rows are wanted, which minutes
-// have figures. It reads the store; BOX and meansAreSeen are of drawing.js.
+// have figures. It reads the store.
 
+import {BOX, meansAreSeen} from "../../viewer/drawing.mjs";
 import {known, last, store} from "./store.mjs";
 import {MINUTE} from "./units.mjs";
 
+/** @typedef {import("../../viewer/drawing.mjs").View} View */
 /** @typedef {import("./types.mjs").Span} Span */
 
 /** Return what stands in the plot's corner, and the pixels of a cell and of a step. */

@@ -9,6 +9,7 @@ from aiohttp import web
 from . import LIVE
 from .tabs import Tabs
 
+DRAWING = ("drawing.js", "drawing.mjs")
 TYPES = {".html": "text/html", ".js": "text/javascript", ".mjs": "text/javascript", ".css": "text/css"}
 
 
@@ -21,7 +22,7 @@ class Page:
     def app(self) -> web.Application:
         app = web.Application()
         app.add_routes([web.get("/", self._file), web.get("/live", self._live), web.get("/{name}", self._file),
-                        web.get("/page/{part}", self._file)])
+                        web.get("/page/{part}", self._file), web.get("/viewer/{drawing}", self._file)])
         return app
 
     def _check(self, request: web.Request) -> str:
@@ -38,7 +39,7 @@ class Page:
 
     async def _file(self, request: web.Request) -> web.StreamResponse:
         host = self._check(request)
-        path = file_of(request.match_info.get("name"), request.match_info.get("part"))
+        path = file_of(**request.match_info)
         if path is None or not path.is_file():
             raise web.HTTPNotFound()
         return web.Response(body=path.read_bytes(), content_type=TYPES[path.suffix], charset="utf-8",
@@ -54,9 +55,10 @@ class Page:
                 "Cross-Origin-Opener-Policy": "same-origin", "Cross-Origin-Resource-Policy": "same-origin"}
 
 
-def file_of(name: str | None, part: str | None) -> Path | None:
-    """The file that a path names; there are no others."""
-    if part is not None:
+def file_of(name: str = "", part: str = "", drawing: str = "") -> Path | None:
+    """Return the file of a path: one beside the page, one of its modules, or one that draws. None: it is no other file."""
+    if part:
         return LIVE / "page" / part if re.fullmatch(r"[a-z_]+\.mjs", part) else None
-    return {None: LIVE / "page.html", "page.css": LIVE / "page.css",
-            "drawing.js": LIVE.parent / "viewer" / "drawing.js"}.get(name)
+    if drawing:
+        return LIVE.parent / "viewer" / drawing if drawing in DRAWING else None
+    return {"": LIVE / "page.html", "page.css": LIVE / "page.css"}.get(name)

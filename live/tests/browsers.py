@@ -31,9 +31,9 @@ COLOURS = {"0": (0x44, 0x01, 0x54), "1": (0x41, 0x44, 0x87), "2": (0x2a, 0x78, 0
 
 
 # The page's modules, whose names are made known to the scripts of tests.
-MODULES = [path.name for path in sorted((LIVE / "page").glob("*.mjs")) if path.stem != "main"]
+MODULES = ["/viewer/drawing.mjs", *(f"/page/{path.name}" for path in sorted((LIVE / "page").glob("*.mjs")) if path.stem != "main")]
 MODULES_KNOWN = """
-    return Promise.all(arguments[0].map((name) => import(`/page/${name}`))).then((modules) => {
+    return Promise.all(arguments[0].map((name) => import(name))).then((modules) => {
       for (const {begin, ...names} of modules) Object.assign(window, names);
       window.hasModules = true;
     });"""

@@ -37,12 +37,11 @@ test("a preview makes the elements that have types", () => {
   }
 });
 
-test("what is used of drawing.js has a type, and drawing.js has it", () => {
-  const types = read("../page/drawing.d.ts");
-  const script = read("../../viewer/drawing.js");
-  const names = [...types.matchAll(/^declare (?:const|function|class) (\w+)/gm)].map(([, name]) => name);
-  assert.ok(names.length > 20);
-  for (const name of names) {
-    assert.match(script, new RegExp(`^(?:const|let|function|class) ${name}\\b`, "m"), name);
-  }
+test("drawing.mjs exports what drawing.js has, and each name has a type", async () => {
+  const types = [...read("../../viewer/drawing.d.mts").matchAll(/^export declare (?:const|function|class) (\w+)/gm)]
+    .map(([, name]) => name);
+  const drawing = await import("../../viewer/drawing.mjs");
+  assert.deepEqual(Object.keys(drawing), types.sort());
+  for (const [name, value] of Object.entries(drawing)) assert.notEqual(value, undefined, name);
+  assert.equal(drawing.speedColour(5, 5), "#a5db36");    // the light end of viridis
 });

@@ -43,7 +43,7 @@ module _ {K : Type 0} (cmp : K → K → Ordering) (total : IsTotalOrder cmp) wh
   ] refl h)
 
 module _ {K X : Type 0} (cmp : K → K → Ordering) where
-  -- ---- what the tests of a list say of its first pair and of the others
+  -- ---- what the tests of a list mean for its first pair and for the others
   pub less-first : (q : K) (e : K × X) (es : List (K × X)) → T (below_all cmp q (e ∷ es)) → cmp q e.0 ≡ Less
   less-first q e es b = less_by_T _ (first_of_both _ (below_all cmp q es) b)
 

@@ -15,11 +15,11 @@ use std::marker::Model;
 /// left.
 #[derive(Drop)]
 pub struct Entries<'a, K: Exact, V: Lattice> {
-    // What is left of the page that was begun from the front.
+    // The rest of the page that is being read from the front.
     front: &'a [(K, V)],
-    // The pages between. None of them is begun.
+    // The pages between, all unread.
     pages: &'a [(K, Page<K, V>)],
-    // What is left of the page that was begun from the back.
+    // The rest of the page that is being read from the back.
     back: &'a [(K, V)],
 }
 

@@ -224,7 +224,7 @@ impl<K: Exact, V: Lattice> Lattice for LatMap<K, V> {
     }
 }
 
-// Return whether there is another value, and this value is at most it.
+// Return whether there is another value and this value is at most that one.
 fn is_up_to<V: Lattice>(value: &V, other: Option<&V>) -> bool
     ensures { IsTrue result ↔ IsAtMostOption V.join value.now (option_copied other.entry) }
 {

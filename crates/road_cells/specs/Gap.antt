@@ -4,7 +4,7 @@ use Rattle.std.specs.List.{list_any, position_or_len, range_with_len}
 use Rattle.road_cells.specs.Array.{Array, vehicle_at}
 use Rattle.road_cells.specs.declared.car.TheConstants.{GREATEST_SPEED}
 
--- the number of cells from c on before the first that passes the test, at most n
+-- the number of cells, from c on, before the first cell that passes the test, at most n
 unfoldable pub free_before : (ℕ → Bool) → ℕ → ℕ → ℕ
 free_before test c n = position_or_len test (range_with_len c n)
 

@@ -10,7 +10,7 @@
 //! // Three free cells in front of the first car, or two if cell 6 is blocked.
 //! let gap = road.gap(0, &[]);
 //! let shorter = road.gap(0, &[6]);
-//! // The car at cell 7, and none at cell 8.
+//! // The car at cell 7, and `None`, since there is no car at cell 8.
 //! let stands = road.car_at(7);
 //! let nobody = road.car_at(8);
 //! ```

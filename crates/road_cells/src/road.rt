@@ -71,7 +71,7 @@ impl Road {
         self.cars.as_slice()
     }
 
-    /// Find the car at a cell by a binary search. There is none if the cell is empty or past the last car.
+    /// Find the car at a cell by a binary search. Return `None` if the cell is empty or past the last car.
     pub fn car_at(&self, cell: u32) -> Option<Car>
         ensures { result ≡ option_map (car_of cell) (vehicle_at self.now cell) }
     {

@@ -22,12 +22,13 @@ pub record PassesOneByOne (p : Plan) (course : Course) (d t : ℕ) : Type 0 wher
 abbrev pub PassOneByOne : Plan → Type 0
 PassOneByOne p = (course : Course) (d t : ℕ) → PassesOneByOne p course d t
 
--- a total over b - a steps of a run has at most one car for each step, and for each at most the greatest speed
+-- a total over the steps from a to b - 1 of a run has at most one car for each step, and for each car at most the
+-- greatest speed
 pub record IsTotalBounded (p : Plan) (course : Course) (d a b : ℕ) : Type 0 where
   pub few : (total p course d a b).cars ≤ b - a
   pub slow : (total p course d a b).speeds ≤ GREATEST_SPEED * (b - a)
 
--- totals are bounded: every total of every run has at most one car for each of its steps, and for each at most the
+-- totals are bounded: every total of every run has at most one car for each of its steps, and for each car at most the
 -- greatest speed
 abbrev pub BoundTotals : Plan → Type 0
 BoundTotals p = (course : Course) (d a b : ℕ) → IsTotalBounded p course d a b
@@ -37,7 +38,7 @@ pub record IsTotalOfLongestRun (totals : Totals) : Type 0 where
   pub few : totals.cars ≤ 1048576
   pub slow : totals.speeds ≤ 9437184
 
--- the same for every total of every run
+-- the bound of the greatest total holds for every total of every run
 abbrev pub BoundTotalsOfLongestRun : Plan → Type 0
 BoundTotalsOfLongestRun p = (course : Course) (d a b : ℕ) → b ≤ GREATEST_HORIZON
     → IsTotalOfLongestRun (total p course d a b)
@@ -53,8 +54,8 @@ CountCellsNearby p = (s : Settings) (t d : ℕ) (x y : Array)
     → AgreeBetween (slice_index p.detectors d - GREATEST_SPEED) (slice_index p.detectors d + GREATEST_SPEED) x y
     → passes_from p s t x d ≡ passes_from p s t y d
 
--- the same for counts of several steps: on roads that agree on 9 cells for each step before the site and from the site
--- on
+-- locality in space for several steps: on roads that agree on 9 cells for each step before the site, and on as many
+-- from the site on, a detector counts the same in these steps
 abbrev pub CountCellsNearbyInSteps : Plan → Type 0
 CountCellsNearbyInSteps p = (course : Course) (t k d : ℕ) (x y : Array)
     → AgreeBetween (slice_index p.detectors d - GREATEST_SPEED * k) (slice_index p.detectors d + GREATEST_SPEED * k) x y

@@ -17,7 +17,7 @@ pub record Drive : Type 0 where
   pub cell : ℕ
   pub speed : ℕ
 
--- each car at the speed of its place in a list
+-- the drives of all cars, each at the speed of its place in the list
 abbrev pub drives : List Car → List ℕ → List Drive
 drives [] speeds = []
 drives (car ∷ cars) [] = []
@@ -35,7 +35,7 @@ passing_speeds site xs = map (λ x. x.speed) (filter (is_passing site) xs)
 abbrev pub totals_of : ℕ → List Drive → Totals
 totals_of site xs = record { cars = length (passing_speeds site xs); speeds = sum (passing_speeds site xs) }
 
--- no car, no speed
+-- totals of no cars: 0 cars, and a sum of speeds of 0
 abbrev pub no_totals : Totals
 no_totals = record { cars = 0; speeds = 0 }
 

@@ -44,8 +44,8 @@ pub fn counts_depend_on_cells_nearby(plan: &Plan)
     ensures { CountCellsNearby plan.now }
 {}
 
-/// Show the same for counts of several steps: they depend only on 9 cells for each step before the site, and on as many
-/// from the site on.
+/// Show locality in space for several steps: the counts depend only on 9 cells for each step before the site, and on as
+/// many from the site on.
 pub fn totals_depend_on_cells_nearby(plan: &Plan)
     ensures { CountCellsNearbyInSteps plan.now }
 {}

@@ -14,11 +14,11 @@
 
 mod counts;
 pub mod laws;
-mod ran;
 mod rows;
+mod span_result;
 
 pub use counts::{Totals, passes};
-pub use ran::Ran;
 pub use rows::row_text;
+pub use span_result::SpanResult;
 /// Out of memory: an allocation failed.
 pub use std::alloc::AllocError as OutOfMemory;

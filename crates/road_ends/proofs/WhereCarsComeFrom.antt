@@ -50,7 +50,7 @@ came speed a j c car comes = elim (vehicle_at a c) as (λ o. vehicle_at a c ≡ 
 pub came_from : (speed : ℕ → Vehicle → ℕ) (a : Array) (j : ℕ) (car : Vehicle) → arrival_at speed a j ≡ Some car → CameFrom speed a j car
 came_from speed a j car arrives = let from = found (λ c. arrival_from j c (speed c) (vehicle_at a c)) (range_with_len 0 (length a)) car arrives in came speed a j from.0 car from.1
 
--- the inlet by which a car entered
+-- the inlet where a car entered
 pub record EnteredBy (p : Plan) (t c : ℕ) (car : Vehicle) : Type 0 where
   pub inlet : ℕ
   pub in_plan : inlet < length p.inlets

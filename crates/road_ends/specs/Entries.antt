@@ -20,19 +20,19 @@ car_number t i = MOST_INLETS * t + i
 abbrev pub inlet_stream : ℕ → ℕ
 inlet_stream i = 2 ^ 63 + i
 
--- whether inlet i, at cell c, lets a car in at step t: its cell is not blocked, and the event of its inflow chance
--- happens by its word
+-- whether inlet i, at cell c, lets a car in at step t: its cell is not blocked, and its word makes the event of its
+-- inflow chance happen
 abbrev pub is_admitting : Plan → Settings → ℕ → ℕ → ℕ → Bool
 is_admitting p s t c i = not (is_blocked s.blocks c)
     && comes_about (word p.words (inlet_stream i) t) (slice_index s.inflows i)
 
--- the car that inlet i lets in
+-- the car that inlet i lets in, if it lets one in
 abbrev pub admitted_car : Plan → Settings → ℕ → ℕ → Option ℕ → Option Vehicle
 admitted_car p s t c None = None
 admitted_car p s t c (Some i) = if is_admitting p s t c i then Some (record { number = car_number t i; speed = 0 })
     else None
 
--- the car that wants to enter at cell c, if the cell is an inlet's
+-- the car that wants to enter at cell c: it can only be an inlet's cell
 abbrev pub entry_at : Plan → Settings → ℕ → ℕ → Option Vehicle
 entry_at p s t c = admitted_car p s t c (position (λ inlet. nat_eq c inlet.0) p.inlets)
 

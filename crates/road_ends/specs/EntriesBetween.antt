@@ -10,7 +10,7 @@ use Rattle.road_cells.specs.Cars.{array_of, cars_from}
 use Rattle.road_ends.specs.Entries.{entry_at}
 use Rattle.road_ends.specs.Input.{StepInput}
 
--- the vehicle at a cell once cars have entered
+-- the vehicle at a cell, if there is one, once cars have entered
 abbrev pub with_entry : Plan → Settings → ℕ → Array → ℕ → Option Vehicle
 with_entry p s t a c = option_or (vehicle_at a c) (entry_at p s t c)
 

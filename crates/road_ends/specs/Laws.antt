@@ -60,7 +60,7 @@ pub record IsOnRoad (p : Plan) (t c : ℕ) (car : Vehicle) : Type 0 where
   pub slow_enough : car.speed ≤ GREATEST_SPEED
   pub has_entered : car.number < MOST_INLETS * t
 
--- each car of a run is on the road in this sense
+-- each car of a run is on the road in the sense of IsOnRoad
 abbrev pub StayOnRoad : Plan → Type 0
 StayOnRoad p = (course : Course) (t c : ℕ) (car : Vehicle) → vehicle_at (run p course t) c ≡ Some car
     → IsOnRoad p t c car
@@ -76,17 +76,16 @@ abbrev pub DependOnEarlierSettings : Plan → Type 0
 DependOnEarlierSettings p = (f g : Course) (s : ℕ) → ((u : ℕ) → u < s → f u ≡ g u) → (t : ℕ) → t ≤ s
     → run p f t ≡ run p g t
 
--- two roads hold the same at each cell from a to before b
+-- two roads have the same vehicle, or both have no vehicle, at each cell from a to before b
 pub record AgreeBetween (a b : ℕ) (x y : Array) : Type 0 where
   pub same : (c : ℕ) → a ≤ c → c < b → vehicle_at x c ≡ vehicle_at y c
 
--- roads agree near a stretch: at all cells that can matter there within k steps, 9 cells farther for each step behind
--- it and ahead of it
+-- roads agree near a stretch: at all cells that can matter to it within k steps. These extend 9 cells for each step
+-- behind it and ahead of it
 abbrev pub AgreeNear : ℕ → ℕ → ℕ → Array → Array → Type 0
 AgreeNear k lo hi x y = AgreeBetween (lo - GREATEST_SPEED * k) (hi + GREATEST_SPEED * k) x y
 
--- locality in space: roads that agree on a stretch, and for each step 9 cells farther behind it and ahead of it, agree
--- on the stretch after these steps, under the same settings
+-- locality in space: roads that agree near a stretch agree on the stretch after these steps, under the same settings
 abbrev pub DependOnCellsNearby : Plan → Type 0
 DependOnCellsNearby p = (course : Course) (t k lo hi : ℕ) (x y : Array)
     → AgreeNear k lo hi x y

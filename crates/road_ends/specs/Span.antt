@@ -24,8 +24,8 @@ pub record IsOfSpan (span : Span) (input : StepInput) : Type 0 where
   pub plan : input.plan ≡ span.plan
   pub settings : input.settings ≡ span.settings
 
--- an input near a stretch: the input of the step after k steps of a span, from a road, at all cells that can matter on
--- the cells from lo to before hi in the steps that are left
+-- an input near a stretch, after k steps of a span from a road: it is the input of the next step at all cells that can
+-- matter to the cells from lo to before hi in the remaining steps
 pub record IsInputNear (lo hi : ℕ) (span : Span) (k : ℕ) (a : Array) (input : StepInput) : Type 0 where
   pub of_span : IsOfSpan span input
   pub step : input.step ≡ span.step + k

@@ -25,7 +25,7 @@ gap p s a c = free_before (is_taken_on_road p s a) (c + 1) GREATEST_SPEED
 abbrev pub chance_at : ℕ → ℕ → ℕ → ℕ
 chance_at speed standing moving = if nat_eq speed 0 then standing else moving
 
--- whether a car is slowed: the event of its chance in a zone happens by its word at this step
+-- whether a car is slowed: its word at this step makes the event of its chance in its zone happen
 abbrev pub is_slowed : Plan → Settings → ℕ → ℕ → Vehicle → Bool
 is_slowed p s t zone car =
     comes_about (word p.words car.number t)

@@ -9,16 +9,16 @@ use road_plan::Plan;
 use road_plan::limits::CERTAIN;
 use road_words::{PlanWords, Words};
 
-// Return the slowing chance of a car by its speed before the acceleration: the chance of standing cars, or of moving
-// cars.
+// Return the slowing chance of a car: that of standing cars if its speed before the acceleration is 0, else that of
+// moving cars.
 pub(crate) fn chance_at(speed: u8, standing: u32, moving: u32) -> u32
     ensures { result ≡ chance_at speed standing moving }
 {
     if speed == 0 { standing } else { moving }
 }
 
-// Return whether the event of a chance happens by a plan's word at a place of a stream. The word is drawn only if the
-// chance leaves that open.
+// Return whether a plan's word, at a place of a stream, makes the event of a chance happen. No word is drawn if the
+// chance is 0, or 65,536 and more: then it decides alone.
 pub(crate) fn has_event(plan: &Plan, stream: u64, place: u64, chance: u32) -> bool
     ensures { result ≡ comes_about (word plan.now.words stream place) chance }
 {
@@ -28,7 +28,7 @@ pub(crate) fn has_event(plan: &Plan, stream: u64, place: u64, chance: u32) -> bo
     chance >= CERTAIN || PlanWords::of(plan).word(stream, place) >> 16 < chance
 }
 
-// Apply rule 3 by a plan's word at a place of a stream. The word is drawn only if it can change the speed.
+// Apply rule 3 with a plan's word at a place of a stream. The word is drawn only if it can change the speed.
 pub(crate) fn slowed_by_chance(plan: &Plan, stream: u64, place: u64, speed: u8, chance: u32) -> u8
     ensures { result ≡ slowed_speed speed (comes_about (word plan.now.words stream place) chance) }
 {

@@ -19,7 +19,7 @@ use std::alloc::Global;
 const FIRST_INLET_STREAM: u64 = 1 << 63;
 
 // Make the road with the cars that enter at a step: at each inlet whose cell is empty and not blocked, if the event of
-// the inflow chance happens by its word. No car is past the road's end. The cars between two inlets are copied
+// the inflow chance happens. No car is past the road's end. The cars between two inlets are copied
 // unchanged. There is one allocation in all.
 pub(crate) fn road_with_entries(
     alloc: Global,
@@ -49,7 +49,7 @@ pub(crate) fn road_with_entries(
     Ok(Road::of(cars))
 }
 
-// Find the first inlet's cell from a cell on, or `end` if there is none before it.
+// Return the first cell of an inlet at `cell` or past it, or `end` if no such cell is before `end`.
 fn next_inlet(inlets: &[(u32, u32)], cell: u32, end: u32) -> u32
     requires { cell ≤ end }
     ensures from { cell ≤ result }

@@ -25,6 +25,6 @@ defaults_fit p within = record {
   starts_allowed = All-map (λ chance. chance ≤ CERTAIN) _ p.zones within.chances_allowed;
 }
 
--- so do settings that are equal to them
+-- settings that are equal to the plan's own fit it, too
 pub own_settings_fit : (p : Plan) (s : Settings) → s ≡ defaults p → IsWithinLimits p → Fits p s
 own_settings_fit p s own within = rw own (defaults_fit p within)

@@ -35,7 +35,7 @@ exit_test p = Decides-and _ _ (Decides-and _ _ (below 0 p.exit) (at_most p.exit 
 zones_test : (p : Plan) → Decides (has_zones p) (((0 < p.width) × (length p.zones ≤ MOST_ZONES)) × (length p.zones ≡ zone_of p (p.cells - 1) + 1))
 zones_test p = Decides-and _ _ (Decides-and _ _ (below 0 p.width) (at_most (length p.zones) MOST_ZONES)) (Decides-eqb (length p.zones) (zone_of p (p.cells - 1) + 1))
 
--- as many different cells as inlets
+-- the inlets have different cells exactly if there are as many different cells as inlets
 cells_test : (p : Plan) → Decides (distinct_count nat_eq (map (λ inlet. inlet.0) p.inlets) == length p.inlets) (IsDistinct nat_eq (map (λ inlet. inlet.0) p.inlets))
 cells_test p =
     let cells = map (λ inlet. inlet.0) p.inlets in

@@ -1,4 +1,4 @@
--- Which plans are refused, and by which fault.
+-- Which plans are refused, and for which fault.
 use Rattle.std.specs.Prelude.{◌+◌, ◌-◌, ◌==◌, ◌&&◌, not, Bool, length, map, nat_eq, nat_lt, nat_le, if◌then◌else◌}
 use Rattle.std.specs.List.{list_all}
 use Rattle.std.specs.Set.{distinct_count}
@@ -23,14 +23,14 @@ has_exit p = nat_lt 0 p.exit && nat_le p.exit GREATEST_EXIT && nat_lt p.exit p.c
 abbrev pub has_zones : Plan → Bool
 has_zones p = nat_lt 0 p.width && nat_le (length p.zones) MOST_ZONES && length p.zones == zone_of p (p.cells - 1) + 1
 
--- whether the inlets are few enough, before the deleted zone, and at as many different cells as there are inlets
+-- whether there is an inlet, there are not too many, all are before the deleted zone, and no two are at one cell
 abbrev pub has_inlets : Plan → Bool
 has_inlets p =
     nat_lt 0 (length p.inlets) && nat_le (length p.inlets) MOST_INLETS
     && list_all (λ inlet. nat_lt inlet.0 (exit_start p)) p.inlets
     && distinct_count nat_eq (map (λ inlet. inlet.0) p.inlets) == length p.inlets
 
--- whether the detectors are few enough, past the first cell and before the deleted zone
+-- whether there are not too many detectors, and all are past the first cell and before the deleted zone
 abbrev pub has_detectors : Plan → Bool
 has_detectors p =
     nat_le (length p.detectors) MOST_DETECTORS

@@ -16,13 +16,13 @@ pub enum PlanFault {
     #[error("the deleted zone is not 1 to {most} cells long and shorter than the road", most = GREATEST_EXIT)]
     Exit,
     /// The zones have no width, are too many, or the list does not have one entry for each zone.
-    #[error("the zones are not 1 to {most} with a width and one entry for each", most = MOST_ZONES)]
+    #[error("there are not 1 to {most} zones with a width above 0 and one entry for each", most = MOST_ZONES)]
     Zones,
     /// There is no inlet, there are too many, or one is in the deleted zone or at the cell of another inlet.
-    #[error("the inlets are none, more than {most}, or not at different cells before the deleted zone", most = MOST_INLETS)]
+    #[error("there is no inlet, there are more than {most}, or they are not at different cells before the deleted zone", most = MOST_INLETS)]
     Inlets,
     /// There are too many detectors, or one is at the first cell or in the deleted zone.
-    #[error("the detectors are not 0 to {most} at sites behind the first cell and before the deleted zone", most = MOST_DETECTORS)]
+    #[error("there are more than {most} detectors, or one is at the first cell or in the deleted zone", most = MOST_DETECTORS)]
     Detectors,
     /// A speed limit, a slowing chance or an inflow is too great.
     #[error("a speed limit is above {limit}, or a slowing chance or an inflow above {chance}", limit = GREATEST_LIMIT, chance = CERTAIN)]

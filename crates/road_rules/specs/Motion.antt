@@ -9,7 +9,7 @@ use Rattle.road_cells.specs.Cars.{cars_of, cell_at, cars_before}
 use Rattle.road_cells.specs.declared.car.Car.{Car}
 use Rattle.road_cells.specs.declared.car.TheConstants.{GREATEST_SPEED}
 
--- the value that a function has for the first number for which it has one
+-- the value of a function at the first number at which it has one
 abbrev pub first_some : {X : Type 0} → (ℕ → Option X) → List ℕ → Option X
 first_some f [] = None
 first_some f (c ∷ cs) = option_or (f c) (first_some f cs)
@@ -24,13 +24,13 @@ arrival_from j c speed (Some v) = if c + speed v == j then Some (record { number
 abbrev pub arrival_at : (ℕ → Vehicle → ℕ) → Array → ℕ → Option Vehicle
 arrival_at speed a j = first_some (λ c. arrival_from j c (speed c) (vehicle_at a c)) (range_with_len 0 (length a))
 
--- motion: place j holds the vehicle that arrives there, else it is empty; at the greatest speed at most, no vehicle
--- arrives farther on
+-- motion: each place holds the vehicle that arrives there, if one does; the array is long enough for vehicles up to the
+-- greatest speed
 abbrev pub array_after_motion : (ℕ → Vehicle → ℕ) → Array → Array
 array_after_motion speed a = array (length a + GREATEST_SPEED) (arrival_at speed a)
 
--- speeds in the order of the cars: the speed of the vehicle at c has as many speeds before it as there are cars before
--- c
+-- the speed of the vehicle at cell c, from a list of speeds in the order of the cars: its index is the number of cars
+-- before c
 abbrev pub speed_at : Array → List ℕ → ℕ → ℕ
 speed_at a speeds c = slice_index speeds (cars_before c (cars_of a))
 
@@ -38,8 +38,8 @@ speed_at a speeds c = slice_index speeds (cars_before c (cars_of a))
 abbrev pub array_after_motion_at : List ℕ → Array → Array
 array_after_motion_at speeds a = array_after_motion (λ c v. speed_at a speeds c) a
 
--- cars may move at these speeds: there is one for each car, none above the greatest or high enough for a car to reach
--- the next one
+-- cars may move at these speeds: there is one speed for each car, none is above the greatest, and no car reaches the
+-- next one
 pub record MayMove (a : Array) (speeds : List ℕ) : Type 0 where
   pub one_each : length speeds ≡ length (cars_of a)
   pub slow_enough : All (λ v. v ≤ GREATEST_SPEED) speeds
@@ -50,7 +50,7 @@ pub record MayMove (a : Array) (speeds : List ℕ) : Type 0 where
 abbrev pub car_after_motion : ℕ → Car → Car
 car_after_motion speed car = record { number = car.number; cell = car.cell + speed; speed = speed }
 
--- each car at the speed of its place in a list
+-- the cars after motion, each at the speed of its place in the list
 abbrev pub cars_after_motion : List ℕ → List Car → List Car
 cars_after_motion speeds [] = []
 cars_after_motion [] (car ∷ cars) = []

@@ -13,11 +13,11 @@ speed_after_acceleration v greatest distance = if nat_lt v greatest && nat_lt (v
 abbrev pub speed_after_braking : ℕ → ℕ → ℕ
 speed_after_braking v distance = if nat_le distance v then distance - 1 else v
 
--- whether an event of this chance, in 1/65,536, happens by this word: the upper 16 bits of the word are below the
+-- whether a random word makes an event of this chance (in 1/65,536) happen: it does if its upper 16 bits are below the
 -- chance
 abbrev pub comes_about : ℕ → ℕ → Bool
 comes_about word chance = nat_lt (word / 65536) chance
 
--- rule 3: if the car is slowed, its speed falls by one, but not below 0
+-- rule 3: if a car is slowed, its speed falls by one, but not below 0
 abbrev pub slowed_speed : ℕ → Bool → ℕ
 slowed_speed v event = if event then v - 1 else v

@@ -1,7 +1,7 @@
 //! The four rules of the traffic automaton of Nagel and Schreckenberg (J. Phys. I France 2 (1992) 2221).
 //!
-//! [`wanted`] is rules 1 and 2 (acceleration and slowing) as one, [`two_rules`] the same two as in 1992, [`slowed`]
-//! rule 3 (randomization), and [`moved`] rule 4 (motion). Speeds and limits are in cells per step.
+//! [`wanted`] is rules 1 and 2 (acceleration and slowing) as one, [`two_rules`] the same two as published in 1992,
+//! [`slowed`] rule 3 (randomization), and [`moved`] rule 4 (motion). Speeds and limits are in cells per step.
 //!
 //! ```
 //! // A car of speed 2 under limit 3 with four free cells in front wants to drive 3 cells. The chance 65,536 slows it.

@@ -12,7 +12,7 @@ ghost use Rattle.road_sheet.specs.Spans.{IsNextSpan, sheet_after_span};
 use crate::settings_cache::SettingsCache;
 use crate::sheet::Sheet;
 use road_cells::Road;
-use road_detector::Ran;
+use road_detector::SpanResult;
 use road_ends::{Span, StepInput, finish};
 use road_plan::OutOfMemory;
 use std::alloc::Global;
@@ -116,7 +116,12 @@ impl Draft {
     /// # Errors
     ///
     /// `OutOfMemory` if an allocation failed. The draft is then as it was.
-    pub fn push_span(&mut self, alloc: Global, span: &Span, ran: Ran) -> Result<(), OutOfMemory>
+    pub fn push_span(
+        &mut self,
+        alloc: Global,
+        span: &Span,
+        ran: SpanResult,
+    ) -> Result<(), OutOfMemory>
         requires next { IsNextSpan self.old span.now }
         requires road { ran.road ≡ span_road span.now (state_of self.old self.old.horizon) }
         requires totals { ran.totals.items ≡ span_totals span.now (state_of self.old self.old.horizon) }

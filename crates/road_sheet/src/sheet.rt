@@ -31,7 +31,7 @@ use lattice_core::both::Both;
 use lattice_core::greatest::Greatest;
 use road_cells::Road;
 use road_detector::laws::{cars_pass_one_by_one, totals_are_bounded};
-use road_detector::{Ran, Totals};
+use road_detector::{SpanResult, Totals};
 use road_ends::laws::{cars_stay_on_road, runs_depend_on_earlier_settings};
 use road_ends::{Span, StepInput, enter};
 use road_plan::{OutOfMemory, Plan};
@@ -464,7 +464,7 @@ impl Sheet {
         &mut self,
         alloc: Global,
         span: &Span,
-        ran: Ran,
+        ran: SpanResult,
     ) -> Result<(), OutOfMemory>
         requires next { IsNextSpan self.old span.now }
         requires road { ran.road ≡ span_road span.now (state_of self.old self.old.horizon) }
@@ -481,7 +481,7 @@ impl Sheet {
     }
 
     // Add the steps up to one that does not end the interval.
-    fn span_within(&mut self, end: u32, ran: Ran)
+    fn span_within(&mut self, end: u32, ran: SpanResult)
         requires within { IsWithinInterval self.old end }
         requires within_interval { end % INTERVAL_STEPS ≢ 0 }
         requires road { ran.road ≡ state_of self.old end }
@@ -495,7 +495,7 @@ impl Sheet {
     }
 
     // Add the steps up to the end of the interval.
-    fn span_to_end(&mut self, alloc: Global, end: u32, ran: Ran) -> Result<(), OutOfMemory>
+    fn span_to_end(&mut self, alloc: Global, end: u32, ran: SpanResult) -> Result<(), OutOfMemory>
         requires within { IsWithinInterval self.old end }
         requires at_end { end % INTERVAL_STEPS ≡ 0 }
         requires road { ran.road ≡ state_of self.old end }

@@ -15,7 +15,7 @@ use Rattle.road_ends.specs.Span.{Span, span_road}
 use Rattle.road_ends.proofs.CellsNearby.{depend_on_cells_nearby}
 use Rattle.road_detector.specs.Passes.{no_totals, total_from}
 use Rattle.road_detector.specs.declared.counts.Totals.{Totals}
-use Rattle.road_detector.specs.declared.ran.Ran.{Ran}
+use Rattle.road_detector.specs.declared.span_result.SpanResult.{SpanResult}
 use Rattle.road_detector.proofs.TotalsFrom.{total-nearby}
 use Rattle.road_workers.specs.Private.Stretches.{cars_between, has_site, AreTotalsOn, IsRunOf}
 
@@ -85,7 +85,7 @@ stretch_totals lo hi span near a totals agree are = record {
     by d false is = refl
 
 -- so a stretch that was run from what is near it was run
-pub run-nearby : (lo hi : ℕ) (span : Span) (near a : Array) (ran : Ran) → lo ≤ hi → AgreeNear span.steps lo hi near a
+pub run-nearby : (lo hi : ℕ) (span : Span) (near a : Array) (ran : SpanResult) → lo ≤ hi → AgreeNear span.steps lo hi near a
     → IsRunOf lo hi span near ran → IsRunOf lo hi span a ran
 run-nearby lo hi span near a ran order agree run = record {
   cars = run.cars ∙ stretch_cars lo hi span near a order agree;

@@ -13,7 +13,7 @@ use crate::faults::CrewFault;
 use crate::kept_run::KeptRun;
 use crate::whole::run_alone;
 use road_cells::Road;
-use road_detector::Ran;
+use road_detector::SpanResult;
 use road_ends::{Span, StepInput};
 use std::alloc::Global;
 use std::sync::Arc;
@@ -41,7 +41,7 @@ impl Crew for Alone {
         span: &Span,
         road: &Road,
         kept: &mut KeptRun,
-    ) -> Result<Option<Ran>, CrewFault>
+    ) -> Result<Option<SpanResult>, CrewFault>
         ensures road { IfOk result (λ done. IfSome done (λ ran. ran.road ≡ span_road span.now road.now)) }
         ensures totals { IfOk result (λ done. IfSome done (λ ran. ran.totals.items ≡ span_totals span.now road.now)) }
         ensures some { IfOk result (λ done. CanBeRun span.now road.now → IsSome done) }

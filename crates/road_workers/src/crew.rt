@@ -10,7 +10,7 @@ ghost use Rattle.road_workers.specs.Crews.{gone_after};
 use crate::faults::CrewFault;
 use crate::kept_run::KeptRun;
 use road_cells::Road;
-use road_detector::Ran;
+use road_detector::SpanResult;
 use road_ends::{Span, StepInput};
 use std::alloc::Global;
 use std::sync::Arc;
@@ -43,7 +43,7 @@ pub trait Crew {
         span: &Span,
         road: &Road,
         _kept: &mut KeptRun,
-    ) -> Result<Option<Ran>, CrewFault>
+    ) -> Result<Option<SpanResult>, CrewFault>
         ensures road { IfOk result (λ done. IfSome done (λ ran. ran.road ≡ span_road span.now road.now)) }
         ensures totals { IfOk result (λ done. IfSome done (λ ran. ran.totals.items ≡ span_totals span.now road.now)) }
         ensures gone { times_gone self.new ≡ gone_after result (times_gone self.old) }

@@ -31,7 +31,7 @@ use crate::pool::stepping::speeds_by;
 use crate::pool::working::{Ends, work};
 use crossbeam_channel::{Sender, bounded};
 use road_cells::Road;
-use road_detector::Ran;
+use road_detector::SpanResult;
 use road_ends::{OutOfMemory, Span, StepInput};
 use std::alloc::Global;
 use std::marker::Model;
@@ -197,7 +197,7 @@ impl<R: Wait> Crew for Pool<R> {
         span: &Span,
         road: &Road,
         kept: &mut KeptRun,
-    ) -> Result<Option<Ran>, CrewFault>
+    ) -> Result<Option<SpanResult>, CrewFault>
         ensures road { IfOk result (λ done. IfSome done (λ ran. ran.road ≡ span_road span.now road.now)) }
         ensures totals { IfOk result (λ done. IfSome done (λ ran. ran.totals.items ≡ span_totals span.now road.now)) }
         ensures some { IfOk result (λ done. CanBeRun span.now road.now → IsSome done) }

@@ -18,7 +18,7 @@ use crate::stretch::cutting::cut_out;
 use crate::whole::{begun_on, kept_of, make_steps, take_up};
 use road_cells::{Car, GREATEST_SPEED, Road};
 use road_columns::UnderWay;
-use road_detector::Ran;
+use road_detector::SpanResult;
 use road_ends::{OutOfMemory, Span, Stretch, are_same_cars};
 use road_plan::Plan;
 use std::alloc::Global;
@@ -54,7 +54,7 @@ pub(crate) fn run_stretch(
     road: &Road,
     stretch: Stretch,
     kept: &mut KeptRun,
-) -> Result<Ran, OutOfMemory>
+) -> Result<SpanResult, OutOfMemory>
     requires order { stretch.first ≤ stretch.end }
     requires short { stretch.end ≤ GREATEST_LENGTH }
     requires runnable { IsRunnable 0 span.now.plan.cells span.now.plan road.now }
@@ -72,7 +72,7 @@ pub(crate) fn run_near(
     near: &Road,
     stretch: Stretch,
     kept: &mut KeptRun,
-) -> Result<Ran, OutOfMemory>
+) -> Result<SpanResult, OutOfMemory>
     requires order { stretch.first ≤ stretch.end }
     requires short { stretch.end ≤ GREATEST_LENGTH }
     requires runnable { IsRunnableNear stretch.first stretch.end span.now near.now }

@@ -13,7 +13,7 @@ ghost use Rattle.road_workers.specs.Private.RunsUnderWay.{IsReady, after_steps, 
 use crate::kept_run::KeptRun;
 use road_cells::Road;
 use road_columns::UnderWay;
-use road_detector::Ran;
+use road_detector::SpanResult;
 use road_ends::{OutOfMemory, Span, Stretch};
 use road_plan::limits::GREATEST_HORIZON;
 use std::alloc::Global;
@@ -26,7 +26,7 @@ pub(crate) fn run_alone(
     span: &Span,
     road: &Road,
     kept: &mut KeptRun,
-) -> Result<Option<Ran>, OutOfMemory>
+) -> Result<Option<SpanResult>, OutOfMemory>
     ensures road { IfOk result (λ done. IfSome done (λ ran. ran.road ≡ span_road span.now road.now)) }
     ensures totals { IfOk result (λ done. IfSome done (λ ran. ran.totals.items ≡ span_totals span.now road.now)) }
     ensures some { IfOk result (λ done. CanBeRun span.now road.now → IsSome done) }
@@ -140,14 +140,19 @@ pub(crate) fn take_up(
 }
 
 // Go on with a run for the steps of a span.
-fn ran_on(alloc: Global, span: &Span, road: &Road, run: &mut UnderWay) -> Result<Ran, OutOfMemory>
+fn ran_on(
+    alloc: Global,
+    span: &Span,
+    road: &Road,
+    run: &mut UnderWay,
+) -> Result<SpanResult, OutOfMemory>
     requires { IsReady 0 span.now.plan.cells span.now road.now run.old }
     ensures road { IfOk result (λ ran. ran.road ≡ span_road span.now road.now) }
     ensures totals { IfOk result (λ ran. ran.totals.items ≡ span_totals span.now road.now) }
     ensures at { IfOk result (λ ran. IsAt (span.now.step + span.now.steps) ran.road run.new) }
 {
     make_steps(alloc, span, run)?;
-    Ok(Ran {
+    Ok(SpanResult {
         road: run.road(alloc)?,
         totals: run.totals(alloc)?,
     })

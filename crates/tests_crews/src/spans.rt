@@ -7,7 +7,7 @@ ghost use Rattle.road_plan.specs.Settings.{Fits};
 use crate::holds;
 use crate::rows::shared_plan;
 use road_cells::Road;
-use road_detector::{Ran, Totals, passes};
+use road_detector::{SpanResult, Totals, passes};
 use road_ends::{Meter, Span, step_alone};
 use road_plan::{Plan, Settings};
 use road_workers::{Alone, Crew, KeptRun, Pool};
@@ -68,7 +68,7 @@ pub(crate) fn is_run_of_one(
     alloc: Global,
     span: &Span,
     road: &Road,
-    ran: &Option<Ran>,
+    ran: &Option<SpanResult>,
 ) -> Result<bool, Fail> {
     match (ran, Alone.run(alloc, span, road, &mut KeptRun::none())?) {
         (Some(ran), Some(wanted)) => Ok(are_same(ran, &wanted)),
@@ -78,7 +78,7 @@ pub(crate) fn is_run_of_one(
 }
 
 // Return whether two runs have the same result.
-fn are_same(ran: &Ran, other: &Ran) -> bool {
+fn are_same(ran: &SpanResult, other: &SpanResult) -> bool {
     ran.road.cars() == other.road.cars() && ran.totals == other.totals
 }
 
@@ -111,7 +111,7 @@ fn run_one_by_one(
     step: u32,
     steps: u32,
     road: &Road,
-) -> Result<Ran, Fail> {
+) -> Result<SpanResult, Fail> {
     let mut totals = vec![in alloc; Totals { cars: 0, speeds: 0 }; plan.detectors().len()]?;
     let mut road = road.copied()?;
     for done in 0..steps {
@@ -124,7 +124,7 @@ fn run_one_by_one(
             &mut totals,
         )?;
     }
-    Ok(Ran { road, totals })
+    Ok(SpanResult { road, totals })
 }
 
 /// Spans, one after another: the kind of settings and the steps of each.
@@ -135,7 +135,7 @@ const SPANS: &[(u32, u32)] = &[(0, 64), (1, 64), (2, 63), (3, 1), (1, 21), (3, 3
 pub(crate) struct Course<'a> {
     spans: &'a [(u32, u32)],
     queue: Road,
-    ran: Vec<Ran>,
+    ran: Vec<SpanResult>,
 }
 
 // Run a span one by one, and add its results. Return the road after it.
@@ -145,7 +145,7 @@ fn run_and_add(
     (kind, steps): (u32, u32),
     step: u32,
     road: &Road,
-    all: &mut Vec<Ran>,
+    all: &mut Vec<SpanResult>,
 ) -> Result<Road, Fail> {
     let ran = run_one_by_one(alloc, plan, kind, step, steps, road)?;
     let road = ran.road.copied()?;
@@ -159,7 +159,7 @@ fn run_and_add_all(
     plan: &Arc<Plan>,
     mut road: Road,
     spans: &[(u32, u32)],
-    all: &mut Vec<Ran>,
+    all: &mut Vec<SpanResult>,
 ) -> Result<(), Fail> {
     let mut step = 0_u32;
     for span in spans {
@@ -192,7 +192,7 @@ fn compare_span<C: Crew>(
     crew: &mut C,
     span: &Span,
     road: &Road,
-    wanted: &Ran,
+    wanted: &SpanResult,
     kept: &mut KeptRun,
 ) -> Result<Road, Fail> {
     let Some(ran) = crew.run(alloc, span, road, kept)? else {

@@ -28,15 +28,15 @@ const TEXTS: &[(Fault, &str)] = &[
     ),
     (
         Fault::Plan(PlanFault::Zones),
-        "the zones are not 1 to 64 with a width and one entry for each",
+        "there are not 1 to 64 zones with a width above 0 and one entry for each",
     ),
     (
         Fault::Plan(PlanFault::Inlets),
-        "the inlets are none, more than 16, or not at different cells before the deleted zone",
+        "there is no inlet, there are more than 16, or they are not at different cells before the deleted zone",
     ),
     (
         Fault::Plan(PlanFault::Detectors),
-        "the detectors are not 0 to 64 at sites behind the first cell and before the deleted zone",
+        "there are more than 64 detectors, or one is at the first cell or in the deleted zone",
     ),
     (
         Fault::Plan(PlanFault::Default),

@@ -4,7 +4,7 @@ ghost use Rattle.std.specs.Prelude.{◌≡◌};
 ghost use Rattle.road_workers.specs.Crews.{gone_after};
 
 use road_cells::Road;
-use road_detector::Ran;
+use road_detector::SpanResult;
 use road_ends::{Span, StepInput};
 use road_workers::{Crew, CrewFault, KeptRun};
 use std::alloc::Global;
@@ -148,7 +148,7 @@ impl<C: Crew> Crew for Running<C> {
         span: &Span,
         road: &Road,
         kept: &mut KeptRun,
-    ) -> Result<Option<Ran>, CrewFault> {
+    ) -> Result<Option<SpanResult>, CrewFault> {
         let answer = match self.fault_of_run() {
             Some(fault) => Err(fault),
             None => self.crew.run(alloc, span, road, kept),

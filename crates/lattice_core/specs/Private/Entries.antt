@@ -1,4 +1,4 @@
--- What the steps of a map's calls find and leave, as lists of entries, and how these lie in pages.
+-- What the functions of a map find and leave, as lists of entries, and how the entries lie in pages.
 use Rattle.std.specs.Prelude.{◌≡◌, ℕ, suc, Bool, cond, List, [], ◌∷◌, ◌++◌}
 use Rattle.std.specs.List.{AllByRecursion}
 use Rattle.std.specs.Ordering.{is_lt}
@@ -12,7 +12,7 @@ use Rattle.lattice_core.specs.Map.{IsProperMap, join_option}
 abbrev pub put_joined : {K V : Type 0} → (K → K → Ordering) → (V → V → V) → List (K × V) → K → V → List (K × V)
 put_joined cmp join es k v = put cmp k (join_option join (find cmp k es) v) es
 
--- there is a value, and v is at most it
+-- there is a value, and v is at most that value
 abbrev pub IsAtMostOption : {V : Type 0} → (V → V → V) → V → Option V → Type 0
 IsAtMostOption join v None = ⊥
 IsAtMostOption join v (Some w) = join v w ≡ w
@@ -22,12 +22,12 @@ abbrev pub count_up_to : {K X : Type 0} → (K → K → Ordering) → K → Lis
 count_up_to cmp k [] = 0
 count_up_to cmp k (p ∷ ps) = cond (is_lt (cmp k p.0)) 0 (suc (count_up_to cmp k ps))
 
--- the entries of all pages, each of which comes with its first key
+-- the entries of all pages; each page comes with its first key
 abbrev pub all_entries : {K V : Type 0} → List (K × List (K × V)) → List (K × V)
 all_entries [] = []
 all_entries (p ∷ ps) = p.1 ++ all_entries ps
 
--- there is a first entry, and it has this key
+-- the entries begin with one at this key
 abbrev pub BeginsWith : {K V : Type 0} → K → List (K × V) → Type 0
 BeginsWith k [] = ⊥
 BeginsWith k (e ∷ es) = e.0 ≡ k

@@ -10,7 +10,7 @@ use Rattle.road_cells.specs.Array.{Array}
 use Rattle.road_cells.specs.Cars.{cars_of}
 use Rattle.road_ends.specs.Input.{StepInput}
 use Rattle.road_ends.specs.Span.{Span}
-use Rattle.road_detector.specs.declared.ran.Ran.{Ran}
+use Rattle.road_detector.specs.declared.span_result.SpanResult.{SpanResult}
 use Rattle.road_workers.specs.Private.Pieces.{speeds_of_worker}
 use Rattle.road_workers.specs.Private.Stretches.{IsRunOf, cars_between, cut}
 
@@ -48,7 +48,7 @@ AreGathered input places = AreRight (IsAnswerOf input (length places)) places
 
 -- what a worker answered: what its stretch comes to, or out of memory
 abbrev pub StretchAnswer : Type 0
-StretchAnswer = Result Ran AllocError
+StretchAnswer = Result SpanResult AllocError
 
 -- it is what the stretch at place w of n comes to, if there is something
 abbrev pub IsRunAt : Span → Array → ℕ → ℕ → StretchAnswer → Type 0

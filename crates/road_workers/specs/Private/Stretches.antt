@@ -13,7 +13,7 @@ use Rattle.road_ends.specs.Run.{road_after_steps}
 use Rattle.road_ends.specs.Span.{Span, span_road}
 use Rattle.road_detector.specs.Passes.{no_totals, passes_at, total_from}
 use Rattle.road_detector.specs.declared.counts.Totals.{Totals}
-use Rattle.road_detector.specs.declared.ran.Ran.{Ran}
+use Rattle.road_detector.specs.declared.span_result.SpanResult.{SpanResult}
 use Rattle.road_columns.specs.UnderWay.{IsRunnable}
 use Rattle.road_workers.specs.declared.stretch.joining.Joined.{Joined}
 
@@ -44,7 +44,7 @@ pub record AreTotalsOn (lo hi : ℕ) (span : Span) (k : ℕ) (a : Array) (totals
   pub counted : (d : ℕ) → d < length totals → slice_index_or totals d no_totals ≡ total_on lo hi span k a d
 
 -- a stretch was run: on it stand the cars of the road after the span, and its detectors have counted all of it
-pub record IsRunOf (lo hi : ℕ) (span : Span) (a : Array) (ran : Ran) : Type 0 where
+pub record IsRunOf (lo hi : ℕ) (span : Span) (a : Array) (ran : SpanResult) : Type 0 where
   pub cars : cars_between lo hi ran.road ≡ cars_between lo hi (span_road span a)
   pub totals : AreTotalsOn lo hi span span.steps a ran.totals.items
 

@@ -12,7 +12,7 @@ use crate::kept_run::KeptRun;
 use crate::piece::{Piece, PieceAnswer};
 use crate::stretch::run_near;
 use road_cells::Road;
-use road_detector::Ran;
+use road_detector::SpanResult;
 use road_ends::{OutOfMemory, Span, StepInput, Stretch};
 use std::alloc::Global;
 use std::sync::Arc;
@@ -71,7 +71,7 @@ pub(crate) struct StretchJob {
 }
 
 // What a stretch comes to, with the cars of its margins, or out of memory.
-pub(crate) type StretchAnswer = Result<Ran, OutOfMemory>;
+pub(crate) type StretchAnswer = Result<SpanResult, OutOfMemory>;
 
 // A stretch, from the road of the cars near it, with what a worker answered: what it comes to by the definition, or out
 // of memory.

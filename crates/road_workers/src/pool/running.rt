@@ -24,7 +24,7 @@ use crate::stretch::{road_near, run_stretch, stretch_at};
 use crate::whole::run_alone;
 use road_cells::Road;
 use road_columns::is_runnable;
-use road_detector::Ran;
+use road_detector::SpanResult;
 use road_ends::{OutOfMemory, Span, Stretch};
 use std::alloc::Global;
 use std::sync::Wait;
@@ -37,7 +37,7 @@ impl<R: Wait> Pool<R> {
         span: &Span,
         road: &Road,
         kept: &mut KeptRun,
-    ) -> Result<Option<Ran>, CrewFault>
+    ) -> Result<Option<SpanResult>, CrewFault>
         ensures road { IfOk result (λ done. IfSome done (λ ran. ran.road ≡ span_road span.now road.now)) }
         ensures totals { IfOk result (λ done. IfSome done (λ ran. ran.totals.items ≡ span_totals span.now road.now)) }
         ensures some { IfOk result (λ done. CanBeRun span.now road.now → IsSome done) }

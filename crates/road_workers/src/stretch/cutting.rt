@@ -8,7 +8,7 @@ ghost use Rattle.road_workers.specs.Private.Stretches.{IsRunOf, has_site};
 use crate::stretch::has_site;
 use road_cells::Road;
 use road_columns::UnderWay;
-use road_detector::{Ran, Totals};
+use road_detector::{SpanResult, Totals};
 use road_ends::{OutOfMemory, Span, Stretch};
 use road_plan::Plan;
 use std::alloc::Global;
@@ -20,7 +20,7 @@ pub(crate) fn cut_out(
     near: &Road,
     stretch: Stretch,
     run: &UnderWay,
-) -> Result<Ran, OutOfMemory>
+) -> Result<SpanResult, OutOfMemory>
     requires order { stretch.first ≤ stretch.end }
     requires after { IsAfter stretch.first stretch.end span.now span.now.steps near.now run.now }
     ensures { IfOk result (IsRunOf stretch.first stretch.end span.now near.now) }
@@ -28,7 +28,7 @@ pub(crate) fn cut_out(
     let mut totals = run.totals(alloc)?;
     forget_outside(&mut totals, span.plan(), stretch);
     let road = run.road(alloc)?;
-    Ok(Ran { road, totals })
+    Ok(SpanResult { road, totals })
 }
 
 // Forget what detectors have counted whose sites are not on a stretch.

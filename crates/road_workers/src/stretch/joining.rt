@@ -9,7 +9,7 @@ ghost use Rattle.road_detector.specs.Passes.{no_totals, plus, span_totals};
 ghost use Rattle.road_workers.specs.Private.Stretches.{IsJoined, IsRunOf};
 
 use road_cells::{Car, Road};
-use road_detector::{Ran, Totals};
+use road_detector::{SpanResult, Totals};
 use road_ends::{OutOfMemory, Span, Stretch};
 use std::alloc::Global;
 
@@ -34,10 +34,10 @@ pub(crate) fn nothing_joined(alloc: Global, span: &Span) -> Result<Joined, OutOf
 
 // Begin with what the first stretch comes to, which ends before a cell: its list of cars is kept, without those that
 // stand farther on.
-pub(crate) fn first_joined(ran: Ran, end: u32) -> Joined
+pub(crate) fn first_joined(ran: SpanResult, end: u32) -> Joined
     ensures { (span : Span) (a : Array) → IsRunOf 0 end span a ran → IsJoined end span a result }
 {
-    let Ran { road, totals } = ran;
+    let SpanResult { road, totals } = ran;
     let there = road.cars_before(end);
     let mut cars = road.into_cars();
     cars.truncate(there);
@@ -59,7 +59,7 @@ pub(crate) fn beside(
     road: &Road,
     stretch: Stretch,
     front: Joined,
-    ran: Ran,
+    ran: SpanResult,
 ) -> Result<Joined, OutOfMemory>
     requires order { stretch.first ≤ stretch.end }
     requires within_limit { span.now.step + span.now.steps ≤ GREATEST_HORIZON }
@@ -93,7 +93,7 @@ fn add(totals: &mut Vec<Totals>, others: &[Totals])
 }
 
 // Make the road of what all its stretches come to, after a step at least.
-pub(crate) fn ran_of(span: &Span, road: &Road, cells: u32, joined: Joined) -> Ran
+pub(crate) fn ran_of(span: &Span, road: &Road, cells: u32, joined: Joined) -> SpanResult
     requires some { 0 < span.now.steps }
     requires cells { cells ≡ span.now.plan.cells }
     requires within { IsWithinLimits span.now.plan }
@@ -102,7 +102,7 @@ pub(crate) fn ran_of(span: &Span, road: &Road, cells: u32, joined: Joined) -> Ra
     ensures totals { result.totals.items ≡ span_totals span.now road.now }
 {
     let Joined { cars, totals } = joined;
-    Ran {
+    SpanResult {
         road: Road::of(cars),
         totals,
     }

@@ -1,4 +1,4 @@
--- Pages are begun until one has an entry left.
+-- The loop goes from page to page until one has an entry left.
 use Rattle.std.proofs.Common.{◌≡◌, ◌++◌, length}
 use Rattle.lattice_core.specs.Private.Entries.{all_entries}
 use Rattle.lattice_core.proofs.entries.EntriesIterator.next.Given as goal

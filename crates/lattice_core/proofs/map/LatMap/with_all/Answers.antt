@@ -1,4 +1,4 @@
--- Each turn joins in one more entry, so at the end all are joined in.
+-- Each turn joins in one more entry, so all are joined in at the end.
 use Rattle.std.proofs.Common.{◌≡◌, ◌∙◌, T, ap, sym, subst}
 use Rattle.std.specs.Arc.{arc_value}
 use Rattle.std.specs.FinMap.Entries.{find, is_sorted, is_sorted-put}

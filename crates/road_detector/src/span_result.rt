@@ -3,9 +3,9 @@
 use crate::counts::Totals;
 use road_cells::Road;
 
-/// The results of a span that was run.
+/// The results of running a span.
 #[derive(Drop)]
-pub struct Ran {
+pub struct SpanResult {
     /// The road after the span.
     pub road: Road,
     /// The counts of each detector in the span.
