@@ -74,7 +74,7 @@ class Question:
             figures.kill(self._process)
 
 
-class Questions:
+class DayQuestions:
     """One such question at a time."""
 
     def __init__(self) -> None:
@@ -167,12 +167,12 @@ def of_day(asked: dict[str, Any], wanted: list[list[Rates]], _pairs: Any, _at: s
     from zegdrut.days import Day
     from zegdrut.trips import Window
     window = Window(asked["first"], asked["last"])
-    roads = [figures.Road({**asked["plan"], "words": seed}) for _ in SIDES]
+    roads = [figures.DrivenRoad({**asked["plan"], "words": seed}) for _ in SIDES]
     try:
         for road, side in zip(roads, SIDES):
             road.become(figures.edits_of(asked[side]))
             road.read(window.last, math.inf)
-        both = [of_road(figures.road_of(road, rates, window)) for road, rates in zip(roads, wanted)]
+        both = [named_figures(figures.road_of(road, rates, window)) for road, rates in zip(roads, wanted)]
         delay = figures.cost(roads[0].trips, roads[1].trips, window)["delay_hours"]
         return Day(seed, *({HOURS: one[HOURS], LOST: one[LOST], DELAY: less, **one}
                            for one, less in zip(both, (0.0, delay))))
@@ -181,7 +181,7 @@ def of_day(asked: dict[str, Any], wanted: list[list[Rates]], _pairs: Any, _at: s
             road.lab.close()
 
 
-def of_road(found: dict[str, Any]) -> dict[str, float]:
+def named_figures(found: dict[str, Any]) -> dict[str, float]:
     """Return the figures of a road by their names: hours, lost demand, then of each detector the cars and the seconds from the inlet."""
     times = [mean for _, mean in found["travel"]]
     return {HOURS: found["vehicle_hours"], LOST: sum(found["lost"]),

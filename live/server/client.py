@@ -17,7 +17,7 @@ LONGEST_REPLY = 1 << 26
 PATIENCE = 120.0
 
 
-class Refused(Exception):
+class RefusedReply(Exception):
     """The server refused; `reply` is what it said."""
 
     def __init__(self, reply: dict[str, Any]) -> None:
@@ -102,10 +102,10 @@ class Seat:
             raise ConnectionError(f"the server has not answered `{verb}` for {PATIENCE:.0f} seconds") from None
 
     async def say(self, verb: str, **fields: Any) -> dict[str, Any]:
-        """The reply to a command, or `Refused`."""
+        """The reply to a command, or `RefusedReply`."""
         reply = await self.reply(verb, **fields)
         if "refused" in reply:
-            raise Refused(reply)
+            raise RefusedReply(reply)
         return reply
 
     async def ask(self, verb: str, **fields: Any) -> dict[str, Any]:

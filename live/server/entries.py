@@ -26,7 +26,7 @@ def packed(value: Any) -> str:
     return json.dumps(value, separators=(",", ":"), ensure_ascii=False, allow_nan=False)
 
 
-def line_of(text: str, is_first: bool) -> bytes:
+def journal_line(text: str, is_first: bool) -> bytes:
     """The line of an entry, the first of a write or not."""
     data = text.encode()
     return data[:-1] + b',"%s":"%08x"}\n' % (b"crc" if is_first else b"and", zlib.crc32(data))
@@ -67,7 +67,7 @@ class Entries:
         return bool(rest or b"\0" in line) and not any(begins_a_write(self._path, one) for one in could)
 
 
-def read(path: Path, size: int | None = None) -> tuple[list[Entry], int]:
+def read_entries(path: Path, size: int | None = None) -> tuple[list[Entry], int]:
     """The entries of a journal (of its first bytes), and how many bytes they take; `Broken` names a line that is no
     entry, unless it is of a write that never ended."""
     entries = Entries(path, size)

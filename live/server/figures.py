@@ -137,7 +137,7 @@ Edits = dict[tuple[str, int, int], int]
 """The values of edits, by kind, index and step."""
 
 
-class Road:
+class DrivenRoad:
     """A road that is run and read on, and brought to other edits."""
 
     def __init__(self, plan: dict[str, Any]) -> None:
@@ -202,7 +202,7 @@ def times_told(times: Sequence[Any]) -> list[list[float | None]]:
     return [[one.cars, one.mean] for one in times]
 
 
-def road_of(road: Road, wanted: list[Rates], window: Window) -> dict[str, Any]:
+def road_of(road: DrivenRoad, wanted: list[Rates], window: Window) -> dict[str, Any]:
     """Return the figures of a road."""
     from zegdrut.lost import compute_supplies
     from zegdrut.trips import compute_travel_times, compute_travel_times_by_entry, compute_vehicle_hours, count_admitted_cars
@@ -228,15 +228,15 @@ class Roads:
     """The roads that were asked about last, by the slots that the questions name."""
 
     def __init__(self) -> None:
-        self._roads: OrderedDict[str, Road] = OrderedDict()
+        self._roads: OrderedDict[str, DrivenRoad] = OrderedDict()
 
-    def road(self, slot: str, plan: dict[str, Any]) -> Road:
+    def road(self, slot: str, plan: dict[str, Any]) -> DrivenRoad:
         """Return the road of a slot."""
         road = self._roads.pop(slot, None)
         if road is not None and road.plan != plan:
             road.lab.close()
             road = None
-        self._roads[slot] = road = road or Road(plan)
+        self._roads[slot] = road = road or DrivenRoad(plan)
         while len(self._roads) > MOST_ROADS:
             self._roads.popitem(last=False)[1].lab.close()
         return road

@@ -1,6 +1,6 @@
 """The journal of a folder: what a server has confirmed, a JSON object a line, on the disk before anybody is told.
 
-    entries, size = read(path)         what stands there, without what was never confirmed; `Entries` one by one
+    entries, size = read_entries(path)         what stands there, without what was never confirmed; `Entries` one by one
     with lock(folder): ..              one server a folder; its journal is locked, too
     journal = Journal(path, size)      cuts that off, and appends
     await journal.write({"clock": ..}) returns once the entry is on the disk; one sync serves all that wait
@@ -25,7 +25,7 @@ from pathlib import Path
 from typing import Any, Callable, Iterable, Iterator
 
 from .entries import Broken as Broken, Entries as Entries, Entry as Entry
-from .entries import line_of as line_of, packed as packed, read as read
+from .entries import journal_line as journal_line, packed as packed, read_entries as read_entries
 
 JOURNAL = "journal.jsonl"
 LINES_AT_ONCE = 1_000
@@ -149,17 +149,17 @@ def fork_writing(path: Path, entries: Callable[[], Iterable[Entry]]) -> int:
         os.closerange(3, os.sysconf("SC_OPEN_MAX"))  # a connection lasts as long as anybody has it open
         os.nice(NICE)
         gc.disable()
-        put_beside(path, lines_of(entries()))
+        put_beside(path, journal_lines(entries()))
         status = 0
     finally:
         os._exit(status)
 
 
-def lines_of(entries: Iterable[Entry]) -> Iterator[bytes]:
+def journal_lines(entries: Iterable[Entry]) -> Iterator[bytes]:
     """Yield the lines of entries, many at once."""
     several = iter(entries)
     while part := list(itertools.islice(several, LINES_AT_ONCE)):
-        yield b"".join(line_of(packed(entry), True) for entry in part)
+        yield b"".join(journal_line(packed(entry), True) for entry in part)
 
 
 class Journal:
@@ -231,7 +231,7 @@ class Journal:
         try:
             while self._waiting and self.fault is None:
                 batch, self._waiting = self._waiting, []
-                data = b"".join(line_of(text, place == 0) for place, (text, _, _) in enumerate(batch))
+                data = b"".join(journal_line(text, place == 0) for place, (text, _, _) in enumerate(batch))
                 try:
                     await self._asks(self._append, data)
                 except OSError as fault:
@@ -279,7 +279,7 @@ class Journal:
 
     def confirmed(self) -> list[Entry]:
         """What was confirmed, from the disk, whether that can be written or not."""
-        return read(self.path, self.size)[0]
+        return read_entries(self.path, self.size)[0]
 
     async def mend(self, entry: Entry) -> None:
         """Tries the disk by an entry, and as much more as a gesture may be: once that is there, and cut off again, all
@@ -294,7 +294,7 @@ class Journal:
             os.close(old)
         self._cut()
         sync_folder(self.path.parent)
-        self._append(line_of(packed(entry), True), bytes(ROOM))
+        self._append(journal_line(packed(entry), True), bytes(ROOM))
         self._cut()
 
     async def compact(self, entries: Callable[[], Iterable[Entry]]) -> None:

@@ -16,6 +16,8 @@ import time
 from pathlib import Path
 from typing import Any, Awaitable, Callable, Dict, Iterable
 
+from zegdrut.grammar import LAST_HORIZON
+
 from .asked import why_refused
 from .records import JOURNAL_FORM, AnyEntry, Clock, Folder, Made, Upgraded
 from .journal import Broken, Entries, Entry, Journal, NotWritten, packed, put_in_place, sync_folder
@@ -35,7 +37,6 @@ KEPT = 20  # newest private operations of a seat, which are never forgotten
 LONGEST_PAUSE = 60.0  # seconds between two tries of a disk that took nothing
 STALLS = 5.0  # seconds without an answer of the disk, until the page says so
 A_MOMENT = 1.0  # seconds that a try of the disk may keep others waiting
-LAST_STEP = 1_048_576
 SHARED = 0
 Times = Dict[str, float]
 """Seconds that an answer took, by what took them."""
@@ -427,5 +428,5 @@ class Keeper:
 
     def now(self) -> int:
         """Return the step of the clock."""
-        last = LAST_STEP if self.state.stop is None else self.state.stop
+        last = LAST_HORIZON if self.state.stop is None else self.state.stop
         return min(last, self.state.now + int(self.state.rate * (time.monotonic() - self.since)))

@@ -21,7 +21,7 @@ from .records import Bound, Came, CameBack, Made, Share, StampedAnew, Take, Work
 from .refusals import Refused
 from .screen import first_step
 from .seating import Seating
-from .state import Replica, Seat, State
+from .state import Replica, SeatReplica, State
 from .supervised import supervised
 from .timing import Timing
 from .writing import Write, confirmed
@@ -33,7 +33,7 @@ MOST_BLOCKED = 5
 
 Reply = dict[str, Any]
 Called = Union[Stamp, str]  # a stamp, or the key of an operation of the seat
-Makes = Callable[[Seat, Stamp, About], Operation]  # makes an operation of this stamp
+Makes = Callable[[SeatReplica, Stamp, About], Operation]  # makes an operation of this stamp
 T = TypeVar("T")
 
 
@@ -113,7 +113,7 @@ class Lab:
 
     async def undo(self, index: int, times: Times, *, key: str, note: str, stamp: Called) -> Reply:
         """Undo an operation."""
-        def makes(seat: Seat, new: Stamp, about: About) -> Operation:
+        def makes(seat: SeatReplica, new: Stamp, about: About) -> Operation:
             undone = self._held_by(seat, stamp)
             if not would_change(seat.road, undone):
                 raise Refused("NothingToUndo", self._why_nothing(seat, undone))
@@ -122,7 +122,7 @@ class Lab:
 
     async def put_again(self, index: int, times: Times, *, key: str, stamp: Called) -> Reply:
         """Do once more what an operation did to its lines, on top."""
-        def makes(seat: Seat, new: Stamp, about: About) -> Operation:
+        def makes(seat: SeatReplica, new: Stamp, about: About) -> Operation:
             old = self._held_by(seat, stamp)
             if not old.names:
                 raise Refused("NothingToPut", "an undo cannot be put again: change the line itself")
@@ -135,13 +135,13 @@ class Lab:
             raise Refused("OwnSite", f"{site} is this site: who leaves it out must be of another")
         return await self._make(index, key, note, times, lambda seat, stamp, about: exclude(stamp, site, out, about))
 
-    def _called(self, seat: Seat, called: Called) -> Stamp:
+    def _called(self, seat: SeatReplica, called: Called) -> Stamp:
         stamp = seat.done.get(called) if isinstance(called, str) else seat.renamed.get(called, called)
         if stamp is None:
             raise Refused("NoSuchChange", f"you made no change of the key {called}")
         return stamp
 
-    def _line(self, seat: Seat, called: Called) -> Stamp:
+    def _line(self, seat: SeatReplica, called: Called) -> Stamp:
         """Return a line of the seat's list; an operation that changed one is called for that."""
         stamp = self._called(seat, called)
         held = self.state.held_by(seat, stamp)
@@ -149,14 +149,14 @@ class Lab:
             raise Refused("NoSuchChange", f"you hold no change of the name {list(stamp)}")
         return stamp
 
-    def _held_by(self, seat: Seat, called: Called) -> Operation:
+    def _held_by(self, seat: SeatReplica, called: Called) -> Operation:
         stamp = self._called(seat, called)
         held = self.state.held_by(seat, stamp)
         if not held:
             raise Refused("NoSuchChange", f"you hold no change of the stamp {list(stamp)}")
         return held[0]
 
-    def _why_nothing(self, seat: Seat, one: Operation) -> str:
+    def _why_nothing(self, seat: SeatReplica, one: Operation) -> str:
         """Return why the undo of an operation changes nothing."""
         record = seat.road.record
         if one.site in record.excluded:
@@ -185,12 +185,12 @@ class Lab:
             return {"stamp": one.stamp, "touched": await self._touched(before, seat.road), **self.list_of(seat, version)}
         return await self._write(index, make, times, takes_long=False)
 
-    def _early(self, seat: Seat) -> list[Operation]:
+    def _early(self, seat: SeatReplica) -> list[Operation]:
         """Return the private operations that are stamped more than a day ahead of the clock."""
         latest = self.keeper.stamps.latest_count()
         return [one for one in self.state.private(seat) if one.stamp[0] > latest]
 
-    def _stamp_anew(self, seat: Seat, write: Write) -> None:
+    def _stamp_anew(self, seat: SeatReplica, write: Write) -> None:
         """Stamp private operations anew that a wrong clock has put too far ahead: no other site would take them."""
         early = in_order(self._early(seat))
         if not early:
@@ -201,7 +201,7 @@ class Lab:
             stamped_anew(early, stamps)
             write.record(StampedAnew(seat.index, stamps))
 
-    def _made(self, seat: Seat, note: str, makes: Makes) -> Operation:
+    def _made(self, seat: SeatReplica, note: str, makes: Makes) -> Operation:
         """Return a new operation that any site takes and that changes something; raise `Refused` if there is none."""
         stamp = self.state.stamp(seat)
         try:
@@ -240,7 +240,7 @@ class Lab:
 
     # Lists
 
-    def _version(self, seat: Seat) -> int:
+    def _version(self, seat: SeatReplica) -> int:
         """Return the version of a seat's list, which begins where it did not yet."""
         seat.begin_list()
         return seat.version

@@ -9,7 +9,7 @@ from .model.changes import operations_on
 from .model.operations import Operation, Stamp, is_line, is_raw
 from .model.road import Road, parts_of, stands
 from .model.seen import Rectangle, lost, shown
-from .state import Replica, Seat, State
+from .state import Replica, SeatReplica, State
 
 SITE = "site"  # the kind of a line that excludes one
 NONE: frozenset[Operation] = frozenset()
@@ -20,7 +20,7 @@ class Lister:
 
     def __init__(self, state: State, replica: Replica, road: Road | None = None) -> None:
         self._places, self._road = state.shared.places, road or replica.road
-        self._idle: AbstractSet[Operation] = replica.idle if isinstance(replica, Seat) else NONE
+        self._idle: AbstractSet[Operation] = replica.idle if isinstance(replica, SeatReplica) else NONE
 
     def line(self, line: Stamp) -> dict[str, Any]:
         """Return a line of the list. One that was put in private and withdrawn again is gone."""

@@ -15,7 +15,7 @@ class Bad(Exception):
     """A malformed message; the text says why."""
 
 
-def read(body: bytes) -> Any:
+def read_message(body: bytes) -> Any:
     try:
         value = json.loads(body.decode())
         packed(value).encode()

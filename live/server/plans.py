@@ -41,7 +41,7 @@ def clock_of(folder: Path) -> Clock | None:
         return None
 
 
-def read(path: Path) -> Any:
+def read_plan(path: Path) -> Any:
     try:
         text = path.read_bytes()
     except OSError as fault:
@@ -60,10 +60,10 @@ def is_freeway(value: dict[str, Any]) -> bool:
     return not OF_A_PLAN & value.keys()
 
 
-def planned(path: Path, program: str) -> Planned:
+def read_road(path: Path, program: str) -> Planned:
     """What a file has; `Broken` says why it cannot be read. For a freeway it is measured, for some seconds, by which chances
     its demand comes in."""
-    value = read(path)
+    value = read_plan(path)
     if not is_freeway(value):
         return Planned(value)
     said = by_recipe(path, program)
@@ -101,9 +101,9 @@ def shape_of(value: Any) -> Shape:
 
 def is_another(path: Path, plan: dict[str, Any], kept: Path) -> bool:
     """Whether a file is of another road than a folder, which keeps a freeway in km beside its plan."""
-    value = read(path)
+    value = read_plan(path)
     if is_freeway(value):
-        return not kept.exists() or bool(read(kept) != value)
+        return not kept.exists() or bool(read_plan(kept) != value)
     return bool({**value, "replicas": 0} != {**plan, "replicas": 0})
 
 

@@ -7,23 +7,24 @@ import time
 from typing import Any, Union
 
 from zegdrut import Edit
+from zegdrut.grammar import LAST_HORIZON
 from zegdrut.rows import count_cars
 from zegdrut.trips import DetectorCount, Window, count_seconds_on
 
 from . import admissions, chance, figures, reports, rows, saving
 from .journal import packed
-from .keeper import LAST_STEP, SHARED, Times
+from .keeper import SHARED, Times
 from .lab import Lab
 from .lines import Lister
 from .model.changes import all_lines, altered
 from .model.choices import sendable
 from .model.operations import Operation, Stamp
 from .model.projection import Edits
-from .model.road import Road as RoadValue
+from .model.road import Road
 from .plans import clock_of
 from .program import LONG_ROAD
 from .refusals import Refused
-from .roads import SIDES, KeptRoad, Preview, Previews, Road, Side
+from .roads import SIDES, KeptRoad, Preview, Previews, AskedRoad, Side
 from .screen import first_step, rows_of
 from .state import Replica
 from .timing import AHEAD
@@ -51,10 +52,10 @@ class Questions:
 
     def __init__(self, lab: Lab) -> None:
         self._lab, self._keeper = lab, lab.keeper
-        self._previews, self._chance, self._figures = Previews(), chance.Questions(), figures.Figures()
+        self._previews, self._chance, self._figures = Previews(), chance.DayQuestions(), figures.Figures()
         self._saved, self._admissions = saving.Saved(), admissions.Admissions()
 
-    def road(self, index: int, at: str) -> Road:
+    def road(self, index: int, at: str) -> AskedRoad:
         """Return the road that a seat means: its own or the shared one, or one of its preview."""
         if at in SIDES:
             return Side(self._previews.get(index), at)
@@ -72,7 +73,7 @@ class Questions:
         self._chance.stop(index)
         self._saved.drop(index)
 
-    async def plain(self, road: Road, times: Times, verb: str, fields: dict[str, Any]) -> bytes:
+    async def plain(self, road: AskedRoad, times: Times, verb: str, fields: dict[str, Any]) -> bytes:
         """Return what the program answers."""
         line = packed({verb: {"at": road.name, **fields}}).encode()
 
@@ -81,7 +82,7 @@ class Questions:
         reply: bytes = await road.job(body)
         return reply
 
-    async def advance(self, road: Road, _times: Times, *, to: int) -> Reply:
+    async def advance(self, road: AskedRoad, _times: Times, *, to: int) -> Reply:
         """Lets a road run so far, at most some hours past the clock."""
         self._reaches(to)
         return {"horizon": await road.advance(to)}
@@ -89,14 +90,14 @@ class Questions:
     def _reaches(self, to: int) -> None:
         """Raise `Refused` if a road would run further than the clock may be set."""
         now = self._keeper.now()
-        if to > LAST_STEP:
-            raise Refused("Horizon", f"`to` is at most {LAST_STEP}, not {to}")
+        if to > LAST_HORIZON:
+            raise Refused("Horizon", f"`to` is at most {LAST_HORIZON}, not {to}")
         if to > now + AHEAD:
             raise Refused("TooFarAhead", f"at most {AHEAD} steps ahead of the clock, which is at {now}")
 
     # Rows
 
-    async def diagram(self, road: Road, times: Times, *, first: int, last: int, every: int,
+    async def diagram(self, road: AskedRoad, times: Times, *, first: int, last: int, every: int,
                       cells: tuple[int, int] | None) -> Reply:
         """Return every n-th row of some steps, all cells or a stretch of them."""
         left, right = cells or (0, self._length - 1)
@@ -111,7 +112,7 @@ class Questions:
         found = await self._rows(road, list(range(first, last + 1, every)), times)
         return rows.diagram_of([row[left:right + 1] for row in found])
 
-    async def _rows(self, road: Road, steps: list[int], times: Times) -> list[bytes]:
+    async def _rows(self, road: AskedRoad, steps: list[int], times: Times) -> list[bytes]:
         """Return the rows of steps at equal distances. Each turn gets as many as a reply may have."""
         found: list[bytes] = []
 
@@ -130,7 +131,7 @@ class Questions:
     def _rows_at_once(self) -> int:
         return min(MOST_ROWS, MOST_BYTES // (self._length + 3))
 
-    async def _piece(self, road: Road, steps: list[int], times: Times) -> list[bytes]:
+    async def _piece(self, road: AskedRoad, steps: list[int], times: Times) -> list[bytes]:
         every = steps[1] - steps[0] if len(steps) > 1 else 1
         if every >= 8 or every >= 2 and self._length >= LONG_ROAD:
             at = packed(road.name)
@@ -142,7 +143,7 @@ class Questions:
             found += rows.of_diagram((await road.say_all([line.encode()], times))[0])[::every]
         return found
 
-    async def sums(self, road: Road, times: Times, *, first: int, last: int) -> Reply:
+    async def sums(self, road: AskedRoad, times: Times, *, first: int, last: int) -> Reply:
         """Return for each whole minute the steps that cars spend on the road: the cars in the rows that its steps lead to."""
         if first % MINUTE or last % MINUTE or not 0 < last - first <= MOST_MINUTES * MINUTE:
             raise Refused("Range", f"1 to {MOST_MINUTES} whole minutes, `from` and `to` in steps")
@@ -156,7 +157,7 @@ class Questions:
         await self._of_one_road(road, cars, body)
         return {"sums": [sum(cars[begin:begin + MINUTE]) for begin in range(0, len(cars), MINUTE)]}
 
-    async def counts(self, road: Road, times: Times, *, first: int, last: int, each: int | None) -> Reply:
+    async def counts(self, road: AskedRoad, times: Times, *, first: int, last: int, each: int | None) -> Reply:
         """Return what all detectors count, in spans of `each` steps or as a whole."""
         if first > last:
             raise Refused("Range", f"`from` {first} is above `to` {last}")
@@ -178,7 +179,7 @@ class Questions:
         parts = [slice(place * detectors, (place + 1) * detectors) for place in range(len(windows))]
         return {"counts": [pairs[part] for part in parts], "flows": [flows[part] for part in parts]}
 
-    async def _lines(self, road: Road, lines: list[bytes], times: Times) -> tuple[list[bytes], list[Any]]:
+    async def _lines(self, road: AskedRoad, lines: list[bytes], times: Times) -> tuple[list[bytes], list[Any]]:
         """Return the replies to lines, all of one road, and its edits as an import has them."""
         found: list[bytes] = []
 
@@ -190,7 +191,7 @@ class Questions:
         edits: list[Any] = road.edits if isinstance(road, Side) else rows_of(await self._timeline(mark))
         return found, edits
 
-    async def _of_one_road(self, road: Road, found: list[Any], body: Job) -> Any:
+    async def _of_one_road(self, road: AskedRoad, found: list[Any], body: Job) -> Any:
         """Does at leisure what adds to what is found, from the beginning where the road has become another between. Return the
         mark of the road."""
         marks: list[Any] = []
@@ -279,10 +280,10 @@ class Questions:
         return Preview(self._keeper, *map(rows_of, sides)), {"what": what, "size": len(added), "layers": lines,
                                                             "touched": first_step(edits)}
 
-    async def _timeline(self, road: RoadValue) -> Edits:
+    async def _timeline(self, road: Road) -> Edits:
         return await self._keeper.differences.between(self._keeper.state.empty, road)
 
-    async def _lines_of(self, replica: Replica, before: RoadValue, after: RoadValue,
+    async def _lines_of(self, replica: Replica, before: Road, after: Road,
                         added: set[Stamp]) -> list[dict[str, Any]]:
         """Return the lines that show something else on another road, or whose added operation is lost there, with what they
         showed before."""
@@ -361,7 +362,7 @@ class Questions:
                                           "days": reports.DAYS}, self._keeper.path)
         return {"from": first, "to": last, "html": html}
 
-    async def table_of_counts(self, road: Road, times: Times, first: int, last: int, each: int) -> Reply:
+    async def table_of_counts(self, road: AskedRoad, times: Times, first: int, last: int, each: int) -> Reply:
         """Return a table of what detectors count, span by span."""
         said = await self.counts(road, times, first=first, last=last, each=each)
         assert isinstance(said, dict)

@@ -19,7 +19,7 @@ UNUSED = 600.0  # seconds after which one goes
 LET_GO = "the two roads were let go"
 
 
-class Road(Protocol):
+class AskedRoad(Protocol):
     """One that can be asked; `job` does a piece of work again as long as it gives `MORE`."""
 
     name: str

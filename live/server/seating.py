@@ -20,7 +20,7 @@ from .keeper import A_MOMENT, SHARED, Keeper, NotKept
 from .model.operations import SEATS
 from .records import SeatFreed, SeatGiven, SeatUsed
 from .refusals import Refused
-from .state import Seat, State
+from .state import SeatReplica, State
 from .writing import confirmed
 
 NOTED = 1 / 24  # of the time after which a seat that nobody uses is free
@@ -175,7 +175,7 @@ class Seating:
         done: asyncio.Future[None] = await self._keeper.turns.ask(index, body)
         await confirmed(done, {})
 
-    def owned(self, index: int) -> Seat:
+    def owned(self, index: int) -> SeatReplica:
         """Return a seat, unless it was left by what was asked before."""
         seat = self._state.seats[index]
         if not seat.key:

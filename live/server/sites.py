@@ -23,7 +23,7 @@ from .floods import FLOOD, STRANGERS, UNSEALED, Floods, only_newest
 from .journal import packed
 from .keeper import SHARED, Times
 from .lab import Early, Lab
-from .messages import Bad, form_of, read, site_of, sum_of
+from .messages import Bad, form_of, read_message, site_of, sum_of
 from .model.operations import Operation
 from .model.projection import Edits
 from .model.reading import Malformed, read_operation
@@ -45,7 +45,7 @@ AT_ONCE = 500  # operations that are sent, and taken, without a pause
 READ_FOR = 0.02  # seconds for operations of a message, until others get their turn
 TOLD, MOST_STAY = 5, 20  # sentences
 MOST_EARLY, LONGEST_EARLY = 1_000, 2_000_000  # operations that wait until their day has come, and their bytes
-SITES = "road/sites"
+SITES_TOPIC = "road/sites"
 TOTAL = "all"  # beside the numbers: of all operations
 LATE_SAID = f"Messages more than {LATE / 60:.0f} minutes old, by this site's clock, were left out: what they told comes again"
 SENDERS = {STRANGERS: "Somebody who does not say who it is", UNSEALED: "Somebody without the sites' key"}
@@ -141,7 +141,7 @@ class Sites:
 
     def _on_connect(self, client: mqtt.Client, _data: Any, _flags: Any, code: int) -> None:
         if code == 0:
-            client.subscribe([(f"road/{self._road}/operations", 1), (f"road/{self._road}/sum", 0), (SITES, 0)])
+            client.subscribe([(f"road/{self._road}/operations", 1), (f"road/{self._road}/sum", 0), (SITES_TOPIC, 0)])
         self._loop.call_soon_threadsafe(self._is_connected, code)
 
     def _on_gone(self, _client: mqtt.Client, _data: Any, _code: int) -> None:
@@ -242,7 +242,7 @@ class Sites:
 
     def _present(self) -> None:
         state = self._keeper.state
-        self._publish(SITES, {"run": self._run, "site": state.site, "road": self._road, "form": SITE_FORM,
+        self._publish(SITES_TOPIC, {"run": self._run, "site": state.site, "road": self._road, "form": SITE_FORM,
                               "time": int(1_000 * time.time()),
                               "silent": self._peers.is_anothers(), "bound": {str(one): folder for one, folder in
                                                                        self._peers.disputed().items()}}, 0)
@@ -297,8 +297,8 @@ class Sites:
 
     async def _came(self, topic: str, folder: str, body: bytes) -> None:
         try:
-            value = read(body) if len(body) < LARGE else await asyncio.to_thread(read, body)
-            if topic == SITES:
+            value = read_message(body) if len(body) < LARGE else await asyncio.to_thread(read_message, body)
+            if topic == SITES_TOPIC:
                 await self._heard_site(folder, value)
             elif topic.endswith("/sum"):
                 await self._heard_sum(folder, value)

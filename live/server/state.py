@@ -1,7 +1,7 @@
 """Hold what a folder's journal says: the plan, the seats, and each operation with who holds it.
 
     state = State()
-    for entry in read(path): state.read(entry)
+    for entry in read_entries(path)[0]: state.read(entry)
     entry.apply(state)                     a new entry
     entries = list(state.entries())        the same in as few entries as possible
 
@@ -33,7 +33,7 @@ AT_ONCE = 100  # operations that are worked out before others are heard
 MOST_ROADS = 8  # values of the shared road that are kept for those who take
 
 
-def planned(plan: Mapping[str, Any], kind: str, index: int) -> int | None:
+def plan_value(plan: Mapping[str, Any], kind: str, index: int) -> int | None:
     """Return what an object is by the plan alone; None of cars that start, about which it says nothing."""
     if kind == "block":
         return 0
@@ -124,7 +124,7 @@ class Replica:
         return self.marks
 
 
-class Shared(Replica):
+class SharedReplica(Replica):
     """The shared road."""
 
     def __init__(self, state: State) -> None:
@@ -169,7 +169,7 @@ class Shared(Replica):
             self.upto(size)
 
 
-class Seat(Replica):
+class SeatReplica(Replica):
     """A seat: who has it, and what it holds."""
 
     def __init__(self, index: int, state: State, count: int = 0) -> None:
@@ -253,10 +253,10 @@ class State:
         self.lately: dict[int, tuple[Road, Road]] = {}  # of a seat: the shared road, and that with all private operations
         self._clock = clock or StampClock()
         self._former: Former | None = None
-        self.empty = Road(lambda kind, index: planned(self.plan, kind, index))
-        self.shared = Shared(self)
-        self.seats: list[Seat] = []
-        self.seats = [Seat(index, self) for index in range(SEATS)]
+        self.empty = Road(lambda kind, index: plan_value(self.plan, kind, index))
+        self.shared = SharedReplica(self)
+        self.seats: list[SeatReplica] = []
+        self.seats = [SeatReplica(index, self) for index in range(SEATS)]
 
     def replica(self, index: int) -> Replica:
         """Return the road of a seat; of 0 the shared one."""
@@ -302,7 +302,7 @@ class State:
         if len(some) > 1:
             self._twins[stamp] = some[1:]
 
-    def hold_own(self, seat: Seat, one: Operation) -> None:
+    def hold_own(self, seat: SeatReplica, one: Operation) -> None:
         """Let a seat hold an operation of its own."""
         seat.own[one] = None
         seat.hold([one])
@@ -329,39 +329,39 @@ class State:
             own = self.seats[number % SEATS]
             own.count = max(own.count, count)
 
-    def take(self, seat: Seat, upto: int) -> None:
+    def take(self, seat: SeatReplica, upto: int) -> None:
         came, seat.upto = self.fresh(seat, upto), max(seat.upto, upto)
         seat.hold(came)
 
     def free(self, index: int, count: int) -> None:
         old = self.seats[index]
         self.lately.pop(index, None)
-        self.seats[index] = Seat(index, self, max(old.count, count))
+        self.seats[index] = SeatReplica(index, self, max(old.count, count))
 
     def tell(self, news: News) -> None:
         self.shares = [*self.shares, news][-MOST_NEWS:]
 
     # Questions
 
-    def stamp(self, seat: Seat) -> Stamp:
+    def stamp(self, seat: SeatReplica) -> Stamp:
         """Return a new stamp of a seat: above all that is held here, and above all that was made at this site, so that a clock
         that goes back puts nothing beneath what is older. What is too far ahead of the clock does not count."""
         latest = self._clock.latest_count()
         counts = itertools.chain((count for count, _ in self.by_stamp), (other.count for other in self.seats))
         return self._clock.count_after(max((count for count in counts if count <= latest), default=0)), seat.number
 
-    def private(self, seat: Seat) -> list[Operation]:
+    def private(self, seat: SeatReplica) -> list[Operation]:
         """Return the seat's own operations that have not been shared."""
         return [one for one in seat.own if one not in self.shared.places]
 
-    def fresh(self, seat: Seat, upto: int | None = None) -> list[Operation]:
+    def fresh(self, seat: SeatReplica, upto: int | None = None) -> list[Operation]:
         """Return what was shared that the seat has not taken, but for what it holds already."""
         return [one for one in self.shared.order(seat.upto, upto) if one not in seat.places]
 
-    def held_by(self, seat: Seat, stamp: Stamp) -> list[Operation]:
+    def held_by(self, seat: SeatReplica, stamp: Stamp) -> list[Operation]:
         return [one for one in self.of_stamp(stamp) if one in seat.places]
 
-    def stamp_anew(self, seat: Seat, stamps: Mapping[Stamp, Stamp]) -> None:
+    def stamp_anew(self, seat: SeatReplica, stamps: Mapping[Stamp, Stamp]) -> None:
         """Give private operations of a seat other stamps. They are called by the old ones, too."""
         old = [one for one in self.private(seat) if one.stamp in stamps]
         new = stamped_anew(old, stamps)
@@ -376,12 +376,12 @@ class State:
 
     # Forgetting
 
-    def _drop(self, seat: Seat, one: Operation) -> None:
+    def _drop(self, seat: SeatReplica, one: Operation) -> None:
         """Let a private operation go."""
         del seat.own[one], seat.places[one]
         self._set_stamp(one.stamp, tuple(other for other in self.of_stamp(one.stamp) if other is not one))
 
-    def forget(self, seat: Seat, kept: int) -> None:
+    def forget(self, seat: SeatReplica, kept: int) -> None:
         """Let private operations go that say nothing any more, but for the newest: no layer differs without them."""
         private = self.private(seat)
         if len(private) <= kept:

@@ -6,9 +6,11 @@ import secrets
 from dataclasses import dataclass
 from typing import Any, Awaitable, Callable
 
+from zegdrut.grammar import LAST_HORIZON
+
 from . import peers
 from .asked import LONGEST_NOTE, Asked
-from .keeper import LAST_STEP, SHARED, Times
+from .keeper import SHARED, Times
 from .lab import Lab
 from .questions import Questions, Reply
 from .refusals import Refused, not_a_command
@@ -184,22 +186,22 @@ def read_clock(asked: Asked) -> dict[str, Any]:
 
 
 def read_diagram(asked: Asked) -> dict[str, Any]:
-    return {**read_steps(asked), "every": asked.whole("every", 1, LAST_STEP, 1), "cells": asked.stretch()}
+    return {**read_steps(asked), "every": asked.whole("every", 1, LAST_HORIZON, 1), "cells": asked.stretch()}
 
 
 def read_counts(asked: Asked) -> dict[str, Any]:
-    return {**read_steps(asked), "each": asked.whole("each", 1, LAST_STEP) if asked.has("each") else None}
+    return {**read_steps(asked), "each": asked.whole("each", 1, LAST_HORIZON) if asked.has("each") else None}
 
 
 def read_transcript(asked: Asked) -> dict[str, Any]:
-    return {"first": asked.whole("from", default=0), "last": asked.whole("to", 0, LAST_STEP),
+    return {"first": asked.whole("from", default=0), "last": asked.whole("to", 0, LAST_HORIZON),
             "piece": asked.whole("next", default=0)}
 
 
 def read_table(asked: Asked) -> dict[str, Any]:
     if asked.raw("what") != "counts":
         raise not_a_command('`what` is "counts"')
-    return {**read_steps(asked), "each": asked.whole("each", 1, LAST_STEP)}
+    return {**read_steps(asked), "each": asked.whole("each", 1, LAST_HORIZON)}
 
 
 # What is done
@@ -262,7 +264,7 @@ async def seats(call: Call) -> Reply:
     return {"seats": await call.lab.seating.seats_kept(call.index)}
 
 
-async def numbers(call: Call) -> Reply:
+async def list_numbers(call: Call) -> Reply:
     return {"own": call.lab.state.site, "numbers": [{"site": number, "folder": folder} for number, folder in
                                                     sorted(peers.bindings(call.lab.state).items())]}
 
@@ -276,7 +278,7 @@ VERBS: dict[str, Verb] = {
     # Of no road
     "seats": Verb(ALL, no_fields, seats),
     "clock": Verb(ALL, read_clock, set_clock),
-    "numbers": Verb(ALL, no_fields, numbers),
+    "numbers": Verb(ALL, no_fields, list_numbers),
     "unbind": Verb(ALL, lambda asked: {"site": asked.whole("site", 1, 1_023)}, unbind),
     "admission": Verb(ALL, read_admission, admission),
     # The own road is changed, shared, taken

@@ -6,7 +6,7 @@ import os
 import signal
 from typing import Any
 
-from server.client import Refused, Seat
+from server.client import RefusedReply, Seat
 from running import SMALL, Case, descendants, until
 
 LIMIT = ["limit", 2, 50]
@@ -179,7 +179,7 @@ class Acts(Case):
         change = await lay(self.ben, "1", ["block", 60, 69, 30, 70, 1], layer=mine)
         await self.ben.ask("send", name="shared")
         await self.ada.ask("take", message="shared")
-        with self.assertRaisesRegex(Refused, "Ben changed it since"):
+        with self.assertRaisesRegex(RefusedReply, "Ben changed it since"):
             await self.ada.ask("undo", key="2", stamp=mine)
         await self.ben.ask("undo", key="2", stamp=change)
         await self.ben.ask("send", name="shared")
@@ -336,7 +336,7 @@ class Acts(Case):
         self.assertEqual([(one["who"], one["does"], one["note"], one["lost"]) for one in line["operations"]],
                          [("Ada", "put", "mine", None), ("Ben", "withdraw", "open", None)])
         self.assertEqual(await numbers(self.ada), {})
-        with self.assertRaisesRegex(Refused, "Ben changed it since"):
+        with self.assertRaisesRegex(RefusedReply, "Ben changed it since"):
             await self.ada.ask("undo", key="2", stamp=mine)
 
     async def test_what_another_does_in_turn_is_not_done_at_once(self) -> None:
@@ -456,7 +456,7 @@ class Acts(Case):
             fresh = (await lines(ada))[line]
             self.assertEqual([one["does"] for one in fresh["operations"]], ["put", *["change", "undo"] * 10])
             self.assertEqual((await ada.ask("layers", **{"from": said["next"]}))["layers"], [fresh])
-            with self.assertRaisesRegex(Refused, "you hold no change of the name"):
+            with self.assertRaisesRegex(RefusedReply, "you hold no change of the name"):
                 await ada.ask("gesture", key="late", layer=gone, top=True)
 
     async def test_z_is_the_same_after_what_a_start_forgets(self) -> None:
@@ -654,14 +654,14 @@ class Seats(Case):
                                    ({"take": 9}, "NoSuchSeat"),
                                    ({"key": "none"}, "UnknownKey"), ({"name": " \n"}, "NoName"),
                                    ({"take": 0}, "NoSuchSeat")):
-                with self.assertRaisesRegex(Refused, refusal) as caught:
+                with self.assertRaisesRegex(RefusedReply, refusal) as caught:
                     async with server.seat(**hello):
                         pass
                 self.assertEqual([(one["name"], one["here"], one["private"]) for one in caught.exception.reply["seats"]],
                                  [("Ada", True, 1), ("Ben", True, 0)])
         async with server.seat(take=1) as taken:
             self.assertEqual((taken.welcome["name"], await limit_at(taken)), ("Ada", 1))
-            with self.assertRaisesRegex(Refused, "UnknownKey"):
+            with self.assertRaisesRegex(RefusedReply, "UnknownKey"):
                 async with server.seat(key=ada.key):
                     pass
         async with server.seat(key=taken.key) as back:
@@ -671,7 +671,7 @@ class Seats(Case):
         server = self.server(plan={**SMALL, "length": 20, "zones": [[5, 0]], "inlets": [[0, 65_536]], "detectors": []})
         seats = [await self.enterAsyncContext(server.seat(f"n{count}")) for count in range(63)]
         self.assertEqual({seat.at for seat in seats}, {f"seat{count}" for count in range(1, 64)})
-        with self.assertRaisesRegex(Refused, "AllSeatsTaken"):
+        with self.assertRaisesRegex(RefusedReply, "AllSeatsTaken"):
             async with server.seat("one more"):
                 pass
         for seat in seats:
@@ -704,7 +704,7 @@ class Seats(Case):
         server = self.server()
         async with server.seat("Ada") as ada, server.seat("Ben") as ben:
             await put(ada, "1", [*LIMIT, 1])
-            with self.assertRaisesRegex(Refused, "PrivateChanges"):
+            with self.assertRaisesRegex(RefusedReply, "PrivateChanges"):
                 await ada.ask("leave")
             await ada.ask("send", name="shared")
             said = await asyncio.gather(ada.reply("gesture", at=ada.at, key="2", edits=[[*LIMIT, 2]]),

@@ -21,7 +21,7 @@ from unittest import mock
 import running
 from faulty import Disk
 from server.client import Seat
-from server.journal import Broken, Entries, Journal, NotWritten, lock, put_in_place, read
+from server.journal import Broken, Entries, Journal, NotWritten, lock, put_in_place, read_entries
 from server.keeper import Keeper
 from server.settings import Settings
 from crashes import numbers
@@ -53,7 +53,7 @@ class Reading(unittest.TestCase):
         for cut in range(len(self.lines[0]), len(data) + 1):
             self.path.write_bytes(data[:cut])
             whole = sum(cut >= end for end in (len(self.lines[0]), len(data) - len(self.lines[2]), len(data)))
-            entries, size = read(self.path)
+            entries, size = read_entries(self.path)
             self.assertEqual(entries, GESTURES[:whole], cut)
             self.assertEqual(size, sum(map(len, self.lines[:whole])), cut)
 
@@ -64,14 +64,14 @@ class Reading(unittest.TestCase):
             for more in (good, line_of(GESTURES[1], None), *([] if 0 in broken else [b""])):
                 self.path.write_bytes(self.lines[0] + broken + more)
                 with self.assertRaisesRegex(Broken, "line 2"):
-                    read(self.path)
+                    read_entries(self.path)
 
     def test_older_lines_have_no_checksum(self) -> None:
         old = [line_of(entry, None) for entry in GESTURES[:2]]
         self.path.write_bytes(b"".join([*old, self.lines[2]]))
-        self.assertEqual(read(self.path), (GESTURES, self.path.stat().st_size))
+        self.assertEqual(read_entries(self.path), (GESTURES, self.path.stat().st_size))
         self.path.write_bytes(b"".join([*old, self.lines[2][:-9]]))
-        self.assertEqual(read(self.path), (GESTURES[:2], len(b"".join(old))))
+        self.assertEqual(read_entries(self.path), (GESTURES[:2], len(b"".join(old))))
 
     def test_what_of_a_write_is_zero_was_never_confirmed(self) -> None:
         """A disk that lost its current may have any of the blocks of the last write: the others are zero."""
@@ -80,12 +80,12 @@ class Reading(unittest.TestCase):
             for end in (begin + 1, begin + 40, len(last)):
                 torn = last[:begin] + bytes(len(last[begin:end])) + last[end:]
                 self.path.write_bytes(whole + torn)
-                entries, size = read(self.path)
+                entries, size = read_entries(self.path)
                 kept = 1 + (begin >= len(line_of(GESTURES[1])))
                 self.assertEqual((entries, size), (GESTURES[:kept], sum(map(len, self.lines[:kept]))), (begin, end))
         self.path.write_bytes(whole + bytes(len(last)) + self.lines[2])  # a later write: the zeros were confirmed
         with self.assertRaisesRegex(Broken, "line 2"):
-            read(self.path)
+            read_entries(self.path)
 
     def test_10_000_operations_are_read_in_a_second(self) -> None:
         """However long the journal is; until the shared road can be asked."""
@@ -114,7 +114,7 @@ class Writing(unittest.IsolatedAsyncioTestCase):
         journal = Journal(self.path, 0)
         for count, entry in enumerate(GESTURES, 1):
             await journal.write(entry)
-            self.assertEqual(read(self.path)[0], GESTURES[:count])
+            self.assertEqual(read_entries(self.path)[0], GESTURES[:count])
 
     async def test_after_a_failed_write_all_that_wait_are_refused_and_it_is_cut_back(self) -> None:
         journal = Journal(self.path, 0)
@@ -135,7 +135,7 @@ class Writing(unittest.IsolatedAsyncioTestCase):
         self.assertEqual(journal.confirmed(), GESTURES[:1])
         await journal.mend(GESTURES[1])
         await journal.write(GESTURES[2])
-        self.assertEqual(read(self.path)[0], GESTURES)
+        self.assertEqual(read_entries(self.path)[0], GESTURES)
 
     async def test_a_fault_behind_a_write_keeps_nobody_waiting(self) -> None:
         """What is on the disk is confirmed, and what comes is written."""
@@ -146,7 +146,7 @@ class Writing(unittest.IsolatedAsyncioTestCase):
         with self.assertLogs(level="ERROR"):
             await asyncio.wait_for(asyncio.gather(journal.write(GESTURES[0], fails), journal.write(GESTURES[1])), running.PATIENCE)
         await journal.write(GESTURES[2])
-        self.assertEqual(read(self.path)[0], GESTURES)
+        self.assertEqual(read_entries(self.path)[0], GESTURES)
 
     async def test_lines_of_one_write_say_so(self) -> None:
         journal = Journal(self.path, 0)
@@ -162,7 +162,7 @@ class Writing(unittest.IsolatedAsyncioTestCase):
         await asyncio.sleep(0)
         await journal.write(GESTURES[2])
         await short
-        self.assertEqual(read(self.path)[0], GESTURES[1:])
+        self.assertEqual(read_entries(self.path)[0], GESTURES[1:])
         self.assertEqual(journal.size, self.path.stat().st_size)
         self.assertEqual(self.path.stat().st_mode & 0o777, 0o600)
 
@@ -187,7 +187,7 @@ class Writing(unittest.IsolatedAsyncioTestCase):
         gate.touch()
         await short
         await journal.write(GESTURES[2])
-        self.assertEqual(read(self.path)[0], [GESTURES[1], *many, GESTURES[2]])
+        self.assertEqual(read_entries(self.path)[0], [GESTURES[1], *many, GESTURES[2]])
         self.assertEqual([one.name for one in self.path.parent.iterdir()], [self.path.name])
 
     async def test_a_shorter_journal_that_cannot_be_written_leaves_the_old_one(self) -> None:
@@ -204,7 +204,7 @@ class Writing(unittest.IsolatedAsyncioTestCase):
                 await journal.compact(lambda: [GESTURES[1]])
             self.assertIsNone(journal.fault, number)
             await journal.write(GESTURES[2])
-        self.assertEqual(read(self.path)[0], [GESTURES[0], *[GESTURES[2]] * 4])
+        self.assertEqual(read_entries(self.path)[0], [GESTURES[0], *[GESTURES[2]] * 4])
 
     async def test_a_shorter_journal_that_may_not_last_takes_nothing(self) -> None:
         """Where the folder cannot be synced the old one may stand there again, without what came since."""
@@ -235,13 +235,13 @@ class Writing(unittest.IsolatedAsyncioTestCase):
         sockets = [socket.socketpair() for _ in range(4)]
         with contextlib.suppress(NotWritten):
             await journal.write(GESTURES[2])
-        self.assertEqual(journal.confirmed(), read(self.path)[0])
+        self.assertEqual(journal.confirmed(), read_entries(self.path)[0])
         for one in (one for pair in sockets for one in pair):
             self.addCleanup(one.close)
             one.setblocking(False)
             with self.assertRaises(BlockingIOError, msg="a line of the journal was sent to a socket"):
                 one.recv(1_000)
-        self.assertEqual(read(self.path)[0], GESTURES[1:])
+        self.assertEqual(read_entries(self.path)[0], GESTURES[1:])
 
     async def test_what_is_put_in_place_is_whole_or_not_there(self) -> None:
         """Whichever call fails: the old file or the new one."""
@@ -348,7 +348,7 @@ class Folders(Case):
         for plan, why in (({**SMALL, "length": 7}, "the program refuses the plan: Length"), ({"a": 1}, "refuses the plan")):
             with self.assertRaisesRegex(RuntimeError, why):
                 running.Server(folder, plan)
-            self.assertEqual(read(folder / "journal.jsonl"), ([], 0))
+            self.assertEqual(read_entries(folder / "journal.jsonl"), ([], 0))
         (folder / "journal.jsonl").write_bytes(line_of({"lab": {}})[:-3])  # what was begun was never confirmed
         server = running.Server(folder, SMALL)
         self.addCleanup(lambda: running.end(server.process))

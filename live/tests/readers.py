@@ -11,7 +11,7 @@ from typing import Any, Callable
 
 from crashes import numbers
 from oracle import counting_operations
-from server.client import Refused, Seat
+from server.client import RefusedReply, Seat
 from server.model.operations import Operation, Shape, Stamp
 from zegdrut import Plan, RoadLab
 from running import ALL, SMALL, Case, Server, until
@@ -69,7 +69,7 @@ class Reader:
                     await self.shares()
                 else:
                     await self.takes()
-            except Refused as fault:
+            except RefusedReply as fault:
                 if fault.reply["refused"] not in REFUSED:
                     raise
 
@@ -85,7 +85,7 @@ class Reader:
         key = f"{self.seat.at}-{self.count}"
         try:
             count, number = (await self.seat.ask(verb, key=key, **fields))["stamp"]
-        except Refused as fault:
+        except RefusedReply as fault:
             if fault.reply["refused"] == NOT_THERE and self.is_forgotten(fields.get("layer"), fields.get("stamp")):
                 return
             raise
