@@ -106,18 +106,18 @@ const notes = new Map();        // of what this tab did, by stamps
  */
 function noteOf(called) {
   const note = typeof called === "string" ? store.pending.get(called)?.note ?? ""
-    : notedOf(called) || notes.get(keyOf(called)) || "";
+    : notedOf(called);
   return note.replace(/^(Taken back|Put again)(: |$)/, "")
     .replace(/^On top: /, "the place on top of ");
 }
 
-/** Return the note of an operation in the list; that of its change if it has none of its own.
+/** Return the note of an operation; that of its change if nothing else is known.
  * @param {Stamp} stamp
  */
 function notedOf(stamp) {
   const change = layersOf("mine").changeWith(stamp);
   const operation = change?.operations.find((one) => keyOf(one.stamp) === keyOf(stamp));
-  return operation?.note || change?.note;
+  return operation?.note || notes.get(keyOf(stamp)) || change?.note || "";
 }
 
 /** Take a press of Z or Redo.
