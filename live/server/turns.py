@@ -135,10 +135,11 @@ class Turns:
                 await self._work.wait()
         return self._work.is_set()
 
-    async def _with_short_ones(self, seat: int, job: Job) -> Any:
+    async def _with_short_ones(self, job: Job) -> Any:
         """Do a job, and while it waits the short jobs of others."""
         turn = asyncio.ensure_future(self._around(job))
         turn.add_done_callback(lambda _: self._work.set())
+        await asyncio.sleep(0)  # it begins first
         try:
             while not turn.done():
                 short = next(filter(self._is_short, self._turn), None) if self._may_be_within() else None
@@ -161,7 +162,12 @@ class Turns:
         job, future, *_ = queue[0]
         began = self._clock()
         try:
-            result = MORE if future.cancelled() else await (job() if is_within else self._with_short_ones(seat, job))
+            if future.cancelled():
+                result: Any = MORE
+            elif self._is_short(seat):
+                result = await (job() if is_within else self._around(job))
+            else:
+                result = await self._with_short_ones(job)
         except Exception as fault:  # pylint: disable=broad-except
             if not future.done():
                 future.set_exception(fault)

@@ -235,7 +235,7 @@ class Long(Case):
             "edits": Asked.edits, "stamps": Asked.stamps, "shape": Asked.shape, "layer": lambda asked: asked.called("layer"),
             "to": lambda asked: asked.whole("to"), "key": Asked.key, "note": lambda asked: asked.text("note", 200)}
         frames = [(f'{{"id":1,"x":{{"{name}":{value}}}}}', read) for name, read in reads.items() for value in wrong]
-        frames += [(f'{{"id":1,"x":{{"object":{value},"step":1}}}}', verbs.an_edit) for value in wrong]
+        frames += [(f'{{"id":1,"x":{{"object":{value},"step":1}}}}', verbs.read_edit) for value in wrong]
         for frame, read in frames:
             with takes_at_most(0.05, frame[:40]), contextlib.suppress(Refused, RecursionError):
                 _, verb, fields = taken_apart(frame)

@@ -105,16 +105,16 @@ class Failing(Case):
         with self.assertRaisesRegex(AssertionError, "^[^\n]*21.00[^\n]*$"):
             self._held_nobody_up()
         here = await self.enterAsyncContext(Here())
-        with mock.patch.object(Keeper, "now", lambda keeper: works(0.3) or 0):
-            await here.keeper.turns.ask(0, self.now_of(here))
+        with mock.patch.object(Keeper, "reference", property(lambda keeper: works(0.3))):  # which nothing else asks
+            await here.keeper.turns.ask(0, self.reference_of(here))
         await asyncio.sleep(0)
         self.assertEqual(len(HELD_UP), 1)
         HELD_UP.clear()
 
-    def now_of(self, here: Here) -> Any:
-        async def now() -> int:
-            return here.keeper.now()
-        return now
+    def reference_of(self, here: Here) -> Any:
+        async def reference() -> str:
+            return here.keeper.reference
+        return reference
 
 
 class Pieces(Case):
