@@ -93,14 +93,15 @@ class Failing(Case):
         class Example(Watched):
             def runTest(self) -> None:
                 HELD_UP.extend(f"{SAID} for a piece of work of {seconds} s: x" for seconds in said)
-        for said, fails in (([], 0), (["0.21"], 0), (["30.00"], 1)):
+        for said, slowness, fails in (([], 1.0, 0), (["0.20"], 1.0, 0), (["0.21"], 1.0, 1), (["0.29"], 1.5, 0), (["0.31"], 1.5, 1)):
             result = unittest.TestResult()
-            Example().run(result)
+            with mock.patch("working.slowness", lambda now=slowness: now):
+                Example().run(result)
             self.assertEqual((len(result.failures), len(result.errors)), (fails, 0))
         HELD_UP.clear()
         server = self.server()
         with open(server.log, "a", encoding="ascii") as log:
-            log.write(f"WARNING {SAID} for a piece of work of 0.31 s: x\n")
+            log.write(f"WARNING {SAID} for a piece of work of 0.20 s: x\n")
             log.write(f"WARNING {SAID} for a piece of work of 21.00 s: x\n")
         with self.assertRaisesRegex(AssertionError, "^[^\n]*21.00[^\n]*$"):
             self._held_nobody_up()
