@@ -14,9 +14,9 @@ from .checks import Checks
 from .keeper import SHARED, Keeper, Times
 from .lines import Lister
 from .model.choices import overruling, sendable, undoable, would_change
-from .model.operations import About, Operation, RawName, Shape, Stamp, edit, exclude, in_order, lift, put, undo
+from .model.operations import (About, Operation, RawName, Shape, Stamp, edit, exclude, in_order, lift, put, stamped_anew,
+                               undo)
 from .model.road import Road, change, repeat, stands
-from .model.stamping import stamped_anew
 from .records import Bound, Came, CameBack, Made, Share, StampedAnew, Take, Works
 from .refusals import Refused
 from .screen import first_step

@@ -12,10 +12,9 @@ import hmac
 import logging
 import secrets
 import time
-from typing import Any
+from typing import Any, Callable
 
 from .asked import folded
-from .clocks import SteadyClock
 from .keeper import A_MOMENT, SHARED, Keeper, NotKept
 from .model.operations import SEATS
 from .records import SeatFreed, SeatGiven, SeatUsed
@@ -23,6 +22,7 @@ from .refusals import Refused
 from .state import SeatReplica, State
 from .writing import confirmed
 
+JUMP = 60.0  # seconds between what passed and what the system's clock says
 NOTED = 1 / 24  # of the time after which a seat that nobody uses is free
 
 
@@ -200,3 +200,20 @@ class Seating:
                 logging.info("seat %d of %s is free again", seat.index, seat.name)
                 self._free(seat.index)
                 self._keeper.listeners.tell("seats")
+
+
+class SteadyClock:
+    """The system's clock beside one that cannot be set."""
+
+    def __init__(self, patience: float, wall: Callable[[], float] = time.time,
+                 passed: Callable[[], float] = time.monotonic) -> None:
+        """`patience` are the seconds for which a clock must go on without a jump."""
+        self._patience, self._wall, self._passed = patience, wall, passed
+        self._offset, self._since = wall() - passed(), passed()
+
+    def is_so(self) -> bool:
+        """Return whether the clock has gone on without a jump for long enough. To be asked now and then."""
+        offset, now = self._wall() - self._passed(), self._passed()
+        if abs(offset - self._offset) > JUMP:
+            self._offset, self._since = offset, now
+        return now - self._since >= self._patience

@@ -19,11 +19,9 @@ from .records import (JOURNAL_FORM, AllNews, AnyEntry, Bound, Came, Clock, Field
 from .former_journal import Former
 from .journal import Broken
 from .model.changes import all_lines, altered, lines_of, operations_on
-from .model.choices import shareable
-from .model.forgetting import forgettable
-from .model.operations import SEATS, Operation, Stamp, same_int
+from .model.choices import forgettable, shareable
+from .model.operations import SEATS, Operation, Stamp, same_int, stamped_anew
 from .model.road import Road
-from .model.stamping import stamped_anew
 from .stamps import StampClock
 
 TAB_FORM = 4  # the protocol of tabs

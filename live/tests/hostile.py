@@ -15,8 +15,7 @@ from server import verbs
 from server.asked import Asked
 from server.refusals import Refused
 from server.client import Seat
-from server.doors import neighbourhood
-from server.strangers import Strangers
+from server.doors import Strangers, neighbourhood
 from server.tabs import Tab, taken_apart
 from running import PATIENCE, SMALL, Case, Server, until
 from working import takes_at_most

@@ -12,7 +12,7 @@ from running import Case, new_folder
 from server import verbs
 from server.asked import Asked
 from server.refusals import Refused
-from server.clocks import SteadyClock
+from server.seating import SteadyClock
 from server.lab import Lab
 
 

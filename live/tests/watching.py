@@ -13,12 +13,11 @@ from faulty import Here
 from running import HELD_UP, Case, Watched, until
 from working import takes_at_most
 from server.client import Seat
-from server.collecting import keep_collections_short
 from server.keeper import Keeper
 from server.model.operations import About, edit
 from server.model.road import Road
 from server.tabs import Tab, Tabs
-from server.watch import SAID, Watch, is_of_server
+from server.watch import SAID, Watch, is_of_server, keep_collections_short
 
 
 SHAPES = 130

@@ -11,8 +11,6 @@ set, and each module has one part of it:
     projection   the edits by which a program that shows one road comes to show another
     seen         where a layer is in force, who covers the rest, and whose change was lost
     changes      the list of changes: its lines, and which of them an operation may alter
-    choices      what a seat can undo, redo and share
-    forgetting   which private operations no longer matter
-    stamping     private operations under other stamps
+    choices      what a seat can undo, redo, share and forget
     former       journals and messages of forms 1 and 2
 """
