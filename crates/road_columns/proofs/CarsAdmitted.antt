@@ -114,7 +114,7 @@ module _ (g : Layout) (first k i : ℕ) (cars : CarColumns) (words : IntervalWor
         (inlets_first g.plan.now g.regions.now g.sites.now are.layout.sites_are) are.standing.cars_are.low are.standing.cars_are.order are.standing.places_are on
         cars'.cells.items cars'.speeds.items cars'.numbers.items number free admits put.cells put.speeds put.numbers named)
 
-    -- with its words
+    -- a car is inserted together with its words
     module _ (words' : IntervalWords) (width : ℕ) (wide : width ≡ length cars.cells.items + 8) (keeps : KeepsCar words words' cars.tail)
         (kept : words.worded ≡ true → cars.head ≤ slice_index cars.places.items i → AreFalling cars.cells.items cars.head cars.tail
         → IsPutIn cars.cells.items cars'.cells.items (slice_index cars.places.items i) cars.tail (slice_index g.sites.now i) 0

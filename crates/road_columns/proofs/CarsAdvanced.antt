@@ -34,7 +34,7 @@ use Rattle.road_columns.proofs.RegionPlaces.{end_in, ends_fall, in_region, last_
 use Rattle.road_columns.proofs.StepSites.{detector_each, detector_from, detector_to, ends_each, ends_from, rises_from, sites_before_exit}
 use Rattle.road_columns.proofs.StretchColumns.{one_leaves}
 
--- what `advance_regions` does
+-- the result of `advance_regions`
 pub record AreAdvanced (regions : List Region) (ends row : List ℕ) (index n : ℕ) (beside : List ℕ) (batches : List (List ℕ)) (head tail : ℕ) (cells speeds cells' speeds' : List ℕ) : Type 0 where
   pub all : MovesCars head tail cells speeds cells' speeds'
   pub by_regions : (r q : ℕ) → IsOfRegion (length regions) ends r q → head ≤ q → (word : ℕ)
@@ -42,7 +42,7 @@ pub record AreAdvanced (regions : List Region) (ends row : List ℕ) (index n : 
       → slice_index speeds' q ≡ slowed_speed (wish_at (region_at regions r).chances.limit (region_at regions r).block cells speeds q)
       (comes_about word (chance_at (slice_index speeds q) (region_at regions r).chances.standing (region_at regions r).chances.moving))
 
--- for each region the place of the first car before it
+-- `ends` has the place of the first car before each region
 abbrev pub ends_of : Layout → CarColumns → ℕ → List ℕ
 ends_of g cars start = slice_range cars.places.items start (length g.sites.now)
 
@@ -124,10 +124,10 @@ module _ (g : Layout) (t n : ℕ) (cars cars' : CarColumns) (words : IntervalWor
             (ends_of g cars start) are.layout.fits few_cells rising are.layout.regions_are c wide few are.words_are.entered.rising words.worded are.words_are.of_cars are.free from each done.by_regions done.all.moved;
       }
 
--- columns before the motion, after it, and once the first has left and the places have moved on
+-- columns before the motion, after it, and once the first car has left and the places of the sites are updated
 module _ (g : Layout) (t : ℕ) (cars moved cars' : CarColumns) (words : IntervalWords) (are : AreReady g (64 * (t / 64)) (t % 64) (length g.plan.now.inlets) cars words)
     (moves : MoveCars g.plan.now g.settings.now t cars moved) where
-  -- no other car than the first may leave
+  -- only the first car can leave, so all others stay before the exit
   pub one_goes : (i : ℕ) → moved.head + 1 ≤ i → i < moved.tail → slice_index moved.cells.items i < exit_start g.plan.now
   one_goes i above below =
       let head = moves.head in
@@ -195,7 +195,7 @@ module _ (g : Layout) (t : ℕ) (cars moved cars' : CarColumns) (words : Interva
         (road_stepped p cars.cells.items moved.speeds.items moved.cells.items cars'.cells.items cars.head cars'.head cars.tail few_cells are.standing.cars_are moves.cells_each (left.long ∙ moves.cells_each) left.from left.to left.order
         moves.moved moves.apart moves.others left.kept left.rest left.front left.left left.stay g.settings.now t b cars.speeds.items cars.numbers.items on_road columns (moves.speed_is b on_road columns))
 
-  -- what is counted at a detector, by its place
+  -- the count at a detector follows from the place of its site
   module _ (d place count start : ℕ) (below : d < length g.plan.now.detectors) (starts : start ≡ length g.plan.now.inlets) (at : place ≡ slice_index cars.places.items (start + d)) (of_steps : IsOfSteps (t % 64) count) where
     behind : slice_index moved.cells.items cars.tail ≡ 0
     behind = moves.others cars.tail (inr (omega arith)) ∙ are.standing.cars_are.behind

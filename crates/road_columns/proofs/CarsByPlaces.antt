@@ -1,4 +1,5 @@
--- Columns are those of an array exactly where they have what stands at each of its cells.
+-- Columns hold the cars of an array exactly if they have the vehicle at each of its cells. Motion and entries are
+-- defined cell by cell, so this connects them with columns.
 use Rattle.std.specs.Prelude.{◌≡◌, ℕ, ◌+◌, ◌<◌, List, length, slice_index}
 use Rattle.std.proofs.Common.{sym, ap, ◌∙◌, arith}
 use Rattle.std.specs.declared.option.Option.TheVariants.{Some}
@@ -21,11 +22,11 @@ nobody = record { number = 0; cell = 0; speed = 0 }
 pub same_cars : (a b : Array) → ((c : ℕ) → vehicle_at a c ≡ vehicle_at b c) → cars_of a ≡ cars_of b
 same_cars a b same = sym (cars_from-array_of_places 0 a) ∙ ap (cars_from 0) (array_of_places-same a b same) ∙ cars_from-array_of_places 0 b
 
--- what stands at a cell of an array is what stands there of its cars
+-- the vehicle at a cell of an array is that of its car there
 pub among_cars : (a : Array) (c : ℕ) → vehicle_among c (cars_of a) ≡ vehicle_at a c
 among_cars a c = let here : c ≡ 0 + c = omega arith in ap (λ x. vehicle_among x (cars_of a)) here ∙ vehicle_among-cars_from 0 c a
 
--- columns of an array have what stands at each of its cells
+-- columns of an array have the vehicle at each of its cells
 pub cars_at : (a : Array) (cells speeds numbers : List ℕ) → AreColumnsOf a cells speeds numbers
     → AreCarsAt (vehicle_at a) (length cells) (slice_index cells) (slice_index speeds) (slice_index numbers)
 cars_at a cells speeds numbers columns =
@@ -46,7 +47,7 @@ cars_at a cells speeds numbers columns =
     }
 
 module _ (cell speed number : ℕ → ℕ) where
-  -- columns that have what stands at each cell of an array are those of the array
+  -- columns that have the vehicle at each cell of an array are columns of the array
   pub columns_at : (b : Array) (n : ℕ) (cells speeds numbers : List ℕ) → AreCarsAt (vehicle_at b) n cell speed number → length cells ≡ n
       → ((i : ℕ) → i < n → slice_index cells i ≡ cell i) → ((i : ℕ) → i < n → slice_index speeds i ≡ speed i) → ((i : ℕ) → i < n → slice_index numbers i ≡ number i)
       → AreColumnsOf b cells speeds numbers

@@ -11,7 +11,7 @@ use Rattle.road_columns.specs.declared.regions.Region.{Region}
 pub inlets_first : (p : Plan) (regions : List Region) (sites : List ℕ) → AreSitesOf p regions sites → AreCellsOfInlets p sites
 inlets_first p regions sites are = record { within = let many = are.as_many in omega arith; each = are.inlets }
 
--- they are before the exit
+-- all inlets are before the exit, since the plan is within the limits
 pub inlets_before_exit : (p : Plan) (regions : List Region) (sites : List ℕ) → IsWithinLimits p → AreSitesOf p regions sites → (i : ℕ) → i < length p.inlets → slice_index sites i < exit_start p
 inlets_before_exit p regions sites within are i below =
     let is = are.inlets i below in

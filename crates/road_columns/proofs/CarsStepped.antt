@@ -1,4 +1,4 @@
--- The columns once a step's cars have moved, and the first has left if it reached the exit.
+-- The columns after a step: the cars have moved, and the first has left if it reached the exit.
 use Rattle.std.specs.Prelude.{◌≡◌, ℕ, ◌+◌, ◌-◌, ◌<◌, ◌≤◌, ◌⊎◌, List, length, slice_index, slice_range}
 use Rattle.std.proofs.Common.{sym, ap, ◌∙◌, arith, refl, inl, inr, subst}
 use Rattle.std.proofs.lemmas.Bool.{cases_lt}
@@ -20,7 +20,7 @@ use Rattle.road_columns.proofs.LooseWords.{loose_moved}
 use Rattle.road_columns.proofs.PlacesMoved.{falling_moved, places_moved_on}
 use Rattle.road_columns.proofs.StepColumns.{columns_stepped}
 
--- columns by other lists with the same values at the places of the cars
+-- columns depend only on the values at the places of the cars, so other lists with these values do as well
 pub columns_same : (a : Array) (cells cells' vs numbers : List ℕ) (head tail : ℕ) → tail ≤ length cells → tail ≤ length cells' → ((i : ℕ) → head ≤ i → i < tail → slice_index cells' i ≡ slice_index cells i)
     → AreColumnsOf a (slice_range cells head tail) (slice_range vs head tail) (slice_range numbers head tail) → AreColumnsOf a (slice_range cells' head tail) (slice_range vs head tail) (slice_range numbers head tail)
 columns_same a cells cells' vs numbers head tail within within' same columns =

@@ -1,4 +1,4 @@
--- What columns count in packed numbers is what the detectors count.
+-- The packed counts of the columns are the counts of the detectors.
 use Rattle.std.specs.Prelude.{◌≡◌, ℕ, ◌+◌, ◌/◌, ◌%◌, ◌<◌, ◌≤◌, Bool, true, false, cond, List, length, sum, slice_index}
 use Rattle.std.proofs.Common.{ap, ◌∙◌, arith, refl}
 use Rattle.std.specs.List.{slice_index_or}
@@ -44,7 +44,7 @@ packed_passes p s t b cells old numbers new vs d place long columns as_many move
         ∙ totals_alone (is_past new (slice_index p.detectors d) place) (slice_index vs place) small
     by_test false = off (is_past new (slice_index p.detectors d) place) (slice_index vs place)
 
--- the same where no car stands before the site
+-- one step of one detector if no car stands before the site
 pub packed_nowhere : (p : Plan) (s : Settings) (t : ℕ) (b : Array) (cells old numbers new vs : List ℕ) (d place : ℕ) → length b ≤ p.cells
     → AreColumnsOf b cells old numbers → length new ≡ length cells
     → ((i : ℕ) → i < length cells → slice_index new i ≡ slice_index cells i + slice_index vs i)

@@ -1,4 +1,5 @@
--- What columns count at a site is what its detector counts.
+-- The count of the columns at a site is the count of its detector: at most one car passes, the first one before the
+-- site.
 use Rattle.std.specs.Prelude.{◌≡◌, ◌≢◌, ℕ, zero, suc, ◌+◌, ◌<◌, ◌≤◌, Bool, true, false, cond, List, [], ◌∷◌, length, map, slice_index}
 use Rattle.std.proofs.Common.{sym, ap, ◌∙◌, arith, refl}
 use Rattle.std.specs.List.{filter, slice_index_or}
@@ -26,7 +27,7 @@ length-drives [] vs same = refl
 length-drives (car ∷ cars) [] same = absurd (omega arith)
 length-drives (car ∷ cars) (v ∷ vs) same = ap suc (length-drives cars vs (omega arith))
 
--- the speed of one, where it passes
+-- the speed of one car, if it passes
 abbrev pub alone : Bool → ℕ → List ℕ
 alone true v = v ∷ []
 alone false v = []
@@ -87,7 +88,7 @@ counted_at_place p s t a cells old numbers new vs site place long columns as_man
         drive_at (cars_of a) (speeds p s t a) (mirrored (length cells) i) d each (omega arith)
         ∙ (λ j. record { cell = sym (columns.cell_each i below) j; speed = sym (are i below) j })
 
--- where no car stands before a site, none is counted
+-- if no car stands before a site, no car is counted
 pub counted_nowhere : (p : Plan) (s : Settings) (t : ℕ) (a : Array) (cells old numbers new vs : List ℕ) (site place : ℕ) → length a ≤ p.cells
     → AreColumnsOf a cells old numbers → length new ≡ length cells
     → ((i : ℕ) → i < length cells → slice_index new i ≡ slice_index cells i + slice_index vs i)

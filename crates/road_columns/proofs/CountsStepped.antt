@@ -1,4 +1,4 @@
--- One more step is counted at each detector, by the kept places.
+-- One more step is counted at each detector, by the stored places of the sites.
 use Rattle.std.specs.Prelude.{◌≡◌, ℕ, ◌+◌, ◌-◌, ◌%◌, ◌<◌, ◌≤◌, Bool, true, false, List, length, nat_le, slice_index, slice_range}
 use Rattle.std.proofs.Common.{sym, ap, ◌∙◌, arith, inl, inr}
 use Rattle.std.proofs.lemmas.Bool.{cases_lt}
@@ -28,7 +28,7 @@ module _ (cells vs new : List ℕ) (head tail : ℕ) (order : head ≤ tail) (be
       let at = ap (slice_index new) end in
       ap (λ hit. counted hit watched (slice_index vs place)) (past_not site (slice_index new place) (omega arith))
 
-  -- a count stays within its steps
+  -- a count stays small enough for its number of steps, so no sum overflows
   pub count_more : (site place k n : ℕ) (watched : Bool) → 0 < site → head ≤ place → place ≤ tail → k < 64 → IsOfSteps k n → IsOfSteps (k + 1) (n + passes_of new vs watched site place)
   count_more site place k n watched some from to early is = elim (cases_lt place tail) as (λ _. IsOfSteps (k + 1) (n + passes_of new vs watched site place)) [
     | inl inside ↦ one_step_more k n (is_past new site place) watched (slice_index vs place) early (slow place from inside) is

@@ -43,7 +43,7 @@ pub columns_of_held : (cells speeds numbers : List ℕ) (head tail : ℕ) → ta
 columns_of_held cells speeds numbers head tail within falling =
     ranges_of_cars (road_in cells speeds numbers head tail) cells speeds numbers head tail within (cars_of_held cells speeds numbers head tail falling)
 
--- a road that has these columns is the one that they hold, if it is made as roads are
+-- a road with these columns is the one that they hold: roads with the same vehicles are equal
 pub held_is : (n : ℕ) (f : ℕ → Option Vehicle) (cells speeds numbers : List ℕ) (head tail : ℕ) → tail ≤ length cells → AreFalling cells head tail
     → AreColumnsOf (array n f) (slice_range cells head tail) (slice_range speeds head tail) (slice_range numbers head tail)
     → road_in cells speeds numbers head tail ≡ array n f
@@ -74,7 +74,7 @@ module _ (cells speeds numbers : List ℕ) (head tail : ℕ) (falling : AreFalli
   pub each_held : (a : Array) (cars : List Car) → cars ≡ cars_of a → road_in cells speeds numbers head tail ≡ a → (k : ℕ) → k < tail - head → nth_car cars k ≡ car_in k
   each_held a cars all is k below = ap (λ xs. nth_car xs k) (all ∙ held_list a is) ∙ car_held (from_place cells head) (from_place speeds head) (from_place numbers head) (tail - head) k below
 
-  -- a road whose cars they are is the one that they hold
+  -- if these are the cars of a road, it is the one that the columns hold
   pub same_held : (a : Array) (cars : List Car) → array_of cars ≡ a → length cars ≡ tail - head → ((k : ℕ) → k < tail - head → nth_car cars k ≡ car_in k) → road_in cells speeds numbers head tail ≡ a
   same_held a cars is many each =
       let size = many_held (from_place cells head) (from_place speeds head) (from_place numbers head) (tail - head) in

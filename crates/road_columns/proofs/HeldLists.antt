@@ -41,7 +41,7 @@ module _ (cell speed number : ℕ → ℕ) where
             let step = falling (m - 1) (omega arith) in omega arith),
       )
 
-  -- a cell is one of the cars', or none's
+  -- at each cell there is one of the cars, or none of them
   pub find : (n c : ℕ) → ((i : ℕ) × (i < n) × (cell i ≡ c)) ⊎ ((i : ℕ) → i < n → cell i ≢ c)
   find zero c = inr (λ i below. absurd (omega arith))
   find (suc m) c = elim (cases_eq (cell m) c) as (λ _. ((i : ℕ) × (i < suc m) × (cell i ≡ c)) ⊎ ((i : ℕ) → i < suc m → cell i ≢ c)) [
@@ -60,7 +60,7 @@ module _ (cell speed number : ℕ → ℕ) where
       let mirror : i ≡ mirrored n (mirrored n i) = omega arith in
       ap (λ k. record { number = number k; cell = cell k; speed = speed k }) mirror ∙ sym (car_held n (mirrored n i) (omega arith))
 
-  -- the array of the list has them
+  -- the array of the list has these cars
   pub held : (n : ℕ) → ((i : ℕ) → i + 1 < n → cell (i + 1) < cell i) → AreCarsAt (vehicle_at (array_of (cars_held cell speed number n))) n cell speed number
   held n falling =
       let many = many_held n in
@@ -83,7 +83,7 @@ module _ (cell speed number : ℕ → ℕ) where
     | inr none ↦ x.nobody c none ∙ sym (y.nobody c none)
   ]
 
--- cars that rise before a cell are no more than the cells before it
+-- there are at most as many cars before a cell as there are cells
 few_from : (k n : ℕ) (cars : List Car) → AreRisingFrom k cars → All (λ car. car.cell < n) cars → length cars ≤ n - k
 few_from k n [] rise before = omega arith
 few_from k n (car ∷ cars) rise before =

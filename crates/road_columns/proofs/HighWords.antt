@@ -1,4 +1,5 @@
--- Each car has some number in the row or beside it, whether or not it is that of its word.
+-- Each car has a number in the row or beside it, even if it is not that of its word: cars that cannot move need no
+-- word.
 use Rattle.std.specs.Prelude.{◌≡◌, ℕ, zero, suc, ◌-◌, ◌<◌, ◌≤◌, ◌⊎◌, List, [], slice_index}
 use Rattle.std.proofs.Common.{ap, subst, arith, inl, inr}
 use Rattle.std.proofs.lemmas.Bool.{cases_lt}
@@ -6,7 +7,7 @@ use Rattle.std.specs.List.{slice_index_or}
 use Rattle.road_columns.specs.Private.EnteredList.{ArePlacesRising}
 use Rattle.road_columns.specs.Private.Pieces.{IsHigh16At}
 
--- of the first n places the first one that is not before q, and those before it
+-- of the first n places, the first one that is not before q
 record IsFirstFrom (n : ℕ) (beside : List ℕ) (q m : ℕ) : Type 0 where
   within : m < n
   from : q ≤ slice_index beside m

@@ -19,7 +19,7 @@ few_cars p head tail cells cars = elim (cases_lt head tail) as (λ _. tail - hea
   | inr none ↦ omega arith
 ]
 
--- but after its last step an interval goes on
+-- except after its last step, an interval continues
 pub words_on : (p : Plan) (t : ℕ) (cars : CarColumns) (words : IntervalWords) → t % 64 < 63
     → HaveIntervalWords p (64 * (t / 64)) (t % 64 + 1) cars words → HaveIntervalWords p (64 * ((t + 1) / 64)) ((t + 1) % 64) cars words
 words_on p t cars words early have =

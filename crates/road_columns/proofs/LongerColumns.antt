@@ -18,12 +18,12 @@ use Rattle.road_columns.specs.declared.counts.Counts.{Counts}
 use Rattle.road_columns.specs.declared.interval.IntervalWords.{IntervalWords}
 use Rattle.road_columns.proofs.CarsStepped.{places_same}
 
--- what holds, holds where a result is an error
+-- a fact that holds anyway also holds if the result is an error
 pub on_err : {T E P : Type 0} (r : Result T E) → P → OnErr r P
 on_err (Ok x) holds = tt
 on_err (Err e) holds = holds
 
--- cars by the same cells, speeds and numbers
+-- the cars depend only on cells, speeds and numbers
 same_cars : (cell cell' speed speed' number number' : ℕ → ℕ) (n : ℕ) → ((i : ℕ) → i < n → cell i ≡ cell' i) → ((i : ℕ) → i < n → speed i ≡ speed' i) → ((i : ℕ) → i < n → number i ≡ number' i)
     → cars_held cell speed number n ≡ cars_held cell' speed' number' n
 same_cars cell cell' speed speed' number number' zero cells speeds numbers = refl
@@ -62,7 +62,7 @@ module _ (old new : CarColumns) (are : AreLonger old new) where
       ∙ ap array_of (same_cars (from_place new.cells.items old.head) (from_place old.cells.items old.head) (from_place new.speeds.items old.head) (from_place old.speeds.items old.head) (from_place new.numbers.items old.head) (from_place old.numbers.items old.head) (old.tail - old.head)
       (λ i below. are.cells (old.head + i) (omega arith)) (λ i below. are.speeds (old.head + i) (omega arith)) (λ i below. are.numbers (old.head + i) (omega arith)))
 
--- the parts of a run still agree
+-- the parts of a run still fit together
 pub running_longer : (p : Plan) (sites : List ℕ) (t lo hi : ℕ) (cars cars' : CarColumns) (words words' : IntervalWords) (counts : Counts) → MakesRoom cars cars' words words'
     → AreRunning p sites t lo hi cars words counts → AreRunning p sites t lo hi cars' words' counts
 running_longer p sites t lo hi cars cars' words words' counts made are =

@@ -45,7 +45,7 @@ chance_none speed standing moving none_standing none_moving = either (nat_eq spe
     either true = none_standing
     either false = none_moving
 
--- in front of a region's cells is its next blocked cell
+-- the next blocked cell in front of a region's cells is the one stored with the region
 pub block_ahead : (p : Plan) (s : Settings) (regions : List Region) (r c : ℕ) → p.cells ≤ 65520 → AreRegionsOf p s regions → IsInRegion regions r c → c < exit_start p → c < (region_at regions r).block
 block_ahead p s regions r c short are is on_road =
     let region = are.each r is.within in
@@ -85,7 +85,7 @@ module _ (p : Plan) (s : Settings) (t : ℕ) (regions : List Region) (cells old 
   no_chance : (r q : ℕ) → r < length regions → AreFree regions → chance_at (slice_index old q) (region_at regions r).chances.standing (region_at regions r).chances.moving ≡ 0
   no_chance r q within none = chance_none (slice_index old q) (region_at regions r).chances.standing (region_at regions r).chances.moving (none r within).0 (none r within).1
 
-  -- the new speed is that by the word of the car
+  -- the new speed follows rule 3 with the word of the car
   by_word : (q r : ℕ) → head ≤ q → q < tail → IsOfRegion (length regions) ends r q → (w : ℕ)
       → (0 < wish_at (region_at regions r).chances.limit (region_at regions r).block cells old q → word p.words (slice_index numbers q) t / 65536 ≡ w / 65536)
       → slice_index vs q ≡ slowed_speed (wish_at (region_at regions r).chances.limit (region_at regions r).block cells old q)

@@ -1,4 +1,5 @@
--- A run on a stretch with its margins: its next input is right wherever it may matter on the stretch in the steps left.
+-- A run on a stretch with its margins: its next input is right at all cells that can matter to the stretch in the
+-- remaining steps.
 use Rattle.std.specs.Prelude.{◌≡◌, ℕ, ◌+◌, ◌-◌, ◌*◌, ◌≤◌, min}
 use Rattle.std.proofs.Common.{sym, subst, ◌∙◌, arith, inl, inr}
 use Rattle.std.proofs.lemmas.Bool.{cases_lt}
@@ -26,7 +27,8 @@ near_entries p s t a lo hi k from to begin end within = record {
   ];
 }
 
--- the next input of a run on the cells of a stretch, and 9 more behind it and ahead for each step of a span that is left
+-- the next input of a run on the cells of a stretch, and 9 more behind it and ahead for each step of a span that is
+-- left
 pub near_run : (span : Span) (k lo hi : ℕ) (run : UnderWay) → run.plan ≡ span.plan → run.settings ≡ span.settings → run.step ≡ span.step + k
     → run.lo ≤ lo - GREATEST_SPEED * (span.steps - k) → min (hi + GREATEST_SPEED * (span.steps - k)) span.plan.cells ≤ run.hi → run.hi ≤ span.plan.cells
     → IsInputNear lo hi span k run.road (next_input run)

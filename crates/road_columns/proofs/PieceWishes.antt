@@ -1,4 +1,5 @@
--- What the cars of a piece want is what they want among all the cars that have not moved.
+-- The cars of a piece want the same speeds as if no car had moved yet: the loop goes from the near end on, so the cars
+-- in front have not moved.
 use Rattle.std.specs.Prelude.{◌≡◌, ◌≢◌, ℕ, ◌+◌, ◌-◌, ◌<◌, ◌≤◌, List, min, nat_eq, slice_index, if◌then◌else◌}
 use Rattle.std.proofs.Common.{sym, ap, ◌∙◌, arith, inl, inr, subst}
 use Rattle.std.proofs.lemmas.Bool.{cases_eq}
@@ -21,7 +22,7 @@ module _ (from front limit end : ℕ) (cells old speeds olds : List ℕ) (same :
       ≡ wanted_speed (slice_index olds q) limit (min GREATEST_SPEED (ahead' - (slice_index old q + 1)))
   wish_by ahead ahead' q below is = λ i. wanted_speed (same_speed q below i) limit (min GREATEST_SPEED (is i - (same q below i + 1)))
 
-  -- of a piece behind a car
+  -- for a piece behind a car
   pub wish_behind : (place q : ℕ) → from ≤ place → place < q → q < end → wanted_at (place + 1) (slice_index cells place) limit cells speeds q ≡ wanted_at from front limit old olds q
   wish_behind place q low above below = wish_by (ahead_at (place + 1) (slice_index cells place) cells q) (ahead_at from front old q) q below
       (elim (cases_eq q (place + 1)) as (λ _. ahead_at (place + 1) (slice_index cells place) cells q ≡ ahead_at from front old q) [
@@ -33,12 +34,12 @@ module _ (from front limit end : ℕ) (cells old speeds olds : List ℕ) (same :
             at_later (place + 1) (slice_index cells place) q (slice_index cells (q - 1)) other ∙ same (q - 1) (omega arith) ∙ sym (at_later from front q (slice_index old (q - 1)) (omega arith))
       ])
 
-  -- of one car
+  -- for one car
   pub wish_alone : (place q next : ℕ) → q ≡ place → q < end → next ≡ ahead_at from front old q → wanted_at place next limit cells speeds q ≡ wanted_at from front limit old olds q
   wish_alone place q next here below is = wish_by (ahead_at place next cells q) (ahead_at from front old q) q below
       (at_first place next q (slice_index cells (q - 1)) here ∙ is)
 
-  -- of the piece in front of all
+  -- for the piece in front of all cars
   pub wish_first : (q : ℕ) → from ≤ q → q < end → wanted_at from front limit cells speeds q ≡ wanted_at from front limit old olds q
   wish_first q low below = wish_by (ahead_at from front cells q) (ahead_at from front old q) q below
       (elim (cases_eq q from) as (λ _. ahead_at from front cells q ≡ ahead_at from front old q) [

@@ -1,4 +1,4 @@
--- Kept places and the order of the columns after the motion, also where the first car has left.
+-- The places of sites and the order of the columns after the motion, even if the first car has left.
 use Rattle.std.specs.Prelude.{◌≡◌, ℕ, ◌+◌, ◌-◌, ◌<◌, ◌≤◌, ◌&&◌, List, length, nat_le, nat_lt, slice_index, if◌then◌else◌}
 use Rattle.std.proofs.Common.{ap, arith, inl, inr}
 use Rattle.std.proofs.lemmas.Bool.{cases_lt, cases_eq}
@@ -11,11 +11,11 @@ module _ (cells speeds new : List ℕ) (head head' tail : ℕ) (order : head' �
     (moved : (k : ℕ) → head ≤ k → k < tail → slice_index new k ≡ slice_index cells k + slice_index speeds k)
     (apart : (k : ℕ) → head ≤ k → k + 1 < tail → slice_index new (k + 1) < slice_index cells k)
     (behind : slice_index new tail ≡ 0) where
-  -- the cells fall on
+  -- the cells still fall
   pub falling_moved : AreFalling new head' tail
   falling_moved i low below = let step = apart i (omega arith) below in let move = moved i (omega arith) (omega arith) in omega arith
 
-  -- the place of a site; a car that has left is past it
+  -- the place of a site stays right: a car that has left is past the site
   pub place_moved_on : (site place place' : ℕ) → head ≤ place → IsPlaceAt (tail - head) (from_place cells head) site (place - head)
       → (head' ≡ head + 1 → site ≤ slice_index new head) → place' ≡ place_on new site place
       → (head' ≤ place') × IsPlaceAt (tail - head') (from_place new head') site (place' - head')

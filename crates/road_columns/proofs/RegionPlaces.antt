@@ -1,4 +1,4 @@
--- The region of a car by the kept places of the regions.
+-- The region of a car, found from the stored places of the regions.
 use Rattle.std.specs.Prelude.{◌≡◌, ℕ, zero, suc, ◌+◌, ◌-◌, ◌<◌, ◌≤◌, List, length, slice_index}
 use Rattle.std.proofs.Common.{ap, arith, inl, inr}
 use Rattle.std.proofs.lemmas.Bool.{cases_lt}
@@ -6,7 +6,7 @@ use Rattle.road_columns.specs.Private.CarsAt.{IsPlaceAt, from_place}
 use Rattle.road_columns.specs.Private.Regions.{IsInRegion, IsOfRegion, region_at}
 use Rattle.road_columns.specs.declared.regions.Region.{Region}
 
--- one of the first regions, in which a cell lies, or behind all of these
+-- a cell lies in one of the first regions, or in front of all of them
 pub record RegionAmong (regions : List Region) (n c : ℕ) : Type 0 where
   pub place : ℕ
   pub within : place ≤ n
@@ -63,7 +63,7 @@ module _ (regions : List Region) (ends : List ℕ) (head tail : ℕ) (cells : Li
         let at = at_place q low in omega arith;
   }
 
-  -- and the other way round
+  -- a car on the cells of a region is at its places
   pub of_region : (r q : ℕ) → IsInRegion regions r (slice_index cells q) → head ≤ q → q < tail → IsOfRegion (length regions) ends r q
   of_region r q is low high = record {
     within = is.within;

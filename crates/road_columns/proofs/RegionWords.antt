@@ -13,7 +13,7 @@ use Rattle.road_columns.proofs.EnteredLists.{all_of}
 use Rattle.road_columns.proofs.PieceWords.{count_before}
 use Rattle.road_columns.proofs.WordsNeeded.{word_beside, word_needed}
 
--- those of a car that wants to move
+-- the words of a car that wants to move
 pub high16_at : (kind : WordKind) (first width k : ℕ) (rows : List ℕ) (n : ℕ) (beside : List ℕ) (batches : List (List ℕ)) (head tail : ℕ) (cells speeds : List ℕ) (number : ℕ → ℕ) (q limit block : ℕ)
     → k < 64 → AreFalling cells head tail → head ≤ q → q < tail → tail ≤ width → ((i : ℕ) → i < n → i ≤ slice_index beside i)
     → HaveLooseWords kind first width k rows (entered_in n beside batches) head tail cells number

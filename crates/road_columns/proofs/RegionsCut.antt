@@ -32,7 +32,7 @@ longer : (regions : List Region) (region : Region) → length (regions ++ (regio
 longer [] region = refl
 longer (x ∷ regions) region = let rest = longer regions region in omega arith
 
--- one more
+-- one more region extends them
 pub one_more : (p : Plan) (s : Settings) (regions : List Region) (region : Region) (first end : ℕ) → region.first ≡ first → first < exit_start p
     → AreRegionsUpTo p s regions first → IsRegionTo p s region end → AreRegionsUpTo p s (regions ++ (region ∷ [])) end
 one_more p s regions region first end is_first on_road are is = record {
@@ -57,7 +57,7 @@ one_more p s regions region first end is_first on_road are is = record {
     none : Region
     none = record { first = 0; chances = record { limit = 0; standing = 0; moving = 0 }; block = 0 }
 
--- up to the exit they are the regions of the road
+-- regions that reach the exit are the regions of the road
 pub all_regions : (p : Plan) (s : Settings) (regions : List Region) (end : ℕ) → 0 < exit_start p → exit_start p ≤ end → AreRegionsUpTo p s regions end → AreRegionsOf p s regions
 all_regions p s regions end some past are = record {
   some = elim (cases_eq (length regions) 0) as (λ _. 0 < length regions) [

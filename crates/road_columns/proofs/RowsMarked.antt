@@ -21,7 +21,7 @@ module _ (cells speeds numbers : List ℕ) (head tail : ℕ) (falling : AreFalli
   abbrev road : Array
   road = road_in cells speeds numbers head tail
 
-  -- its speeds are digits where those of the road's cars are
+  -- the speeds in the columns are digits if those of the road's cars are
   pub speed_digits : HasDigits road → (i : ℕ) → head ≤ i → i < tail → slice_index speeds i ≤ GREATEST_SPEED
   speed_digits digits i from below =
       let here : head + (i - head) ≡ i = omega arith in
@@ -29,7 +29,7 @@ module _ (cells speeds numbers : List ℕ) (head tail : ℕ) (falling : AreFalli
       let stands = (cars_of_held cells speeds numbers head tail falling).stands (i - head) (omega arith) in
       let slow = digits (from_place cells head (i - head)) (record { number = from_place numbers head (i - head); speed = from_place speeds head (i - head) }) stands in omega arith
 
-  -- each cell has the letter of the car there, where there is one
+  -- each cell with a car has the letter of that car
   pub cars_marked : (blocked row : List ℕ)
       → ((i : ℕ) → i < tail - head → slice_index row (from_place cells head i) ≡ STANDING + from_place speeds head i)
       → ((c : ℕ) → ((i : ℕ) → i < tail - head → from_place cells head i ≢ c) → slice_index row c ≡ slice_index blocked c)

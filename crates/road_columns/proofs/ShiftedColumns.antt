@@ -29,7 +29,7 @@ closed-behind xs end inside = let size = length-set xs 7 65535 in get_or-set_sam
 
 module _ (cells cells' : List ℕ) (head tail first end : ℕ) (order : head ≤ tail) (many : end ≡ first + (tail - head)) (some : 0 < first)
     (moved : (i : ℕ) → i < tail - head → slice_index cells' (first + i) ≡ slice_index cells (head + i)) where
-  -- what stands at a place stood at another
+  -- a value is at a place exactly if it was at the shifted place before
   pub stood : (i : ℕ) → first ≤ i → i < end → slice_index cells' i ≡ slice_index cells (head + (i - first))
   stood i from below =
       let here : first + (i - first) ≡ i = omega arith in

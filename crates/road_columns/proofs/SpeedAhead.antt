@@ -20,7 +20,7 @@ use Rattle.road_ends.specs.Speed.{chance_at, speed, nth_car}
 use Rattle.road_ends.proofs.PassOverCars.{read_speed}
 use Rattle.road_columns.specs.Private.Regions.{AreOfZone}
 
--- of n cells this is the k-th, or a cell past all roads if there is none
+-- the k-th of n cells, or a cell past all roads if k is n
 pub record IsNthOrNowhere (n k kth c : ℕ) : Type 0 where
   pub here : k < n → c ≡ kth
   pub none : n ≤ k → c ≡ 4294967295
@@ -64,7 +64,7 @@ free_ahead blocks a k reached next block long below rising parted is_next is_blo
     least : (m n l : ℕ) → l ≡ min m n → min GREATEST_SPEED l ≡ min (min GREATEST_SPEED m) (min GREATEST_SPEED n)
     least m n l is = omega arith
 
--- the speed by them is that of the definition
+-- the speed computed from these free cells is that of the definition
 pub ahead_speed : (p : Plan) (s : Settings) (t : ℕ) (a : Array) (k reached next block limit standing moving v : ℕ) → Fits p s → length a ≤ p.cells → p.cells ≤ 65536 → IsNonDecreasing s.blocks
     → k < length (cars_of a) → ArePartedAt s.blocks (cell_at (cars_of a) k) reached
     → IsNthOrNowhere (length (cars_of a)) (k + 1) (cell_at (cars_of a) (k + 1)) next → IsNthOrNowhere (length s.blocks) reached (slice_index s.blocks reached) block

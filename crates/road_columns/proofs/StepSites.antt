@@ -15,14 +15,14 @@ use Rattle.road_columns.specs.declared.regions.Region.{Region}
 use Rattle.road_columns.proofs.ColumnPlaces.{range_at, same_place}
 use Rattle.road_columns.proofs.EnteredLists.{all_at}
 
--- places that rise are at least as many as stand before them
+-- a place in a rising list is at least its index
 pub rises_from : (n : ℕ) (xs : List ℕ) → ArePlacesRising n xs → (i : ℕ) → i < n → i ≤ slice_index xs i
 rises_from n xs rising zero below = omega arith
 rises_from n xs rising (suc i) below =
     let earlier = rises_from n xs rising i (omega arith) in
     let next = rising.rising i (suc i) (omega arith) below in omega arith
 
--- those that have entered stand before the tail
+-- the cars that have entered between others stand before the tail
 pub stand_before : (n tail : ℕ) (beside : List ℕ) (batches : List (List ℕ)) → AreInOrder (entered_in n beside batches) tail → (i : ℕ) → i < n → slice_index beside i < tail
 stand_before n tail beside batches order i below = all_at (λ car. car.place < tail) n (slice_index beside) (high16_in batches) order.low i below
 

@@ -1,4 +1,4 @@
--- Columns without the cars past a cell: one at most is left out in a step.
+-- Columns without the cars past a cell: at most one car is removed in a step.
 use Rattle.std.specs.Prelude.{◌≡◌, ℕ, ◌+◌, ◌-◌, ◌<◌, ◌≤◌, List, length, slice_index, slice_range}
 use Rattle.std.proofs.Common.{sym, ap, ◌∙◌, arith, inl, inr}
 use Rattle.std.specs.declared.option.Option.TheVariants.{None, Some}
@@ -9,7 +9,7 @@ use Rattle.road_columns.specs.Columns.{AreColumnsOf}
 use Rattle.road_columns.specs.Private.CarsAt.{AreCarsAt, from_place}
 use Rattle.road_columns.proofs.ColumnPlaces.{cars_of_ranges, ranges_of_cars}
 
--- the first cars are left out, which stand at a cell or past it
+-- the first cars, which stand at a cell or past it, are removed
 pub cars_cut : (b : Array) (hi n m : ℕ) (cell speed number : ℕ → ℕ) → AreCarsAt (vehicle_at b) n cell speed number → m ≤ n
     → ((i : ℕ) → i < m → hi ≤ cell i) → ((i : ℕ) → m ≤ i → i < n → cell i < hi)
     → AreCarsAt (vehicle_at (array hi (vehicle_at b))) (n - m) (λ i. cell (m + i)) (λ i. speed (m + i)) (λ i. number (m + i))
@@ -25,8 +25,8 @@ cars_cut b hi n m cell speed number are few past before = record {
   ];
 }
 
--- the same in columns: `out` cars leave at the far end, by the exit (hi = exit_start p: the array is road_before_exit p b) or by the
--- end of the stretch
+-- the same in columns: `out` cars leave at the far end, by the exit (hi = exit_start p: the array is road_before_exit p
+-- b) or by the end of the stretch
 pub columns_cut : (b : Array) (hi head tail out : ℕ) (cells speeds numbers : List ℕ) → tail ≤ length cells → head + out ≤ tail
     → ((i : ℕ) → head ≤ i → i < head + out → hi ≤ slice_index cells i) → ((i : ℕ) → head + out ≤ i → i < tail → slice_index cells i < hi)
     → AreColumnsOf b (slice_range cells head tail) (slice_range speeds head tail) (slice_range numbers head tail)

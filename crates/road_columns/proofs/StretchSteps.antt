@@ -26,7 +26,7 @@ use Rattle.road_columns.specs.UnderWay.{CanRun}
 use Rattle.road_columns.specs.Private.Held.{StandOn}
 use Rattle.road_columns.proofs.CarsByPlaces.{among_cars}
 
--- where all cars stand on some cells, nobody stands elsewhere
+-- if all cars stand on some cells, the other cells are empty
 pub nobody_outside : (lo hi : ℕ) (a : Array) → StandOn lo hi a → (c : ℕ) → (c < lo) ⊎ (hi ≤ c) → vehicle_at a c ≡ None
 nobody_outside lo hi a stand c outside = elim (vehicle_at a c) as (λ o. vehicle_at a c ≡ o → o ≡ None) [
   | None ↦ λ is. refl
@@ -40,7 +40,7 @@ nobody_outside lo hi a stand c outside = elim (vehicle_at a c) as (λ o. vehicle
 ] refl
 
 module _ (p : Plan) (s : Settings) (t lo hi : ℕ) (a : Array) (within : hi ≤ p.cells) where
-  -- the road with its entries, of these cells alone
+  -- the road with its entries has vehicles on these cells only
   abbrev entered : Array
   entered = entries_between lo hi p s t a
 
@@ -87,13 +87,13 @@ module _ (p : Plan) (s : Settings) (t lo hi : ℕ) (a : Array) (within : hi ≤ 
         let new = by.new_speed in omega arith;
   }
 
--- their speeds are digits
+-- the speeds of these cars are digits
 pub digits : (lo hi : ℕ) (a : Array) → StandOn lo hi a → HaveDigits (cars_of a)
 digits lo hi a stand j d below =
     stand.slow (cell_at (cars_of a) j) (vehicle_of (slice_index_or (cars_of a) j d))
     (sym (among_cars a (cell_at (cars_of a) j)) ∙ vehicle_among-at 0 (cars_of a) j d (rise-cars_from 0 a) below)
 
--- what holds for all cars holds of the one at a cell
+-- a fact about all cars holds for the car at a cell
 among_all : (P : Car → Type 0) (cars : List Car) → All P cars → (c : ℕ) (v : Vehicle) → vehicle_among c cars ≡ Some v → P (car_of c v)
 among_all P [] all c v is = absurd (none-some v is)
 among_all P (car ∷ cars) all c v is = elim (cases_eq car.cell c) as (λ _. P (car_of c v)) [
@@ -104,7 +104,7 @@ among_all P (car ∷ cars) all c v is = elim (cases_eq car.cell c) as (λ _. P (
   | inr other ↦ among_all P cars (λ j d below. all (suc j) d (omega arith)) c v (sym (vehicle_among-other car cars c other) ∙ is)
 ]
 
--- cars that a run can have stand on its cells
+-- the cars that a run can hold stand on its cells
 pub stand_all : (lo hi exit : ℕ) (cars : List Car) → All (CanRun lo hi exit) cars → StandOn lo hi (array_of cars)
 stand_all lo hi exit cars all = record {
   from = λ c v is. (among_all (CanRun lo hi exit) cars all c v (sym (vehicle_at-array_of cars c) ∙ is)).from;

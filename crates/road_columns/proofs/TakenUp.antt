@@ -1,9 +1,9 @@
--- Cars that a run can have, taken up.
+-- The cars with which a run is started or restarted.
 use Rattle.std.specs.Prelude.{◌<◌, ℕ, List}
 use Rattle.std.specs.List.{All}
 use Rattle.road_cells.specs.declared.car.Car.{Car}
 use Rattle.road_columns.specs.UnderWay.{CanRun}
 
--- they stand before the exit
+-- the cars that a run can hold stand before the exit
 pub all_before : (lo hi exit : ℕ) (cars : List Car) → All (CanRun lo hi exit) cars → All (λ car. car.cell < exit) cars
 all_before lo hi exit cars all j d below = (all j d below).before_exit

@@ -1,4 +1,4 @@
--- The totals of detectors, kept with the counts of an interval.
+-- The totals of detectors, with the counts of the current interval.
 use Rattle.std.specs.Prelude.{◌≡◌, ℕ, zero, suc, ◌+◌, ◌<◌, ◌≤◌, List, ◌∷◌, length, map, slice_index}
 use Rattle.std.proofs.Common.{sym, ap, ◌∙◌, arith, refl}
 use Rattle.std.specs.List.{range_with_len, slice_index_or}
@@ -20,14 +20,14 @@ total_at passes totals d below = get_or-map-range_with_len (total_in passes tota
 pub totals_long : (passes : List ℕ) (totals : List Totals) → length (totals_in passes totals) ≡ length totals
 totals_long passes totals = length-map-range_with_len (total_in passes totals) 0 (length totals)
 
--- totals, one after another, in whatever order they are added up
+-- sums of totals do not depend on how they are grouped
 pub plus_together : (x y z : Totals) → plus x (plus y z) ≡ plus (plus x y) z
 plus_together x y z =
     let cars : x.cars + (y.cars + z.cars) ≡ (x.cars + y.cars) + z.cars = omega arith in
     let speeds : x.speeds + (y.speeds + z.speeds) ≡ (x.speeds + y.speeds) + z.speeds = omega arith in
     (λ i. record { cars = cars i; speeds = speeds i })
 
--- one more step, of these counts
+-- one more step adds its counts
 pub totals_more : (passes passes' : List ℕ) (totals : List Totals) (more : ℕ → Totals) → length passes ≡ length totals
     → ((d : ℕ) → d < length passes → unpacked (slice_index passes' d) ≡ plus (unpacked (slice_index passes d)) (more d))
     → totals_in passes' totals ≡ map (λ d. plus (slice_index_or (totals_in passes totals) d no_totals) (more d)) (range_with_len 0 (length (totals_in passes totals)))

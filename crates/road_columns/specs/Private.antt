@@ -1,4 +1,4 @@
--- What columns, rows and kept places keep from step to step. Only contracts of private functions name it.
+-- Invariants of columns, of rows of words and of the places of sites. Only contracts of private functions name them.
 pub mod Cars
 pub mod CarsAt
 pub mod Counts

@@ -13,7 +13,7 @@ use Rattle.road_detector.specs.Passes.{no_totals, passes_at, plus}
 use Rattle.road_detector.specs.declared.counts.Totals.{Totals}
 
 -- a run under way: a plan, settings, the number of the next step, the cells from lo to before hi, the road before that
--- step, and the counts of the detectors since they began
+-- step, and the counts of the detectors since they were last zero
 pub record UnderWay : Type 0 where
   pub plan : Plan
   pub settings : Settings
@@ -23,8 +23,8 @@ pub record UnderWay : Type 0 where
   pub road : Array
   pub totals : List Totals
 
--- a car that a run can hold: it stands on the cells from lo to before hi and before the exit, is not too fast, and has
--- a short number
+-- a run can hold a car: the car stands on the cells from lo to before hi, before the exit, is not too fast, and has a
+-- number below 2^32
 pub record CanRun (lo hi exit : ℕ) (car : Car) : Type 0 where
   pub from : lo ≤ car.cell
   pub to : car.cell < hi
@@ -43,7 +43,7 @@ pub record IsAt (t : ℕ) (a : Array) (run : UnderWay) : Type 0 where
   pub hi : run.hi ≡ run.plan.cells
   pub road : run.road ≡ a
 
--- the input of the next step of a run: its road with the cars that enter on its cells
+-- the input of the next step of a run: the cells of its road, with the cars that enter there
 abbrev pub next_input : UnderWay → StepInput
 next_input run = input_between run.lo run.hi run.plan run.settings run.step run.road
 
@@ -53,8 +53,8 @@ total_after run d =
     plus (slice_index_or run.totals d no_totals) (passes_at (next_input run) (input_speeds (next_input run)) d)
 
 -- a run after its next step: its cells end 9 cells later, since no car drives farther in a step
-abbrev pub stepped : UnderWay → UnderWay
-stepped run = record {
+abbrev pub run_after_step : UnderWay → UnderWay
+run_after_step run = record {
   plan = run.plan;
   settings = run.settings;
   step = run.step + 1;
@@ -64,22 +64,22 @@ stepped run = record {
   totals = map (total_after run) (range_with_len 0 (length run.totals));
 }
 
--- the totals of the detectors of a plan that have counted nothing
-abbrev pub nothing_counted : Plan → List Totals
-nothing_counted p = map (λ d. no_totals) (range_with_len 0 (length p.detectors))
+-- zero totals for each detector of a plan
+abbrev pub zero_counts : Plan → List Totals
+zero_counts p = map (λ d. no_totals) (range_with_len 0 (length p.detectors))
 
 -- a run of a plan that starts at a step from a road, on the cells from lo to before hi
-abbrev pub begun_on : Plan → Settings → ℕ → ℕ → ℕ → Array → UnderWay
-begun_on p s t lo hi a = record {
+abbrev pub run_on : Plan → Settings → ℕ → ℕ → ℕ → Array → UnderWay
+run_on p s t lo hi a = record {
   plan = p;
   settings = s;
   step = t;
   lo = lo;
   hi = hi;
   road = a;
-  totals = nothing_counted p;
+  totals = zero_counts p;
 }
 
--- a run that starts on the whole road, which is empty
-abbrev pub begun : Plan → Settings → UnderWay
-begun p s = begun_on p s 0 0 p.cells []
+-- a run of a plan that starts at step 0 on the whole road, which is empty
+abbrev pub new_run : Plan → Settings → UnderWay
+new_run p s = run_on p s 0 0 p.cells []

@@ -198,7 +198,7 @@ fn copy_longer<T: Copy>(
     Ok(longer)
 }
 
-/// Inserts a value at a place of a column, before `tail`.
+/// Insert a value at a place of a column, before `tail`.
 #[inline(always)]
 pub fn insert<T: Copy>(column: &mut Vec<T>, place: usize, tail: usize, value: T)
     requires order { place ≤ tail }
@@ -212,7 +212,7 @@ pub fn insert<T: Copy>(column: &mut Vec<T>, place: usize, tail: usize, value: T)
     column[place] = value;
 }
 
-// Update the kept places of sites after a car has entered at a cell.
+// Update the places of sites after a car has entered at a cell.
 #[inline(always)]
 fn move_places(sites: &[u16], places: &mut [u32], cell: u16)
     requires places { length places.old ≡ length sites.now }
@@ -226,7 +226,7 @@ fn move_places(sites: &[u16], places: &mut [u32], cell: u16)
     }
 }
 
-/// Update the kept places of sites after the motion. At most one car passes a site in a step.
+/// Update the places of sites after the motion. At most one car passes a site in a step.
 #[inline(always)]
 pub fn move_on(cells: &[u16], sites: &[u16], places: &mut [u32])
     requires few { length cells.now < 2 ^ 32 }

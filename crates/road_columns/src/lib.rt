@@ -5,7 +5,7 @@
 //! few passes over contiguous memory.
 //!
 //! ```
-//! // Simulates a hundred steps of a plan from the empty road, and prints the road as a row of text.
+//! // Simulate a hundred steps of a plan from the empty road, and print the road as a row of text.
 //!     run.step(alloc, 100)?;
 //! }
 //! println!(rt; "{}", run.row(alloc)?)?;

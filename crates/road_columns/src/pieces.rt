@@ -9,7 +9,7 @@ ghost use Rattle.road_columns.specs.Private.Pieces.{ahead_at, wanted_at, BeginsA
 use crate::motion::{Chances, advance};
 use crate::step_words::{Piece, Platoon, StepWords};
 
-/// Moves the cars of a platoon.
+/// Move the cars of a platoon.
 #[inline(always)]
 pub fn advance_in(
     cells: &mut [u16],

@@ -79,7 +79,7 @@ pub fn advance_regions(
     }
 }
 
-// Moves the cars of a region.
+// Move the cars of a region.
 #[inline(always)]
 fn advance_region(
     cells: &mut [u16],

@@ -44,7 +44,7 @@ pub fn text_of(
     Ok(String::from_utf8(row).unwrap())
 }
 
-// Marks the blocked cells.
+// Mark the blocked cells.
 fn with_blocks(mut row: Vec<u8>, blocks: &[u32]) -> Vec<u8>
     ensures same_length { length result.items ≡ length row.items }
     ensures marked { (c : ℕ) → c < length row.items → slice_index result.items c

@@ -18,8 +18,8 @@ use crate::layout::Layout;
 use crate::shifting::shift_back;
 use crate::words::Source;
 
-/// Prepare a step: draws the words of its interval if they are missing, for the inlets and, if cars are slowed, for all
-/// cars. The cars are moved back to the first places first.
+/// Prepare a step: draw the words of its interval if they are missing, for the inlets and, if cars are slowed, for all
+/// cars. Before drawing, move the cars back to the first places.
 pub fn make_ready(layout: &Layout, step: u32, cars: &mut CarColumns, words: &mut IntervalWords)
     requires step { step < 2 ^ 27 }
     requires layout { IsLayout layout.now }

@@ -105,7 +105,7 @@ fn move_cars(
     cars.head = leave(&mut cars.cells, cars.head, cars.tail, exit_start);
 }
 
-// Moves the cars by their new speeds.
+// Move the cars by their new speeds.
 #[inline(always)]
 fn advance_cars(layout: &Layout, step: u32, cars: &mut CarColumns, words: &IntervalWords)
     requires step { step < 2 ^ 27 }

@@ -16,7 +16,7 @@ ghost use Rattle.road_columns.specs.Private.Cars.{road_of};
 ghost use Rattle.road_columns.specs.Private.Drawn.{drawn_word};
 ghost use Rattle.road_columns.specs.Private.Entering.{ArePlacesFrom};
 ghost use Rattle.road_columns.specs.Private.Step.{AreCarsInColumn};
-ghost use Rattle.road_columns.specs.UnderWay.{CanRun, IsAt, IsRunnable, begun, begun_on, nothing_counted, stepped};
+ghost use Rattle.road_columns.specs.UnderWay.{CanRun, IsAt, IsRunnable, new_run, run_on, zero_counts, run_after_step};
 
 use crate::cars::CarColumns;
 use crate::counts::{Counts, clear_counts, totals_now};
@@ -62,8 +62,8 @@ impl Model for UnderWay {
     ghost invariant = { IsRunning };
 }
 
-/// Return whether a run can start from a road on the cells of a stretch: [`UnderWay::take_up`] says when. It takes no
-/// memory.
+/// Return whether a run can start from a road on the cells of a stretch ([`UnderWay::restart_on`] says when). It takes
+/// no memory.
 pub fn is_runnable(plan: &Plan, stretch: Stretch, road: &Road) -> bool
     ensures { IsTrue result ↔ IsRunnable stretch.first stretch.end plan.now road.now }
 {
@@ -82,20 +82,20 @@ impl UnderWay {
         settings: Arc<Settings>,
     ) -> Result<UnderWay, OutOfMemory>
         requires fits { Fits (arc_value plan) (arc_value settings) }
-        ensures { IfOk result (λ run. run ≡ begun (arc_value plan) (arc_value settings)) }
+        ensures { IfOk result (λ run. run ≡ new_run (arc_value plan) (arc_value settings)) }
     {
         let nobody: [Car; 0] = [];
         let end = plan.length();
         UnderWay::of_cars(alloc, plan, settings, 0, Stretch { first: 0, end }, &nobody)
     }
 
-    /// Start a run of a plan from a road, at a step, on the cells of a stretch. Return `None` if [`UnderWay::take_up`]
-    /// would return `false`. The settings must fit the plan.
+    /// Start a run of a plan from a road, at a step, on the cells of a stretch. Return `None` if
+    /// [`UnderWay::restart_on`] would return `false`. The settings must fit the plan.
     ///
     /// # Errors
     ///
     /// `OutOfMemory` if an allocation fails.
-    pub fn begin_on(
+    pub fn start_on(
         alloc: Global,
         plan: Arc<Plan>,
         settings: Arc<Settings>,
@@ -107,7 +107,7 @@ impl UnderWay {
         requires up_to { step ≤ GREATEST_HORIZON }
         requires on_road { stretch.end ≤ (arc_value plan).cells }
         ensures begun { IfOk result (λ begun. IfSome begun (λ run. run
-            ≡ begun_on (arc_value plan) (arc_value settings) step stretch.first stretch.end road.now)) }
+            ≡ run_on (arc_value plan) (arc_value settings) step stretch.first stretch.end road.now)) }
         ensures runnable { IfOk result (λ begun. IsSome begun
             ↔ IsRunnable stretch.first stretch.end (arc_value plan) road.now) }
     {
@@ -132,7 +132,7 @@ impl UnderWay {
         requires on_road { stretch.end ≤ (arc_value plan).cells }
         requires rise { AreRising cars.now }
         requires can_run { All (CanRun stretch.first stretch.end (exit_start (arc_value plan))) cars.now }
-        ensures { IfOk result (λ run. run ≡ begun_on (arc_value plan) (arc_value settings) step stretch.first
+        ensures { IfOk result (λ run. run ≡ run_on (arc_value plan) (arc_value settings) step stretch.first
             stretch.end (array_of cars.now)) }
     {
         let kept = Kept::of(alloc, &plan, &settings)?;
@@ -158,7 +158,7 @@ impl UnderWay {
     /// # Errors
     ///
     /// `OutOfMemory` if an allocation fails. Nothing changes then.
-    pub fn take_up(
+    pub fn restart_on(
         &mut self,
         alloc: Global,
         settings: Arc<Settings>,
@@ -170,7 +170,7 @@ impl UnderWay {
         requires up_to { step ≤ GREATEST_HORIZON }
         requires on_road { stretch.end ≤ self.old.plan.cells }
         ensures taken { IfOk result (λ taken. IsTrue taken → self.new
-            ≡ begun_on self.old.plan (arc_value settings) step stretch.first stretch.end road.now) }
+            ≡ run_on self.old.plan (arc_value settings) step stretch.first stretch.end road.now) }
         ensures runnable { IfOk result (λ taken. IsTrue taken
             ↔ IsRunnable stretch.first stretch.end self.old.plan road.now) }
         ensures refused { IfOk result (λ taken. IsFalse taken → self.new ≡ self.old) }
@@ -220,12 +220,12 @@ impl UnderWay {
     ///
     /// # Errors
     ///
-    /// `OutOfMemory` if an allocation fails, and for no other reason. Nothing changes then, so the step can be made
-    /// again later. A step takes memory only if there is no room for the cars that may enter: in `ahead` steps (64 at
-    /// most) where the words of an interval are drawn, else in this step.
+    /// `OutOfMemory` if an allocation fails, and for no other reason. Nothing changes then, so the step can be retried
+    /// later. A step allocates only if there is no room for the cars that may enter: those of `ahead` steps (at most
+    /// 64) if it draws the words of an interval, else those of this step.
     pub fn step(&mut self, alloc: Global, ahead: u32) -> Result<(), OutOfMemory>
         requires { self.old.step < GREATEST_HORIZON }
-        ensures stepped { OnOk result (self.new ≡ stepped self.old) }
+        ensures run_after_step { OnOk result (self.new ≡ run_after_step self.old) }
         ensures err { OnErr result (self.new ≡ self.old) }
     {
         let inlets = self.plan.inlets().len();
@@ -273,7 +273,7 @@ impl UnderWay {
         text_of(alloc, &self.plan, self.settings.blocks(), &self.cars)
     }
 
-    /// Return the totals of each detector since its counts began.
+    /// Return the totals of each detector since its counts were last zero.
     ///
     /// # Errors
     ///
@@ -286,7 +286,7 @@ impl UnderWay {
 
     /// Set all counts to zero.
     pub fn restart_counts(&mut self)
-        ensures { self.new ≡ record self.old { totals = nothing_counted self.old.plan } }
+        ensures { self.new ≡ record self.old { totals = zero_counts self.old.plan } }
     {
         clear_counts(&mut self.counts.passes, &mut self.counts.totals);
     }

@@ -25,7 +25,7 @@ use Rattle.road_format.specs.Replies.{Answer, Refused}
 use Rattle.road_format.specs.Views.{answer_view}
 use Rattle.road_format.specs.declared.answer.Answer as declared
 use Rattle.road_format.specs.declared.refusal.Refusal.{Refusal}
-use Rattle.road_commands.specs.Private.Changes.{IsTold, names_message}
+use Rattle.road_commands.specs.Private.Changes.{AnswersRefusal, names_message}
 use Rattle.road_commands.specs.Private.Outcomes.{IsOutcome}
 use Rattle.road_commands.specs.Laboratory.{Laboratory, Outcome, change_outcome, import_outcome, laboratory_of_winners, outcome_unless}
 use Rattle.road_commands.specs.Laboratory.{replica_refusal, touched_answer, world_refusal}
@@ -67,16 +67,16 @@ named e (Some cause) fault refusal is said = ap world_refusal (sym is) ∙ said
 named e None fault refusal is said = let unsaid = unnamed e fault is in cc
 
 -- a refusal that is answered is that of the named cause at the replica
-told_refusal : (lab : Laboratory) (e : Event) (fault : WorldFault) (refusal : Refusal) → replica_number e < length lab.world.replicas → IsRefusal e (fault_of_event lab.world e) fault
+answered_refusal : (lab : Laboratory) (e : Event) (fault : WorldFault) (refusal : Refusal) → replica_number e < length lab.world.replicas → IsRefusal e (fault_of_event lab.world e) fault
     → world_refusal fault ≡ Some refusal → option_and_then world_refusal (fault_at_replica lab.world e) ≡ Some refusal
-told_refusal lab e fault refusal below is said =
+answered_refusal lab e fault refusal below is said =
     let here = subst (λ (cause : Option WorldFault). IsRefusal e cause fault) (fault_there lab.world e below) is in
     named e (fault_at_replica lab.world e) fault refusal here said
 
 -- the answer is a refusal
-told_is : (refusal : Option Refusal) (answer : declared.Answer) → IsTold refusal (Ok answer) → (r : Refusal) × ((refusal ≡ Some r) × (answer_view answer ≡ Refused r))
-told_is None answer is = cc
-told_is (Some r) answer is = (r, (refl, sym (same_some (Refused r) (answer_view answer) is)))
+refused_by : (refusal : Option Refusal) (answer : declared.Answer) → AnswersRefusal refusal (Ok answer) → (r : Refusal) × ((refusal ≡ Some r) × (answer_view answer ≡ Refused r))
+refused_by None answer is = cc
+refused_by (Some r) answer is = (r, (refl, sym (same_some (Refused r) (answer_view answer) is)))
 
 -- a refusal that is answered counts no crew
 named_gone : (fault : WorldFault) (r : Refusal) (n : ℕ) → world_refusal fault ≡ Some r → gone_after_answer (Err fault) n ≡ n
@@ -96,35 +96,35 @@ named_gone (world_faults.Replica replica_faults.OutOfMemory) r n said = refl
 named_gone (world_faults.Replica replica_faults.WorkersGone) r n said = cc
 
 -- a crew's fault counts as it does at the replica
-gone_told : (lost : CrewFault) (n : ℕ) → gone_after_answer (Err (world_faults.Replica (growth_fault lost))) n ≡ gone_after {A = declared.Answer} (Err lost) n
-gone_told crew_faults.WorkersGone n = refl
-gone_told crew_faults.OutOfMemory n = refl
+gone_passed_on : (lost : CrewFault) (n : ℕ) → gone_after_answer (Err (world_faults.Replica (growth_fault lost))) n ≡ gone_after {A = declared.Answer} (Err lost) n
+gone_passed_on crew_faults.WorkersGone n = refl
+gone_passed_on crew_faults.OutOfMemory n = refl
 
 -- What the world refuses is answered by its refusal, or not at all, if the outcome is the refusal of a named cause
 module _ (lab : Laboratory) (e : Event) (fault : WorldFault) (new : Laboratory) (count later : ℕ) (below : replica_number e < length lab.world.replicas) (is : IsRefusal e (fault_of_event lab.world e) fault)
     (same : new ≡ lab) (won : laboratory_of_winners lab ≡ lab) (gone : later ≡ gone_after_answer (Err fault) count) where
-  of_refusal : (o : Outcome) (told : Result declared.Answer CrewFault) → IsTold (world_refusal fault) told → IfErr told (λ lost. fault ≡ world_faults.Replica (growth_fault lost))
-      → ((r : Refusal) → option_and_then world_refusal (fault_at_replica lab.world e) ≡ Some r → o ≡ record { answer = Refused r; after = lab }) → IsOutcome o told lab new count later
-  of_refusal o (Ok answer) told lost refuses =
-      let said = told_is (world_refusal fault) answer told in
-      let refused : o ≡ record { answer = Refused said.0; after = lab } = refuses said.0 (told_refusal lab e fault said.0 below is said.1.0) in
+  of_refusal : (o : Outcome) (result : Result declared.Answer CrewFault) → AnswersRefusal (world_refusal fault) result → IfErr result (λ lost. fault ≡ world_faults.Replica (growth_fault lost))
+      → ((r : Refusal) → option_and_then world_refusal (fault_at_replica lab.world e) ≡ Some r → o ≡ record { answer = Refused r; after = lab }) → IsOutcome o result lab new count later
+  of_refusal o (Ok answer) result lost refuses =
+      let said = refused_by (world_refusal fault) answer result in
+      let refused : o ≡ record { answer = Refused said.0; after = lab } = refuses said.0 (answered_refusal lab e fault said.0 below is said.1.0) in
       let unasked : later ≡ count = gone ∙ named_gone fault said.0 count said.1.0 in record {
         answer = said.1.1 ∙ sym (ap (λ (p : Outcome). p.answer) refused);
         after = same ∙ sym won ∙ sym (ap (λ (p : Outcome). laboratory_of_winners p.after) refused);
         unchanged = tt;
         gone = unasked;
       }
-  of_refusal o (Err lost) told is_lost refuses = record {
+  of_refusal o (Err lost) result is_lost refuses = record {
     answer = tt;
     after = tt;
     unchanged = same;
-    gone = gone ∙ ap (λ (f : WorldFault). gone_after_answer (Err f) count) is_lost ∙ gone_told lost count;
+    gone = gone ∙ ap (λ (f : WorldFault). gone_after_answer (Err f) count) is_lost ∙ gone_passed_on lost count;
   }
 
   -- an event that the world refuses is answered with that refusal
-  pub refused_change : (answer : Answer) (told : Result declared.Answer CrewFault) → IsTold (world_refusal fault) told → IfErr told (λ lost. fault ≡ world_faults.Replica (growth_fault lost))
-      → IsOutcome (change_outcome lab e answer) told lab new count later
-  refused_change answer told is_told lost = of_refusal (change_outcome lab e answer) told is_told lost (λ r cause. rw cause refl)
+  pub refused_change : (answer : Answer) (result : Result declared.Answer CrewFault) → AnswersRefusal (world_refusal fault) result → IfErr result (λ lost. fault ≡ world_faults.Replica (growth_fault lost))
+      → IsOutcome (change_outcome lab e answer) result lab new count later
+  refused_change answer result answers lost = of_refusal (change_outcome lab e answer) result answers lost (λ r cause. rw cause refl)
 
 -- ---- imports
 

@@ -3,10 +3,10 @@ use Rattle.std.proofs.Common.{◌≡◌, ℕ, List, Option, Some, None, refl}
 use Rattle.std.specs.Option.{option_and_then, option_map_or}
 use Rattle.road_scenario.specs.declared.edit.Edit as edit
 use Rattle.road_format.specs.CommandGrammar as commands
-use Rattle.road_format.specs.CommandGrammar.{Command}
+use Rattle.road_format.specs.CommandGrammar.{Command, replica_name}
 use Rattle.road_format.specs.declared.refusal.Refusal.{Refusal}
 use Rattle.road_format.specs.declared.refusal.Refusal.TheVariants as refusals
-use Rattle.road_commands.specs.Laboratory.{Laboratory, Outcome, crowd_of, crowd_outcome, laboratory_after, number_of, outcome_at, outcome_by_name, outcome_by_number, outcome_unless, replica_name}
+use Rattle.road_commands.specs.Laboratory.{Laboratory, Outcome, crowd_of, crowd_outcome, laboratory_after, number_of, outcome_at, outcome_by_name, outcome_by_number, outcome_unless}
 
 -- the plan after an outcome is the laboratory's
 abbrev KeepsPlan : Laboratory → Outcome → Type 0
@@ -31,11 +31,7 @@ at_kept lab r (commands.Beyond at asked name) =
 at_kept lab r (commands.Take at name) =
     by_number_kept lab refusals.NoMessage (number_of lab.message_names name) _ (λ message. unless_kept lab _ _ refl)
 at_kept lab r (commands.Advance at to) = unless_kept lab _ _ refl
-at_kept lab r (commands.Cells at step) = refl
-at_kept lab r (commands.Cars at step) = refl
-at_kept lab r (commands.Count at detector from to) = refl
-at_kept lab r (commands.Diagram at from to) = refl
-at_kept lab r (commands.Scenario at) = refl
+at_kept lab r (commands.Ask at query) = refl
 at_kept lab r (commands.Crowd shares to) = refl
 
 by_name_kept : (lab : Laboratory) (command : Command) → KeepsPlan lab (outcome_by_name lab command)

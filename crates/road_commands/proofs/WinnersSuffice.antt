@@ -14,7 +14,7 @@ use Rattle.road_scenario.specs.Winners.{winners}
 use Rattle.road_scenario.specs.declared.edit.Edit as edit
 use Rattle.road_delta.specs.Deltas.{beyond, heads}
 use Rattle.road_delta.specs.declared.heads.Head.{Head}
-use Rattle.road_replica.specs.Refusals.{rows_fault, state_fault, totals_fault}
+use Rattle.road_replica.specs.declared.faults.ReplicaFault.{ReplicaFault}
 use Rattle.road_replica.specs.declared.reply.Reply.{Reply}
 use Rattle.road_replica.specs.declared.reply.Reply.TheVariants as world_replies
 use Rattle.road_sheet.specs.Sheets.{Sheet}
@@ -26,12 +26,12 @@ use Rattle.road_world.specs.declared.event.Event.{Event}
 use Rattle.road_world.specs.declared.event.Event.TheVariants as events
 use Rattle.road_world.specs.declared.faults.WorldFault.{WorldFault}
 use Rattle.road_format.specs.CommandGrammar as commands
-use Rattle.road_format.specs.CommandGrammar.{Command}
+use Rattle.road_format.specs.CommandGrammar.{Command, Query, replica_name}
 use Rattle.road_format.specs.Replies as replies
 use Rattle.road_format.specs.Replies.{Answer, Delta, Sent}
 use Rattle.road_format.specs.declared.refusal.Refusal.{Refusal}
 use Rattle.road_format.specs.declared.refusal.Refusal.TheVariants as refusals
-use Rattle.road_commands.specs.Laboratory.{Laboratory, Outcome, answer_to, cars_answer, cars_of_state, cells_answer, change_outcome, count_answer, crowd_of, crowd_outcome, diagram_answer, edits_held, import_outcome, laboratory_after, laboratory_of_winners, name_refusal, number_of, outcome, outcome_at, outcome_by_name, replica_name, scenario_answer, totals_answer, message_outcome, query_outcome, query_answer, outcome_unless, outcome_by_number, world_refusal}
+use Rattle.road_commands.specs.Laboratory.{Laboratory, Outcome, answer_to, answer_unless, cars_of_state, change_outcome, crowd_of, crowd_outcome, edits_held, import_outcome, laboratory_after, laboratory_of_winners, message_outcome, name_refusal, number_of, outcome, outcome_at, outcome_by_name, outcome_by_number, outcome_unless, query_answer, query_fault, query_outcome, replica_refusal, sheet_answer, totals_answer, world_refusal}
 
 -- ---- outcomes, as far as winners are concerned
 
@@ -126,25 +126,25 @@ sheet_is w r =
 same_course : (s : Sheet) → settings_of s.plan (winners s.edits) ≡ settings_of s.plan s.edits
 same_course s = ap (λ (es : Edits). λ (step : ℕ). settings_in s.plan (items es) step) (winners_again s.edits)
 
-cells_alike : (s : Sheet) (step : ℕ) → cells_answer (sheet_of_winners s) step ≡ cells_answer s step
+-- so a sheet answers a query in the same way,
+answer_alike : (s : Sheet) (query : Query) → sheet_answer (sheet_of_winners s) query ≡ sheet_answer s query
 unfolding row_at
-cells_alike s step = ap (λ (c : Course). query_answer (state_fault s step) (replies.Cells (row s.plan c step))) (same_course s)
+answer_alike s (commands.Cells step) = ap (λ (c : Course). replies.Cells (row s.plan c step)) (same_course s)
+answer_alike s (commands.Cars step) = ap (λ (c : Course). replies.Cars (cars_of_state (run s.plan c step))) (same_course s)
+answer_alike s (commands.Count detector from to) = ap (λ (c : Course). totals_answer (total s.plan c detector from to)) (same_course s)
+answer_alike s (commands.Diagram from to) =
+    ap (λ (c : Course). replies.Rows (map (λ step. row s.plan c step) (range_with_len from (suc to - from)))) (same_course s)
+answer_alike s commands.Scenario = ap (λ (es : Edits). replies.Edits (items es)) (winners_again s.edits)
 
-cars_alike : (s : Sheet) (step : ℕ) → cars_answer (sheet_of_winners s) step ≡ cars_answer s step
-cars_alike s step =
-    ap (λ (c : Course). query_answer (state_fault s step) (replies.Cars (cars_of_state (run s.plan c step)))) (same_course s)
+-- and refuses it for the same cause
+fault_alike : (s : Sheet) (query : Query) → query_fault (sheet_of_winners s) query ≡ query_fault s query
+fault_alike s commands.Scenario = refl
+fault_alike s query = refl
 
-count_alike : (s : Sheet) (detector from to : ℕ) → count_answer (sheet_of_winners s) detector from to ≡ count_answer s detector from to
-count_alike s detector from to =
-    ap (λ (c : Course). query_answer (totals_fault s detector from to) (totals_answer (total s.plan c detector from to))) (same_course s)
-
-diagram_alike : (s : Sheet) (from to : ℕ) → diagram_answer (sheet_of_winners s) from to ≡ diagram_answer s from to
-unfolding row_at
-diagram_alike s from to =
-    ap (λ (c : Course). query_answer (rows_fault s from to) (replies.Rows (map (λ step. row s.plan c step) (range_with_len from (suc to - from))))) (same_course s)
-
-scenario_alike : (s : Sheet) → scenario_answer (sheet_of_winners s) ≡ scenario_answer s
-scenario_alike s = ap (λ (es : Edits). replies.Edits (items es)) (winners_again s.edits)
+query_alike : (s : Sheet) (query : Query) → query_answer (sheet_of_winners s) query ≡ query_answer s query
+query_alike s query =
+    ap (λ (cause : Option ReplicaFault). answer_unless (option_and_then replica_refusal cause) (sheet_answer (sheet_of_winners s) query)) (fault_alike s query)
+    ∙ ap (answer_unless (option_and_then replica_refusal (query_fault s query))) (answer_alike s query)
 
 -- a function of a replica's sheet, if the winners suffice for it
 read_alike : (lab : Laboratory) (r : ℕ) (read : Sheet → Answer) → ((s : Sheet) → read (sheet_of_winners s) ≡ read s)
@@ -184,11 +184,7 @@ outcome_at_alike lab r (commands.Take at name) =
     with_alike lab refusals.NoMessage (number_of lab.message_names name) _ _ (λ message.
     changed_alike lab (events.Take r message) _ _ (reply_alike (events.Take r message) lab.world))
 outcome_at_alike lab r (commands.Advance at to) = changed_alike lab (events.Advance r to) _ _ (reply_alike (events.Advance r to) lab.world)
-outcome_at_alike lab r (commands.Cells at step) = read_alike lab r (λ s. cells_answer s step) (λ s. cells_alike s step)
-outcome_at_alike lab r (commands.Cars at step) = read_alike lab r (λ s. cars_answer s step) (λ s. cars_alike s step)
-outcome_at_alike lab r (commands.Count at detector from to) = read_alike lab r (λ s. count_answer s detector from to) (λ s. count_alike s detector from to)
-outcome_at_alike lab r (commands.Diagram at from to) = read_alike lab r (λ s. diagram_answer s from to) (λ s. diagram_alike s from to)
-outcome_at_alike lab r (commands.Scenario at) = read_alike lab r scenario_answer scenario_alike
+outcome_at_alike lab r (commands.Ask at query) = read_alike lab r (λ s. query_answer s query) (λ s. query_alike s query)
 outcome_at_alike lab r (commands.Crowd shares to) = crowd_alike lab shares to
 
 -- a command whose replica is looked up first

@@ -38,7 +38,7 @@ use Rattle.road_world.specs.declared.event.Event.TheVariants as events
 use Rattle.road_world.specs.declared.faults.WorldFault.{WorldFault}
 use Rattle.road_world.specs.declared.faults.WorldFault.TheVariants as world_faults
 use Rattle.road_format.specs.CommandGrammar as commands
-use Rattle.road_format.specs.CommandGrammar.{Command}
+use Rattle.road_format.specs.CommandGrammar.{Command, Query, replica_name}
 use Rattle.road_format.specs.PlanGrammar.{PlanLine}
 use Rattle.road_format.specs.Replies as replies
 use Rattle.road_format.specs.Replies.{Answer, Counted, Delta, Horizon, Refused, Sent, Stamped, Touched}
@@ -189,38 +189,34 @@ abbrev pub answer_unless : Option Refusal → Answer → Answer
 answer_unless (Some refusal) answer = Refused refusal
 answer_unless None answer = answer
 
--- the refusal if there is a cause, and else the answer
-abbrev pub query_answer : Option ReplicaFault → Answer → Answer
-query_answer fault answer = answer_unless (option_and_then replica_refusal fault) answer
-
--- the row of a step
-abbrev pub cells_answer : Sheet → ℕ → Answer
-cells_answer sheet step = query_answer (state_fault sheet step) (replies.Cells (sheet_row sheet step))
-
 -- the cars of a road: number, cell, speed, in rising cells
 abbrev pub cars_of_state : Array → List (ℕ × ℕ × ℕ)
 cars_of_state road = map (λ car. (car.number, car.cell, car.speed)) (cars_of road)
-
--- the cars of a step
-abbrev pub cars_answer : Sheet → ℕ → Answer
-cars_answer sheet step = query_answer (state_fault sheet step) (replies.Cars (cars_of_state (state_of sheet step)))
 
 -- cars and the sum of their speeds, as an answer
 abbrev pub totals_answer : Totals → Answer
 totals_answer totals = Counted totals.cars totals.speeds
 
--- the counts of a detector in the steps from `from` to before `to`
-abbrev pub count_answer : Sheet → ℕ → ℕ → ℕ → Answer
-count_answer sheet detector from to =
-    query_answer (totals_fault sheet detector from to) (totals_answer (total_of sheet detector from to))
+-- why a sheet refuses a query, if it does
+abbrev pub query_fault : Sheet → Query → Option ReplicaFault
+query_fault sheet (commands.Cells step) = state_fault sheet step
+query_fault sheet (commands.Cars step) = state_fault sheet step
+query_fault sheet (commands.Count detector from to) = totals_fault sheet detector from to
+query_fault sheet (commands.Diagram from to) = rows_fault sheet from to
+query_fault sheet commands.Scenario = None
 
--- the rows of the steps from `from` to `to`, both included
-abbrev pub diagram_answer : Sheet → ℕ → ℕ → Answer
-diagram_answer sheet from to = query_answer (rows_fault sheet from to) (replies.Rows (rows_of sheet from to))
+-- the answer of a sheet to a query that it does not refuse
+abbrev pub sheet_answer : Sheet → Query → Answer
+sheet_answer sheet (commands.Cells step) = replies.Cells (sheet_row sheet step)
+sheet_answer sheet (commands.Cars step) = replies.Cars (cars_of_state (state_of sheet step))
+sheet_answer sheet (commands.Count detector from to) = totals_answer (total_of sheet detector from to)
+sheet_answer sheet (commands.Diagram from to) = replies.Rows (rows_of sheet from to)
+sheet_answer sheet commands.Scenario = replies.Edits (items (winners sheet.edits))
 
--- the winners, by object and step
-abbrev pub scenario_answer : Sheet → Answer
-scenario_answer sheet = replies.Edits (items (winners sheet.edits))
+-- the answer to a query, by the replica's sheet: the refusal if there is a cause
+abbrev pub query_answer : Sheet → Query → Answer
+query_answer sheet query =
+    answer_unless (option_and_then replica_refusal (query_fault sheet query)) (sheet_answer sheet query)
 
 -- a query is answered
 abbrev pub query_outcome : Laboratory → Answer → Outcome
@@ -245,23 +241,6 @@ crowd_outcome lab shares to =
 
 -- ---- commands
 
--- the name of a command's replica; a crowd names none
-abbrev pub replica_name : Command → Option (List ℕ)
-replica_name (commands.Edit at object step number) = Some at
-replica_name (commands.Withdraw at object step) = Some at
-replica_name (commands.Import at edits) = Some at
-replica_name (commands.Send at name) = Some at
-replica_name (commands.Heads at name) = Some at
-replica_name (commands.Beyond at asked name) = Some at
-replica_name (commands.Take at message) = Some at
-replica_name (commands.Advance at to) = Some at
-replica_name (commands.Cells at step) = Some at
-replica_name (commands.Cars at step) = Some at
-replica_name (commands.Count at detector from to) = Some at
-replica_name (commands.Diagram at from to) = Some at
-replica_name (commands.Scenario at) = Some at
-replica_name (commands.Crowd shares to) = None
-
 -- the outcome of a command to replica r
 abbrev pub outcome_at : Laboratory → ℕ → Command → Outcome
 outcome_at lab r (commands.Edit at object step number) =
@@ -275,12 +254,7 @@ outcome_at lab r (commands.Beyond at asked name) = beyond_outcome lab r asked na
 outcome_at lab r (commands.Take at message) = take_outcome lab r message
 outcome_at lab r (commands.Advance at to) =
     change_outcome lab (events.Advance r to) (Horizon (max (replica_at lab.world r).horizon to))
-outcome_at lab r (commands.Cells at step) = query_outcome lab (cells_answer (sheet_at lab.world r) step)
-outcome_at lab r (commands.Cars at step) = query_outcome lab (cars_answer (sheet_at lab.world r) step)
-outcome_at lab r (commands.Count at detector from to) =
-    query_outcome lab (count_answer (sheet_at lab.world r) detector from to)
-outcome_at lab r (commands.Diagram at from to) = query_outcome lab (diagram_answer (sheet_at lab.world r) from to)
-outcome_at lab r (commands.Scenario at) = query_outcome lab (scenario_answer (sheet_at lab.world r))
+outcome_at lab r (commands.Ask at query) = query_outcome lab (query_answer (sheet_at lab.world r) query)
 outcome_at lab r (commands.Crowd shares to) = crowd_outcome lab shares to
 
 -- the outcome of a command if its replica is looked up first

@@ -1,6 +1,6 @@
 //! A world with names, and its answers to commands.
 
-ghost use Rattle.std.specs.Prelude.{◌≡◌, ◌<◌, ◌≤◌, ◌++◌, ◌∷◌, [], Err, IfErr, IfOk, IfSome, None, OnErr, OnOk, Some};
+ghost use Rattle.std.specs.Prelude.{◌≡◌, ◌<◌, ◌≤◌, ◌++◌, ◌∷◌, [], Err, IfErr, IfOk, IfSome, IsSome, None, OnErr, OnOk, Some};
 ghost use Rattle.std.specs.Prelude.{false, is_none, length, string_bytes, true, ℕ};
 ghost use Rattle.std.specs.Arc.{arc_value};
 ghost use Rattle.std.specs.List.{All, IsDistinct};
@@ -15,7 +15,7 @@ ghost use Rattle.road_world.specs.Answers.{IsAnswer, fault_of_event, gone_after_
 ghost use Rattle.road_world.specs.Answers.{reply_to_event, sheet_at};
 ghost use Rattle.road_world.specs.Applied.{IsMade};
 ghost use Rattle.road_world.specs.Events.{carried_edits, makes_message, message_of_event, sending_event, world_after_event};
-ghost use Rattle.road_format.specs.CommandGrammar.{HasFewWrites};
+ghost use Rattle.road_format.specs.CommandGrammar.{HasFewWrites, query_of};
 ghost use Rattle.road_format.specs.Views.{answer_view, command_view, plan_line_view, shares_view, texts};
 ghost use Rattle.road_commands.specs.Laboratory.{answer_to, beyond_outcome, change_outcome, crowd_outcome};
 ghost use Rattle.road_commands.specs.Laboratory.{gone_after_command, is_gathered, laboratory_after};
@@ -28,9 +28,9 @@ ghost use Rattle.road_commands.specs.Private.Queries.{answer_to_query};
 
 use crate::crowds::crowd_refusal;
 use crate::names::Names;
-use crate::queries::{Query, ask_sheet};
+use crate::queries::ask_sheet;
 use crate::translation::{
-    answer_of, answer_of_fault, answer_of_message, answer_of_replica_fault, keeps_edits, name_of,
+    answer_of, answer_of_fault, answer_of_message, answer_of_replica_fault, keeps_edits,
 };
 use road_ends::Meter;
 use road_format::{Answer, Command, PlanLine, Refusal};
@@ -151,7 +151,7 @@ impl<S: BuildHasher + Copy> Laboratory<S> {
             edits,
             journal,
             row,
-        } = crowds.gathered(alloc, plan, shares, to)?;
+        } = crowds.gather(alloc, plan, shares, to)?;
         Ok(Answer::Crowd {
             edits,
             journal,
@@ -172,7 +172,7 @@ impl<S: BuildHasher + Copy> Laboratory<S> {
             (laboratory.outcome self.old (command_view command)) result self.old self.new
             (C.times_gone crew.old) (C.times_gone crew.new) }
     {
-        let Some(name) = name_of(&command) else {
+        let Some(name) = command.replica() else {
             return self.answer_at(alloc, 0, command, crew, crowds);
         };
         let Some(at) = self.replica_of(name) else {
@@ -231,32 +231,24 @@ impl<S: BuildHasher + Copy> Laboratory<S> {
             Command::Beyond { heads, name, .. } => self.beyond(alloc, at, &heads, name),
             Command::Take { message, .. } => self.take(alloc, at, &message, crew),
             Command::Advance { to, .. } => self.change(alloc, &Event::Advance { at, to }, crew),
-            Command::Cells { step, .. } => self.ask(alloc, at, Query::Cells { step }),
-            Command::Cars { step, .. } => self.ask(alloc, at, Query::Cars { step }),
-            Command::Count {
-                detector,
-                from,
-                to,
-                ..
-            } => self.ask(alloc, at, Query::Count { detector, from, to }),
-            Command::Diagram { from, to, .. } => self.ask(alloc, at, Query::Diagram { from, to }),
-            Command::Scenario { .. } => self.ask(alloc, at, Query::Scenario),
             Command::Crowd { shares, to } => self.gather(alloc, shares.as_slice(), to, crowds),
+            query => self.ask(alloc, at, &query),
         }
     }
 
-    // Query a replica's sheet. No crew is needed.
-    fn ask(&mut self, alloc: Global, at: u32, query: Query) -> Result<Answer, CrewFault>
-        requires { at < length self.old.replica_names }
+    // Answer a command that is a query from its replica's sheet. No crew is needed.
+    fn ask(&mut self, alloc: Global, at: u32, command: &Command) -> Result<Answer, CrewFault>
+        requires there { at < length self.old.replica_names }
+        requires query { IsSome (query_of (command_view command.now)) }
         ensures { (gone : ℕ) → IsOutcome
-            (query_outcome self.old (answer_to_query (sheet_at self.old.world at) query))
+            (query_outcome self.old (answer_to_query (sheet_at self.old.world at) (command_view command.now)))
             result self.old self.new gone gone }
     {
         let Some(replica) = self.world.replica(at) else {
             return Ok(Answer::Refused(Refusal::NoReplica));
         };
         let cache = &mut self.caches[at as usize];
-        match ask_sheet(alloc, replica.sheet(), cache, query) {
+        match ask_sheet(alloc, replica.sheet(), cache, command) {
             Ok(answer) => Ok(answer),
             Err(fault) => answer_of_replica_fault(fault),
         }

@@ -1,55 +1,53 @@
-//! Queries, and the answers of a replica's sheet.
+//! The answers of a replica's sheet to queries.
 
-ghost use Rattle.std.specs.Prelude.{◌≡◌, IfErr, IfOk, None};
+ghost use Rattle.std.specs.Prelude.{◌≡◌, IfErr, IfOk, IsSome, None};
 ghost use Rattle.road_sheet.specs.QueryCaches.{IsCacheOf};
 ghost use Rattle.road_replica.specs.Refusals.{IsRefusal};
-ghost use Rattle.road_format.specs.Views.{answer_view};
-ghost use Rattle.road_commands.specs.Private.Queries.{query_fault, sheet_answer};
+ghost use Rattle.road_format.specs.CommandGrammar.{query_of};
+ghost use Rattle.road_format.specs.Views.{answer_view, command_view};
+ghost use Rattle.road_commands.specs.Private.Queries.{answer_of_query, fault_of_query};
 
-use road_format::Answer;
+use road_format::{Answer, Command};
 use road_replica::ReplicaFault;
 use road_sheet::{QueryCache, Sheet};
 use std::alloc::Global;
 
-/// A query of a replica. The answer depends only on the replica's sheet.
-#[derive(Clone, Copy)]
-pub enum Query {
-    /// The row of a step.
-    Cells { step: u32 },
-    /// The cars of a step.
-    Cars { step: u32 },
-    /// The counts of a detector in the steps from `from` to before `to`.
-    Count { detector: u32, from: u32, to: u32 },
-    /// The rows of the steps from `from` to `to`, both included.
-    Diagram { from: u32, to: u32 },
-    /// The edits that the replica holds.
-    Scenario,
-}
-
-// Query a replica's sheet through its cache.
+// Answer a command that is a query from a replica's sheet, through the sheet's cache.
 pub(crate) fn ask_sheet(
     alloc: Global,
     sheet: &Sheet,
     cache: &mut QueryCache,
-    query: Query,
+    command: &Command,
 ) -> Result<Answer, ReplicaFault>
-    requires { IsCacheOf sheet.now cache.old }
-    ensures answer { IfOk result (λ answer. answer_view answer ≡ sheet_answer sheet.now query) }
-    ensures accepted { IfOk result (λ _. query_fault sheet.now query ≡ None) }
-    ensures refused { IfErr result (IsRefusal (query_fault sheet.now query)) }
+    requires query { IsSome (query_of (command_view command.now)) }
+    requires cache { IsCacheOf sheet.now cache.old }
+    ensures answer { IfOk result (λ answer. answer_view answer
+        ≡ answer_of_query sheet.now (command_view command.now)) }
+    ensures accepted { IfOk result (λ _. fault_of_query sheet.now (command_view command.now) ≡ None) }
+    ensures refused { IfErr result (IsRefusal (fault_of_query sheet.now (command_view command.now))) }
     ensures cached { IsCacheOf sheet.now cache.new }
 {
-    match query {
-        Query::Cells { step } => Ok(Answer::Cells(cache.row(alloc, sheet, step)?)),
-        Query::Cars { step } => Ok(Answer::Cars(cache.state(alloc, sheet, step)?.into_cars())),
-        Query::Count { detector, from, to } => {
-            let totals = cache.totals(alloc, sheet, detector, from, to)?;
+    match command {
+        Command::Cells { step, .. } => Ok(Answer::Cells(cache.row(alloc, sheet, *step)?)),
+        Command::Cars { step, .. } => {
+            Ok(Answer::Cars(cache.state(alloc, sheet, *step)?.into_cars()))
+        }
+        Command::Count {
+            detector,
+            from,
+            to,
+            ..
+        } => {
+            let totals = cache.totals(alloc, sheet, *detector, *from, *to)?;
             Ok(Answer::Counted {
                 cars: totals.cars,
                 speeds: totals.speeds,
             })
         }
-        Query::Diagram { from, to } => Ok(Answer::Rows(cache.rows(alloc, sheet, from, to)?)),
-        Query::Scenario => Ok(Answer::Edits(sheet.scenario().edits(alloc)?)),
+        Command::Diagram { from, to, .. } => {
+            Ok(Answer::Rows(cache.rows(alloc, sheet, *from, *to)?))
+        }
+        Command::Scenario { .. } => Ok(Answer::Edits(sheet.scenario().edits(alloc)?)),
+        _ => unreachable!(),
     }
 }

@@ -1,44 +1,21 @@
-//! Translation of the world's replies and faults to the program's, and of commands to the replica that they name.
+//! Translation of the world's replies and faults to the program's.
 
 ghost use Rattle.std.specs.Prelude.{◌≡◌, IfErr, IfOk, Some, false, string_bytes};
 ghost use Rattle.std.specs.Result.{result_ok};
-ghost use Rattle.std.specs.Option.{option_map};
 ghost use Rattle.road_scenario.specs.Faults.{FitsSomePlan};
 ghost use Rattle.road_replica.specs.Refusals.{growth_fault};
 ghost use Rattle.road_world.specs.Events.{carried_edits};
 ghost use Rattle.road_world.specs.declared.faults.WorldFault.TheVariants as world_faults;
-ghost use Rattle.road_format.specs.Views.{answer_view, command_view};
+ghost use Rattle.road_format.specs.Views.{answer_view};
 ghost use Rattle.road_commands.specs.Laboratory as laboratory;
 ghost use Rattle.road_commands.specs.Private.Changes as changes;
 
-use road_format::{Answer, Command, Refusal};
+use road_format::{Answer, Refusal};
 use road_plan::OutOfMemory;
 use road_replica::{ReplicaFault, Reply};
 use road_workers::CrewFault;
 use road_world::{Event, Message, WorldFault};
 use std::alloc::Global;
-
-// Return the name of a command's replica. A crowd names none.
-pub(crate) fn name_of(command: &Command) -> Option<&str>
-    ensures { option_map (λ name. name.now) result ≡ laboratory.replica_name (command_view command.now) }
-{
-    match command {
-        Command::Edit { at, .. } => Some(at),
-        Command::Withdraw { at, .. } => Some(at),
-        Command::Import { at, .. } => Some(at),
-        Command::Send { at, .. } => Some(at),
-        Command::Heads { at, .. } => Some(at),
-        Command::Beyond { at, .. } => Some(at),
-        Command::Take { at, .. } => Some(at),
-        Command::Advance { at, .. } => Some(at),
-        Command::Cells { at, .. } => Some(at),
-        Command::Cars { at, .. } => Some(at),
-        Command::Count { at, .. } => Some(at),
-        Command::Diagram { at, .. } => Some(at),
-        Command::Scenario { at } => Some(at),
-        Command::Crowd { .. } => None,
-    }
-}
 
 // Return whether an event leaves the edits of its replica unchanged.
 pub(crate) fn keeps_edits(event: &Event) -> bool
@@ -71,7 +48,7 @@ pub(crate) fn answer_of(reply: Reply) -> Answer
 
 // Translate a refusal of the world to its answer, or to the fault if it has no answer.
 pub(crate) fn answer_of_fault(fault: WorldFault) -> Result<Answer, CrewFault>
-    ensures told { changes.IsTold (laboratory.world_refusal fault) result }
+    ensures answered { changes.AnswersRefusal (laboratory.world_refusal fault) result }
     ensures lost { IfErr result (λ lost. fault ≡ world_faults.Replica (growth_fault lost)) }
 {
     match fault {
@@ -83,7 +60,7 @@ pub(crate) fn answer_of_fault(fault: WorldFault) -> Result<Answer, CrewFault>
 
 // Translate a refusal of a replica to its answer, or to the fault if it has no answer.
 pub(crate) fn answer_of_replica_fault(fault: ReplicaFault) -> Result<Answer, CrewFault>
-    ensures told { changes.IsTold (laboratory.replica_refusal fault) result }
+    ensures answered { changes.AnswersRefusal (laboratory.replica_refusal fault) result }
     ensures lost { IfErr result (λ lost. fault ≡ growth_fault lost) }
 {
     match replica_refusal(fault) {

@@ -29,7 +29,7 @@ use Rattle.road_sessions.proofs.MergedJournals.{sheet_of_replay, union-empty_fir
 use Rattle.road_sessions.proofs.WrittenEntries.{any_written}
 use Rattle.road_crowd.specs.Private.Works.{share_entries, work_of, works_from}
 
--- ---- an entry of the journal passes a test where one of a share's entries does
+-- ---- an entry of the journal passes a test exactly if an entry of a share does
 
 abbrev any_work : (Entry → Bool) → List (ℕ × List Entry) → Bool
 any_work p works = list_any (λ (w : ℕ × List Entry). list_any p w.1) works
@@ -118,7 +118,7 @@ step_of_crowd journal ss [] to apart by work some = absurd (omega arith)
 step_of_crowd journal ss (share ∷ shares) to apart by work some = same_smaller (latest_step journal) to (λ k.
     beyond_latest k journal ∙ any_of_shares (goes_beyond k) journal ss (share ∷ shares) to apart by work ∙ beyond_of_shares k 0 share shares to)
 
--- ---- how many entries there are
+-- ---- the number of entries
 
 abbrev entry_count : List (ℕ × List Entry) → ℕ
 entry_count [] = 0
@@ -145,7 +145,7 @@ pub length_of_crowd : (journal : List Entry) (ss : List Session) (shares : List 
     → map work_of ss ≡ works_from 0 shares to → length journal ≡ crowd_writes shares
 length_of_crowd journal ss shares to by work = by.0 ∙ count_of_sessions ss ∙ ap entry_count work ∙ count_of_shares 0 shares to
 
--- ---- the sheet that is left
+-- ---- the resulting sheet
 
 sheet_of_crowd : (plan : Plan) (journal : List Entry) (ss : List Session) (shares : List (List Edit)) (to : ℕ) → AreApart ss → IsWrittenBy journal ss
     → map work_of ss ≡ works_from 0 shares to → 0 < length shares → (replay (replica_of_plan plan 0) journal).sheet ≡ crowd_sheet plan shares to
@@ -156,7 +156,7 @@ sheet_of_crowd plan journal ss shares to apart by work some =
     let horizon : max 0 (latest_step journal) ≡ to = omega arith in
     sheet_of_replay (replica_of_plan plan 0) journal winners-empty ∙ (λ i. let s : Sheet = record { plan = plan; edits = edits i; horizon = horizon i } in s)
 
--- the sheet of a closed store is that of its crowd, where the store was opened on the plan
+-- the sheet of a closed store is that of its crowd, if the store was opened on the plan
 pub closed_sheet : (plan : Plan) (r : Replica) (sheet : Sheet) (journal : List Entry) (ss : List Session) (vecs : List (Vec Edit Global)) (to : ℕ)
     → r ≡ replica_of_plan plan 0 → sheet ≡ (replay r journal).sheet → AreApart ss → IsWrittenBy journal ss
     → map work_of ss ≡ works_from 0 (shares_of vecs) to → 0 < length vecs → sheet ≡ crowd_sheet plan (shares_of vecs) to

@@ -1,5 +1,5 @@
--- No named cause stands against the writes of a crowd whose shares and step are accepted, and the crew of one loses no
--- worker: so each is refused for a full journal alone, or out of memory.
+-- The replica has no named cause to refuse the writes of a crowd whose shares and step are accepted, and a crew of one
+-- loses no worker. So such a write is refused only for a full journal or out of memory.
 use Rattle.std.proofs.Common.{◌≡◌, ℕ, zero, suc, ◌<◌, Bool, true, false, List, [], ◌∷◌, ◌++◌, length, Option, None, Some, inl, inr, refl, ap, subst, arith}
 use Rattle.std.specs.Prelude.{if◌then◌else◌, Vec}
 use Rattle.std.specs.List.{AllByRecursion, slice_index_or}
@@ -28,7 +28,7 @@ use Rattle.road_crowd.specs.Private.Works.{AreAccepted, IsAccepted, IsFullOrNoMe
 
 -- ---- a write without a named cause
 
--- an answer `WorkersGone` would have been counted
+-- the crew would have counted a `WorkersGone`, so the refusal is another one
 gone_is_counted : (fault : WriteFault) → 0 ≡ gone_after_fault fault 0 → fault ≡ OfReplica causes.WorkersGone → IsFullOrNoMemory fault
 gone_is_counted fault same is =
     let counted : 0 ≡ gone_after_fault (OfReplica causes.WorkersGone) 0 = subst (λ (f : WriteFault). 0 ≡ gone_after_fault f 0) is same in
@@ -84,12 +84,12 @@ accepted_by plan (share ∷ shares) to none within =
     let parts = none_in_parts plan share (edits_of shares) none in
     ((parts.0, within), accepted_by plan shares to parts.1 within)
 
--- the shares of a crowd that is accepted
+-- the shares of an accepted crowd are accepted one by one
 pub all_accepted : (plan : Plan) (shares : List (List Edit)) (to : ℕ) → shares_fault plan shares to ≡ None → AreAccepted plan to shares
 all_accepted plan shares to none =
     let both = none_of_both (import_fault plan (edits_of shares)) (advance_fault to) none in accepted_by plan shares to both.0 both.1
 
--- all but the last, and the last
+-- accepted shares, split into the last one and the others
 pub accepted_last : (plan : Plan) (to : ℕ) (shares : List (List Edit)) (share : List Edit) → AreAccepted plan to (shares ++ share ∷ []) → AreAccepted plan to shares × IsAccepted plan to share
 accepted_last plan to [] share all = (tt, all.0)
 accepted_last plan to (first ∷ shares) share all = let rest = accepted_last plan to shares share all.1 in ((all.0, rest.0), rest.1)

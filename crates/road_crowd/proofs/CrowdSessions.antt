@@ -25,7 +25,7 @@ works_last n (first ∷ shares) share to =
     ap (λ (works : List (ℕ × List Entry)). (n, share_entries n first to) ∷ works)
     (works_last (n + 1) shares share to ∙ ap (λ (k : ℕ). works_from (n + 1) shares to ++ (k, share_entries k share to) ∷ []) (omega arith))
 
--- where the last session has done its work too, all have
+-- if the last session has made its writes too, all sessions have
 pub all_with_last : (after : List Session) (last : Session) (n : ℕ) (others : List (List Edit)) (share : List Edit) (to : ℕ) → map work_of after ≡ works_from 0 others to
     → n ≡ length others → work_of last ≡ (n, share_entries n share to) → map work_of (after ++ last ∷ []) ≡ works_from 0 (others ++ share ∷ []) to
 all_with_last after last n others share to before at work =
@@ -41,7 +41,7 @@ abbrev works_behind : List (ℕ × List Entry) → List (ℕ × List Entry)
 works_behind [] = []
 works_behind (work ∷ works) = works
 
--- sessions above a number do not bear it
+-- sessions with greater numbers do not have this number
 others : (n : ℕ) (s : Session) (ss : List Session) → s.number ≡ n → AllByRecursion (λ (t : Session). n + 1 ≤ t.number) ss → AllByRecursion (λ (t : Session). s.number ≢ t.number) ss
 others n s [] is above = tt
 others n s (t ∷ ss) is above = ((λ same. let up = above.0 in omega arith), others n s ss is above.1)
@@ -66,7 +66,7 @@ all_from n (s ∷ ss) (share ∷ shares) to work =
       ((omega arith), subst (λ (k : ℕ). AllByRecursion (λ (t : Session). t.number < k) ss) (omega arith) rest.3),
     )
 
--- sessions that have done the work of all shares are all that a store of so many has
+-- sessions that have made the writes of all shares are all sessions of a store with one session for each share
 pub all_given : (parts : ℕ) (ss : List Session) (vecs : List (Vec Edit Global)) (to : ℕ) → parts ≡ length vecs
     → map work_of ss ≡ works_from 0 (shares_of vecs) to → AreAll parts ss
 all_given parts ss vecs to is work =

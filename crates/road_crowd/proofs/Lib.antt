@@ -1,4 +1,4 @@
--- Lemmas of the journals of crowds, of what these leave, and of why their writes are refused.
+-- Lemmas about the journals of crowds, their results, and the refusals of their writes.
 pub mod CrowdJournals
 pub mod CrowdRefusals
 pub mod CrowdSessions

@@ -1,4 +1,4 @@
-//! The faults of a store and of its sessions, as a crowd answers them.
+//! How a crowd reports the faults of a store and of its sessions.
 
 ghost use Rattle.std.specs.Prelude.{◌≡◌};
 ghost use Rattle.road_crowd.specs.Private.Works.{IsFullOrNoMemory};
@@ -9,7 +9,7 @@ use road_replica::ReplicaFault;
 use road_sessions::{OpenFault, WriteFault};
 use road_workers::CrewFault;
 
-// Return why a crowd has no store, which is out of memory.
+// Return why a crowd has no store: always out of memory.
 pub(crate) fn opening_fault(fault: OpenFault) -> CrewFault
     ensures { result ≡ crew.OutOfMemory }
 {
@@ -20,13 +20,13 @@ pub(crate) fn opening_fault(fault: OpenFault) -> CrewFault
     }
 }
 
-// Return why a session of a crowd has not written, which is out of memory: no named cause of the replica's stands, and the
-// crew of one loses no worker.
+// Return why a write of a crowd's session was refused: always out of memory, since the replica has no named cause to
+// refuse it, and a crew of one loses no worker.
 pub(crate) fn write_fault(fault: WriteFault) -> OutOfMemory
     requires { IsFullOrNoMemory fault }
 {
     match fault {
-        // The journal was opened with room for all writes, but a session does not see what the others wrote.
+        // The journal has room for all writes, but no contract says so: a session does not see what the others wrote.
         WriteFault::JournalFull => OutOfMemory,
         WriteFault::Replica(ReplicaFault::OutOfMemory) => OutOfMemory,
         WriteFault::Replica(_) => unreachable!(),

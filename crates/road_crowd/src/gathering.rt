@@ -1,4 +1,4 @@
-//! The gathering of a crowd: a store is opened, its sessions work, and it is closed.
+//! Running a crowd: open a store, let its sessions write, close it.
 
 ghost use Rattle.std.specs.Prelude.{◌≡◌, ◌<◌, ◌≤◌, IfOk, None, length, string_bytes};
 ghost use Rattle.std.specs.Arc.{arc_value};
@@ -11,7 +11,7 @@ ghost use Rattle.road_sessions.specs.Journals.{replica_of_plan};
 
 use crate::faults::opening_fault;
 use crate::permit::Permit;
-use crate::threads::{Task, in_threads};
+use crate::threads::{Task, run_on_threads};
 use road_plan::Plan;
 use road_replica::{Crowd, write_count};
 use road_scenario::Edit;
@@ -24,13 +24,13 @@ use std::marker::Brand;
 use std::sync::{Arc, Wait};
 use std::thread::Threads;
 
-/// Open a store of replica 0 with a session for each share of edits, and let each session work on a thread of its own:
-/// it arrives at the gate under its number, takes its edits one after another, each as a scenario of one edit, and then
-/// advances to the step. Once all threads have ended the store is closed. What is left is the same in whatever order the
-/// writes came: the winners of all edits, as many writes as there are edits and shares, and the row of the step.
+/// Run a crowd: open a store of replica 0 with one session for each share of edits, and let each session write on a
+/// thread of its own. A session arrives at the gate with its number, takes its edits one after another, each as a
+/// scenario of one edit, and then advances to the step. Once all threads have ended, close the store. The result is the
+/// same in whatever order the writes came: the winners of all edits, the number of writes, and the row of the step.
 ///
-/// There are 1 to 8 shares, of at most 1,000,000 writes together, and no named cause stands against their edits or the
-/// step (`road_replica::shares_fault`, `road_replica::write_count`).
+/// There must be 1 to 8 shares, with at most 1,000,000 writes in total (`road_replica::write_count`), and no named
+/// cause to refuse an edit or the step (`road_replica::shares_fault`).
 ///
 /// # Errors
 ///
@@ -60,18 +60,18 @@ pub fn crowd<W: Threads + Wait, G: Gate + Sync>(
         opening_fault,
     )?;
     let task = Task { alloc, gate, to };
-    left::<Brand, _, W, G>(rt, prepared, plan, shares, &task)
+    run_prepared::<Brand, _, W, G>(rt, prepared, plan, shares, &task)
 }
 
-// Return what is left of a store that was just prepared, once its sessions have worked.
-fn left<J: Naming + Send + Sync, R: Wait + Drop + Send, W: Threads + Wait, G: Gate + Sync>(
+// Open a prepared store, let its sessions write, and return the result.
+fn run_prepared<J: Naming + Send + Sync, R: Wait + Drop + Send, W: Threads + Wait, G: Gate + Sync>(
     rt: &W,
     prepared: Prepared<R>,
     plan: &Arc<Plan>,
     shares: &[Vec<Edit>],
     task: &Task<'_, G>,
 ) -> Result<Crowd, CrewFault>
-    // It is what the name was picked with.
+    // The name was picked with this prepared store.
     requires named { (prepared.book ≡ J.book) × (prepared.replica ≡ J.replica)
         × (prepared.ledger.name ≡ J.name) × (prepared.ledger.parts ≡ J.parts) × (prepared.limit ≡ J.limit) }
     requires opening { prepared.replica ≡ replica_of_plan (arc_value plan.now) 0 }
@@ -87,16 +87,16 @@ fn left<J: Naming + Send + Sync, R: Wait + Drop + Send, W: Threads + Wait, G: Ga
         ≡ row_at (arc_value plan.now) (crowd_winners (shares_of shares.now)) task.now.to) }
 {
     let (shared, sessions) = open::<J, R>(prepared).map_err(opening_fault)?;
-    let sessions = in_threads(rt, &shared, sessions, shares, task)?;
+    let sessions = run_on_threads(rt, &shared, sessions, shares, task)?;
     match close(shared, sessions) {
-        Ok(closed) => shown(task.alloc, &closed, task.to),
-        // All its sessions came back.
+        Ok(closed) => result_of(task.alloc, &closed, task.to),
+        // All its sessions have come back.
         Err(_fault) => unreachable!(),
     }
 }
 
 // Return what a closed store shows at its horizon.
-fn shown(alloc: Global, closed: &Closed, to: u32) -> Result<Crowd, CrewFault>
+fn result_of(alloc: Global, closed: &Closed, to: u32) -> Result<Crowd, CrewFault>
     requires simulated { (arc_value closed.now.sheet).horizon ≡ to }
     requires few { length closed.now.journal.items ≤ MOST_CROWD_WRITES }
     ensures edits { IfOk result (λ crowd. crowd.edits.items ≡ items (arc_value closed.now.sheet).edits) }

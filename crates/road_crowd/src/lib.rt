@@ -1,10 +1,10 @@
-//! Crowds: sessions of one replica that write at once, each on a thread of its own. What they leave is the same in
-//! whatever order their writes come.
+//! Crowds: sessions of one replica that write at the same time, each on a thread of its own. The result does not depend
+//! on the order of their writes.
 //!
 //! ```
-//! // Two engineers, each with its edits. What is left is the winners of all of them, and the road at step 6.
-//! let left = crowd(rt, alloc, &plan, &[first_edits, second_edits], 6, &NoGate)?;
-//! println!(rt; "{} edits, {} writes: {}", left.edits.len(), left.journal, left.row)?;
+//! // Two engineers, each with a list of edits. The result has the winners of all edits, and the road at step 6.
+//! let result = crowd(rt, alloc, &plan, &[first_edits, second_edits], 6, &NoGate)?;
+//! println!(rt; "{} edits, {} writes: {}", result.edits.len(), result.journal, result.row)?;
 //! ```
 #![tactic(auto)]
 

@@ -1,4 +1,4 @@
-//! Who gathers crowds by threads.
+//! Crowds on threads, behind the trait `Crowds`.
 
 use crate::gathering::crowd;
 use road_plan::Plan;
@@ -9,21 +9,21 @@ use std::alloc::Global;
 use std::sync::{Arc, Wait};
 use std::thread::Threads;
 
-/// Gathers crowds whose sessions work on threads of their own.
+/// Runs crowds whose sessions write on threads of their own.
 #[derive(Drop)]
 pub struct OnThreads<R> {
     rt: R,
 }
 
 impl<R: Threads + Wait> OnThreads<R> {
-    /// Gather them by the threads of this runtime.
+    /// Run crowds on threads of this runtime.
     pub fn new(rt: R) -> OnThreads<R> {
         OnThreads { rt }
     }
 }
 
 impl<R: Threads + Wait> Crowds for OnThreads<R> {
-    fn gathered(
+    fn gather(
         &self,
         alloc: Global,
         plan: &Arc<Plan>,

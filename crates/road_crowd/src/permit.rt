@@ -1,16 +1,16 @@
-//! The permit to wait, as other threads hold it.
+//! The permit to wait, for other threads.
 
 use std::snapshot::Snapshot;
 use std::sync::Wait;
 
-/// The permit to wait, of a runtime that has it. It has nothing else of the runtime, so that it may go to any thread,
-/// whatever the runtime is.
+/// The permit to wait, taken from a runtime that has it. It contains nothing else of the runtime, so it may move to any
+/// thread, whatever the runtime is.
 pub(crate) struct Permit<W> {
     of: Snapshot<W>,
 }
 
 impl<W: Wait> Permit<W> {
-    // Take that of this runtime.
+    // Take the permit of this runtime.
     pub(crate) fn of(rt: &W) -> Permit<W> {
         Permit {
             of: Snapshot::of(rt),

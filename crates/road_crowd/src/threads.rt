@@ -1,4 +1,4 @@
-//! The sessions of a crowd at work, each on a thread of its own.
+//! The threads of a crowd, one for each session.
 
 ghost use Rattle.std.specs.Prelude.{◌≡◌, [], IfOk, IfSome, length, map};
 ghost use Rattle.road_replica.specs.Crowds.{shares_of};
@@ -18,10 +18,10 @@ use std::sync::Wait;
 use std::thread;
 use std::thread::{Promise, PromisedHandle, Scope, Threads};
 
-// What a thread gives back: its session, once that has made all its writes.
-type Worked<J> = Result<Session<J>, OutOfMemory>;
+// What a thread returns: its session, once that has made all its writes.
+type SessionResult<J> = Result<Session<J>, OutOfMemory>;
 
-// What is promised of a thread: if it finds memory, its session has this number and wrote the edits of this share,
+// The promise about a thread: if it returns a session, that session has this number and wrote the edits of this share,
 // one after another, and then an advance to this step.
 #[derive(Drop)]
 struct WritesShare {
@@ -30,13 +30,13 @@ struct WritesShare {
     to: u32,
 }
 
-impl<J: Naming> Promise<Worked<J>> for WritesShare {
+impl<J: Naming> Promise<SessionResult<J>> for WritesShare {
     ghost kept_by = { λ promise worked. IfOk worked (λ session. work_of session
         ≡ (promise.number, share_entries promise.number promise.share.value.items promise.to)) };
 }
 
-// What each session of a crowd has to do beside its share: it arrives at the gate first, and at last it advances to the
-// step.
+// What all sessions of a crowd have in common: the gate at which they arrive first, and the step to which they advance
+// last.
 #[derive(Drop)]
 pub(crate) struct Task<'g, G> {
     pub alloc: Global,
@@ -45,18 +45,18 @@ pub(crate) struct Task<'g, G> {
 }
 
 // A session's thread.
-type Worker<J> = PromisedHandle<Worked<J>, WritesShare>;
+type Worker<J> = PromisedHandle<SessionResult<J>, WritesShare>;
 
-// Do the work of a thread: its session arrives at the gate, and then makes its writes. The session is in the group
-// `taking` until it has taken its edits, or has failed to.
-fn worked<J: Naming, R: Wait + Drop, W: Wait, G: Gate>(
+// Run a thread: its session arrives at the gate, and then makes its writes. The session stays in the group `taking`
+// until it has taken its edits or has failed.
+fn run_session<J: Naming, R: Wait + Drop, W: Wait, G: Gate>(
     rt: &W,
     shared: &Shared<J, R>,
     session: Session<J>,
     share: &[Edit],
     task: &Task<'_, G>,
     taking: WaitGroup,
-) -> Worked<J>
+) -> SessionResult<J>
     requires new { session.view.own ≡ [] }
     requires accepted { IsAccepted J.replica.sheet.plan task.now.to share.now }
     ensures { IfOk result
@@ -68,8 +68,8 @@ fn worked<J: Naming, R: Wait + Drop, W: Wait, G: Gate>(
     Ok(session)
 }
 
-// Start the thread of a session. Return none if it cannot be started: then the session has left the group `taking`, so
-// no other thread waits for it.
+// Start the thread of a session. Return `None` if the thread cannot be started. The session has then left the group
+// `taking`, so no other thread waits for it.
 fn start<
     's,
     J: Naming + Send + Sync + 's,
@@ -99,19 +99,20 @@ fn start<
     };
     let started = scope.spawn_with(
         promise,
-        move || -> Worked<J>
+        move || -> SessionResult<J>
             requires { (session.view.own ≡ []) × IsAccepted J.replica.sheet.plan task.now.to share.now.items }
             ensures { IfOk result (λ after. work_of after
                 ≡ (session.number, share_entries session.number share.entry.now.items task.entry.now.to)) }
-        { worked(&permit, shared, session, share.as_slice(), task, taking) },
+        { run_session(&permit, shared, session, share.as_slice(), task, taking) },
     );
     started.ok()
 }
 
-// Let the sessions work, one for each share, each on a thread of its own. The last session's thread is started first
-// and joined last, so all run before one is joined, and the sessions come back in their order. The caller's handle of the
-// group `taking` is dropped once the last thread has started or one cannot be: until then no session advances.
-fn all_worked<
+// Let the sessions write, one for each share, each on a thread of its own. The thread of the last session is started
+// first and joined last. So all threads run before one is joined, and the sessions come back in their order. The
+// caller's handle of the group `taking` is dropped once all threads have started or one cannot be started. No session
+// advances before.
+fn run_sessions<
     's,
     J: Naming + Send + Sync + 's,
     R: Wait + Drop + Send + 's,
@@ -143,7 +144,7 @@ fn all_worked<
     let Some(worker) = start(scope, permit, shared, session, share, task, its_taking) else {
         return Err(CrewFault::WorkersGone);
     };
-    let mut after = all_worked(scope, rt, shared, sessions, others, task, taking)?;
+    let mut after = run_sessions(scope, rt, shared, sessions, others, task, taking)?;
     let last = worker.join(rt)?;
     let Ok(()) = after.push(last) else {
         return Err(CrewFault::OutOfMemory);
@@ -151,9 +152,9 @@ fn all_worked<
     Ok(after)
 }
 
-// Let the sessions of a store that was just opened work, one for each share, each on a thread of its own. If one
-// thread cannot be started, or finds no memory, all others have ended before the answer.
-pub(crate) fn in_threads<
+// Let the sessions of a new store write, one for each share, each on a thread of its own. If a thread cannot be started
+// or runs out of memory, return only once all other threads have ended.
+pub(crate) fn run_on_threads<
     J: Naming + Send + Sync,
     R: Wait + Drop + Send,
     W: Threads + Wait,
@@ -180,7 +181,7 @@ pub(crate) fn in_threads<
                 ≡ works_from 0 (shares_of shares.entry.now) task.entry.now.to) }
         {
             let taking = WaitGroup::new(task.alloc)?;
-            all_worked(scope, rt, shared, sessions, shares, task, taking)
+            run_sessions(scope, rt, shared, sessions, shares, task, taking)
         },
     )
 }

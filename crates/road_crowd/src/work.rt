@@ -1,4 +1,4 @@
-//! What one session of a crowd writes.
+//! The writes of one session of a crowd.
 
 ghost use Rattle.std.specs.Prelude.{◌≡◌, ◌++◌, ◌∷◌, [], IfOk, None, OnOk};
 ghost use Rattle.road_replica.specs.Refusals.{advance_fault, imported_edit_fault};
@@ -18,9 +18,9 @@ use road_workers::Alone;
 use std::alloc::Global;
 use std::sync::Wait;
 
-// Do the work of a session that has written nothing. It takes the edits of its share one after another, each as a
-// scenario of one edit, and waits until all other sessions have taken theirs. Then it simulates up to the step. Without
-// the wait, each edit that is taken after the first advance would simulate the road once more.
+// Make the writes of a session that has written nothing yet. It takes the edits of its share one after another, each as
+// a scenario of one edit, and waits until all other sessions have taken theirs. Then it simulates up to the step.
+// Without the wait, each edit after the first advance would simulate the road again.
 pub(crate) fn work<J: Naming, R: Wait + Drop, W: Wait>(
     rt: &W,
     alloc: Global,

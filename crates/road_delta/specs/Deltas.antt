@@ -1,4 +1,4 @@
--- Deltas: what a replica reports of its edits, and what another then sends to it.
+-- Deltas: the heads that a replica sends, and the edits that another replica then sends back.
 use Rattle.std.specs.Prelude.{◌≡◌, not, ◌||◌, ◌&&◌, Bool, true, T, List, map}
 use Rattle.std.specs.List.{list_any}
 use Rattle.std.specs.Ordering.{is_eq, is_lt}
@@ -24,7 +24,7 @@ head_place h = object_place h.object h.step
 abbrev pub AreRisingHeads : List Head → Type 0
 AreRisingHeads hs = T (is_rising (λ g h. number_triple_cmp (head_place g) (head_place h)) hs)
 
--- whether a head is of an edit's object and step
+-- whether a head has an edit's object and step
 abbrev pub is_head_at : Edit → Head → Bool
 is_head_at e h = is_eq (number_triple_cmp (edit_place e) (head_place h))
 
@@ -32,8 +32,7 @@ is_head_at e h = is_eq (number_triple_cmp (edit_place e) (head_place h))
 abbrev pub is_stamp_above : Edit → Head → Bool
 is_stamp_above e h = is_lt (number_pair_cmp (stamp_key e.stamp) (stamp_key h.stamp))
 
--- whether an edit is beyond heads: no head is of its object and step, or the head there has a stamp that is not greater
--- than the edit's
+-- whether an edit is beyond heads: no head has its object and step, or the head there has a smaller or equal stamp
 abbrev pub is_beyond : List Head → Edit → Bool
 is_beyond hs e = not (list_any (is_head_at e) hs) || list_any (λ h. is_head_at e h && not (is_stamp_above e h)) hs
 
@@ -41,7 +40,7 @@ is_beyond hs e = not (list_any (is_head_at e) hs) || list_any (λ h. is_head_at 
 abbrev pub beyond : Edits → List Head → Edits
 beyond edits hs = retain edits (is_beyond hs)
 
--- an edit has a smaller stamp than an edit of a set with the same object and step
+-- an edit is behind a set: an edit of the set has the same object and step, and a greater stamp
 pub record IsBehind (edits : Edits) (e : Edit) : Type 0 where
   pub newer : Edit
   pub held : contains edits newer ≡ true

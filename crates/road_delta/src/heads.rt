@@ -16,7 +16,7 @@ pub struct Head {
     pub object: Object,
     /// The first step at which it takes effect.
     pub step: u32,
-    /// When and by whom it was made.
+    /// Its time and its writer.
     pub stamp: Stamp,
 }
 

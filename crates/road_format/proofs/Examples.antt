@@ -5,7 +5,7 @@ use Rattle.road_plan.specs.declared.object.Object.TheVariants.{Limit, Block, Sta
 use Rattle.road_scenario.specs.declared.edit.Value.TheVariants.{Withdrawn, Put}
 use Rattle.road_format.specs.Cut.{lines_of}
 use Rattle.road_format.specs.Fields.{is_name}
-use Rattle.road_format.specs.CommandGrammar.{Edit, Withdraw, Advance, Cells, Cars, Count, Diagram, Scenario, Import, Send, Heads, Beyond, Take, Crowd, command_of}
+use Rattle.road_format.specs.CommandGrammar.{Cells, Cars, Count, Diagram, Scenario, Edit, Withdraw, Advance, Ask, Import, Send, Heads, Beyond, Take, Crowd, command_of}
 use Rattle.road_format.specs.PlanGrammar.{plan_line_of}
 use Rattle.road_format.specs.Replies as replies
 use Rattle.road_format.specs.Replies.{reply}
@@ -48,27 +48,27 @@ an_advance : command_of (codes "{\"advance\":{\"to\":6,\"at\":\"A\"}}") ≡ Ok (
 unfolding road_format_on_literals
 an_advance = refl
 
-some_cells : command_of (codes " {\"cells\" : {\"at\":\"\\u0041\",\"step\":0}}\r") ≡ Ok (Cells (codes "A") 0)
+some_cells : command_of (codes " {\"cells\" : {\"at\":\"\\u0041\",\"step\":0}}\r") ≡ Ok (Ask (codes "A") (Cells 0))
 unfolding road_format_on_literals
 some_cells = refl
 
-some_cars : command_of (codes "{\"cars\":{\"at\":\"A\",\"step\":6}}") ≡ Ok (Cars (codes "A") 6)
+some_cars : command_of (codes "{\"cars\":{\"at\":\"A\",\"step\":6}}") ≡ Ok (Ask (codes "A") (Cars 6))
 unfolding road_format_on_literals
 some_cars = refl
 
-a_count : command_of (codes "{\"count\":{\"at\":\"A\",\"detector\":2,\"from\":0,\"to\":6}}") ≡ Ok (Count (codes "A") 2 0 6)
+a_count : command_of (codes "{\"count\":{\"at\":\"A\",\"detector\":2,\"from\":0,\"to\":6}}") ≡ Ok (Ask (codes "A") (Count 2 0 6))
 unfolding road_format_on_literals
 a_count = refl
 
-a_diagram : command_of (codes "{\"diagram\":{\"at\":\"B\",\"from\":4,\"to\":6}}") ≡ Ok (Diagram (codes "B") 4 6)
+a_diagram : command_of (codes "{\"diagram\":{\"at\":\"B\",\"from\":4,\"to\":6}}") ≡ Ok (Ask (codes "B") (Diagram 4 6))
 unfolding road_format_on_literals
 a_diagram = refl
 
-a_scenario : command_of (codes "{\"scenario\":{\"at\":\"A\"}}") ≡ Ok (Scenario (codes "A"))
+a_scenario : command_of (codes "{\"scenario\":{\"at\":\"A\"}}") ≡ Ok (Ask (codes "A") Scenario)
 unfolding road_format_on_literals
 a_scenario = refl
 
-the_last_of_two_counts : command_of (codes "{\"cells\":{\"at\":\"A\",\"step\":7,\"step\":0}}") ≡ Ok (Cells (codes "A") 0)
+the_last_of_two_counts : command_of (codes "{\"cells\":{\"at\":\"A\",\"step\":7,\"step\":0}}") ≡ Ok (Ask (codes "A") (Cells 0))
 unfolding road_format_on_literals
 the_last_of_two_counts = refl
 

@@ -14,7 +14,7 @@ use Rattle.road_plan.specs.declared.limits.TheConstants.{MOST_SESSIONS}
 use Rattle.road_scenario.specs.declared.edit.Edit.{Edit}
 use Rattle.road_format.specs.CommandGrammar as grammar
 use Rattle.road_format.specs.CommandGrammar.{Command, HasFewWrites, are_few_shares, share_writes}
-use Rattle.road_format.specs.CommandGrammar.{beyond_in, command_at, command_in, command_of_form, command_of_name, count_in, crowd_in, diagram_in, edit_command_in, form_of_name, import_in, only_name, only_number, scenario_in, steps_at, replica_command_of_name, withdraw_in}
+use Rattle.road_format.specs.CommandGrammar.{beyond_in, command_at, command_in, command_of_form, command_of_name, crowd_in, edit_command_in, form_of_name, import_in, only_name, only_number, query_of_name, replica_command_of_name, withdraw_in}
 use Rattle.road_format.specs.EditGrammar.{edit_in, edits_in}
 use Rattle.road_format.specs.Fields.{◌>>=◌, check, has_fields, items_at, list_at, name_at, number_at, only_field, only_member, values_of_items}
 use Rattle.road_format.specs.Forms.{are_of_form, is_known}
@@ -189,18 +189,6 @@ unfolding withdraw_in
 withdraw_few at d n =
     few_anyway (check (has_fields 3 d)) _ (λ exact. few_anyway (object_at (codes "object") d) _ (λ object. few_anyway (number_at (codes "step") d) _ (λ step. record { few = tt })))
 
-count_few : (at : List ℕ) (d : Data) (n : ℕ) → Few n (count_in at d)
-unfolding count_in
-count_few at d n =
-    few_anyway (check (has_fields 4 d)) _ (λ exact. few_anyway (number_at (codes "detector") d) _ (λ detector. few_anyway (steps_at d) _ (λ steps. record { few = tt })))
-
-diagram_few : (at : List ℕ) (d : Data) (n : ℕ) → Few n (diagram_in at d)
-unfolding diagram_in
-diagram_few at d n = few_anyway (check (has_fields 3 d)) _ (λ exact. few_anyway (steps_at d) _ (λ steps. record { few = tt }))
-
-scenario_few : (at : List ℕ) (d : Data) (n : ℕ) → Few n (scenario_in at d)
-scenario_few at d n = few_anyway (check (has_fields 1 d)) _ (λ exact. record { few = tt })
-
 import_few : (form : ℕ) (at : List ℕ) (d : Data) (n : ℕ) → Few n (import_in form at d)
 unfolding import_in
 import_few form at d n =
@@ -217,11 +205,7 @@ replica_few name at d n =
     few_either (bytes_eq name (codes "edit")) (edit_command_in at d) _ (edit_few at d n)
     (few_either (bytes_eq name (codes "withdraw")) (withdraw_in at d) _ (withdraw_few at d n)
     (few_either (bytes_eq name (codes "advance")) (option_map (grammar.Advance at) (only_number (codes "to") d)) _ (few_mapped (grammar.Advance at) (only_number (codes "to") d) (λ to. tt))
-    (few_either (bytes_eq name (codes "cells")) (option_map (grammar.Cells at) (only_number (codes "step") d)) _ (few_mapped (grammar.Cells at) (only_number (codes "step") d) (λ step. tt))
-    (few_either (bytes_eq name (codes "cars")) (option_map (grammar.Cars at) (only_number (codes "step") d)) _ (few_mapped (grammar.Cars at) (only_number (codes "step") d) (λ step. tt))
-    (few_either (bytes_eq name (codes "count")) (count_in at d) _ (count_few at d n)
-    (few_either (bytes_eq name (codes "diagram")) (diagram_in at d) _ (diagram_few at d n)
-    (few_either (bytes_eq name (codes "scenario")) (scenario_in at d) None (scenario_few at d n) (record { few = tt }))))))))
+    (few_mapped (grammar.Ask at) (query_of_name name d) (λ query. tt))))
 
 at_few : (name : List ℕ) (form : ℕ) (at : List ℕ) (d : Data) (n : ℕ) → Few n (command_at name form at d)
 unfolding command_at
@@ -277,16 +261,4 @@ line_few line d (Ok command) is given = data_few (length line) (Some d) (command
 -- a command with few enough writes for one bound has few enough for a greater one
 pub few_within : (m n : ℕ) → m ≤ n → (c : Command) → HasFewWrites m c → HasFewWrites n c
 few_within m n less (grammar.Crowd shares to) few = (few.0, few.1, omega (arith, less, few.2))
-few_within m n less (grammar.Edit at object step number) few = tt
-few_within m n less (grammar.Withdraw at object step) few = tt
-few_within m n less (grammar.Import at edits) few = tt
-few_within m n less (grammar.Send at name) few = tt
-few_within m n less (grammar.Heads at name) few = tt
-few_within m n less (grammar.Beyond at asked name) few = tt
-few_within m n less (grammar.Take at message) few = tt
-few_within m n less (grammar.Advance at to) few = tt
-few_within m n less (grammar.Cells at step) few = tt
-few_within m n less (grammar.Cars at step) few = tt
-few_within m n less (grammar.Count at detector from to) few = tt
-few_within m n less (grammar.Diagram at from to) few = tt
-few_within m n less (grammar.Scenario at) few = tt
+few_within m n less command few = tt

@@ -19,6 +19,19 @@ use Rattle.road_format.specs.declared.form.TheConstants.{LAST_FORM}
 use Rattle.road_format.specs.declared.refusal.Refusal.{Refusal}
 use Rattle.road_format.specs.declared.refusal.Refusal.TheVariants.{NotJson, NotACommand, UnknownForm}
 
+-- a query of a replica, with the values of its fields
+pub data Query : Type 0 where
+  -- step; the row of that step
+  Cells : ℕ → Query
+  -- step; the cars of that step
+  Cars : ℕ → Query
+  -- detector, from, to; the counts of that detector in the steps from `from` to before `to`
+  Count : ℕ → ℕ → ℕ → Query
+  -- from, to; the rows of the steps from `from` to `to`, both included
+  Diagram : ℕ → ℕ → Query
+  -- the winners, by object and step
+  Scenario : Query
+
 -- a command with the values of its fields; a name is given by its text
 pub data Command : Type 0 where
   -- at, object, step, value
@@ -27,16 +40,8 @@ pub data Command : Type 0 where
   Withdraw : List ℕ → Object → ℕ → Command
   -- at, to
   Advance : List ℕ → ℕ → Command
-  -- at, step
-  Cells : List ℕ → ℕ → Command
-  -- at, step
-  Cars : List ℕ → ℕ → Command
-  -- at, detector, from, to
-  Count : List ℕ → ℕ → ℕ → ℕ → Command
-  -- at, from, to
-  Diagram : List ℕ → ℕ → ℕ → Command
-  -- at
-  Scenario : List ℕ → Command
+  -- at, and the query
+  Ask : List ℕ → Query → Command
   -- at, edits
   Import : List ℕ → List edit.Edit → Command
   -- at, name
@@ -50,13 +55,71 @@ pub data Command : Type 0 where
   -- shares, to
   Crowd : List (List edit.Edit) → ℕ → Command
 
--- ---- commands that change or query one replica
+-- the name of a command's replica; a crowd names none
+abbrev pub replica_name : Command → Option (List ℕ)
+replica_name (Edit at object step number) = Some at
+replica_name (Withdraw at object step) = Some at
+replica_name (Advance at to) = Some at
+replica_name (Ask at query) = Some at
+replica_name (Import at edits) = Some at
+replica_name (Send at name) = Some at
+replica_name (Heads at name) = Some at
+replica_name (Beyond at asked name) = Some at
+replica_name (Take at message) = Some at
+replica_name (Crowd shares to) = None
+
+-- the query of a command, if it is one
+abbrev pub query_of : Command → Option Query
+query_of (Ask at query) = Some query
+query_of command = None
+
+-- ---- queries
 
 -- the number at a field, of an object that has exactly this field and `at`
 abbrev pub only_number : List ℕ → Data → Option ℕ
 only_number field d = do
   exact ← check (has_fields 2 d)
   number_at field d
+
+-- the steps at `from` and `to`
+abbrev pub steps_at : Data → Option (ℕ × ℕ)
+steps_at d = do
+  from ← number_at (codes "from") d
+  to ← number_at (codes "to") d
+  Some (from, to)
+
+-- exactly the fields `at`, `detector`, `from` and `to`
+unfoldable pub count_in : Data → Option Query
+count_in d = do
+  exact ← check (has_fields 4 d)
+  detector ← number_at (codes "detector") d
+  steps ← steps_at d
+  Some (Count detector steps.0 steps.1)
+
+-- exactly the fields `at`, `from` and `to`
+unfoldable pub diagram_in : Data → Option Query
+diagram_in d = do
+  exact ← check (has_fields 3 d)
+  steps ← steps_at d
+  Some (Diagram steps.0 steps.1)
+
+-- exactly the field `at`
+abbrev pub scenario_in : Data → Option Query
+scenario_in d = do
+  exact ← check (has_fields 1 d)
+  Some Scenario
+
+-- the query of a name, with these fields
+unfoldable pub query_of_name : List ℕ → Data → Option Query
+query_of_name name d =
+    if bytes_eq name (codes "cells") then option_map Cells (only_number (codes "step") d)
+    else if bytes_eq name (codes "cars") then option_map Cars (only_number (codes "step") d)
+    else if bytes_eq name (codes "count") then count_in d
+    else if bytes_eq name (codes "diagram") then diagram_in d
+    else if bytes_eq name (codes "scenario") then scenario_in d
+    else None
+
+-- ---- commands that change or query one replica
 
 -- exactly the fields `at`, `object`, `step` and `value`
 unfoldable pub edit_command_in : List ℕ → Data → Option Command
@@ -75,46 +138,13 @@ withdraw_in at d = do
   step ← number_at (codes "step") d
   Some (Withdraw at object step)
 
--- the steps at `from` and `to`
-abbrev pub steps_at : Data → Option (ℕ × ℕ)
-steps_at d = do
-  from ← number_at (codes "from") d
-  to ← number_at (codes "to") d
-  Some (from, to)
-
--- exactly the fields `at`, `detector`, `from` and `to`
-unfoldable pub count_in : List ℕ → Data → Option Command
-count_in at d = do
-  exact ← check (has_fields 4 d)
-  detector ← number_at (codes "detector") d
-  steps ← steps_at d
-  Some (Count at detector steps.0 steps.1)
-
--- exactly the fields `at`, `from` and `to`
-unfoldable pub diagram_in : List ℕ → Data → Option Command
-diagram_in at d = do
-  exact ← check (has_fields 3 d)
-  steps ← steps_at d
-  Some (Diagram at steps.0 steps.1)
-
--- exactly the field `at`
-abbrev pub scenario_in : List ℕ → Data → Option Command
-scenario_in at d = do
-  exact ← check (has_fields 1 d)
-  Some (Scenario at)
-
 -- a command that changes or queries one replica, by its name and fields
 unfoldable pub replica_command_of_name : List ℕ → List ℕ → Data → Option Command
 replica_command_of_name name at d =
     if bytes_eq name (codes "edit") then edit_command_in at d
     else if bytes_eq name (codes "withdraw") then withdraw_in at d
     else if bytes_eq name (codes "advance") then option_map (Advance at) (only_number (codes "to") d)
-    else if bytes_eq name (codes "cells") then option_map (Cells at) (only_number (codes "step") d)
-    else if bytes_eq name (codes "cars") then option_map (Cars at) (only_number (codes "step") d)
-    else if bytes_eq name (codes "count") then count_in at d
-    else if bytes_eq name (codes "diagram") then diagram_in at d
-    else if bytes_eq name (codes "scenario") then scenario_in at d
-    else None
+    else option_map (Ask at) (query_of_name name d)
 
 -- ---- edits from outside, and messages from replica to replica
 

@@ -26,11 +26,11 @@ abbrev pub command_view : Command → grammar.Command
 command_view (commands.Edit at object step value) = grammar.Edit (string_bytes at) object step value
 command_view (commands.Withdraw at object step) = grammar.Withdraw (string_bytes at) object step
 command_view (commands.Advance at to) = grammar.Advance (string_bytes at) to
-command_view (commands.Cells at step) = grammar.Cells (string_bytes at) step
-command_view (commands.Cars at step) = grammar.Cars (string_bytes at) step
-command_view (commands.Count at detector from to) = grammar.Count (string_bytes at) detector from to
-command_view (commands.Diagram at from to) = grammar.Diagram (string_bytes at) from to
-command_view (commands.Scenario at) = grammar.Scenario (string_bytes at)
+command_view (commands.Cells at step) = grammar.Ask (string_bytes at) (grammar.Cells step)
+command_view (commands.Cars at step) = grammar.Ask (string_bytes at) (grammar.Cars step)
+command_view (commands.Count at detector from to) = grammar.Ask (string_bytes at) (grammar.Count detector from to)
+command_view (commands.Diagram at from to) = grammar.Ask (string_bytes at) (grammar.Diagram from to)
+command_view (commands.Scenario at) = grammar.Ask (string_bytes at) grammar.Scenario
 command_view (commands.Import at edits) = grammar.Import (string_bytes at) edits.items
 command_view (commands.Send at name) = grammar.Send (string_bytes at) (string_bytes name)
 command_view (commands.Heads at name) = grammar.Heads (string_bytes at) (string_bytes name)

@@ -1,5 +1,9 @@
 //! Commands, which are the lines after the first.
 
+ghost use Rattle.std.specs.Prelude.{◌≡◌, option_map};
+ghost use Rattle.road_format.specs.CommandGrammar.{replica_name};
+ghost use Rattle.road_format.specs.Views.{command_view};
+
 use road_plan::Object;
 use road_scenario::Edit;
 
@@ -118,4 +122,28 @@ pub enum Command {
         /// The step to which each session advances.
         to: u32,
     },
+}
+
+impl Command {
+    /// Return the name of the command's replica. A crowd names none.
+    pub fn replica(&self) -> Option<&str>
+        ensures { option_map (λ name. name.now) result ≡ replica_name (command_view self.now) }
+    {
+        match self {
+            Command::Edit { at, .. } => Some(at),
+            Command::Withdraw { at, .. } => Some(at),
+            Command::Advance { at, .. } => Some(at),
+            Command::Cells { at, .. } => Some(at),
+            Command::Cars { at, .. } => Some(at),
+            Command::Count { at, .. } => Some(at),
+            Command::Diagram { at, .. } => Some(at),
+            Command::Scenario { at } => Some(at),
+            Command::Import { at, .. } => Some(at),
+            Command::Send { at, .. } => Some(at),
+            Command::Heads { at, .. } => Some(at),
+            Command::Beyond { at, .. } => Some(at),
+            Command::Take { at, .. } => Some(at),
+            Command::Crowd { .. } => None,
+        }
+    }
 }

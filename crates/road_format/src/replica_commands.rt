@@ -20,12 +20,7 @@ pub(crate) fn replica_command_of_name(name: &str, at: String, fields: &Value) ->
         "edit" => edit_command_in(at, fields),
         "withdraw" => withdraw_in(at, fields),
         "advance" => advance_in(at, fields),
-        "cells" => cells_in(at, fields),
-        "cars" => cars_in(at, fields),
-        "count" => count_in(at, fields),
-        "diagram" => diagram_in(at, fields),
-        "scenario" => scenario_in(at, fields),
-        _ => None,
+        _ => query_of_name(name, at, fields),
     }
 }
 
@@ -80,10 +75,28 @@ fn advance_in(at: String, fields: &Value) -> Option<Command>
     Some(Command::Advance { at, to })
 }
 
+// ---- queries
+
+// Read the query of a name at a replica, with these fields.
+#[tactic(auto, unfolding(crate::specs::CommandGrammar::query_of_name))]
+fn query_of_name(name: &str, at: String, fields: &Value) -> Option<Command>
+    ensures { option_map command_view result
+        ≡ option_map (grammar.Ask (string_bytes at)) (grammar.query_of_name name.now (view fields.now)) }
+{
+    match name {
+        "cells" => cells_in(at, fields),
+        "cars" => cars_in(at, fields),
+        "count" => count_in(at, fields),
+        "diagram" => diagram_in(at, fields),
+        "scenario" => scenario_in(at, fields),
+        _ => None,
+    }
+}
+
 // Read the `cells` at a replica, with exactly its fields.
 fn cells_in(at: String, fields: &Value) -> Option<Command>
-    ensures { option_map command_view result
-        ≡ option_map (grammar.Cells (string_bytes at)) (grammar.only_number (codes "step") (view fields.now)) }
+    ensures { option_map command_view result ≡ option_map (grammar.Ask (string_bytes at))
+        (option_map grammar.Cells (grammar.only_number (codes "step") (view fields.now))) }
 {
     let step = only_number("step", fields)?;
     Some(Command::Cells { at, step })
@@ -91,8 +104,8 @@ fn cells_in(at: String, fields: &Value) -> Option<Command>
 
 // Read the `cars` at a replica, with exactly its fields.
 fn cars_in(at: String, fields: &Value) -> Option<Command>
-    ensures { option_map command_view result
-        ≡ option_map (grammar.Cars (string_bytes at)) (grammar.only_number (codes "step") (view fields.now)) }
+    ensures { option_map command_view result ≡ option_map (grammar.Ask (string_bytes at))
+        (option_map grammar.Cars (grammar.only_number (codes "step") (view fields.now))) }
 {
     let step = only_number("step", fields)?;
     Some(Command::Cars { at, step })
@@ -108,7 +121,8 @@ fn steps_at(fields: &Value) -> Option<(u32, u32)>
 // Read the `count` at a replica, with exactly its fields.
 #[tactic(auto, unfolding(crate::specs::CommandGrammar::count_in))]
 fn count_in(at: String, fields: &Value) -> Option<Command>
-    ensures { option_map command_view result ≡ grammar.count_in (string_bytes at) (view fields.now) }
+    ensures { option_map command_view result
+        ≡ option_map (grammar.Ask (string_bytes at)) (grammar.count_in (view fields.now)) }
 {
     if !has_fields(4, fields) {
         return None;
@@ -126,7 +140,8 @@ fn count_in(at: String, fields: &Value) -> Option<Command>
 // Read the `diagram` at a replica, with exactly its fields.
 #[tactic(auto, unfolding(crate::specs::CommandGrammar::diagram_in))]
 fn diagram_in(at: String, fields: &Value) -> Option<Command>
-    ensures { option_map command_view result ≡ grammar.diagram_in (string_bytes at) (view fields.now) }
+    ensures { option_map command_view result
+        ≡ option_map (grammar.Ask (string_bytes at)) (grammar.diagram_in (view fields.now)) }
 {
     if !has_fields(3, fields) {
         return None;
@@ -137,7 +152,8 @@ fn diagram_in(at: String, fields: &Value) -> Option<Command>
 
 // Read the `scenario` at a replica, with exactly its field.
 fn scenario_in(at: String, fields: &Value) -> Option<Command>
-    ensures { option_map command_view result ≡ grammar.scenario_in (string_bytes at) (view fields.now) }
+    ensures { option_map command_view result
+        ≡ option_map (grammar.Ask (string_bytes at)) (grammar.scenario_in (view fields.now)) }
 {
     if !has_fields(1, fields) {
         return None;

@@ -34,6 +34,6 @@ abbrev pub crowd_sheet : Plan → List (List Edit) → ℕ → Sheet
 crowd_sheet plan shares to = record { plan = plan; edits = crowd_winners shares; horizon = to }
 
 -- the first named cause for which a crowd is refused: the fault of the first faulty edit, in the order of the shares,
--- else that of its step
+-- else that of its step, if it is too late
 abbrev pub shares_fault : Plan → List (List Edit) → ℕ → Option ReplicaFault
 shares_fault plan shares to = option_or (import_fault plan (edits_of shares)) (advance_fault to)

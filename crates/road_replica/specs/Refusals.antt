@@ -1,4 +1,4 @@
--- What a replica refuses, and for which cause.
+-- Which calls a replica refuses, and for which cause.
 use Rattle.std.specs.Prelude.{◌≡◌, ◌⊎◌, ◌+◌, ◌-◌, ◌^◌, ℕ, min, nat_lt, List, [], ◌∷◌, if◌then◌else◌}
 use Rattle.std.specs.Prelude.{MatchResult, Result}
 use Rattle.std.specs.Option.{option_or, option_map}
@@ -101,11 +101,11 @@ abbrev pub IsRefusal : Option ReplicaFault → ReplicaFault → Type 0
 IsRefusal (Some cause) fault = fault ≡ cause
 IsRefusal None fault = fault ≡ OutOfMemory
 
--- how often a crew has returned `WorkersGone`, after this refusal of a write
+-- how often a crew has returned `WorkersGone` after a write is refused with this fault
 abbrev pub gone_after_fault : ReplicaFault → ℕ → ℕ
 gone_after_fault WorkersGone n = min (n + 1) (2 ^ 64 - 1)
 gone_after_fault fault n = n
 
--- `WorkersGone` is counted: a crew has returned it once more if a write is refused with it, and else as often as before
+-- a crew's count of `WorkersGone` is right: it rises by one if a write is refused with it, else it stays
 abbrev pub CountsGone : {A : Type 0} → Result A ReplicaFault → ℕ → ℕ → Type 0
 CountsGone result gone later = MatchResult result (λ _. later ≡ gone) (λ fault. later ≡ gone_after_fault fault gone)

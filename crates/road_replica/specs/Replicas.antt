@@ -37,7 +37,7 @@ single_edit edit = from_list (edit ∷ [])
 abbrev pub replica_after : SheetCommand → Replica → Replica
 replica_after command r = record r { sheet = sheet_after command r.sheet }
 
--- the most steps computed when a sheet takes edits: none if no simulated step is touched, else the steps from the
--- touched one up to the horizon and 63 more
+-- the most steps computed when a sheet takes edits: 0 if they touch no simulated step, else the number of steps from
+-- the touched one up to the horizon, and 63 more
 abbrev pub most_steps_taking : Sheet → Edits → ℕ
 most_steps_taking s edits = most_steps s.horizon s.horizon (touched_step s edits)

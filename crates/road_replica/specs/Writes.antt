@@ -10,8 +10,8 @@ use Rattle.road_replica.specs.Refusals.{IsWriteRefusal}
 use Rattle.road_replica.specs.Replicas.{Replica, most_steps_taking, replica_after}
 use Rattle.road_replica.specs.declared.faults.ReplicaFault.{ReplicaFault}
 
--- the number of steps that a command computes: if edits are taken, the steps from where the run resumes up to the
--- horizon
+-- the number of steps that a command computes. If it takes edits, these are the steps from where the run resumes up to
+-- the horizon
 abbrev pub steps_of_command : SheetCommand → Sheet → ℕ
 steps_of_command (Take edits) s = s.horizon - draft_start s.horizon (kept_step s.horizon (touched_step s edits))
 steps_of_command (Advance to) s = max s.horizon to - s.horizon

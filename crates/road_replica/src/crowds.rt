@@ -27,8 +27,8 @@ pub struct Crowd {
     pub row: String,
 }
 
-/// A gatherer of crowds. This trait does not say that a call may block or starts threads. A caller that is given a
-/// gatherer blocks only if that gatherer does.
+/// Something that runs crowds. The trait does not promise a call that never blocks or starts no threads: whoever calls
+/// it blocks if the implementation does.
 pub trait Crowds {
     /// Return the result for a replica without edits once 1 to 8 sessions have written to it, in whatever order. Each
     /// session takes the edits of its share, one after another, and then advances to the step.
@@ -36,7 +36,7 @@ pub trait Crowds {
     /// # Errors
     ///
     /// `WorkersGone` if a session's thread could not be started, else `OutOfMemory`.
-    fn gathered(
+    fn gather(
         &self,
         alloc: Global,
         plan: &Arc<Plan>,

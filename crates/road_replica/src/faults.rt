@@ -1,4 +1,4 @@
-//! The causes for which a replica refuses a call, and the names that causes of the layers below have here.
+//! Why a replica refuses a call, and how it names the faults of the layers below.
 
 ghost use Rattle.std.specs.Prelude.{◌≡◌};
 ghost use Rattle.road_replica.specs.Refusals as refusals;
@@ -50,7 +50,7 @@ pub enum ReplicaFault {
     /// A worker's thread could not be started, or has ended.
     #[error("a worker could not be started or has gone")]
     WorkersGone,
-    /// There was no memory.
+    /// An allocation failed.
     #[error("no memory")]
     OutOfMemory,
 }
@@ -87,7 +87,7 @@ impl From<GrownFault> for ReplicaFault {
     }
 }
 
-// Name the refusal of an edit that comes from elsewhere.
+// Return the refusal of an edit that comes from elsewhere.
 pub(crate) fn arrived_fault(fault: EditFault) -> ReplicaFault
     ensures { result ≡ refusals.arrived_edit_fault fault }
 {
@@ -99,7 +99,7 @@ pub(crate) fn arrived_fault(fault: EditFault) -> ReplicaFault
     }
 }
 
-// Name the refusal of an edit that the replica would make.
+// Return the refusal of an edit that the replica would make.
 pub(crate) fn made_fault(fault: EditFault) -> ReplicaFault
     ensures { result ≡ refusals.made_edit_fault fault }
 {

@@ -6,7 +6,7 @@
 //! let mut here = Replica::open(alloc, Arc::try_clone(&plan)?, 0)?;
 //! let horizon = here.advance(alloc, 100, &mut crew, &mut meter)?;
 //! let stamp = here.edit(alloc, Object::Limit(0), 70, 0, &mut crew, &mut meter)?;
-//! // Another replica takes all edits of the first one, which touch it from step 70 on.
+//! // Another replica takes all edits of the first one. They change what it shows from step 70 on.
 //! let mut there = Replica::open(alloc, plan, 1)?;
 //! let touched = there.take(alloc, &here.message()?, &mut crew, &mut meter)?;
 //! println!(rt; "{horizon} {} {}", stamp.count, touched == Some(70))?;

@@ -127,7 +127,7 @@ impl Replica {
 
     // ---- the named causes for which writes are refused
 
-    /// Return the cause for which the replica would refuse to take a scenario, or none if its edits fit the plan.
+    /// Return the cause for which the replica would refuse to take a scenario, or `None` if its edits fit the plan.
     pub fn take_fault(&self, scenario: &Scenario) -> Option<ReplicaFault>
         ensures fault { result ≡ refusals.take_fault self.now.sheet.plan scenario.now }
         ensures fits { IfNone result (AreInRange self.now.sheet.plan scenario.now) }
@@ -173,7 +173,7 @@ impl Replica {
     }
 
     /// Withdraw what is set for an object at a step: from there on the latest earlier number is in force, or the
-    /// default. An edit may also withdraw where nothing was set. The stamp is as for [`Replica::edit`].
+    /// default. A withdrawal is also accepted if nothing was set. The stamp is as for [`Replica::edit`].
     ///
     /// # Errors
     ///
@@ -308,9 +308,9 @@ impl Replica {
         self.join(alloc, scenario, crew, meter)
     }
 
-    /// Join a scenario, which must fit the plan (`Scenario::fits` returns none). All writes of edits come through here:
-    /// [`Replica::make_edit`], [`Replica::import`] and [`Replica::take`] check the named causes, and then join. Return
-    /// the first step at which the numbers set have changed.
+    /// Join a scenario, which must fit the plan (`Scenario::fits` returns `None`). All writes of edits come through
+    /// here: [`Replica::make_edit`], [`Replica::import`] and [`Replica::take`] check the named causes, and then join.
+    /// Return the first step at which the numbers set have changed.
     ///
     /// # Errors
     ///
@@ -414,7 +414,7 @@ impl Replica {
         Ok(self.sheet.scenario().copied()?)
     }
 
-    /// Make the heads of all edits that the replica holds, with which it asks another replica for missing edits.
+    /// Make the heads of all edits that the replica holds. Another replica replies to them with the edits missing here.
     ///
     /// # Errors
     ///

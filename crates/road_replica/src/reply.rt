@@ -1,4 +1,4 @@
-//! Replies to writes to a replica, and to other calls of it.
+//! Replies to the writes and other calls of a replica.
 
 use road_scenario::Stamp;
 
@@ -7,7 +7,7 @@ use road_scenario::Stamp;
 pub enum Reply {
     /// The stamp of the edit that the replica made.
     Stamped(Stamp),
-    /// The first step at which the received edits changed the numbers set, or none if they changed none.
+    /// The first step at which the received edits changed the numbers set, or `None` if they changed no number.
     Touched(Option<u32>),
     /// The number of the message that was made.
     Message(u64),

@@ -5,12 +5,6 @@ use Rattle.std.proofs.lemmas.Bool.Decides.{nat_tests}
 use Rattle.road_sheet.specs.Drafts.{draft_start}
 use Rattle.road_rewind.specs.Growth.{kept_step, most_steps, meter_after, TicksAtMost}
 
--- one more tick
-pub tick_more : (meter count later h step : ℕ) → h ≤ step → count ≡ meter_after meter (step - h) → later ≡ min (count + 1) (2 ^ 64 - 1) → later ≡ meter_after meter (step + 1 - h)
-tick_more meter count later h step before is ticked =
-    let more : suc (step - h) ≡ step + 1 - h = omega arith in
-    ticked ∙ ap (λ n. min (n + 1) (2 ^ 64 - 1)) is ∙ ap (meter_after meter) more
-
 -- ticks after others
 pub more_ticks_after : (meter n k : ℕ) → meter_after (meter_after meter n) k ≡ meter_after meter (n + k)
 more_ticks_after meter n zero = ap (meter_after meter) (omega arith)
@@ -18,7 +12,7 @@ more_ticks_after meter n (suc k) =
     let one : suc (n + k) ≡ n + suc k = omega arith in
     ap (λ (m : ℕ). min (m + 1) (2 ^ 64 - 1)) (more_ticks_after meter n k) ∙ ap (meter_after meter) one
 
--- so many ticks at once, and at least one
+-- several ticks at once, and at least one
 at_once : (meter k : ℕ) → min (meter + suc k) (2 ^ 64 - 1) ≡ meter_after meter (suc k)
 at_once meter zero = refl
 at_once meter (suc k) =

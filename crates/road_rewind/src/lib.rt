@@ -1,4 +1,4 @@
-//! Late edits: a sheet takes edits and is simulated anew from where they act, and no earlier than 63 steps before.
+//! Late edits: a sheet takes edits and is simulated again from where they act, and no earlier than 63 steps before.
 //!
 //! ```
 //! // A run to step 100; then its first zone is closed from step 70 on.

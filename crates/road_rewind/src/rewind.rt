@@ -1,17 +1,18 @@
 //! Rewinding: a sheet grows by edits and steps, keeps what no edit touches, and simulates the rest.
 
-ghost use Rattle.std.specs.Prelude.{◌≡◌, ◌≤◌, ◌<◌, ◌+◌, ◌-◌, max, IfOk, OnOk, OnErr};
+ghost use Rattle.std.specs.Prelude.{◌≡◌, ◌≤◌, ◌-◌, max, IfOk, OnOk};
 ghost use Rattle.road_plan.specs.declared.limits.TheConstants.{GREATEST_HORIZON};
 ghost use Rattle.road_scenario.specs.Faults.{AreInRange};
 ghost use Rattle.road_scenario.specs.Winners.{join};
 ghost use Rattle.road_sheet.specs.Drafts.{draft_start};
-ghost use Rattle.road_sheet.specs.Sheets.{IsAtMost, sheet_after_step};
+ghost use Rattle.road_sheet.specs.Sheets.{IsAtMost};
 ghost use Rattle.road_sheet.specs.Spans.{IsNextSpan, sheet_after_span};
 ghost use Rattle.road_rewind.specs.Growth.{grown_sheet, touched_step, kept_step, most_steps, meter_after, CountsGone};
 ghost use Rattle.road_rewind.specs.Growth.{TicksAtMost};
 
 use crate::GrownFault;
 use crate::outcome::Grown;
+use road_ends::laws::cars_stay_on_road;
 use road_ends::{Meter, OutOfMemory, Span};
 use road_scenario::Scenario;
 use road_scenario::laws::winners_agree;
@@ -52,14 +53,14 @@ pub fn grown<C: Crew>(
     ensures new_steps { IfOk result (λ _.
         kept_step sheet.now.horizon (touched_step sheet.now scenario.now) ≡ sheet.now.horizon
         → meter.new ≡ meter_after meter.old (max sheet.now.horizon to - sheet.now.horizon)) }
-    // Else, and if it is refused, at most so many.
+    // Else, and if it is refused, at most `most_steps`.
     ensures few_steps { TicksAtMost
         (most_steps sheet.now.horizon (max sheet.now.horizon to) (touched_step sheet.now scenario.now))
         meter.old meter.new }
     ensures gone { CountsGone result (C.times_gone crew.old) (C.times_gone crew.new) }
 {
     winners_agree();
-    let (mut draft, touched) = begun(alloc, sheet, scenario)?;
+    let (mut draft, touched) = start_draft(alloc, sheet, scenario)?;
     simulate(alloc, &mut draft, sheet.horizon().max(to), crew, meter)?;
     Ok(Grown {
         sheet: draft.sheet(),
@@ -68,18 +69,18 @@ pub fn grown<C: Crew>(
 }
 
 // Begin the draft of the joined scenario, and find the touched step.
-fn begun(
+fn start_draft(
     alloc: Global,
     sheet: &Sheet,
     scenario: &Scenario,
 ) -> Result<(Draft, Option<u32>), OutOfMemory>
     requires fits { AreInRange sheet.now.plan scenario.now }
-    ensures draft { IfOk result (λ begun. begun.0 ≡ record {
+    ensures draft { IfOk result (λ started. started.0 ≡ record {
       plan = sheet.now.plan;
       edits = join sheet.now.edits scenario.now;
       horizon = draft_start sheet.now.horizon (kept_step sheet.now.horizon (touched_step sheet.now scenario.now));
     }) }
-    ensures touched { IfOk result (λ begun. begun.1 ≡ touched_step sheet.now scenario.now) }
+    ensures touched { IfOk result (λ started. started.1 ≡ touched_step sheet.now scenario.now) }
 {
     winners_agree();
     let joined = sheet.scenario().joined(scenario)?;
@@ -99,8 +100,8 @@ fn kept_step(horizon: u32, touched: Option<u32>) -> u32
     }
 }
 
-// Simulate a draft up to a step. The meter counts the steps that the draft gets, those of a run of several all at once;
-// it counts none of a run that is refused.
+// Simulate a draft up to a step, by runs of no more steps than the crew is to run at once. The meter counts the steps of
+// each run once the draft has them, and none of a run that is refused.
 fn simulate<C: Crew>(
     alloc: Global,
     draft: &mut Draft,
@@ -118,15 +119,16 @@ fn simulate<C: Crew>(
     let mut kept = KeptRun::none();
     let mut step = draft.horizon();
     while step < to {
-        let span = draft.next_span(alloc, to)?;
+        let end = to.min(step.saturating_add(crew.most_steps()));
+        let span = draft.next_span(alloc, end)?;
         simulate_span(alloc, draft, &span, crew, &mut kept, meter)?;
         step += span.steps();
     }
     Ok(())
 }
 
-// Simulate the next steps of a draft: by one run of the crew if it runs several steps, and else one after another.
-// The meter counts all steps of a run once the draft has them, and none if the run or its taking is refused.
+// Simulate the next steps of a draft by a run of the crew. The meter counts all of them once the draft has them, and
+// none if the run or its taking is refused.
 fn simulate_span<C: Crew>(
     alloc: Global,
     draft: &mut Draft,
@@ -141,52 +143,12 @@ fn simulate_span<C: Crew>(
     ensures few { TicksAtMost span.now.steps meter.old meter.new }
     ensures gone { CountsGone result (C.times_gone crew.old) (C.times_gone crew.new) }
 {
-    match crew.run(alloc, span, draft.road(), kept) {
-        Ok(Some(ran)) => {
-            draft.push_span(alloc, span, ran)?;
-            meter.count(span.steps());
-            Ok(())
-        }
-        Ok(None) => {
-            let end = draft.horizon() + span.steps();
-            simulate_steps(alloc, draft, end, crew, meter)
-        }
-        Err(fault) => Err(fault),
-    }
-}
-
-// Simulate a draft up to a step, one step after another. The meter counts each that the draft has, also before a
-// refusal.
-fn simulate_steps<C: Crew>(
-    alloc: Global,
-    draft: &mut Draft,
-    to: u32,
-    crew: &mut C,
-    meter: &mut Meter,
-) -> Result<(), GrownFault>
-    requires before { draft.old.horizon ≤ to }
-    requires within_limit { to ≤ GREATEST_HORIZON }
-    ensures simulated { OnOk result (draft.new ≡ record draft.old { horizon = to }) }
-    ensures steps { OnOk result (meter.new ≡ meter_after meter.old (to - draft.old.horizon)) }
-    ensures few { TicksAtMost (to - draft.old.horizon) meter.old meter.new }
-    ensures gone { CountsGone result (C.times_gone crew.old) (C.times_gone crew.new) }
-{
-    for step in draft.horizon()..to {
-        one_step(alloc, draft, crew)?;
-        meter.tick();
-    }
-    Ok(())
-}
-
-// Add one more step.
-fn one_step<C: Crew>(alloc: Global, draft: &mut Draft, crew: &mut C) -> Result<(), GrownFault>
-    requires within_limit { draft.old.horizon < GREATEST_HORIZON }
-    ensures grown { OnOk result (draft.new ≡ sheet_after_step draft.old) }
-    ensures unchanged { OnErr result (draft.new ≡ draft.old) }
-    ensures gone { CountsGone result (C.times_gone crew.old) (C.times_gone crew.new) }
-{
-    let input = draft.input(alloc)?;
-    let speeds = crew.speeds(alloc, &input)?;
-    draft.push(alloc, &input, &speeds)?;
+    let steps = span.steps();
+    cars_stay_on_road(span.plan());
+    let Some(ran) = crew.run(alloc, span, draft.road(), kept)? else {
+        unreachable!();
+    };
+    draft.push_span(alloc, span, ran)?;
+    meter.count(steps);
     Ok(())
 }

@@ -28,7 +28,7 @@ pub(crate) fn register_of(alloc: Global, edit: &Edit) -> Result<RegistersByStep,
     none.with(edit.step, &Greatest::Of((edit.stamp, edit.value)))
 }
 
-// Find the last number set up to a step. The search walks back from there, past withdrawals only.
+// Find the last number set up to a step. The search goes back from there and passes only withdrawals.
 pub(crate) fn last_put(registers: &RegistersByStep, step: u32) -> Option<u32>
     ensures { result ≡ walks.last_number step registers.now }
 {

@@ -30,7 +30,7 @@ use std::marker::Model;
 #[derive(Drop)]
 pub struct Scenario {
     registers: RegistersByObject,
-    // The greatest count of all edits, or 0 if there is none.
+    // The greatest count of all edits, or 0 without edits.
     greatest: u64,
     alloc: Global,
 }
@@ -141,9 +141,9 @@ impl Scenario {
     }
 
     /// Return the number in force for an object at a step, in the object's units. It is the number of the latest-dated
-    /// edit up to that step that is not a withdrawal, or the default if there is none. In place of a default, the
-    /// slowing chance of standing cars has the zone's slowing chance at that step. The plan must have the object
-    /// (`Object::in_plan`).
+    /// edit up to that step that is not a withdrawal, or the default without such an edit. The slowing chance of
+    /// standing cars has no default: without an edit it is the zone's slowing chance at that step. The plan must have
+    /// the object (`Object::in_plan`).
     pub fn setting(&self, plan: &Plan, object: Object, step: u32) -> u32
         requires { is_in_plan plan.now object ≡ true }
         ensures { result ≡ setting plan.now self.now object step }
@@ -155,7 +155,7 @@ impl Scenario {
     }
 
     /// Make all settings of the plan at a step, by one walk over the edits up to it. The scenario must fit the plan
-    /// (`fits` returns none), and then so do the settings.
+    /// (`fits` returns `None`), and then so do the settings.
     ///
     /// # Errors
     ///
@@ -175,8 +175,8 @@ impl Scenario {
         Ok(settings)
     }
 
-    /// Find the first step after a given step at which an edit is dated, even if it is a withdrawal. There is none if
-    /// no edit is dated later. All steps before it have the settings of the given step. It takes few look-ups for each
+    /// Return the first step after a given step at which an edit, perhaps a withdrawal, takes effect, or `None` if no
+    /// edit is dated later. All steps before it have the settings of the given step. It takes few look-ups for each
     /// object and no memory.
     pub fn next_date(&self, step: u32) -> Option<u32>
         ensures date { result ≡ next_date self.now step }
@@ -186,16 +186,16 @@ impl Scenario {
         first_date_after(&self.registers, step)
     }
 
-    /// Find the least step at which the numbers set for some object here and in `other` differ. No number is set if
-    /// there is no edit or a withdrawal. Settings at earlier steps are the same (`laws::settings_stay_before_touched`).
-    /// It takes no memory.
+    /// Return the least step at which this scenario and `other` set different numbers for some object, or `None` if
+    /// they set the same numbers. A withdrawal sets no number. Settings at earlier steps are the same
+    /// (`laws::settings_stay_before_touched`). It takes no memory.
     pub fn touched(&self, other: &Scenario) -> Option<u32>
         ensures { result ≡ first_touched_step self.now other.now }
     {
         first_change(&self.registers, &other.registers)
     }
 
-    /// Find the step of [`Scenario::touched`] for a scenario `joined`, which must be this one with `taken` joined in.
+    /// Return the same as [`Scenario::touched`] of `joined`, which must be this scenario with `taken` joined in.
     /// Only the objects and steps of `taken` are visited. It takes no memory.
     pub fn touched_by(&self, taken: &Scenario, joined: &Scenario) -> Option<u32>
         requires { joined.now ≡ join self.now taken.now }
@@ -226,7 +226,7 @@ impl Scenario {
         count_edits(&self.registers)
     }
 
-    /// Return the greatest count of the edits' stamps, or 0 if there is none. It is the greatest count of every set of
+    /// Return the greatest count of the edits' stamps, or 0 without edits. It is the greatest count of every set of
     /// edits with these winners, and at most 2^48 if the scenario fits a plan. It takes no memory.
     pub fn greatest_count(&self) -> u64
         ensures here { result ≡ greatest_count self.now }
@@ -236,8 +236,8 @@ impl Scenario {
         self.greatest
     }
 
-    /// Find the fault of the first faulty edit, in the order of `edits`. There is none if all edits are in the plan and
-    /// its ranges. It takes no memory.
+    /// Return the fault of the first faulty edit, in the order of `edits`, or `None` if all edits fit the plan. It
+    /// takes no memory.
     pub fn fits(&self, plan: &Plan) -> Option<EditFault>
         ensures fault { result ≡ fault_in plan.now self.now }
         ensures none { IsNone result ↔ AreInRange plan.now self.now }

@@ -387,7 +387,7 @@ few_of_none lines = le-ltb (suc lines) zero (omega arith)
 appends_nothing : (contents : Option (List ℕ)) (text : List ℕ) → text ≡ [] → Appends contents contents text
 appends_nothing contents text none = let Family : List ℕ → Type 0 = λ x. Appends contents contents x in subst Family (sym none) (Appends-nil contents)
 
--- a source that was not opened, after so many failed reads
+-- a source that was not opened, after this number of failed reads
 abbrev pub unopened_source : ℕ → SourceView
 unopened_source failed = record { remaining = None; at_end = false; failures = failed }
 

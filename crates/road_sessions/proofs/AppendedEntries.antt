@@ -1,4 +1,5 @@
--- What the exchanges of a logbook's first word do: one writes a page, one shows that there is none more, one makes a pen.
+-- What the exchanges of a logbook's first word do: one writes a page, one shows that there is no further page, one
+-- makes a pen.
 use Rattle.std.proofs.Common.{◌≡◌, ◌∙◌, ◌≢◌, ℕ, zero, suc, ◌<◌, ◌==◌, Bool, true, false, List, [], ◌∷◌, ◌++◌, length, length-append, length-set, set, None, refl, sym, ap, subst, inl, arith, eq-eqb, ne_eqb}
 use Rattle.std.specs.Prelude.{nat_eq, if◌then◌else◌}
 use Rattle.std.specs.List.{AllByRecursion}
@@ -31,7 +32,7 @@ home_longer [] c i home = absurd (true≢false (sym home))
 home_longer (d ∷ cells) c zero home = home
 home_longer (d ∷ cells) c (suc i) home = home_longer cells c i home
 
--- the pens of pages stay spent where words stay at home
+-- a word that is at home stays there, so the pens of written pages stay spent
 spent_after : (cells after : List Cell) (pages : List Page) → ((i : ℕ) → IsHome cells i → IsHome after i) → AllByRecursion (λ (p : Page). IsHome cells p.by) pages → AllByRecursion (λ (p : Page). IsHome after p.by) pages
 spent_after cells after [] stay spent = tt
 spent_after cells after (p ∷ pages) stay spent = (stay p.by spent.0, spent_after cells after pages stay spent.1)
@@ -72,7 +73,7 @@ pub entries_prefix : (pen : ℕ) (seen pages : List Page) → IsPrefix seen page
 entries_prefix pen seen pages p =
     (entries_from (pen_after pen seen) p.0, sym (entries_more pen seen p.0) ∙ ap (λ (l : List Page). entries_from pen l) p.1)
 
--- ---- who has the pen of the next page has seen all
+-- ---- whoever has the pen of the next page has seen all pages
 
 nothing_by : (pen : ℕ) (pages : List Page) → AllByRecursion (λ (p : Page). p.by ≢ pen) pages → (entries_from pen pages ≡ []) × (pen_after pen pages ≡ pen)
 nothing_by pen [] none = (refl, refl)
@@ -97,14 +98,14 @@ all_seen first seen pages pen p is none =
 
 -- ---- the exchanges
 
--- clients see nothing of a logbook, and ask nothing of one another
+-- clients of this logbook need nothing from one another
 abbrev pub nothing_shown : List Page → List Page
 nothing_shown pages = []
 
 abbrev pub nothing_asked : List Page → List Page → ℕ → Type 0
 nothing_asked before after answer = Unit {0}
 
--- who has seen this much, has this pen and offers nothing
+-- a client that has seen these pages, has this pen and offers nothing
 abbrev pub seen_with : List Page → Nib → View Page ℕ
 seen_with seen pen = (seen, (pen, None))
 
@@ -115,7 +116,7 @@ page_behind first pages p is =
       pen_more first pages (p ∷ []) ∙ ap (λ (b : Bool). if b then p.next else pen_after first pages) mine,
     )
 
--- whatever the logbook is: who has a pen that may write can write a page by it
+-- in any logbook, whoever has a pen that may write can write a page with it
 pub may_append : (seen : List Page) (p : Page) (pen : Nib) → pen.right ≡ may_write → pen.key ≡ p.by
     → Moves HasPages nothing_shown nothing_asked 0 (seen_with seen pen) (λ n. either (n == 0) 0 n) (Appends (step 0 0 0 p) (seen_with seen pen))
 may_append seen p pen right by cells pages has prefix away =
@@ -147,7 +148,7 @@ may_append seen p pen right by cells pages has prefix away =
       ),
     )
 
--- who has a pen that may write can know all pages
+-- whoever has a pen that may write can learn all pages
 pub may_know_all : (seen : List Page) (ask : Page) (pen : Nib) → pen.right ≡ may_write
     → Moves HasPages nothing_shown nothing_asked 0 (seen_with seen pen) (λ n. either (n == 0) 0 n) (KnowsAll (step 0 0 0 ask) (seen_with seen pen))
 may_know_all seen ask pen right cells pages has prefix away =
@@ -176,7 +177,7 @@ may_know_all seen ask pen right cells pages has prefix away =
       ),
     )
 
--- whoever has no pen can make one
+-- a client without a pen can make one
 pub may_make_pen : (seen : List Page) (ask : Page)
     → Moves HasPages nothing_shown nothing_asked 0 (seen_with seen no_nib) (λ n. either (n == 0) 0 n) (MakesPen (step 0 0 0 ask) (seen_with seen no_nib))
 may_make_pen seen ask cells pages has prefix away =

@@ -1,4 +1,4 @@
--- Where sessions made as many writes as the journal has entries, and all of these stand there, the journal has no others.
+-- If the journal has all writes of the sessions, and as many entries as they made writes, it has no other entries.
 use Rattle.std.proofs.Common.{◌≡◌, ◌≢◌, ℕ, zero, suc, ◌+◌, ◌≤◌, ◌<◌, Bool, true, false, List, [], ◌∷◌, ◌++◌, length, slice_get, Some, refl, sym, ap, ◌∙◌, subst, arith, eq-eqb, ne_eqb}
 use Rattle.std.specs.Prelude.{nat_eq, if◌then◌else◌}
 use Rattle.std.specs.List.{AllByRecursion}
@@ -9,9 +9,9 @@ use Rattle.road_sessions.specs.Closings.{AreApart, HasWritesOf, IsWrittenBy, wri
 use Rattle.road_sessions.specs.Private.ClosingSessions.{IsSessionOf}
 use Rattle.road_sessions.specs.Sessions.{Session}
 
--- ---- one session: it has no fewer entries in the journal than writes that stand there
+-- ---- one session: it has at least as many entries in the journal as it made writes
 
--- a write stands in a journal whose first place has this number
+-- a write is in the part of a journal that begins at a place
 abbrev StandsFrom : ℕ → List Entry → Write → Type 0
 StandsFrom place journal w = (k : ℕ) × (w.0 ≡ place + k) × (slice_get journal k ≡ Some w.1)
 
@@ -23,7 +23,7 @@ in_rest : (place : ℕ) (e : Entry) (es : List Entry) (w : Write) (k : ℕ) → 
 in_rest place e es w zero after at got = absurd (omega arith)
 in_rest place e es w (suc k) after at got = (k, omega arith, got)
 
--- writes after the first place stand in the rest
+-- writes after the first place are in the rest of the journal
 all_in_rest : (place : ℕ) (e : Entry) (es : List Entry) (writes : List Write) → AllByRecursion (λ (w : Write). place < w.0) writes → AllByRecursion (StandsFrom place (e ∷ es)) writes → AllByRecursion (StandsFrom (place + 1) es) writes
 all_in_rest place e es [] after stand = tt
 all_in_rest place e es (w ∷ ws) after stand = (in_rest place e es w stand.0.0 after.0 stand.0.1 stand.0.2, all_in_rest place e es ws after.1 stand.1)
@@ -32,7 +32,7 @@ after_lower : (place n : ℕ) (writes : List Write) → place ≤ n → AllByRec
 after_lower place n [] low after = tt
 after_lower place n (w ∷ ws) low after = (let a = after.0 in omega arith, after_lower place n ws low after.1)
 
--- the entries are no fewer than the writes, and where they are as many they are the writes
+-- there are at least as many entries as writes, and if there are exactly as many, they are the writes
 abbrev Covers : List Write → List Write → Type 0
 Covers entries writes = (length writes ≤ length entries) × (length entries ≤ length writes → entries ≡ writes)
 
@@ -74,7 +74,7 @@ covers n place (e ∷ es) (w ∷ ws) rise mine stand =
 
 -- ---- all sessions: they have no more entries than the journal
 
--- how many entries they have, in a journal whose first place has this number
+-- the number of entries of these sessions in the part of a journal that begins at a place
 abbrev pub entries_of : ℕ → List Entry → List Session → ℕ
 entries_of place journal [] = 0
 entries_of place journal (s ∷ ss) = length (writes_from s.number place journal) + entries_of place journal ss
@@ -87,7 +87,7 @@ no_entry : (b : Bool) (x : Write) (entries : List Write) → b ≡ false → len
 no_entry true x entries other = absurd (cc (other))
 no_entry false x entries other = refl
 
--- an entry of none of these sessions adds nothing
+-- an entry of another session adds nothing
 pub of_none : (place : ℕ) (e : Entry) (es : List Entry) (ss : List Session) → AllByRecursion (λ (t : Session). e.session ≢ t.number) ss → entries_of place (e ∷ es) ss ≡ entries_of (place + 1) es ss
 of_none place e es [] other = refl
 of_none place e es (s ∷ ss) other =
@@ -102,7 +102,7 @@ of_first_or_not place e es s ss apart (yes is) rest =
 of_first_or_not place e es s ss apart (no not) rest =
     let here = no_entry (nat_eq e.session s.number) (place, e) (writes_from s.number (place + 1) es) (ne_eqb e.session s.number not) in omega arith
 
--- an entry is of one session at most
+-- an entry belongs to at most one session
 pub of_one : (place : ℕ) (e : Entry) (es : List Entry) (ss : List Session) → AreApart ss → entries_of place (e ∷ es) ss ≤ suc (entries_of (place + 1) es ss)
 of_one place e es [] apart = omega arith
 of_one place e es (s ∷ ss) apart = of_first_or_not place e es s ss apart (ℕ_discrete e.session s.number) (of_one place e es ss apart.1)
@@ -148,11 +148,11 @@ one_longer : (ss : List Session) (s : Session) → length (ss ++ s ∷ []) ≡ l
 one_longer [] s = omega arith
 one_longer (t ∷ ss) s = let rest = one_longer ss s in omega arith
 
--- no session adds nothing to a share
+-- without sessions nothing is added to a share
 pub shares_of_none : (parts amount : ℕ) (ss : List Session) → length ss ≡ 0 → (parts ≡ parts + length ss) × (amount ≡ amount + write_count ss)
 shares_of_none parts amount ss none = let writes = no_writes ss none in (omega arith, omega arith)
 
--- the last session adds its share, and then those before it theirs
+-- the last session adds its share first, then the sessions before it add theirs
 pub shares_with_last : (parts amount part own merged_parts merged_amount all_parts all_amount : ℕ) (whole rest : List Session) (s : Session) → whole ≡ rest ++ s ∷ []
     → part ≡ 1 → own ≡ length s.view.own → merged_parts ≡ parts + part → merged_amount ≡ amount + own
     → all_parts ≡ merged_parts + length rest → all_amount ≡ merged_amount + write_count rest

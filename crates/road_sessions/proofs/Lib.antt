@@ -1,5 +1,5 @@
--- Lemmas of histories, of the logbook and the store that keep them, of what sessions write and what they are refused, of
--- the closing, and of what a journal comes to.
+-- Lemmas about histories, the logbook and the store, the writes of sessions and their refusals, the closing of a store,
+-- and the merging of its journal.
 pub mod Prefixes
 pub mod AppendedEntries
 pub mod StoreRule

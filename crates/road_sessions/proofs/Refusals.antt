@@ -1,4 +1,4 @@
--- What a write is refused for behind a history that goes on from what its session has seen.
+-- Why a write is refused, after a history that extends what its session has seen.
 use Rattle.std.proofs.Common.{◌≡◌, ℕ, List, refl, sym, subst}
 use Rattle.std.specs.Prelude.{IsErrAnd, MatchResult, Result}
 use Rattle.std.specs.declared.result.Result.TheVariants.{Err, Ok}
@@ -12,7 +12,7 @@ use Rattle.road_sessions.specs.Journals.{IsLegal}
 use Rattle.road_sessions.specs.Sessions.{IsRefusedThere, IsRefusedWrite, session_of}
 use Rattle.road_sessions.specs.Writes.{IsRefused}
 
--- a write that is refused behind the journal, of which its session has seen a prefix
+-- a write is refused after the journal. Its session has seen a prefix of it, so the journal is such a history
 pub refused_write : {A : Type 0} (P : A → Type 0) (held limit : ℕ) (r : Replica) (wish : Wish) (session : ℕ) (seen journal : List Entry) (v : View) (result : Result A WriteFault) (fault : WriteFault) (meter counted : ℕ)
     → held ≡ limit → IsPrefix seen journal → IsLegal r journal → IsErrAnd result (λ given. given ≡ fault) → IsRefused held wish r journal fault meter counted
     → MatchResult result P (λ given. IsRefusedWrite limit r wish (session_of session seen v) given (session_of session seen v) meter counted)

@@ -1,4 +1,4 @@
--- Journals with one entry more: the plan of the replica that they leave, and that they stay legal.
+-- Journals with one more entry: the plan stays the same, and they stay legal.
 use Rattle.std.proofs.Common.{◌≡◌, ◌∙◌, List, [], ◌∷◌, ◌++◌, refl, sym, subst}
 use Rattle.road_plan.specs.Plan.{Plan}
 use Rattle.road_sheet.specs.Commands as commands

@@ -1,4 +1,4 @@
--- What a session's write or look leaves of it.
+-- A session after a write or a look.
 use Rattle.std.proofs.Common.{◌≡◌, ◌∙◌, ℕ, ◌+◌, ◌<◌, List, [], ◌∷◌, ◌++◌, length, length-append, slice_get, Option, None, Some, inr, refl, sym, ap, subst, arith}
 use Rattle.std.proofs.lemmas.Option.{slice_get_within}
 use Rattle.std.specs.Prelude.{Bool, IsErrAnd, MatchResult, Result, false, if◌then◌else◌, nat_le}
@@ -26,7 +26,7 @@ use Rattle.road_sessions.proofs.Prefixes.{each_of_both, got_last, in_longer_jour
 
 -- ---- a write
 
--- a refusal, for out of memory, of a write against which no named cause stands
+-- a write without a named cause is refused for out of memory
 pub refused_late : {A : Type 0} (limit : ℕ) (wish : Wish) (r : Replica) (journal : List Entry) (result : Result A WriteFault) (fault : ReplicaFault) (meter counted : ℕ)
     → write_fault limit wish r journal ≡ None → IsErrAnd result (λ given. given ≡ OfReplica fault) → fault ≡ causes.OutOfMemory → TicksAtMost (most_steps_of_wish wish (replay r journal)) meter counted
     → MatchResult result (λ _. IsAccepted limit wish r journal meter counted) (λ given. IsRefused limit wish r journal given meter counted)
@@ -38,7 +38,7 @@ refused_late limit wish r journal (Err given) fault meter counted none same is f
       few_steps = few;
     }
 
--- a refusal by the replica, which is asked first
+-- a write is refused by the replica, which checks it first
 pub refused_early : {A : Type 0} (limit : ℕ) (wish : Wish) (r asked : Replica) (journal : List Entry) (result : Result A WriteFault) (fault : ReplicaFault) (meter : ℕ)
     → nat_le limit (length journal) ≡ false → asked ≡ replay r journal → IsErrAnd result (λ given. given ≡ OfReplica fault) → IsRefusal (wish_fault wish asked) fault
     → MatchResult result (λ _. IsAccepted limit wish r journal meter meter) (λ given. IsRefused limit wish r journal given meter meter)
@@ -61,7 +61,7 @@ last_of_more place [] e = ap (λ (n : ℕ). (n, e) ∷ []) (omega arith)
 last_of_more place (x ∷ []) e = ap (λ (n : ℕ). (n, e) ∷ []) (omega arith)
 last_of_more place (x ∷ y ∷ ys) e = last_of_more (place + 1) (y ∷ ys) e ∙ ap (λ (n : ℕ). (n, e) ∷ []) (omega arith)
 
--- the write that ends the published history is one more of the session's own
+-- the last write of the published history is added to the session's own writes
 own_more : (own : List Write) (front after : List Entry) (e : Entry) (place : ℕ) → after ≡ front ++ e ∷ [] → place ≡ length front → own ++ last_write_from 0 after ≡ own ++ (place, e) ∷ []
 own_more own front after e place is at =
     let here : 0 + length front ≡ place = omega arith in
@@ -95,7 +95,7 @@ at_rising_places_with [] place e rise low = (tt, tt)
 at_rising_places_with (w ∷ ws) place e rise low =
     (each_of_both (λ (v : Write). w.0 < v.0) ws ((place, e) ∷ []) rise.0 (low.0, tt), at_rising_places_with ws place e rise.1 low.1)
 
--- after an accepted write a session meets what every session meets
+-- an accepted write keeps the invariant of sessions
 pub session_after_write : (limit : ℕ) (r : Replica) (wish : Wish) (s t : Session) (place : ℕ) (reply : Reply) (meter counted : ℕ) → IsAcceptedWrite limit r wish s place reply t meter counted → IsSession r s → IsSession r t
 session_after_write limit r wish s t place reply meter counted w is =
     let e = entry s.number (wish_command wish (replay r w.front)) in
@@ -116,9 +116,9 @@ pub one_more_write : (limit : ℕ) (r : Replica) (wish : Wish) (s t : Session) (
 one_more_write limit r wish s t place reply meter counted w =
     ap (λ (o : List Write). length o) w.own ∙ (let n = length-append s.view.own ((place, entry s.number (wish_command wish (replay r w.front))) ∷ []) in omega arith)
 
--- ---- a look, and what was told
+-- ---- a look, and a receipt
 
--- having seen more, a session meets what every session meets
+-- a session that has seen a longer history keeps the invariant of sessions
 pub session_later : (r : Replica) (session : ℕ) (seen after : List Entry) (v w : View) → IsPrefix seen after → IsLegal r after → w.own ≡ v.own → IsSession r (session_of session seen v) → IsSession r (session_of session after w)
 session_later r session seen after v w grows legal own is = record {
   legal = legal;
@@ -127,7 +127,7 @@ session_later r session seen after v w grows legal own is = record {
   in_journal = subst (λ (o : List Write). AreInJournal o after) (sym own) (in_longer_journal v.own seen after grows is.in_journal);
 }
 
--- the store was entered, where this was published
+-- a session has entered a store whose published history is this one
 pub has_entered : (r : Replica) (session : ℕ) (seen after published : List Entry) (v w : View) → IsPrefix seen after → IsLegal r after → EntersToLook v published w → IsSession r (session_of session seen v) → HasEntered r (session_of session seen v) (session_of session after w)
 has_entered r session seen after published v w grows legal enters is =
     let own : w.own ≡ v.own = ap (λ (u : View). u.own) enters.1 in
@@ -148,7 +148,7 @@ new_sessions_from n [] fresh = (ap (λ (k : ℕ). session_of k [] new_view) (ome
 new_sessions_from n (s ∷ ss) fresh =
     (fresh.0, subst (λ (k : ℕ). AreNewSessions (n + 1) (ss ++ session_of k [] new_view ∷ [])) (omega arith) (new_sessions_from (n + 1) ss fresh.1))
 
--- a session more, with the next number
+-- one more session, with the next number
 pub new_sessions_with : (ss : List Session) (n : ℕ) (s : Session) → AreNewSessions 0 ss → length ss ≡ n → s ≡ session_of n [] new_view → AreNewSessions 0 (ss ++ s ∷ [])
 new_sessions_with ss n s fresh at is =
     let next : 0 + length ss ≡ n = omega arith in

@@ -1,4 +1,4 @@
--- Each kind of step keeps the rule of the store, and what is pending ends in its last operation.
+-- Each kind of step keeps the rule of the store, and only the last pending operation matters.
 use Rattle.std.proofs.Common.{◌≡◌, ◌∙◌, ℕ, ◌≢◌, ◌+◌, List, [], ◌∷◌, ◌++◌, set, refl, ap, subst, ⊎_elim}
 use Rattle.std.specs.Prelude.{fold}
 use Rattle.std.proofs.lemmas.List.Sums.{fold-append}
@@ -13,7 +13,7 @@ use Rattle.road_sessions.specs.declared.entry.Entry.{Entry}
 use Rattle.road_sessions.specs.declared.reader_view.View.{View}
 use Rattle.road_sessions.proofs.Prefixes.{prefix_of_itself, prefix_of_longer}
 
--- one view changes, and what is published goes on
+-- one view changes, and the published history grows
 one_changes : (before after : List Entry) (views : List View) (reader : ℕ) (w : View) → IsPrefix before after → IsPrefix w.found after → FoundBegins before views → FoundBegins after (set views reader w)
 one_changes before after views reader w grows found rule other u at = ⊎_elim
     (λ (here : (other ≡ reader) × (w ≡ u)). subst (λ (v : View). IsPrefix v.found after) here.1 found)
@@ -41,7 +41,7 @@ pub may_publish : (reader : ℕ) (v : View) (before after : List Entry) → IsPr
 may_publish reader v before after grows views rule at =
     (v, one_changes before after views reader v grows (prefix_of_longer v.found before after (rule reader v at) grows) rule, refl)
 
--- what is pending does what its last operation does
+-- pending operations have the same effect as the last of them
 pub ends_so : (history start state : List Entry) (operations : List (List Entry)) → EndWith history operations → state ≡ fold (λ (published next : List Entry). next) start operations → state ≡ history
 ends_so history start state operations ends is =
     is ∙ ap (λ (l : List (List Entry)). fold (λ (published next : List Entry). next) start l) ends.1

@@ -1,4 +1,5 @@
--- A journal that just these sessions wrote has an entry that passes a test exactly where one of them wrote such an entry.
+-- If exactly these sessions wrote a journal, it has an entry that passes a test exactly if one of them wrote such an
+-- entry.
 use Rattle.std.proofs.Common.{◌≡◌, ◌∙◌, ◌≢◌, ℕ, ◌+◌, ◌≤◌, Bool, true, false, List, [], ◌∷◌, length, map, refl, sym, ap, arith, eq-eqb, inl, inr}
 use Rattle.std.specs.Prelude.{nat_eq, ◌||◌, ◌&&◌, if◌then◌else◌}
 use Rattle.std.specs.List.{AllByRecursion, list_any}
@@ -10,7 +11,7 @@ use Rattle.road_sessions.specs.Merges.{entries_written}
 use Rattle.road_sessions.specs.Sessions.{Session}
 use Rattle.road_sessions.proofs.ClosedSessions.{entries_of, few_entries, of_none, of_one}
 
--- ---- each entry is of one of the sessions, by their number
+-- ---- each entry belongs to one of the sessions, since there are as many entries as writes
 
 -- whether one of these sessions has this number
 abbrev has_number : ℕ → List Session → Bool
@@ -25,7 +26,7 @@ none_has n (s ∷ ss) none =
 abbrev AreOfSessions : List Session → List Entry → Type 0
 AreOfSessions ss es = AllByRecursion (λ (e : Entry). has_number e.session ss ≡ true) es
 
--- where the sessions have as many entries as there are, none is of anyone else
+-- if the sessions have as many entries as the journal, no entry belongs to anybody else
 all_of_sessions : (place : ℕ) (es : List Entry) (ss : List Session) → AreApart ss → length es ≤ entries_of place es ss → AreOfSessions ss es
 all_of_sessions place [] ss apart many = tt
 all_of_sessions place (e ∷ es) ss apart many =
@@ -38,9 +39,9 @@ all_of_sessions place (e ∷ es) ss apart many =
       all_of_sessions (place + 1) es ss apart (omega arith),
     )
 
--- ---- an entry passes where it does as one of its session's
+-- ---- an entry passes exactly if it passes as an entry of its session
 
--- whether an entry of one session passes, in a journal whose first place has this number
+-- whether an entry of a session passes, in the part of a journal that begins at a place
 abbrev passes_of : (Entry → Bool) → ℕ → ℕ → List Entry → Bool
 passes_of p n place es = list_any p (map (λ (w : Write). w.1) (writes_from n place es))
 
@@ -49,7 +50,7 @@ passes_one : (p : Entry → Bool) (mine : Bool) (place : ℕ) (e : Entry) (later
 passes_one p true place e later = refl
 passes_one p false place e later = refl
 
--- of one entry, of this session or of another one, and of later ones
+-- the same for the first entry, of this session or another one, and the later entries
 one_and_later : (mine others p a r : Bool) → (((mine && p) || a) || ((others && p) || r)) ≡ (((mine || others) && p) || (a || r))
 one_and_later true true true a r = refl
 one_and_later true true false a r = refl

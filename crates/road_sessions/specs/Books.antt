@@ -1,4 +1,4 @@
--- Which history a store has.
+-- The history of a store.
 use Rattle.std.specs.Prelude.{ℕ}
 use Rattle.logbook.specs.Pages as logbook
 

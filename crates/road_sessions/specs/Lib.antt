@@ -1,5 +1,5 @@
--- Which history a store has, journals, what is asked of a replica, sessions, their looks, the closing of a store, and
--- what its journal comes to, in reading order.
+-- The history of a store, journals, writes, sessions and their looks, the closing of a store, and the merging of its
+-- journal, in reading order.
 pub mod Books
 pub mod Journals
 pub mod Writes

@@ -1,4 +1,4 @@
--- What a journal comes to, whatever the order of its entries: its edits merged, at its latest step.
+-- The sheet after a journal, whatever the order of its entries: all its edits merged, simulated up to its latest step.
 use Rattle.std.specs.Prelude.{ℕ, max, map, List, [], ◌∷◌}
 use Rattle.lattice_core.specs.Sets.{empty, union}
 use Rattle.road_scenario.specs.Edits.{Edits}
@@ -25,7 +25,7 @@ abbrev pub edits_taken : List Entry → Edits
 edits_taken [] = empty
 edits_taken (e ∷ es) = union (command_edits e.command) (edits_taken es)
 
--- the greatest step that a journal advances to; 0 if it advances to none
+-- the greatest step that a journal advances to; 0 without an advance
 abbrev pub latest_step : List Entry → ℕ
 latest_step [] = 0
 latest_step (e ∷ es) = max (command_step e.command) (latest_step es)

@@ -1,5 +1,5 @@
--- What the logbook and the store keep, how a write is made, what is asked of the published sheet, and what is known of
--- the sessions at a closing; no public contract speaks of it.
+-- Invariants of the logbook and the store, the parts of a write, queries of the published sheet, and the sessions at a
+-- closing. No public contract names them.
 pub mod Errands
 pub mod Books
 pub mod Stores

@@ -15,7 +15,7 @@ use Rattle.road_sessions.specs.Writes.{IsAccepted, IsRefused, reply_to, wish_com
 abbrev pub view_of : List Entry → List Write → ℕ → View
 view_of found own entered = record { found = found; own = own; entered = entered }
 
--- what it knows of a reader that has not entered, and whose session has written nothing
+-- what the store knows of a reader that has never entered and whose session has written nothing
 abbrev pub new_view : View
 new_view = view_of [] [] 0
 
@@ -30,7 +30,7 @@ pub record Session : Type 0 where
 abbrev pub session_of : ℕ → List Entry → View → Session
 session_of number seen view = record { number = number; seen = seen; view = view }
 
--- what every session meets: the history that it has seen is legal, and its own writes stand there, at rising places
+-- the invariant of sessions: the history that a session has seen is legal, and contains its own writes at rising places
 pub record IsSession (r : Replica) (s : Session) : Type 0 where
   pub legal : IsLegal r s.seen
   pub own : AreWritesOf s.number s.view.own
@@ -42,9 +42,9 @@ abbrev pub AreNewSessions : ℕ → List Session → Type 0
 AreNewSessions n [] = Unit {0}
 AreNewSessions n (s ∷ ss) = (s ≡ session_of n [] new_view) × AreNewSessions (n + 1) ss
 
--- an accepted write: the session has seen a legal history that goes on from all that it had seen and heard of and ends
--- with the write, at its place; that history was published, and the write is one more of its own. No named cause
--- stood where the write stands, and the meter counts just the steps of the wish
+-- an accepted write: the session has now seen a legal history that extends all that it had seen or heard of and ends
+-- with the write, at its place. That history was published, and the write was added to the session's own. No named
+-- cause applied at that place, and the meter counts exactly the steps of the wish
 pub record IsAcceptedWrite (limit : ℕ) (r : Replica) (wish : Wish) (s : Session) (place : ℕ) (reply : Reply)
     (t : Session) (meter after : ℕ) : Type 0 where
   pub front : List Entry
@@ -60,7 +60,7 @@ pub record IsAcceptedWrite (limit : ℕ) (r : Replica) (wish : Wish) (s : Sessio
   pub entered : t.view.entered ≡ s.view.entered
   pub accepted : IsAccepted limit wish r front meter after
 
--- a write is refused behind a legal history that goes on from what the session has seen
+-- a write is refused after a legal history that extends what the session has seen
 pub record IsRefusedThere (limit : ℕ) (r : Replica) (wish : Wish) (seen : List Entry) (fault : WriteFault)
     (meter after : ℕ) : Type 0 where
   pub front : List Entry
@@ -68,7 +68,7 @@ pub record IsRefusedThere (limit : ℕ) (r : Replica) (wish : Wish) (seen : List
   pub legal : IsLegal r front
   pub refused : IsRefused limit wish r front fault meter after
 
--- a refused write: it leaves the session as it was, and is refused for what stands behind such a history
+-- a refused write: it leaves the session unchanged, and was refused after such a history
 pub record IsRefusedWrite (limit : ℕ) (r : Replica) (wish : Wish) (s : Session) (fault : WriteFault) (t : Session)
     (meter after : ℕ) : Type 0 where
   pub unchanged : t ≡ s

@@ -1,4 +1,4 @@
--- What a session wishes of the replica, the reply, how many steps it may cost, and for which cause it is refused.
+-- Wishes: the writes that a session asks for, the replies, the steps that they cost, and why they are refused.
 use Rattle.std.specs.Prelude.{◌≡◌, ◌≢◌, ◌⊎◌, ℕ, max, nat_le, List, length, MatchResult, Result, if◌then◌else◌}
 use Rattle.std.specs.Option.{option_map}
 use Rattle.std.specs.declared.option.Option.{Option}
@@ -21,37 +21,37 @@ use Rattle.road_sessions.specs.declared.faults.WriteFault.{WriteFault}
 use Rattle.road_sessions.specs.declared.faults.WriteFault.TheVariants.{JournalFull, Replica as OfReplica}
 use Rattle.road_sessions.specs.Journals.{entry_command, replay}
 
--- the command that a wish comes to at a replica: an edit that the replica makes is journalled as the taking of it
+-- the command for a wish at a replica: an edit that the replica makes is journalled as taking that edit
 abbrev pub wish_command : Wish → Replica → SheetCommand
 wish_command (Take edits) r = commands.Take edits.now
 wish_command (Advance to) r = commands.Advance to
 wish_command (Edit object step value) r = commands.Take (single_edit (edit_made r object step (Put value)))
 wish_command (Withdraw object step) r = commands.Take (single_edit (edit_made r object step Withdrawn))
 
--- the reply to a wish: the touched step, the horizon, or the fresh stamp
+-- the reply to a wish: the touched step, the horizon, or the new stamp
 abbrev pub reply_to : Wish → Replica → Reply
 reply_to (Take edits) r = Touched (touched_step r.sheet edits.now)
 reply_to (Advance to) r = Horizon (max r.sheet.horizon to)
 reply_to (Edit object step value) r = Stamped (edit_made r object step (Put value)).stamp
 reply_to (Withdraw object step) r = Stamped (edit_made r object step Withdrawn).stamp
 
--- how many steps are computed for a wish if it is accepted
+-- the number of steps computed for a wish if it is accepted
 abbrev pub steps_of_wish : Wish → Replica → ℕ
 steps_of_wish wish r = steps_of_command (entry_command (wish_command wish r)) r.sheet
 
--- the most steps that are computed for a wish, also if it is refused: those that its edits touch and 63 more, or
--- those that an advance adds
+-- the most steps computed for a wish, even if it is refused: those that its edits touch and 63 more, or those that an
+-- advance adds
 abbrev pub most_steps_of_wish : Wish → Replica → ℕ
 most_steps_of_wish wish r = most_steps_of_command (entry_command (wish_command wish r)) r.sheet
 
--- the named cause for which the replica refuses a wish
+-- the first named cause for which the replica refuses a wish
 abbrev pub wish_fault : Wish → Replica → Option ReplicaFault
 wish_fault (Take edits) r = refusals.take_fault r.sheet.plan edits.now
 wish_fault (Advance to) r = refusals.advance_fault to
 wish_fault (Edit object step value) r = refusals.edit_fault r object step (Put value)
 wish_fault (Withdraw object step) r = refusals.edit_fault r object step Withdrawn
 
--- the first named cause for which a write is refused, if the journal has room for so many entries
+-- the first named cause for which a write is refused; the journal has room for `limit` entries
 abbrev pub write_fault : ℕ → Wish → Replica → List Entry → Option WriteFault
 write_fault limit wish r journal =
     if nat_le limit (length journal) then Some JournalFull
@@ -62,23 +62,24 @@ abbrev pub IsWriteRefusal : Option WriteFault → WriteFault → Type 0
 IsWriteRefusal (Some cause) fault = fault ≡ cause
 IsWriteRefusal None fault = (fault ≡ OfReplica causes.WorkersGone) ⊎ (fault ≡ OfReplica causes.OutOfMemory)
 
--- an accepted write behind a journal: no named cause stands, and the meter counts just the steps of the wish
+-- a write is accepted after a journal: no named cause applies, and the meter counts exactly the steps of the wish
 pub record IsAccepted (limit : ℕ) (wish : Wish) (r : Replica) (journal : List Entry) (meter later : ℕ) : Type 0 where
   pub accepted : write_fault limit wish r journal ≡ None
   pub steps : later ≡ meter_after meter (steps_of_wish wish (replay r journal))
 
--- a refused one: it leaves the meter as it was if a named cause stands, and else costs few steps
+-- a write is refused after a journal: the meter is unchanged if a named cause applies; otherwise it counts at most the
+-- steps that the wish may cost
 pub record IsRefused (limit : ℕ) (wish : Wish) (r : Replica) (journal : List Entry) (fault : WriteFault)
     (meter later : ℕ) : Type 0 where
   pub refused : IsWriteRefusal (write_fault limit wish r journal) fault
   pub named : write_fault limit wish r journal ≢ None → later ≡ meter
   pub few_steps : TicksAtMost (most_steps_of_wish wish (replay r journal)) meter later
 
--- how often a crew has answered `WorkersGone`, after such a refusal
+-- how often a crew has returned `WorkersGone` after a write is refused with this fault
 abbrev pub gone_after_fault : WriteFault → ℕ → ℕ
 gone_after_fault JournalFull n = n
 gone_after_fault (OfReplica fault) n = refusals.gone_after_fault fault n
 
--- a crew has answered `WorkersGone` once more if a write is refused so, and else as often as before
+-- a crew's count of `WorkersGone` is right: it rises by one if a write is refused with it, else it stays
 abbrev pub CountsGone : {A : Type 0} → Result A WriteFault → ℕ → ℕ → Type 0
 CountsGone result gone later = MatchResult result (λ _. later ≡ gone) (λ fault. later ≡ gone_after_fault fault gone)

@@ -20,7 +20,7 @@ use road_sheet::Sheet;
 use std::sync::ledger::Share;
 use std::sync::{Arc, Wait};
 
-/// What is left of a closed store.
+/// The result of closing a store.
 #[derive(Drop)]
 pub struct Closed {
     /// The replica's sheet.
@@ -29,29 +29,29 @@ pub struct Closed {
     pub journal: Vec<Entry>,
 }
 
-/// Why a store is not closed, and all that was given for it, as it was.
+/// Why a store is not closed, with all that the caller passed, unchanged.
 #[derive(Drop)]
 pub struct CloseFault<J: Naming, R: Wait + Drop>
 where
     Published<J>: Absorb<Published<J>>,
 {
-    /// Why.
+    /// The cause.
     pub cause: CloseCause,
     /// What the sessions share.
     pub shared: Shared<J, R>,
-    /// The sessions that were given.
+    /// The sessions that the caller passed.
     pub sessions: Vec<Session<J>>,
 }
 
-/// Close a store whose sessions are all given, in any order. The journal is just what they wrote: it has as many
-/// entries as they made writes, those of each session's number are that session's, each once, at their places and in
-/// order, and what each session has seen is a prefix of it. The sheet is that of the journal replayed: it has the winners
-/// of all edits that the journal takes, and its horizon is the greatest step that the journal advances to.
+/// Close a store. The caller passes all its sessions, in any order. The journal is exactly what they wrote: it has as
+/// many entries as they made writes, each write of a session stands once, at its place, and what each session has seen
+/// is a prefix of it. The sheet is that of the journal replayed: it has the winners of all edits in the journal, and
+/// its horizon is the greatest step that the journal advances to.
 ///
 /// # Errors
 ///
-/// `Missing` if these are not all sessions of the store, and for no other cause. What the sessions share and the
-/// sessions are handed back as they were: their lock is not opened.
+/// `Missing` if these are not all sessions of the store, and no other error. The store and the sessions are then
+/// returned unchanged, and the lock is not opened.
 pub fn close<J: Naming, R: Wait + Drop>(
     shared: Shared<J, R>,
     sessions: Vec<Session<J>>,
@@ -82,7 +82,7 @@ pub fn close<J: Naming, R: Wait + Drop>(
     Ok(Closed { sheet, journal })
 }
 
-// Return whether none of these sessions has a number.
+// Return whether no session has this number.
 fn none_has<J: Naming>(sessions: &[Session<J>], number: u32) -> bool
     ensures { MatchBool result (AllByRecursion (λ t. number ≢ t.number) sessions.now)
         (¬ AllByRecursion (λ t. number ≢ t.number) sessions.now) }
@@ -93,7 +93,7 @@ fn none_has<J: Naming>(sessions: &[Session<J>], number: u32) -> bool
     }
 }
 
-// Return whether no two of them have one number.
+// Return whether no two sessions have the same number.
 fn are_apart<J: Naming>(sessions: &[Session<J>]) -> bool
     ensures { MatchBool result (AreApart sessions.now) (¬ AreApart sessions.now) }
 {
@@ -103,7 +103,7 @@ fn are_apart<J: Naming>(sessions: &[Session<J>]) -> bool
     }
 }
 
-// Show that what each of them has seen is a prefix of the history, so that their writes stand there.
+// Show that what each session has seen is a prefix of the history, so that the history contains its writes.
 fn know_all<J: Naming>(sessions: &[Session<J>], head: &Head<J>, history: &mut Whole<J>)
     ensures all { AllByRecursion (IsSessionOf history.old) sessions.now }
     ensures below { AllByRecursion (λ s. s.number < J.parts) sessions.now }

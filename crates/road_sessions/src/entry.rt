@@ -2,10 +2,10 @@
 
 use road_scenario::Scenario;
 
-/// The most writes that a journal has room for.
+/// The most writes that a journal can have room for.
 pub const MOST_WRITES: u64 = 1_000_000;
 
-/// A command to the replica's sheet: what a write did to it. A local edit stands here as the taking of that one edit.
+/// A command to the replica's sheet: what a write did to it. A local edit is recorded as taking that one edit.
 #[derive(Drop)]
 pub enum SheetCommand {
     /// These edits were taken.

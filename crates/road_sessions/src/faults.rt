@@ -8,13 +8,13 @@ use road_sheet::SheetFault;
 use std::alloc::AllocError;
 use thiserror::Error;
 
-/// Why there are no sessions.
+/// Why a store cannot be opened.
 #[derive(Clone, Copy, Debug, PartialEq, Eq, Error)]
 pub enum OpenFault {
     /// The store gave a session no reader.
     #[error("the store has no place for a session")]
     NoPlace,
-    /// There was no memory.
+    /// An allocation failed.
     #[error("no memory")]
     OutOfMemory,
 }
@@ -27,10 +27,10 @@ impl From<AllocError> for OpenFault {
     }
 }
 
-/// Why a write is refused. The journal's room is asked first.
+/// Why a write is refused. The room of the journal is checked first.
 #[derive(Clone, Copy, Debug, PartialEq, Eq, Error)]
 pub enum WriteFault {
-    /// The journal holds as many writes as it was opened for.
+    /// The journal has as many writes as the store was prepared for.
     #[error("the journal is full")]
     JournalFull,
     /// The replica refuses it.
@@ -46,13 +46,13 @@ impl From<ReplicaFault> for WriteFault {
     }
 }
 
-/// Why a look, or a query that looks first, is not answered.
+/// Why a look, or a query that looks first, is refused.
 #[derive(Clone, Copy, Debug, PartialEq, Eq, Error)]
 pub enum LookFault {
-    /// The store did not let the session in. The session is as it was.
+    /// The store did not let the session enter. The session is unchanged.
     #[error("the store was not entered")]
     NotEntered,
-    /// The sheet refuses the query, or can have no owner more.
+    /// The sheet refuses the query, or can have no more owners.
     #[error("{0}")]
     Sheet(SheetFault),
 }
@@ -60,10 +60,10 @@ pub enum LookFault {
 /// Why a store is not closed.
 #[derive(Clone, Copy, Debug, PartialEq, Eq, Error)]
 pub enum CloseCause {
-    /// These are not all its sessions.
+    /// The caller did not pass all its sessions.
     #[error("not all sessions are given")]
     Missing,
-    /// There was no memory. No closing answers it, since a closing takes none.
+    /// An allocation failed. `close` allocates nothing, so it never returns this.
     #[error("no memory")]
     OutOfMemory,
 }

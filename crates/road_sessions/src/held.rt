@@ -1,4 +1,4 @@
-//! What lies under the lock.
+//! The state behind the lock.
 ghost use Rattle.std.specs.Prelude.{◌≡◌, ◌+◌, ◌<◌, ◌≤◌, ◌++◌, ◌∷◌, [], IfErr, IfOk, MatchResult, None, OnErr, OnOk, drop};
 ghost use Rattle.std.specs.Prelude.{length};
 ghost use Rattle.std.specs.Arc.{arc_value};
@@ -36,7 +36,7 @@ use std::alloc::Global;
 use std::sync::ledger::{Book, Share};
 use std::sync::{Arc, Wait};
 
-/// The locked value: the replica as the journal leaves it, the journal, and the store's writer. Whenever the lock is
+/// The locked value: the replica after the journal, the journal, and the store's writer. Whenever the lock is
 /// free, replaying the journal gives the replica, its sheet is the published one, and the published history is the
 /// journal.
 pub struct Held<J: Naming, R: Wait + Drop>
@@ -48,17 +48,17 @@ where
     /// The store's writer.
     pub writer: StoreWriter<J>,
     pub(crate) head: Head<J>,
-    /// The history that is published, which is the whole one.
+    /// The published history, which is the whole history.
     pub history: Whole<J>,
-    /// The replica that it leaves.
+    /// The replica after that history.
     pub replica: Replica,
     /// Who wrote what, in order.
     pub journal: Vec<Entry>,
-    /// How many writes it has room for.
+    /// The number of writes that the journal has room for.
     pub limit: u64,
     /// The ledger's book, which counts the accepted writes.
     pub accepted: Book<J>,
-    /// A share of no session.
+    /// A share of the ledger that belongs to no session.
     pub spare: Share<J>,
     pub ghost replayed: { replica ≡ replay J.replica journal.items },
     pub ghost journalled: { history ≡ journal.items },
@@ -88,8 +88,8 @@ impl<J: Naming, R: Wait + Drop> Drop for Held<J, R> {
     }
 }
 
-// Append an entry to the journal and to the history. The answer is what is published of the replica that it leaves;
-// if that is refused, both are as they were.
+// Append an entry to the journal and to the history. Return what is to be published: the sheet of the replica after the
+// entry. If that is refused, both are unchanged.
 fn append_entry<J: Naming>(
     replica: &Replica,
     head: &Head<J>,
@@ -113,12 +113,12 @@ fn append_entry<J: Naming>(
         return Err(ReplicaFault::OutOfMemory);
     };
     history.append(head, &journal[place]);
-    Ok(Published::new(sheet, history.seen()))
+    Ok(Published::new(sheet, history.prefix()))
 }
 
 impl<J: Naming, R: Wait + Drop> Held<J, R> {
-    // Reserve the memory of the writer's queue, so that no write has to wait for it: what it is given, which is published
-    // already, takes its place there.
+    // Reserve the memory of the writer's queue, so that no write has to wait for it. The given value is already
+    // published. It takes up the room in the queue.
     pub(crate) fn reserve_queue(&mut self, published: Published<J>) -> Result<(), OutOfMemory>
         ensures queued { OnOk result (drop self.new.writer.behind self.new.writer.log.items
             ≡ drop self.old.writer.behind self.old.writer.log.items ++ published ∷ []) }
@@ -131,15 +131,15 @@ impl<J: Naming, R: Wait + Drop> Held<J, R> {
         }
     }
 
-    /// Do the write of a session, whose share of the ledger has a part. If it is accepted, its command stands at the
-    /// end of the journal, readers see its sheet, and the share is one more. The answer is its place in the journal, and
-    /// the reply. The meter counts just the steps that are computed.
+    /// Make the write of a session, given the session's share of the ledger. If the write is accepted, its command is
+    /// the last entry of the journal, readers see its sheet, and the share counts one more write. Return its place in
+    /// the journal and the reply. The meter counts exactly the steps that are computed.
     ///
     /// # Errors
     ///
-    /// `JournalFull` if the journal has no room, else the replica's: its named causes in their order, then
-    /// `WorkersGone` if the crew answers so, or `OutOfMemory` if an allocation failed. All is as it was then, and
-    /// if the cause is named, the meter too.
+    /// `JournalFull` if the journal has no room, else the replica's error: the first named cause that applies, else
+    /// `WorkersGone` if the crew returned it, or `OutOfMemory` if an allocation failed. Nothing changes then, and with
+    /// a named cause the meter counts nothing.
     pub fn write<C: Crew>(
         &mut self,
         session: u32,
@@ -174,7 +174,7 @@ impl<J: Naming, R: Wait + Drop> Held<J, R> {
         Ok((place, reply_of(stamp, answer)))
     }
 
-    // Perform a command on a copy of the replica. The answer is the copy, and what the command is answered.
+    // Perform a command on a copy of the replica. Return the copy and the reply.
     fn next<C: Crew>(
         &self,
         command: &SheetCommand,
@@ -195,8 +195,8 @@ impl<J: Naming, R: Wait + Drop> Held<J, R> {
         Ok((replica, answer))
     }
 
-    // Put the next replica in place, with its entry of the journal, and publish its sheet. What may be refused comes
-    // before anything has changed.
+    // Put the next replica in place, append its entry to the journal, and publish its sheet. Everything that can fail
+    // is done before anything changes.
     fn put_in_place(
         &mut self,
         replica: Replica,
@@ -229,8 +229,8 @@ impl<J: Naming, R: Wait + Drop> Held<J, R> {
         Ok(())
     }
 
-    // Do the write of a session, of this number and this membership. If it is accepted, the session has seen the
-    // history that it ends, and has found it in the store.
+    // Make the write of the session with this number and membership. If it is accepted, the session has seen the
+    // history that ends with it, and has found that history in the store.
     pub(crate) fn serve<C: Crew>(
         &mut self,
         session: u32,
@@ -254,12 +254,12 @@ impl<J: Naming, R: Wait + Drop> Held<J, R> {
     {
         self.history.know(&self.head, &membership.seen);
         let (place, reply) = self.write(session, wish, crew, meter, &mut membership.share)?;
-        membership.seen = self.history.seen();
+        membership.seen = self.history.prefix();
         enter_after_write_here(&self.rt, &mut membership.reader, &membership.seen);
         Ok((place, reply))
     }
 
-    // Admit one more reader to the store, which has entered it never yet.
+    // Admit one more reader to the store. It has never entered yet.
     fn reader(&self) -> Result<StoreReader<J>, OpenFault>
         ensures new { IfOk result (λ reader. view reader.place ≡ new_view) }
         ensures refused { IfErr result (λ fault. fault ≡ openings.NoPlace) }
@@ -270,7 +270,7 @@ impl<J: Naming, R: Wait + Drop> Held<J, R> {
         }
     }
 
-    // Make so many sessions of a store that was just opened, numbered from 0.
+    // Make this many sessions of a store that was just opened, numbered from 0.
     pub(crate) fn new_sessions(
         &self,
         count: u32,
@@ -284,7 +284,7 @@ impl<J: Naming, R: Wait + Drop> Held<J, R> {
         let mut sessions = Vec::new(self.alloc);
         for number in 0..count {
             let reader = self.reader()?;
-            let seen = self.history.seen();
+            let seen = self.history.prefix();
             let share = whole.split_off(1, 0);
             let membership = Membership {
                 seen,
@@ -298,7 +298,7 @@ impl<J: Naming, R: Wait + Drop> Held<J, R> {
         Ok(sessions)
     }
 
-    // Make so many sessions of a store that was just opened, once the writer's queue has its memory.
+    // Make this many sessions of a store that was just opened, once the writer's queue has its memory.
     pub(crate) fn opening_sessions(
         &mut self,
         published: Published<J>,

@@ -1,5 +1,5 @@
-//! The one history of a store. It stands in the proofs alone, page by page in a logbook: the program keeps how long it
-//! is, and values that have seen a prefix of it.
+//! The one history of a store. Only the proofs have it, page by page in a logbook. The program stores its length, and
+//! values that have seen a prefix of it.
 ghost use Rattle.std.specs.Prelude.{◌≡◌, ◌<◌, ◌≤◌, ◌^◌, ◌++◌, ◌∷◌, [], length, IsTrue, MatchBool};
 ghost use mathlib.Core.List.{IsPrefix};
 ghost use Rattle.logbook.specs.Pages.{may_write};
@@ -12,9 +12,9 @@ use crate::naming::Naming;
 use logbook::{Gain, Offer, Pen, Plain, Play, Rule, Seen, Start, Word};
 use std::marker::{Model, PhantomData};
 
-/// A page of the logbook. Contracts alone see it, and no value of it is ever made.
+/// A page of the logbook. Only contracts use it: the program never makes one.
 pub struct Page {
-    /// What it says.
+    /// Its entry.
     pub entry: Entry,
     /// The key of the pen that wrote it.
     pub by: u64,
@@ -43,7 +43,7 @@ impl Rule<Page, u64> for PageRule {
     ghost moves = { λ ask before after answer. Unit {0} };
 }
 
-/// Who writes into the logbook gets nothing for it.
+/// Writing a page returns nothing.
 pub struct NoGain;
 
 impl Gain<Page, u64> for NoGain {
@@ -52,7 +52,7 @@ impl Gain<Page, u64> for NoGain {
     ghost after = { λ names about answer. ftrue };
 }
 
-/// What a page is made of: an entry, the pen that writes it, and that of the next page.
+/// The parts of a page: an entry, the pen that writes it, and the pen of the next page.
 #[derive(Drop)]
 pub struct Line<'a> {
     entry: &'a Entry,
@@ -78,7 +78,7 @@ impl<'a> Plain<Line<'a>, Page, u64> for Append {
     ghost state = { λ line. None };
 }
 
-/// The step by which the one who may write the next page knows all pages.
+/// The step that shows all pages to whoever may write the next one.
 pub struct KnowAll;
 
 impl Play<Page, u64> for KnowAll {
@@ -127,7 +127,7 @@ fn new_pen(word: &Word<Page, u64, PageRule>, seen: &Seen<Page, u64, PageRule>) -
     pen
 }
 
-/// An empty history, of no store yet. Contracts see it as its book.
+/// An empty history that belongs to no store yet. Contracts see it as its book.
 #[derive(Drop)]
 pub struct EmptyHistory {
     word: Word<Page, u64, PageRule>,
@@ -150,7 +150,7 @@ impl Model for EmptyHistory {
 }
 
 impl EmptyHistory {
-    // Open a logbook for it, with the pen of its first page.
+    // Open a logbook for the history, with the pen of its first page.
     pub(crate) fn new() -> EmptyHistory {
         let (seen, mut home, _unused) = Seen::open(Start::alone(), 0, 0);
         let word = Word::tracked(0, &mut home);
@@ -158,7 +158,7 @@ impl EmptyHistory {
         EmptyHistory { word, seen, pen }
     }
 
-    // Make it the whole history of a store, and the word by which that is written.
+    // Turn it into the whole history of a store, and return the word that writes need.
     pub(crate) fn of_store<J: Naming>(self) -> (Head<J>, Whole<J>)
         requires { self ≡ J.book }
         ensures { result.1 ≡ [] }
@@ -218,8 +218,8 @@ impl<J: Naming> Model for Whole<J> {
 }
 
 impl<J: Naming> Whole<J> {
-    // Return what has seen as much.
-    pub(crate) fn seen(&self) -> Prefix<J>
+    // Return a value that has seen the whole history.
+    pub(crate) fn prefix(&self) -> Prefix<J>
         ensures same { result ≡ self.now }
         ensures legal { IsLegal J.replica self.now }
     {
@@ -230,7 +230,7 @@ impl<J: Naming> Whole<J> {
         }
     }
 
-    // Show that what was seen is a prefix of it.
+    // Show that what a value has seen is a prefix of this history.
     pub(crate) fn know(&mut self, head: &Head<J>, seen: &Prefix<J>)
         ensures prefix { IsPrefix seen.now self.old }
         ensures same { self.new ≡ self.old }
@@ -243,7 +243,7 @@ impl<J: Naming> Whole<J> {
             .compare_exchange::<KnowAll, NoGain>(0, 0, &mut both, &mut offer, &mut self.pen);
     }
 
-    // Write an entry at its end.
+    // Append an entry.
     pub(crate) fn append(&mut self, head: &Head<J>, entry: &Entry)
         requires room { length self.old < 2 ^ 62 }
         requires allowed { IsAllowed J.replica.sheet.plan (entry_command entry.now.command) }
@@ -265,8 +265,8 @@ impl<J: Naming> Whole<J> {
     }
 }
 
-/// A prefix of a store's history that was seen, legal as all of it. Contracts see it as its entries; it keeps how many
-/// they are.
+/// A prefix of a store's history, seen by somebody. It is legal, as the whole history is. Contracts see it as its
+/// entries. The program stores only their number.
 #[derive(Drop)]
 pub struct Prefix<J: Naming> {
     count: u64,
@@ -293,7 +293,7 @@ impl<J: Naming> Model for Prefix<J> {
 }
 
 impl<J: Naming> Prefix<J> {
-    // Return another value that has seen as much.
+    // Return another value that has seen the same prefix.
     pub(crate) fn again(&self) -> Prefix<J>
         ensures same { result ≡ self.now }
         ensures legal { IsLegal J.replica self.now }
@@ -305,7 +305,7 @@ impl<J: Naming> Prefix<J> {
         }
     }
 
-    // Return whether it is no longer than the other. The shorter one is a prefix of the longer.
+    // Return whether this prefix is at most as long as the other. The shorter one is a prefix of the longer.
     pub(crate) fn is_prefix_of(&self, other: &Prefix<J>) -> bool
         ensures prefix { MatchBool result (IsPrefix self.now other.now) (IsPrefix other.now self.now) }
         ensures length { MatchBool result (length self.now ≤ length other.now) (length other.now < length self.now) }
@@ -317,7 +317,7 @@ impl<J: Naming> Prefix<J> {
         self.count <= other.count
     }
 
-    // Return whether the two have seen as much, and so the same.
+    // Return whether the two have the same length. They are then the same.
     pub(crate) fn is_same(&self, other: &Prefix<J>) -> bool
         ensures { IsTrue result → self.now ≡ other.now }
     {

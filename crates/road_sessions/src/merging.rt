@@ -1,4 +1,4 @@
-//! What holds of all journals, each on a function that does nothing.
+//! Laws of all journals. Each is the contract of a function that does nothing.
 
 ghost use Rattle.std.specs.Prelude.{◌≡◌, Bool, List};
 ghost use Rattle.std.specs.List.{list_any};
@@ -10,15 +10,16 @@ ghost use Rattle.road_sessions.specs.Merges.{entries_written, merged_sheet};
 ghost use Rattle.road_sessions.specs.Sessions.{Session};
 ghost use Rattle.road_sessions.specs.declared.entry.Entry.{Entry};
 
-/// A journal merges: replayed, it leaves the winners of the replica's edits and of all edits that it takes, at the
-/// greatest of the replica's horizon and the steps that it advances to. So the order of its entries does not matter.
+/// Show that journals merge: a replayed journal leaves the winners of the replica's edits and of all edits in the
+/// journal, simulated up to the greatest of the replica's horizon and the journal's advances. So the order of its
+/// entries does not matter.
 pub fn journals_merge()
     ensures { (r : Replica) (journal : List Entry) → AreWinners r.sheet.edits →
         (replay r journal).sheet ≡ merged_sheet r journal }
 {}
 
-/// A journal that just these sessions wrote holds what they wrote, and nothing else, in whatever order: a test passes at
-/// one of its entries exactly where it passes at one that a session wrote.
+/// Show that a journal has exactly the entries that its sessions wrote, in whatever order: a test passes for some entry
+/// of the journal exactly if it passes for some entry that a session wrote.
 pub fn journals_hold_what_was_written()
     ensures { (passes : Entry → Bool) (journal : List Entry) (sessions : List Session) → AreApart sessions →
         IsWrittenBy journal sessions → list_any passes journal

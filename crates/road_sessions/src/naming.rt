@@ -1,22 +1,22 @@
-//! Which store a session is of.
+//! The store that a session belongs to, as a type.
 use std::marker::Brand;
 use std::sync::ledger::Ledger;
 
-/// Names a store in the types of its sessions and receipts, so that those of another store don't fit it. A program
-/// passes [`Brand`], and each call of it that does so names a store of its own, with the logbook, the replica and the
-/// limit of what it prepared.
+/// The name of a store in the types of its sessions and receipts, so that those of another store do not fit it. A
+/// program passes [`Brand`]. Each call that does so names a store of its own, with the logbook, the replica and the
+/// limit that it prepared.
 pub trait Naming: Ledger {
     ghost use Rattle.std.specs.Prelude.{ℕ};
     ghost use Rattle.road_sessions.specs.Books.{Book};
     ghost use Rattle.road_replica.specs.Replicas.{Replica};
 
-    /// The book of the store's one history.
+    /// The book of the store's history.
     ghost book: { Book };
 
-    /// The replica that was opened.
+    /// The replica, as it was opened.
     ghost replica: { Replica };
 
-    /// How many writes the journal takes at most.
+    /// The most writes of the journal.
     ghost limit: { ℕ };
 }
 

@@ -1,4 +1,4 @@
-//! Wishes: what they come to at a replica, and how that is done.
+//! How a session's wish is turned into a command and performed at the replica.
 ghost use Rattle.std.specs.Prelude.{◌≡◌, IfErr, IfOk, None, Some};
 ghost use Rattle.road_sheet.specs.Commands.{IsAllowed};
 ghost use Rattle.road_replica.specs.Refusals as refusals;
@@ -18,17 +18,17 @@ use road_scenario::{Stamp, Value};
 use road_workers::Crew;
 use std::alloc::Global;
 
-/// What a wish comes to at a replica.
+/// What is to be done at a replica to grant a wish.
 #[derive(Drop)]
 pub(crate) struct Errand {
-    /// The command to the replica's sheet, which the plan allows.
+    /// The command to the replica's sheet. The plan allows it.
     pub(crate) command: SheetCommand,
     /// The stamp of the edit that the replica makes, if it makes one.
     pub(crate) stamp: Option<Stamp>,
 }
 
-// Make what a wish comes to, if the replica has no named cause to refuse it. The wish is checked here, once, and
-// not again when it is performed.
+// Make the errand for a wish, if the replica has no named cause to refuse it. The wish is checked here, once, and not
+// again when it is performed.
 pub(crate) fn errand_of(
     alloc: Global,
     replica: &Replica,
@@ -77,7 +77,7 @@ pub(crate) fn errand_of(
     }
 }
 
-// Make an edit of the replica, to be taken.
+// Make an edit of the replica, which is then to be taken.
 fn edit(alloc: Global, replica: &Replica, local: LocalEdit) -> Result<Errand, ReplicaFault>
     ensures command { IfOk result (λ errand. errand.command
         ≡ commands.Take (single_edit (edit_made replica.now local.object local.step local.value))) }
@@ -96,7 +96,7 @@ fn edit(alloc: Global, replica: &Replica, local: LocalEdit) -> Result<Errand, Re
     })
 }
 
-// Do what a command says at a replica.
+// Perform a command at a replica.
 pub(crate) fn perform<C: Crew>(
     alloc: Global,
     replica: &mut Replica,
@@ -121,7 +121,7 @@ pub(crate) fn perform<C: Crew>(
     }
 }
 
-// Return the reply to a wish: the stamp of the edit that was made, else what the command was answered.
+// Return the reply to a wish: the stamp of the edit that was made, else the replica's answer to the command.
 pub(crate) fn reply_of(stamp: Option<Stamp>, answer: Reply) -> Reply
     ensures { result ≡ reply_with stamp answer }
 {

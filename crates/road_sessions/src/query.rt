@@ -1,23 +1,23 @@
-//! What a session asks of the sheet that is published.
+//! Queries of the published sheet.
 
 ghost use Rattle.std.specs.Prelude.{◌≡◌};
 ghost use Rattle.road_sessions.specs.Private.Queries.{query_fault};
 
 use road_sheet::{Sheet, SheetFault};
 
-/// What a session asks of the sheet that is published.
+/// A query of the published sheet.
 #[derive(Clone, Copy)]
 pub(crate) enum Query {
     /// The sheet itself.
     Look,
     /// The road at this step.
     State(u32),
-    /// What this detector counts in the steps from one up to another.
+    /// The counts of this detector in the steps from the first number to before the second.
     Totals(u32, u32, u32),
 }
 
 impl Query {
-    // Return the first named cause for which a sheet refuses it, in the order of the sheet's own calls.
+    // Return the first named cause for which a sheet refuses the query, in the order of the sheet's own calls.
     pub(crate) fn fault(&self, sheet: &Sheet) -> Option<SheetFault>
         ensures { result ≡ query_fault self.now sheet.now }
     {

@@ -22,11 +22,11 @@ use road_plan::OutOfMemory;
 use road_sheet::{Sheet, SheetFault};
 use std::sync::{Arc, Wait};
 
-// What was found in the store: a history, and its sheet, or why that does not answer.
+// What was found in the store: a history, and its sheet or the sheet's refusal.
 type Found<J> = (Prefix<J>, Result<Arc<Sheet>, SheetFault>);
 
-// Make one more owner of a sheet by this call, unless the sheet has a named cause to refuse the query. If it has none, out
-// of memory comes only from this call.
+// Make one more owner of a sheet, unless the sheet has a named cause to refuse the query. Without a named cause the
+// only possible refusal is out of memory.
 fn owner_for<F: FnOnce() -> Result<Arc<Sheet>, OutOfMemory>>(
     query: &Query,
     sheet: &Sheet,
@@ -45,8 +45,8 @@ fn owner_for<F: FnOnce() -> Result<Arc<Sheet>, OutOfMemory>>(
     }
 }
 
-// Return why a query is refused after less was found than its session has seen: for the named cause at what was found,
-// else out of memory.
+// Return why a query is refused if its session found less than it had seen: for the named cause at the sheet that was
+// found, else for out of memory.
 fn fault_of_less(found: Result<Arc<Sheet>, SheetFault>) -> SheetFault
     ensures { (cause : Option SheetFault) → IfOk found (λ _. cause ≡ None) → IfErr found (IsRefusalBy cause)
         → IsRefusalBy cause result }
@@ -57,7 +57,7 @@ fn fault_of_less(found: Result<Arc<Sheet>, SheetFault>) -> SheetFault
     }
 }
 
-// Enter the store to look, and put a query to the sheet there. Nothing is found if the store lets no one in.
+// Enter the store to look, and query the sheet there. Return `None` if the store lets no reader enter.
 fn enter<J: Naming>(reader: StoreReader<J>, query: &Query) -> (StoreReader<J>, Option<Found<J>>)
     ensures entered { IfSome result.1 (λ found. EntersToLook (view reader.place) found.0 (view result.0.place)) }
     ensures sheet { IfSome result.1 (λ found. IfOk found.1
@@ -80,7 +80,7 @@ fn enter<J: Naming>(reader: StoreReader<J>, query: &Query) -> (StoreReader<J>, O
     }
 }
 
-// The same of a reader in its place.
+// The same for a reader that stays where it is.
 fn enter_here<J: Naming>(reader: &mut StoreReader<J>, query: &Query) -> Option<Found<J>>
     ensures entered { IfSome result (λ found. EntersToLook (view reader.old.place) found.0 (view reader.new.place)) }
     ensures sheet { IfSome result (λ found. IfOk found.1
@@ -94,7 +94,8 @@ fn enter_here<J: Naming>(reader: &mut StoreReader<J>, query: &Query) -> Option<F
     replace_with(reader, query, |reader, query| enter(reader, query))
 }
 
-// A session finds the published sheet, for a query: it enters the store, and the history there becomes what it has seen.
+// Find the published sheet for a session's query: enter the store, and make the history there what the session has
+// seen.
 pub(crate) fn find<J: Naming>(
     _number: u32,
     seen: &mut Prefix<J>,
@@ -115,8 +116,9 @@ pub(crate) fn find<J: Naming>(
     let Some((history, sheet)) = enter_here(reader, query) else {
         return Err(LookFault::NotEntered);
     };
-    // What is published goes on from all that the session has seen, since both are prefixes of the one history of the store, and
-    // whatever a session has seen was published before. No contract says the latter, so the refusal stands here.
+    // What is published extends all that the session has seen: both are prefixes of the store's history, and whatever a
+    // session has seen was published before. No contract says that it was published before, so this case needs a
+    // refusal.
     if !seen.is_prefix_of(&history) {
         return Err(LookFault::Sheet(fault_of_less(sheet)));
     }
@@ -127,7 +129,7 @@ pub(crate) fn find<J: Naming>(
     }
 }
 
-// It never returns.
+// Wait forever.
 fn wait_for_ever<R: Wait>(rt: &R)
     ensures { ⊥ }
 {
@@ -135,7 +137,7 @@ fn wait_for_ever<R: Wait>(rt: &R)
     unreachable!()
 }
 
-// A reader enters at the end of its session's write.
+// Enter the store at the end of a session's write.
 fn enter_after_write<J: Naming, R: Wait>(
     rt: &R,
     reader: StoreReader<J>,
@@ -159,9 +161,9 @@ fn enter_after_write<J: Naming, R: Wait>(
     }
 }
 
-// The same of a reader in its place, at the end of its session's write, which is published. The writer's lock is
-// held, so nobody else has published since, and the store lets its readers in while its writer lives. Were it not so,
-// it would wait for ever.
+// The same for a reader that stays where it is. The session's write is published, and the session holds the writer's
+// lock, so nobody else has published since. The store lets readers enter as long as its writer lives. If it did not,
+// this call would wait forever.
 pub(crate) fn enter_after_write_here<J: Naming, R: Wait>(
     rt: &R,
     reader: &mut StoreReader<J>,

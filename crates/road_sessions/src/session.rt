@@ -32,7 +32,8 @@ use std::marker::Model;
 use std::sync::ledger::Share;
 use std::sync::{Arc, Wait};
 
-/// What a session tells another: the history of all that it had seen and written. Contracts see it as that history.
+/// A receipt, which one session passes to another: the history of all that the first had seen and written. Contracts
+/// see it as that history.
 #[derive(Drop)]
 pub struct Receipt<J: Naming> {
     history: Prefix<J>,
@@ -51,14 +52,14 @@ impl<J: Naming> Model for Receipt<J> {
     ghost view = { λ r. r.history };
 }
 
-/// What is answered to an accepted write.
+/// The result of an accepted write.
 #[derive(Drop)]
 pub struct Wrote<J: Naming> {
     /// Its place in the journal, from 0.
     pub place: u64,
     /// The horizon, the touched step, or the stamp of the edit that was made.
     pub reply: Reply,
-    /// The history that it ends, to be told to other sessions.
+    /// The history that ends with it, for other sessions to hear ([`Session::hear`]).
     pub receipt: Receipt<J>,
 }
 
@@ -70,7 +71,7 @@ pub struct Session<J: Naming> {
     membership: Membership<J>,
 }
 
-// What a session has of its store.
+// A session's part of its store.
 #[derive(Drop)]
 pub(crate) struct Membership<J: Naming> {
     // The history of all that it has seen, heard of or written.
@@ -122,14 +123,14 @@ impl<J: Naming> Session<J> {
 
     // ---- writes, under the lock
 
-    /// Take edits. The reply is the touched step. The meter counts just the steps that are computed: if the
-    /// write is accepted, those from the checkpoint up to the horizon.
+    /// Take edits. The reply is the touched step. The meter counts exactly the steps that are computed: those from the
+    /// checkpoint up to the horizon, if the write is accepted.
     ///
     /// # Errors
     ///
-    /// `JournalFull` if the journal holds as many writes as the store was prepared for, then the replica's: those of
-    /// `Replica::take`. The session has seen and written no more then. The meter is as before if the cause is named;
-    /// if workers have gone or an allocation failed, it counts at most the steps that the edits touch, and 63 more.
+    /// `JournalFull` if the journal has as many writes as the store was prepared for, else the errors of
+    /// `Replica::take`. The session is then unchanged. With a named cause the meter counts nothing. If workers have
+    /// gone or an allocation failed, it counts at most the steps that the edits touch, and 63 more.
     pub fn take<R: Wait + Drop, W: Wait, C: Crew>(
         &mut self,
         rt: &W,
@@ -148,12 +149,11 @@ impl<J: Naming> Session<J> {
         self.write(rt, shared, &Wish::Take(scenario), crew, meter)
     }
 
-    /// Simulate the replica up to a step. The reply is its horizon. The meter counts just the steps that are added.
+    /// Simulate the replica up to a step. The reply is its horizon. The meter counts exactly the added steps.
     ///
     /// # Errors
     ///
-    /// `JournalFull`, as for [`Session::take`], then the replica's: those of `Replica::advance`. The session has seen
-    /// and written no more then.
+    /// `JournalFull` as for [`Session::take`], else the errors of `Replica::advance`. The session is then unchanged.
     pub fn advance<R: Wait + Drop, W: Wait, C: Crew>(
         &mut self,
         rt: &W,
@@ -172,13 +172,12 @@ impl<J: Naming> Session<J> {
         self.write(rt, shared, &Wish::Advance(to), crew, meter)
     }
 
-    /// Put a number for an object from a step on, in the object's units. The reply is the edit's stamp. The meter counts
-    /// as for [`Session::take`].
+    /// Set a number for an object from a step on, in the object's units. The reply is the edit's stamp. The meter
+    /// counts as for [`Session::take`].
     ///
     /// # Errors
     ///
-    /// `JournalFull`, as for [`Session::take`], then the replica's: those of `Replica::edit`. The session has seen and
-    /// written no more then.
+    /// `JournalFull` as for [`Session::take`], else the errors of `Replica::edit`. The session is then unchanged.
     pub fn edit<R: Wait + Drop, W: Wait, C: Crew>(
         &mut self,
         rt: &W,
@@ -204,13 +203,12 @@ impl<J: Naming> Session<J> {
         self.write(rt, shared, &wish, crew, meter)
     }
 
-    /// Withdraw what is put for an object at a step. The reply is the withdrawal's stamp. The meter counts as for
+    /// Withdraw what is set for an object at a step. The reply is the withdrawal's stamp. The meter counts as for
     /// [`Session::take`].
     ///
     /// # Errors
     ///
-    /// `JournalFull`, as for [`Session::take`], then the replica's: those of `Replica::withdraw`. The session has seen
-    /// and written no more then.
+    /// `JournalFull` as for [`Session::take`], else the errors of `Replica::withdraw`. The session is then unchanged.
     pub fn withdraw<R: Wait + Drop, W: Wait, C: Crew>(
         &mut self,
         rt: &W,
@@ -230,7 +228,7 @@ impl<J: Naming> Session<J> {
         self.write(rt, shared, &Wish::Withdraw { object, step }, crew, meter)
     }
 
-    // Write whatever is wished.
+    // Make the write that a wish asks for.
     fn write<R: Wait + Drop, W: Wait, C: Crew>(
         &mut self,
         rt: &W,
@@ -262,12 +260,12 @@ impl<J: Naming> Session<J> {
 
     // ---- looks, without a lock
 
-    /// Return the sheet that is published. Its history goes on from all that the session has seen and heard of, and its own
-    /// writes stand there. It never waits, and grows nothing.
+    /// Return the published sheet. Its history extends all that the session has seen or heard of, and contains the
+    /// session's own writes. It never waits and allocates nothing.
     ///
     /// # Errors
     ///
-    /// `NotEntered` if the store did not let the session in, which is then as before; else `Sheet(OutOfMemory)` if
+    /// `NotEntered` if the store did not let the session enter, which is then unchanged; else `Sheet(OutOfMemory)` if
     /// the sheet can have no more owners.
     pub fn look<S: Of<J>>(&mut self, _shared: &S) -> Result<Arc<Sheet>, LookFault>
         ensures looked { MatchResult result (λ _. HasLooked J.replica self.old self.new)
@@ -277,11 +275,11 @@ impl<J: Naming> Session<J> {
         self.find(&Query::Look)
     }
 
-    /// Return the road at a step, by a look.
+    /// Look, and return the road at a step.
     ///
     /// # Errors
     ///
-    /// `NotEntered` as for [`Session::look`], else `Sheet` of what `Sheet::state` refuses: its named causes are asked first.
+    /// `NotEntered` as for [`Session::look`], else `Sheet` with the error of `Sheet::state`, its named causes first.
     pub fn state<S: Of<J>>(
         &mut self,
         alloc: Global,
@@ -300,11 +298,11 @@ impl<J: Naming> Session<J> {
         }
     }
 
-    /// Return what a detector counts in the steps from one up to another, that one not among them, by a look.
+    /// Look, and return the counts of a detector in the steps from `from` to before `to`.
     ///
     /// # Errors
     ///
-    /// `NotEntered` as for [`Session::look`], else `Sheet` of what `Sheet::totals` refuses: its named causes are asked first.
+    /// `NotEntered` as for [`Session::look`], else `Sheet` with the error of `Sheet::totals`, its named causes first.
     pub fn totals<S: Of<J>>(
         &mut self,
         alloc: Global,
@@ -336,7 +334,8 @@ impl<J: Naming> Session<J> {
         reading::find(self.number, seen, reader, query)
     }
 
-    /// Tell the session of a history: from now on it has seen that, or what it had seen if that is longer.
+    /// Tell the session of another session's write, by its receipt. From now on it has seen the history of the receipt,
+    /// or what it had seen if that is longer.
     pub fn hear(&mut self, receipt: Receipt<J>)
         ensures longer { (self.new.seen ≡ self.old.seen) ⊎ (self.new.seen ≡ receipt) }
         ensures before { IsPrefix self.old.seen self.new.seen }
@@ -350,7 +349,7 @@ impl<J: Naming> Session<J> {
 
     // ---- closing
 
-    // Show that all that it has seen is a prefix of the history, so that its writes stand there.
+    // Show that all that it has seen is a prefix of the history, so that the history contains its writes.
     pub(crate) fn know_in(&self, head: &Head<J>, history: &mut Whole<J>)
         ensures of { IsSessionOf history.old self.now }
         ensures below { self.now.number < J.parts }

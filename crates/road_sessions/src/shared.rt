@@ -23,25 +23,25 @@ use std::alloc::Global;
 use std::sync::ledger::Blank;
 use std::sync::{Arc, Mutex, Wait};
 
-/// What the sessions of a store share. Their writes lock it; their looks don't. To drop it takes the writer back, which
-/// waits for a look that has entered and not left.
+/// What the sessions of a store share. Their writes lock it, their looks do not. Dropping it takes the writer back,
+/// which waits until no look is inside the store.
 #[derive(Drop)]
 pub struct Shared<J: Naming, R: Wait + Drop>
 where
     Published<J>: Absorb<Published<J>>,
 {
     pub(crate) held: Mutex<Held<J, R>>,
-    /// How many sessions were opened.
+    /// The number of sessions that were opened.
     pub(crate) sessions: u32,
     pub ghost opened: { sessions ≡ J.parts },
 }
 
-/// That something is what the sessions named by `J` share. It says nothing of waiting, and so a look can't wait.
+/// Marks what the sessions named by `J` share. The trait has no permit to wait, so a look cannot wait.
 pub trait Of<J: Naming> {}
 
 impl<J: Naming, R: Wait + Drop> Of<J> for Shared<J, R> {}
 
-/// A replica that was opened for sessions, and has no name yet.
+/// A replica that was prepared for sessions, as yet without a name.
 #[derive(Drop)]
 pub struct Prepared<R: Wait + Drop> {
     rt: R,
@@ -50,9 +50,9 @@ pub struct Prepared<R: Wait + Drop> {
     pub book: EmptyHistory,
     /// The replica.
     pub replica: Replica,
-    /// How many sessions it is for.
+    /// The number of sessions that it is for.
     pub sessions: u32,
-    /// How many writes its journal takes at most.
+    /// The most writes of its journal.
     pub limit: u64,
     /// The ledger of accepted writes, with a part for each session.
     pub ledger: Blank,
@@ -61,7 +61,8 @@ pub struct Prepared<R: Wait + Drop> {
     pub ghost within_limits: { (0 < sessions) × (sessions ≤ MOST_SESSIONS) × (limit ≤ MOST_WRITES) },
 }
 
-/// Prepare a replica of this number, below 64, for 1 to 8 sessions and 1 to 1,000,000 writes. Nothing is simulated.
+/// Prepare a replica with this number, which must be below 64, for 1 to 8 sessions and 1 to 1,000,000 writes. Nothing
+/// is simulated.
 ///
 /// # Errors
 ///
@@ -94,15 +95,15 @@ pub fn prepare<R: Wait + Drop>(
     })
 }
 
-/// Open what was prepared under the name `J`: its sessions have seen and written nothing, and are numbered from 0. What
-/// lies under its lock no contract here can see. [`open_held`] makes it and ensures it: the opening sheet is published,
-/// and the journal is empty, with room for as many writes as were prepared for. `J` has to be picked with what was
-/// prepared: its book, its replica, its ledger's name and parts, and its limit.
+/// Open a prepared store under the name `J`. Its sessions have seen and written nothing, and are numbered from 0. No
+/// contract here can see the state behind the lock. [`open_held`] makes that state and describes it: the opening sheet
+/// is published, and the journal is empty, with room for the writes that were prepared for. `J` must be picked with
+/// what was prepared: its book, its replica, its ledger's name and parts, and its limit.
 ///
 /// # Errors
 ///
-/// `NoPlace` if the store gave a session no reader, else `OutOfMemory` if an allocation failed. What was prepared is
-/// given up then. That takes the writer back, which may wait, though no other thread has a reader yet.
+/// `NoPlace` if the store gave a session no reader, else `OutOfMemory` if an allocation failed. The prepared store is
+/// then dropped. That takes the writer back, which may wait, although no other thread has a reader yet.
 pub fn open<J: Naming, R: Wait + Drop>(
     prepared: Prepared<R>,
 ) -> Result<(Shared<J, R>, Vec<Session<J>>), OpenFault>
@@ -121,7 +122,7 @@ pub fn open<J: Naming, R: Wait + Drop>(
     Ok((shared, sessions))
 }
 
-/// Make what [`open`] puts under the lock, and the sessions, of what was prepared for the name `J`, picked as for [`open`].
+/// Make the state that [`open`] puts behind the lock, and the sessions. `J` must be picked as for [`open`].
 ///
 /// # Errors
 ///
@@ -150,7 +151,7 @@ pub fn open_held<J: Naming, R: Wait + Drop>(
         ledger,
     } = prepared;
     let (head, history) = book.of_store::<J>();
-    let (writer, published) = store_of(alloc, replica.sheet(), &history.seen(), sessions)?;
+    let (writer, published) = store_of(alloc, replica.sheet(), &history.prefix(), sessions)?;
     let (accepted, mut whole) = ledger.open::<J>();
     let spare = whole.empty();
     let mut held = Held {
@@ -169,8 +170,7 @@ pub fn open_held<J: Naming, R: Wait + Drop>(
     Ok((held, sessions))
 }
 
-// Open a store with room for so many readers, which shows a sheet and the history that leaves it; and return the two
-// once more.
+// Open a store with room for this many readers, which shows a sheet and its history. Return another copy of both, too.
 fn store_of<J: Naming>(
     alloc: Global,
     sheet: &Arc<Sheet>,
@@ -190,7 +190,7 @@ fn store_of<J: Naming>(
     Ok((writer, published))
 }
 
-// Open a store with room for so many readers, which shows one of these; both are the same.
+// Open a store with room for this many readers, which shows one of these two values. Both are the same.
 fn new_store<J: Naming>(
     alloc: Global,
     first: Published<J>,

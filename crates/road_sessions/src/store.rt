@@ -1,4 +1,4 @@
-//! What readers see, the rule by which they see it, and the publishing of a sheet.
+//! What readers see, the rule of the store, and how a sheet is published.
 ghost use Rattle.std.specs.Prelude.{◌≡◌, ◌++◌, ◌∷◌, [], IfOk, drop};
 ghost use Rattle.std.specs.Arc.{arc_value};
 ghost use mathlib.Core.List.{IsPrefix};
@@ -20,7 +20,7 @@ use std::alloc::AllocError;
 use std::marker::Model;
 use std::sync::{Arc, Wait};
 
-/// A sheet and the history that leaves it. Contracts see it as that history.
+/// A sheet and the history that it is the result of. Contracts see it as that history.
 #[derive(Drop)]
 pub struct Published<J: Naming> {
     sheet: Arc<Sheet>,
@@ -45,7 +45,7 @@ impl<J: Naming> Model for Published<J> {
 }
 
 impl<J: Naming> Published<J> {
-    // Make it of a sheet and the history that leaves it.
+    // Pair a sheet with the history that it is the result of.
     pub(crate) fn new(sheet: Arc<Sheet>, history: Prefix<J>) -> Published<J>
         requires { arc_value sheet ≡ (replay J.replica history).sheet }
         ensures { result ≡ history }
@@ -67,7 +67,7 @@ impl<J: Naming> Published<J> {
         &self.history
     }
 
-    // Make the same once more. It is refused if the sheet can have no more owners.
+    // Copy it. This is refused if the sheet can have no more owners.
     pub(crate) fn again(&self) -> Result<Published<J>, OutOfMemory>
         ensures { IfOk result (λ same. same ≡ self.now) }
     {
@@ -136,7 +136,7 @@ impl<J: Naming> Outcome<Published<J>, View> for AfterWrite {
     ghost then = { λ v published same w. EntersAfterWrite v same w };
 }
 
-/// The writer publishes. What the store knows of it stays.
+/// The writer publishes. What the store knows of the writer does not change.
 pub struct ToPublish;
 
 impl<J: Naming> Outcome<Published<J>, View> for ToPublish {
@@ -151,7 +151,7 @@ pub type StoreReader<J> = Reader<Published<J>, View, FoundFirst>;
 /// The one writer of a store.
 pub type StoreWriter<J> = Writer<Published<J>, Published<J>, View, FoundFirst>;
 
-// Give the writer what it is to publish, again and again until there is memory for it.
+// Give the writer a value to publish. Retry until there is memory for it.
 fn hand_over<J: Naming, R: Wait>(
     rt: &R,
     mut writer: StoreWriter<J>,
@@ -169,8 +169,8 @@ fn hand_over<J: Naming, R: Wait>(
     unreachable!()
 }
 
-// Publish what is pending, again and again until it is done. The last of it has this history.
-fn show<J: Naming, R: Wait>(
+// Publish what is pending. Retry until it is done. The last pending value has this history.
+fn publish_pending<J: Naming, R: Wait>(
     rt: &R,
     mut writer: StoreWriter<J>,
     history: &Prefix<J>,
@@ -189,7 +189,7 @@ fn show<J: Naming, R: Wait>(
     unreachable!()
 }
 
-// Publish as `publish`, by a writer that stays where it is.
+// The same as `publish`, for a writer that stays where it is.
 pub(crate) fn publish_here<J: Naming, R: Wait>(
     rt: &R,
     writer: &mut StoreWriter<J>,
@@ -201,12 +201,12 @@ pub(crate) fn publish_here<J: Naming, R: Wait>(
     replace_with(writer, (), |writer, ()| (publish(rt, writer, next), ()));
 }
 
-// Publish a sheet with its history, in place of what is published or pending. It returns once that is done.
+// Publish a sheet with its history, replacing what is published or pending. Return once that is done.
 fn publish<J: Naming, R: Wait>(rt: &R, writer: StoreWriter<J>, next: Published<J>) -> StoreWriter<J>
     requires { IsPrefix writer.desk.shown.value next }
     ensures { result.desk.shown.value ≡ next }
 {
     let history = next.history().again();
     let writer = hand_over(rt, writer, next);
-    show(rt, writer, &history)
+    publish_pending(rt, writer, &history)
 }

@@ -1,27 +1,27 @@
-//! What a session may ask of the replica.
+//! The writes that a session may ask for.
 
 use road_plan::Object;
 use road_scenario::Scenario;
 
-/// What a session asks of the replica: one for each kind of write.
+/// A write that a session asks for.
 #[derive(Clone, Copy)]
 pub enum Wish<'a> {
-    /// That it take these edits.
+    /// Take these edits.
     Take(&'a Scenario),
-    /// That it simulate up to this step.
+    /// Simulate up to this step.
     Advance(u32),
-    /// That it put a number for an object from a step on, in the object's units.
+    /// Set a number for an object from a step on, in the object's units.
     Edit {
-        /// What is set.
+        /// The object that is set.
         object: Object,
-        /// The first step at which it acts.
+        /// The first step at which the number takes effect.
         step: u32,
-        /// The number put.
+        /// The number.
         value: u32,
     },
-    /// That it withdraw what is put for an object at a step.
+    /// Withdraw what is set for an object at a step.
     Withdraw {
-        /// What is set no longer.
+        /// The object that is no longer set.
         object: Object,
         /// The step of what is withdrawn.
         step: u32,

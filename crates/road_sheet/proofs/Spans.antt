@@ -1,18 +1,22 @@
 -- Steps under the same settings: the run over them, and what the detectors count in them.
-use Rattle.std.proofs.Common.{◌≡◌, ◌≤◌, ◌<◌, ◌+◌, ◌-◌, ◌∙◌, ℕ, zero, suc, length, map, ap, sym, arith, refl}
+use Rattle.std.proofs.Common.{◌≡◌, ◌≤◌, ◌<◌, ◌+◌, ◌-◌, ◌∙◌, ℕ, zero, suc, length, map, ap, subst, sym, arith, refl}
 use Rattle.std.specs.List.{range_with_len}
 use Rattle.std.proofs.lemmas.List.FromFn.{get_or-map-range_with_len, length-map-range_with_len}
-use Rattle.road_plan.specs.Plan.{Plan}
+use Rattle.road_plan.specs.Plan.{IsWithinLimits, Plan}
+use Rattle.road_plan.specs.declared.limits.TheConstants.{GREATEST_HORIZON}
 use Rattle.road_plan.specs.Settings.{Settings}
 use Rattle.road_cells.specs.Array.{Array}
+use Rattle.road_ends.specs.Laws.{StayOnRoad}
 use Rattle.road_ends.specs.Run.{Course, run, road_after_step, road_after_steps}
 use Rattle.road_ends.specs.Span.{Span, span_road}
 use Rattle.road_detector.specs.Passes.{no_totals, passes, passes_from, plus, span_totals, sum_of_totals, total, total_from}
 use Rattle.road_detector.specs.declared.counts.Totals.{Totals}
+use Rattle.road_columns.specs.UnderWay.{IsRunnable}
 use Rattle.road_scenario.specs.Settings.{settings_of}
 use Rattle.road_sheet.specs.Private.Intervals.{AreTotals}
 use Rattle.road_sheet.specs.Sheets.{Sheet, state_of}
 use Rattle.road_sheet.specs.Spans.{IsNextSpan}
+use Rattle.road_sheet.proofs.SmallCars.{runnable}
 
 -- the run of a course that is the same settings over k steps
 module _ (p : Plan) (course : Course) (s : Settings) (t : ℕ) where
@@ -69,3 +73,11 @@ totals_in s span is =
           ∙ ap (λ (p : Plan). at p span.step d) is.plan ∙ ap (λ (t : ℕ). at s.plan t d) is.step
           ∙ counts_on s.plan (settings_of s.plan s.edits) span.settings s.horizon span.steps d (in_force s span is);
     }
+
+-- it can be run from the road at the horizon
+pub next_runnable : (s : Sheet) (span : Span) → IsNextSpan s span → IsWithinLimits span.plan → span.step + span.steps ≤ GREATEST_HORIZON → StayOnRoad span.plan
+    → IsRunnable 0 span.plan.cells span.plan (state_of s s.horizon)
+next_runnable s span is limits within stay =
+    let early : s.horizon ≤ GREATEST_HORIZON = let step = is.step in omega arith in
+    subst (λ (p : Plan). IsRunnable 0 p.cells p (state_of s s.horizon)) (sym is.plan)
+    (runnable s.plan (settings_of s.plan s.edits) s.horizon (subst IsWithinLimits is.plan limits) early (subst StayOnRoad is.plan stay))

@@ -1,4 +1,4 @@
-//! Checkpoints: roads that are kept in few bytes.
+//! Checkpoints: roads that are kept in few bytes, and shared.
 
 ghost use Rattle.std.specs.Prelude.{◌≡◌, [], map, IfOk};
 ghost use Rattle.road_cells.specs.Cars.{cars_of};
@@ -8,6 +8,7 @@ use road_cells::{Car, Road};
 use road_plan::OutOfMemory;
 use std::alloc::Global;
 use std::marker::Model;
+use std::sync::Arc;
 
 // A car in 6 bytes: of its number, which is below 2^24, the lower 16 bits and the upper 8.
 #[derive(Clone, Copy, Debug, PartialEq, Eq)]
@@ -18,48 +19,49 @@ struct PackedCar {
     speed: u8,
 }
 
-// A road from which a run resumes. Contracts see the road.
+// A road from which a run resumes. Whoever keeps it too is one more owner of its cars. Contracts see the road.
 #[derive(Drop)]
 pub(crate) struct Checkpoint {
-    cars: Vec<PackedCar>,
+    cars: Arc<Vec<PackedCar>>,
 }
 
 impl Model for Checkpoint {
     ghost use Rattle.std.specs.Prelude.{map};
+    ghost use Rattle.std.specs.Arc.{arc_value};
     ghost use Rattle.road_cells.specs.Array.{Array};
     ghost use Rattle.road_cells.specs.Cars.{AreRising, array_of};
     ghost use Rattle.road_sheet.specs.Private.Checkpoints.{unpacked_car};
 
     ghost Value = { Array };
 
-    ghost view = { λ kept. array_of (map unpacked_car kept.cars.items) };
+    ghost view = { λ kept. array_of (map unpacked_car (arc_value kept.cars).items) };
 
-    ghost invariant = { λ kept. AreRising (map unpacked_car kept.cars.items) };
+    ghost invariant = { λ kept. AreRising (map unpacked_car (arc_value kept.cars).items) };
 }
 
 impl Checkpoint {
-    // Keep the empty road. It allocates nothing.
-    pub(crate) fn empty(alloc: Global) -> Checkpoint
-        ensures { result ≡ [] }
+    // Keep the empty road.
+    pub(crate) fn empty(alloc: Global) -> Result<Checkpoint, OutOfMemory>
+        ensures { IfOk result (λ kept. kept ≡ []) }
     {
-        Checkpoint {
-            cars: Vec::new(alloc),
-        }
+        let cars = Arc::new(alloc, Vec::new(alloc))?;
+        Ok(Checkpoint { cars })
     }
 
-    // Keep a road of cars that fit, by one allocation.
+    // Keep a road of cars that fit, by two allocations.
     pub(crate) fn of(alloc: Global, road: &Road) -> Result<Checkpoint, OutOfMemory>
         requires { AreSmall (cars_of road.now) }
         ensures { IfOk result (λ kept. kept ≡ road.now) }
     {
-        let cars = packed_cars(alloc, road.cars())?;
+        let cars = Arc::new(alloc, packed_cars(alloc, road.cars())?)?;
         Ok(Checkpoint { cars })
     }
 
-    pub(crate) fn copied(&self) -> Result<Checkpoint, OutOfMemory>
+    // Share the road: its cars get one more owner. It allocates nothing.
+    pub(crate) fn share(&self) -> Result<Checkpoint, OutOfMemory>
         ensures { IfOk result (λ kept. kept ≡ self.now) }
     {
-        let cars = self.cars.clone()?;
+        let cars = Arc::try_clone(&self.cars)?;
         Ok(Checkpoint { cars })
     }
 

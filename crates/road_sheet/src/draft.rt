@@ -82,7 +82,7 @@ impl Draft {
         ensures unchanged { OnErr result (self.new ≡ self.old) }
     {
         let road = finish(alloc, input, speeds)?;
-        self.sheet.grow(alloc, input, speeds, road)
+        self.sheet.extend(alloc, input, speeds, road)
     }
 
     /// Return the road at the horizon.
@@ -128,7 +128,7 @@ impl Draft {
         ensures grown { OnOk result (self.new ≡ sheet_after_span span.now self.old) }
         ensures unchanged { OnErr result (self.new ≡ self.old) }
     {
-        self.sheet.grow_by(alloc, span, ran)
+        self.sheet.extend_by(alloc, span, ran)
     }
 
     /// Return the sheet.

@@ -34,11 +34,12 @@ impl Interval {
         Ok(Interval { start, totals })
     }
 
+    // Copy the counts, and share the road.
     pub(crate) fn copied(&self) -> Result<Interval, OutOfMemory>
         ensures start { IfOk result (λ interval. interval.start ≡ self.now.start) }
         ensures totals { IfOk result (λ interval. interval.totals.items ≡ self.now.totals.items) }
     {
-        let start = self.start.copied()?;
+        let start = self.start.share()?;
         let totals = self.totals.clone()?;
         Ok(Interval { start, totals })
     }

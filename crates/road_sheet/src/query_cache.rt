@@ -185,7 +185,7 @@ impl QueryCache {
             Some(shown) => shown,
             None => {
                 let spare = mem::replace(&mut self.spare, None);
-                ShownRun::begun(alloc, sheet, spare, step)?
+                ShownRun::resume(alloc, sheet, spare, step)?
             }
         };
         shown.go_to(alloc, sheet, step)?;

@@ -89,7 +89,7 @@ impl SettingsCache {
         if let Some(settings) = self.cached(step)? {
             return Ok(settings);
         }
-        self.renewed(alloc, sheet.plan(), sheet.scenario(), step)
+        self.renew(alloc, sheet.plan(), sheet.scenario(), step)
     }
 
     // Return whether the cached settings are in force at two steps.
@@ -130,7 +130,7 @@ impl SettingsCache {
     }
 
     // Make the settings of a step, and caches them.
-    fn renewed(
+    fn renew(
         &mut self,
         alloc: Global,
         plan: &Arc<Plan>,

@@ -6,7 +6,7 @@ ghost use Rattle.std.specs.Arc.{arc_value};
 
 use crate::OutOfMemory;
 use crate::interval::Interval;
-use crate::shelf::{Shelf, shared};
+use crate::shelf::{Shelf, share_first};
 use std::alloc::Global;
 use std::marker::Model;
 use std::sync::Arc;
@@ -82,7 +82,7 @@ impl SharedIntervals {
         let shelves = count / SHELF_INTERVALS;
         if shelves < self.full.len() {
             let last = self.full[shelves].first(alloc, count % SHELF_INTERVALS)?;
-            let full = Arc::new(alloc, shared(alloc, &self.full, shelves)?)?;
+            let full = Arc::new(alloc, share_first(alloc, &self.full, shelves)?)?;
             Ok(SharedIntervals { full, last })
         } else {
             let last = self.last.first(alloc, count % SHELF_INTERVALS)?;
@@ -100,7 +100,7 @@ fn with_shelf(
 ) -> Result<Arc<Vec<Arc<Shelf>>>, OutOfMemory>
     ensures { IfOk result (λ more. map arc_value (arc_value more).items ≡ map arc_value shelves.now ++ shelf ∷ []) }
 {
-    let mut more = shared(alloc, shelves, shelves.len())?;
+    let mut more = share_first(alloc, shelves, shelves.len())?;
     more.push(Arc::new(alloc, shelf)?)?;
     Ok(Arc::new(alloc, more)?)
 }

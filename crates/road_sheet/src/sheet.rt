@@ -93,7 +93,7 @@ impl Sheet {
     {
         let open_interval = Interval::begin(
             alloc,
-            Checkpoint::empty(alloc),
+            Checkpoint::empty(alloc)?,
             plan.detectors().len(),
         )?;
         let intervals = SharedIntervals::empty(alloc)?;
@@ -289,8 +289,8 @@ impl Sheet {
           horizon = self.now.horizon;
         }) }
     {
-        let (open_interval, at_horizon) = copies(&self.open_interval, &self.at_horizon)?;
-        let (plan, intervals) = shared_with_plan(
+        let (open_interval, at_horizon) = copy_open(&self.open_interval, &self.at_horizon)?;
+        let (plan, intervals) = share_with_plan(
             alloc,
             &self.plan,
             &self.intervals,
@@ -327,8 +327,8 @@ impl Sheet {
         }) }
     {
         let start = &self.interval(interval as usize).start;
-        let (open_interval, at_horizon) = begun(alloc, start, self.plan.detectors().len())?;
-        let (plan, intervals) = shared_with_plan(
+        let (open_interval, at_horizon) = start_from(alloc, start, self.plan.detectors().len())?;
+        let (plan, intervals) = share_with_plan(
             alloc,
             &self.plan,
             &self.intervals,
@@ -386,7 +386,7 @@ impl Sheet {
     }
 
     // Add one more step, whose road is made already. What can fail for memory is done before the sheet is changed.
-    pub(crate) fn grow(
+    pub(crate) fn extend(
         &mut self,
         alloc: Global,
         input: &StepInput,
@@ -460,7 +460,7 @@ impl Sheet {
     }
 
     // Add the steps of a span, from the road after it and what each detector counts in it.
-    pub(crate) fn grow_by(
+    pub(crate) fn extend_by(
         &mut self,
         alloc: Global,
         span: &Span,
@@ -537,31 +537,31 @@ impl Sheet {
 }
 
 // Begin the interval of a checkpoint, and return the road there.
-fn begun(
+fn start_from(
     alloc: Global,
     start: &Checkpoint,
     detectors: usize,
 ) -> Result<(Interval, Road), OutOfMemory>
-    ensures start { IfOk result (λ begun. begun.0.start ≡ start.now) }
-    ensures totals { IfOk result (λ begun. begun.0.totals.items ≡ replicate detectors no_totals) }
-    ensures road { IfOk result (λ begun. begun.1 ≡ start.now) }
+    ensures start { IfOk result (λ first. first.0.start ≡ start.now) }
+    ensures totals { IfOk result (λ first. first.0.totals.items ≡ replicate detectors no_totals) }
+    ensures road { IfOk result (λ first. first.1 ≡ start.now) }
 {
     let road = start.road(alloc)?;
-    let interval = Interval::begin(alloc, start.copied()?, detectors)?;
+    let interval = Interval::begin(alloc, start.share()?, detectors)?;
     Ok((interval, road))
 }
 
-fn copies(interval: &Interval, road: &Road) -> Result<(Interval, Road), OutOfMemory>
-    ensures start { IfOk result (λ copies. copies.0.start ≡ interval.now.start) }
-    ensures totals { IfOk result (λ copies. copies.0.totals.items ≡ interval.now.totals.items) }
-    ensures road { IfOk result (λ copies. copies.1 ≡ road.now) }
+fn copy_open(interval: &Interval, road: &Road) -> Result<(Interval, Road), OutOfMemory>
+    ensures start { IfOk result (λ both. both.0.start ≡ interval.now.start) }
+    ensures totals { IfOk result (λ both. both.0.totals.items ≡ interval.now.totals.items) }
+    ensures road { IfOk result (λ both. both.1 ≡ road.now) }
 {
     let copy = interval.copied()?;
     Ok((copy, road.copied()?))
 }
 
 // Share a plan, and the first of these intervals.
-fn shared_with_plan(
+fn share_with_plan(
     alloc: Global,
     plan: &Arc<Plan>,
     intervals: &SharedIntervals,

@@ -64,13 +64,13 @@ impl Shelf {
         requires { count ≤ length self.now }
         ensures { IfOk result (λ first. first ≡ take count self.now) }
     {
-        let intervals = shared(alloc, &self.intervals, count)?;
+        let intervals = share_first(alloc, &self.intervals, count)?;
         Ok(Shelf { intervals })
     }
 }
 
 // Share the first of these values: each has one more owner.
-pub(crate) fn shared<T: Drop>(
+pub(crate) fn share_first<T: Drop>(
     alloc: Global,
     values: &[Arc<T>],
     count: usize,

@@ -36,7 +36,7 @@ impl ShownRun {
 
     // Begin at the last state that a sheet keeps and that is not after a step, in the memory of another run of its plan
     // if there is one.
-    pub(crate) fn begun(
+    pub(crate) fn resume(
         alloc: Global,
         sheet: &Sheet,
         spare: Option<UnderWay>,
@@ -48,7 +48,7 @@ impl ShownRun {
         ensures { IfOk result (IsShownBy sheet.now) }
     {
         let Some(run) = spare else {
-            return ShownRun::begun_anew(alloc, sheet, step);
+            return ShownRun::start(alloc, sheet, step);
         };
         let mut shown = ShownRun {
             run,
@@ -60,7 +60,7 @@ impl ShownRun {
     }
 
     // Begin a run of a sheet's plan at the last state that the sheet keeps and that is not after a step.
-    fn begun_anew(alloc: Global, sheet: &Sheet, step: u32) -> Result<ShownRun, OutOfMemory>
+    fn start(alloc: Global, sheet: &Sheet, step: u32) -> Result<ShownRun, OutOfMemory>
         requires simulated { step ≤ sheet.now.horizon }
         requires horizon { step ≤ GREATEST_HORIZON }
         ensures { IfOk result (IsShownBy sheet.now) }
@@ -74,7 +74,7 @@ impl ShownRun {
         };
         cars_stay_on_road(sheet.plan());
         let plan = Arc::try_clone(sheet.plan())?;
-        let begun = UnderWay::begin_on(alloc, plan, settings, state.step, whole, &state.road)?;
+        let begun = UnderWay::start_on(alloc, plan, settings, state.step, whole, &state.road)?;
         let Some(run) = begun else {
             unreachable!();
         };
@@ -143,7 +143,7 @@ impl ShownRun {
         cars_stay_on_road(sheet.plan());
         let _taken = self
             .run
-            .take_up(alloc, settings, kept.step, whole, &kept.road)?;
+            .restart_on(alloc, settings, kept.step, whole, &kept.road)?;
         self.under = kept.step;
         Ok(())
     }

@@ -9,3 +9,4 @@ pub mod SideBySide
 pub mod WholeRuns
 pub mod NearRuns
 pub mod NearCars
+pub mod StepByStep

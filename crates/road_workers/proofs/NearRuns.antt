@@ -11,7 +11,7 @@ use Rattle.road_ends.specs.Laws.{AgreeNear}
 use Rattle.road_ends.specs.Span.{Span}
 use Rattle.road_detector.specs.Passes.{no_totals, passes_at, plus}
 use Rattle.road_detector.specs.declared.counts.Totals.{Totals}
-use Rattle.road_columns.specs.UnderWay.{UnderWay, next_input, stepped, total_after}
+use Rattle.road_columns.specs.UnderWay.{UnderWay, next_input, run_after_step, total_after}
 use Rattle.road_columns.proofs.NearRuns.{near_run}
 use Rattle.road_workers.specs.Private.RunsUnderWay.{IsAfter, IsReady, after_steps, uncounted}
 use Rattle.road_workers.specs.Private.Stretches.{has_site, road_after, total_on}
@@ -48,7 +48,7 @@ near_ready lo hi span a run is =
     }
 
 -- one more step
-near_more : (lo hi : ℕ) (span : Span) (k : ℕ) (a : Array) (run : UnderWay) → k < span.steps → IsAfter lo hi span k a run → IsAfter lo hi span (suc k) a (stepped run)
+near_more : (lo hi : ℕ) (span : Span) (k : ℕ) (a : Array) (run : UnderWay) → k < span.steps → IsAfter lo hi span k a run → IsAfter lo hi span (suc k) a (run_after_step run)
 near_more lo hi span k a run more is =
     let near = near_run span k lo hi run is.plan is.settings is.step is.from is.to is.on_road in
     let long = length-map-range_with_len (total_after run) 0 (length run.totals) in
@@ -76,7 +76,7 @@ near_more lo hi span k a run more is =
           ∙ ap (λ n. total_on lo hi span n a d) (add-one k);
     }
 
--- so many steps
+-- several steps
 pub near_after : (lo hi : ℕ) (span : Span) (k : ℕ) (a : Array) (run : UnderWay) → k ≤ span.steps → IsAfter lo hi span 0 a run → IsAfter lo hi span k a (after_steps k run)
 near_after lo hi span zero a run most is = is
 near_after lo hi span (suc k) a run most is = near_more lo hi span k a (after_steps k run) (omega arith) (near_after lo hi span k a run (omega arith) is)

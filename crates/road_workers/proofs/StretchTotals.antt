@@ -18,7 +18,7 @@ use Rattle.road_detector.proofs.TotalsFrom.{AreBounded, bounded_from, total_from
 use Rattle.road_detector.proofs.CarsPassOneByOne.{one_from}
 use Rattle.road_workers.specs.Private.Stretches.{has_site, passes_on, road_after, total_on, AreTotalsOn}
 
--- the input of the step after so many of a span
+-- the input of the step after k steps of a span
 abbrev pub step_input : Span → ℕ → Array → StepInput
 step_input span k a = input_of span.plan span.settings (span.step + k) (road_after span k a)
 

@@ -10,7 +10,7 @@ use Rattle.road_ends.specs.Span.{Span}
 use Rattle.road_ends.proofs.EntriesBetween.{whole-input}
 use Rattle.road_detector.specs.Passes.{no_totals, passes_at, plus, span_totals, total_from}
 use Rattle.road_detector.proofs.TotalsFrom.{total_from_more}
-use Rattle.road_columns.specs.UnderWay.{UnderWay, next_input, stepped, total_after}
+use Rattle.road_columns.specs.UnderWay.{UnderWay, next_input, run_after_step, total_after}
 use Rattle.road_workers.specs.Private.RunsUnderWay.{IsReady, IsWhole, after_steps, uncounted}
 use Rattle.road_workers.specs.Private.Stretches.{road_after}
 use Rattle.road_workers.proofs.StretchTotals.{step_input}
@@ -37,7 +37,7 @@ whole_input span k a run is =
     ∙ whole-input span.plan span.plan span.settings (span.step + k) (road_after span k a) 0 span.plan.cells refl refl refl
 
 -- one more step
-whole_more : (span : Span) (k : ℕ) (a : Array) (run : UnderWay) → IsWhole span k a run → IsWhole span (suc k) a (stepped run)
+whole_more : (span : Span) (k : ℕ) (a : Array) (run : UnderWay) → IsWhole span k a run → IsWhole span (suc k) a (run_after_step run)
 whole_more span k a run is =
     let input = whole_input span k a run is in
     let long = length-map-range_with_len (total_after run) 0 (length run.totals) in
@@ -57,7 +57,7 @@ whole_more span k a run is =
           ∙ ap (λ n. total_from span.plan (λ _. span.settings) span.step n a d) (add-one k);
     }
 
--- so many steps
+-- several steps
 pub whole_after : (span : Span) (k : ℕ) (a : Array) (run : UnderWay) → IsWhole span 0 a run → IsWhole span k a (after_steps k run)
 whole_after span zero a run is = is
 whole_after span (suc k) a run is = whole_more span k a (after_steps k run) (whole_after span k a run is)

@@ -1,4 +1,4 @@
--- What contracts of private functions say of workers and their pieces; no public contract names it.
+-- Definitions for contracts of private functions about workers and their pieces. No public contract names them.
 pub mod Pieces
 pub mod Started
 pub mod Gathered

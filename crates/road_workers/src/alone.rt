@@ -1,6 +1,6 @@
 //! The crew of one.
 
-ghost use Rattle.std.specs.Prelude.{◌≡◌, ◌≢◌, IfOk, IfSome, IsSome, Err};
+ghost use Rattle.std.specs.Prelude.{◌≡◌, ◌≢◌, ◌<◌, IfOk, IfSome, IsSome, Err};
 ghost use Rattle.std.specs.Arc.{arc_value};
 ghost use Rattle.road_ends.specs.Input.{input_speeds};
 ghost use Rattle.road_ends.specs.Span.{span_road};
@@ -15,6 +15,7 @@ use crate::whole::run_alone;
 use road_cells::Road;
 use road_detector::SpanResult;
 use road_ends::{Span, StepInput};
+use road_plan::limits::GREATEST_HORIZON;
 use std::alloc::Global;
 use std::sync::Arc;
 
@@ -33,6 +34,12 @@ impl Crew for Alone {
         ensures memory_at_most { result ≢ Err WorkersGone }
     {
         Ok(input.speeds(alloc)?)
+    }
+
+    fn most_steps(&self) -> u32
+        ensures { 0 < result }
+    {
+        GREATEST_HORIZON
     }
 
     fn run(

@@ -1,17 +1,18 @@
 //! What a crew gives, and how it counts the answers that a worker has gone.
 
-ghost use Rattle.std.specs.Prelude.{◌≡◌, ℕ, IfOk, IfSome};
+ghost use Rattle.std.specs.Prelude.{◌≡◌, ◌<◌, ℕ, IfOk, IfSome, IsSome};
 ghost use Rattle.std.specs.Arc.{arc_value};
 ghost use Rattle.road_ends.specs.Input.{input_speeds};
 ghost use Rattle.road_ends.specs.Span.{span_road};
 ghost use Rattle.road_detector.specs.Passes.{span_totals};
-ghost use Rattle.road_workers.specs.Crews.{gone_after};
+ghost use Rattle.road_workers.specs.Crews.{CanBeRun, gone_after};
 
 use crate::faults::CrewFault;
 use crate::kept_run::KeptRun;
+use crate::step_by_step::{count_passes, enter_step};
 use road_cells::Road;
-use road_detector::SpanResult;
-use road_ends::{Span, StepInput};
+use road_detector::{SpanResult, Totals};
+use road_ends::{Span, StepInput, finish};
 use std::alloc::Global;
 use std::sync::Arc;
 
@@ -30,25 +31,46 @@ pub trait Crew {
         ensures speeds { IfOk result (λ new. new.items ≡ input_speeds (arc_value input.now)) }
         ensures gone { times_gone self.new ≡ gone_after result (times_gone self.old) };
 
-    /// Run all steps of a span from the road before them, if this crew computes several steps at once. It may go on
-    /// with the run that is lent to it, and leave another there. None if it runs no spans, or not this one: then it is
-    /// to be asked for the speeds of each step.
+    /// Return the most steps that this crew is to run at once, at least one. A caller that counts steps as they are
+    /// computed gives it no longer spans.
+    fn most_steps(&self) -> u32
+        ensures { 0 < result }
+    {
+        1
+    }
+
+    /// Run all steps of a span from the road before them. A crew without its own way computes the speeds of one step
+    /// after another. A crew that runs several steps at once may go on with the run that is lent to it, and leave
+    /// another there. None if the span has no step, or the road has a car that no run can have.
     ///
     /// # Errors
     ///
     /// Those of [`Crew::speeds`].
     fn run(
         &mut self,
-        _alloc: Global,
+        alloc: Global,
         span: &Span,
         road: &Road,
         _kept: &mut KeptRun,
     ) -> Result<Option<SpanResult>, CrewFault>
         ensures road { IfOk result (λ done. IfSome done (λ ran. ran.road ≡ span_road span.now road.now)) }
         ensures totals { IfOk result (λ done. IfSome done (λ ran. ran.totals.items ≡ span_totals span.now road.now)) }
+        ensures some { IfOk result (λ done. CanBeRun span.now road.now → IsSome done) }
         ensures gone { times_gone self.new ≡ gone_after result (times_gone self.old) }
     {
-        Ok(None)
+        let detectors = span.plan().detectors().len();
+        let mut totals = vec![in alloc; Totals { cars: 0, speeds: 0 }; detectors]?;
+        let mut before = road.copied()?;
+        for made in 0..span.steps() {
+            let input = enter_step(alloc, span, made, &before)?;
+            let speeds = self.speeds(alloc, &input)?;
+            count_passes(&mut totals, &input, &speeds);
+            before = finish(alloc, &input, &speeds)?;
+        }
+        Ok(Some(SpanResult {
+            road: before,
+            totals,
+        }))
     }
 }
 

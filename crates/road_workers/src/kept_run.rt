@@ -3,8 +3,8 @@
 use road_columns::UnderWay;
 
 /// A run under way that is kept from span to span, and lent to [`Crew::run`](crate::Crew::run). A span of the whole road
-/// that begins where the last one ended goes on with it, so that no random word is drawn twice; a stretch takes it up
-/// anew. What it holds changes no result.
+/// that begins where the last one ended goes on with it, so that no random word is drawn twice; a stretch restarts it.
+/// What it holds changes no result.
 #[derive(Drop)]
 pub struct KeptRun {
     pub(crate) run: Option<UnderWay>,

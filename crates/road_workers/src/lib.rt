@@ -25,6 +25,7 @@ mod kept_run;
 mod piece;
 mod pool;
 mod scoped;
+mod step_by_step;
 mod stretch;
 mod whole;
 

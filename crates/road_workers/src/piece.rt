@@ -60,7 +60,7 @@ pub(crate) fn list_for(alloc: Global, workers: u32, cars: usize) -> Result<Vec<u
 
 // Append the speeds of a piece to those of the pieces before it.
 #[tactic(auto, using(crate::proofs::PiecesInOrder::take_piece))]
-pub(crate) fn appended(whole: PieceAnswer, piece: PieceAnswer) -> PieceAnswer
+pub(crate) fn append(whole: PieceAnswer, piece: PieceAnswer) -> PieceAnswer
     ensures { (all : List ℕ) (first end : ℕ) → first ≤ end → IfOk whole (λ front. front.items ≡ take first all)
         → IfOk piece (λ new. new.items ≡ slice_range all first end)
         → IfOk result (λ front. front.items ≡ take end all) }

@@ -33,6 +33,7 @@ use crossbeam_channel::{Sender, bounded};
 use road_cells::Road;
 use road_detector::SpanResult;
 use road_ends::{OutOfMemory, Span, StepInput};
+use road_plan::limits::GREATEST_HORIZON;
 use std::alloc::Global;
 use std::marker::Model;
 use std::sync::{Arc, Wait};
@@ -75,7 +76,7 @@ impl<R> Model for Pool<R> {
 }
 
 impl<R: Threads + Wait + Clone + Drop + Send + 'static> Pool<R> {
-    /// Start a crew of so many workers, 1 to 16.
+    /// Start a crew of 1 to 16 workers.
     ///
     /// # Errors
     ///
@@ -89,8 +90,8 @@ impl<R: Threads + Wait + Clone + Drop + Send + 'static> Pool<R> {
         Pool::start_gated(rt, alloc, workers, no_gate(alloc)?)
     }
 
-    /// Start a crew of 1 to 16 workers, as [`Pool::start`], each of which passes the gate before each piece and each
-    /// stretch that it computes; [`Gate`] says what is tested of that.
+    /// Start a crew of 1 to 16 workers, as [`Pool::start`]. Each worker passes the gate before each piece and each
+    /// stretch that it computes; [`Gate`] says which tests use that.
     ///
     /// # Errors
     ///
@@ -110,7 +111,7 @@ impl<R: Threads + Wait + Clone + Drop + Send + 'static> Pool<R> {
         Pool::start_on(rt, alloc, workers, gate, processors)
     }
 
-    /// Start such a crew as it is on a machine of so many processors, however many there are. Its speeds and runs are the
+    /// Start such a crew as on a machine of `processors` processors, however many there are. Its speeds and runs are the
     /// same; workers run stretches only if each has a processor, and the caller one more if it has one besides.
     ///
     /// # Errors
@@ -189,6 +190,12 @@ impl<R: Wait> Crew for Pool<R> {
         };
         self.gone = gone_after(&answer, self.gone);
         answer
+    }
+
+    fn most_steps(&self) -> u32
+        ensures { 0 < result }
+    {
+        GREATEST_HORIZON
     }
 
     fn run(

@@ -12,7 +12,7 @@ ghost use Rattle.road_workers.specs.Private.Started.{AreStartedFrom};
 use crate::crew::{Crew, gone_after};
 use crate::faults::CrewFault;
 use crate::gate::Gate;
-use crate::piece::{Piece, PieceAnswer, appended, cars_in, list_for};
+use crate::piece::{Piece, PieceAnswer, append, cars_in, list_for};
 use road_ends::{OutOfMemory, StepInput};
 use std::alloc::Global;
 use std::marker::Model;
@@ -46,7 +46,7 @@ impl<R> Model for Scoped<R> {
 }
 
 impl<R: Threads + Wait> Scoped<R> {
-    /// Make a crew of so many workers, 1 to 16. Each passes the gate before it computes its piece.
+    /// Make a crew of 1 to 16 workers. Each passes the gate before it computes its piece.
     pub fn new(rt: R, workers: u32, gate: SharedGate) -> Scoped<R>
         requires some { 0 < workers }
         requires few { workers ≤ MOST_WORKERS }
@@ -115,7 +115,7 @@ fn speeds_by<R: Threads + Wait>(
             let whole = list_for(alloc, workers, cars_in(input))?;
             let started = start_workers(scope, alloc, input, workers, gate)?;
             let count = started.len();
-            let whole = joined(rt, whole, started, input, workers);
+            let whole = join_workers(rt, whole, started, input, workers);
             if count < workers as usize {
                 return Err(CrewFault::WorkersGone);
             }
@@ -189,7 +189,7 @@ fn piece_speeds(
 }
 
 // Join the workers, and put their speeds one behind the other.
-fn joined<'s, R: Threads>(
+fn join_workers<'s, R: Threads>(
     rt: &R,
     whole: Vec<u8>,
     started: Vec<Worker<'s>>,
@@ -204,7 +204,7 @@ fn joined<'s, R: Threads>(
 {
     let mut whole = Ok(whole);
     for worker in started {
-        whole = appended(whole, worker.join(rt));
+        whole = append(whole, worker.join(rt));
     }
     whole
 }

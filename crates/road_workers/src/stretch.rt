@@ -1,4 +1,4 @@
-//! Stretches of road, each of which is run alone for the steps of a span: no car drives farther in a step than 9 cells,
+//! Stretches of road. Each is run alone for the steps of a span: no car drives farther in a step than 9 cells,
 //! nor looks farther.
 
 ghost use Rattle.std.specs.Prelude.{◌≡◌, ◌<◌, ◌≤◌, ◌+◌, ◌-◌, ◌*◌, length, min, IfOk, IfSome, IsSome, IsTrue};
@@ -15,7 +15,7 @@ pub(crate) mod joining;
 
 use crate::kept_run::KeptRun;
 use crate::stretch::cutting::cut_out;
-use crate::whole::{begun_on, kept_of, make_steps, take_up};
+use crate::whole::{make_steps, reusable_run, start_run, take_up};
 use road_cells::{Car, GREATEST_SPEED, Road};
 use road_columns::UnderWay;
 use road_detector::SpanResult;
@@ -23,7 +23,7 @@ use road_ends::{OutOfMemory, Span, Stretch, are_same_cars};
 use road_plan::Plan;
 use std::alloc::Global;
 
-// Return the stretch at a place of so many side by side, of a road of so many cells: they have about as many cars each.
+// Return the stretch at a place among `count` stretches of a road. They have about as many cars each.
 pub(crate) fn stretch_at(road: &Road, cells: u32, count: u32, place: u32) -> Stretch
     requires there { place < count }
     ensures first { result.first ≡ cut cells (cars_of road.now) count place }
@@ -78,7 +78,7 @@ pub(crate) fn run_near(
     requires runnable { IsRunnableNear stretch.first stretch.end span.now near.now }
     ensures { IfOk result (λ ran. IsRunOf stretch.first stretch.end span.now near.now ran) }
 {
-    let kept_run = kept_of(span, kept.run.take());
+    let kept_run = reusable_run(span, kept.run.take());
     let Some(mut run) = run_on(alloc, span, with_margins(span, stretch), near, kept_run)? else {
         unreachable!();
     };
@@ -103,7 +103,7 @@ fn run_on(
     ensures some { IfOk result (λ run. IsRunnable stretch.first stretch.end span.now.plan near.now → IsSome run) }
 {
     let Some(mut run) = kept else {
-        return begun_on(alloc, span, stretch, near);
+        return start_run(alloc, span, stretch, near);
     };
     if !take_up(alloc, span, stretch, near, &mut run)? {
         return Ok(None);
@@ -164,7 +164,7 @@ fn cars_near<'a>(span: &Span, road: &'a Road, stretch: Stretch) -> &'a [Car]
     road.between(from, stretch.end + margin)
 }
 
-// Find where the stretch at a place begins, of so many: the last of them ends with the road, which has so many cells.
+// Find where the stretch at a place among `count` stretches begins. The last one ends with the road.
 fn cut(cars: &[Car], cells: u32, count: u32, place: u32) -> u32
     requires some { 0 < count }
     requires there { place ≤ count }

@@ -36,17 +36,17 @@ pub(crate) fn run_alone(
     if span.steps() == 0 {
         return Ok(None);
     }
-    let kept_run = kept_of(span, kept.run.take());
+    let kept_run = reusable_run(span, kept.run.take());
     let Some(mut run) = ready_run(alloc, span, road, kept_run)? else {
         return Ok(None);
     };
-    let ran = ran_on(alloc, span, road, &mut run)?;
+    let ran = continue_run(alloc, span, road, &mut run)?;
     kept.run = Some(run);
     Ok(Some(ran))
 }
 
 // Return the run that is kept, if it is of a span's plan.
-pub(crate) fn kept_of(span: &Span, kept: Option<UnderWay>) -> Option<UnderWay>
+pub(crate) fn reusable_run(span: &Span, kept: Option<UnderWay>) -> Option<UnderWay>
     ensures plan { IfSome result (λ run. run.plan ≡ span.now.plan) }
     ensures goes_on { IfSome kept (λ run. run.plan ≡ span.now.plan → result ≡ Some run) }
 {
@@ -70,7 +70,7 @@ fn ready_run(
 {
     let Some(mut run) = kept else {
         let end = span.plan().length();
-        return begun_on(alloc, span, Stretch { first: 0, end }, road);
+        return start_run(alloc, span, Stretch { first: 0, end }, road);
     };
     if !make_ready(alloc, span, road, &mut run)? {
         return Ok(None);
@@ -80,7 +80,7 @@ fn ready_run(
 
 // Begin a run on the cells of a stretch, before the steps of a span and under its settings. None if it cannot have a
 // car of the road.
-pub(crate) fn begun_on(
+pub(crate) fn start_run(
     alloc: Global,
     span: &Span,
     stretch: Stretch,
@@ -93,7 +93,7 @@ pub(crate) fn begun_on(
     prove!(span.steps() <= GREATEST_HORIZON);
     let plan = Arc::try_clone(span.plan())?;
     let settings = Arc::try_clone(span.settings())?;
-    UnderWay::begin_on(alloc, plan, settings, span.step(), stretch, road)
+    UnderWay::start_on(alloc, plan, settings, span.step(), stretch, road)
 }
 
 // Make a run stand before the steps of a span, under its settings: if it does not go on, it takes the road up.
@@ -136,11 +136,11 @@ pub(crate) fn take_up(
 {
     prove!(span.steps() <= GREATEST_HORIZON);
     let settings = Arc::try_clone(span.settings())?;
-    run.take_up(alloc, settings, span.step(), stretch, road)
+    run.restart_on(alloc, settings, span.step(), stretch, road)
 }
 
 // Go on with a run for the steps of a span.
-fn ran_on(
+fn continue_run(
     alloc: Global,
     span: &Span,
     road: &Road,

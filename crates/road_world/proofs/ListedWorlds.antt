@@ -54,7 +54,7 @@ sorted_entries (e ∷ es) = put edit_cmp e tt (sorted_entries es)
 abbrev pub sorted : List edits.Edit → List edits.Edit
 sorted es = map (λ x. x.0) (sorted_entries es)
 
--- entries without keys are no entries
+-- a list of entries without keys is empty
 no_entry : (xs : List (edits.Edit × Unit {0})) → map (λ x. x.0) xs ≡ [] → xs ≡ []
 no_entry [] h = refl
 no_entry (x ∷ xs) h = cc

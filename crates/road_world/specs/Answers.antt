@@ -72,14 +72,14 @@ replica_number (Beyond r message) = r
 replica_number (Take r message) = r
 replica_number (Advance r to) = r
 
--- the refusal of a message if one with edits is needed
+-- the refusal of an event that needs a message with edits
 abbrev pub edits_wanted_fault : Option Message → Option WorldFault
 edits_wanted_fault (Some (Whole edits)) = None
 edits_wanted_fault (Some (Answer edits)) = None
 edits_wanted_fault (Some (Asked hs)) = Some NoMessage
 edits_wanted_fault None = Some NoMessage
 
--- the refusal of a message if one with heads is needed
+-- the refusal of an event that needs a message with heads
 abbrev pub heads_wanted_fault : Option Message → Option WorldFault
 heads_wanted_fault (Some (Whole edits)) = Some NoMessage
 heads_wanted_fault (Some (Answer edits)) = Some NoMessage
@@ -139,7 +139,7 @@ abbrev pub world_after_answer : Event → Result Reply WorldFault → World → 
 world_after_answer event (Ok reply) w = world_after_event event w
 world_after_answer event (Err fault) w = w
 
--- one answer for each event, in order, each in the world after those before it
+-- one answer for each event, in order, each in the world after the events before it
 abbrev pub AreAnswers : World → List Event → List (Result Reply WorldFault) → Type 0
 AreAnswers w [] [] = Unit {0}
 AreAnswers w (event ∷ events) (reply ∷ replies) =

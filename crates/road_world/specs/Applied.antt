@@ -25,9 +25,9 @@ pub record IsApplied (event : Event) (result : Result Reply WorldFault) (old new
   pub unchanged : OnErr result (new ≡ old)
   -- if accepted, exactly its steps are computed
   pub steps : OnOk result (later ≡ meter_after meter (steps_of_event old event))
-  -- if refused for a named cause, none are computed
+  -- if refused for a named cause, no step is computed
   pub named : OnErr result (fault_of_event old event ≢ None → later ≡ meter)
-  -- otherwise at most those that it may cost
+  -- if refused for out of memory or lost workers, at most the steps that it may cost are computed
   pub few_steps : TicksAtMost (most_steps_of_event old event) meter later
 
 -- the result of making the message of an event: that message if nothing refuses the event, or its refusal

@@ -66,14 +66,14 @@ world_with_advance r to w =
     let advanced = record (replica_at w r) { horizon = max (replica_at w r).horizon to } in
     record w { replicas = slice_set w.replicas r advanced }
 
--- the edits of a message; none if it has heads or does not exist, and no accepted event takes it then
+-- the edits of a message. There are no edits if it has heads or does not exist, but then no accepted event takes it
 abbrev pub carried_edits : Option Message → Edits
 carried_edits (Some (Whole edits)) = edits
 carried_edits (Some (Answer edits)) = edits
 carried_edits (Some (Asked hs)) = empty
 carried_edits None = empty
 
--- the heads of a message; none if it has edits or does not exist, and no accepted event answers it then
+-- the heads of a message. There are no heads if it has edits or does not exist, but then no accepted event answers it
 abbrev pub asked_heads : Option Message → List Head
 asked_heads (Some (Whole edits)) = []
 asked_heads (Some (Answer edits)) = []
@@ -91,13 +91,13 @@ makes_message (Beyond r message) = true
 makes_message (Take r message) = false
 makes_message (Advance r to) = false
 
--- the event by which replica r makes a message
+-- the event in which replica r makes a message
 abbrev pub sending_event : ℕ → Sending → Event
 sending_event r sendings.Whole = Send r
 sending_event r sendings.Asked = Heads r
 sending_event r (sendings.Answer message) = Beyond r message
 
--- the message that an event makes, given what its replica holds; none if the event makes no message
+-- the message that an event makes, if it makes one, given what its replica holds
 abbrev pub message_of_event : World → Event → Option Message
 message_of_event w (Send r) = Some (Whole (replica_at w r).edits)
 message_of_event w (Heads r) = Some (Asked (heads (winners (replica_at w r).edits)))
@@ -106,7 +106,7 @@ message_of_event w (Beyond r message) =
     Some (Answer (beyond (winners (replica_at w r).edits) asked))
 message_of_event w event = None
 
--- messages, followed by the one that was made, if one was
+-- messages, followed by the new one, if there is one
 abbrev pub messages_with : Option Message → List Message → List Message
 messages_with None messages = messages
 messages_with (Some message) messages = messages ++ message ∷ []

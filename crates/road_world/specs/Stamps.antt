@@ -18,7 +18,7 @@ use Rattle.road_world.specs.declared.faults.WorldFault.{WorldFault}
 abbrev pub is_same_stamp : Stamp → Stamp → Bool
 is_same_stamp s t = s.count == t.count && s.number == t.number
 
--- the stamp that an answer issues, if it does: the stamp of a local edit
+-- the stamp that an answer issues, if it is the answer to a local edit
 abbrev pub issued_stamp : Result Reply WorldFault → Option Stamp
 issued_stamp (Ok (Stamped stamp)) = Some stamp
 issued_stamp answer = None

@@ -1,4 +1,4 @@
--- The numbers of steps that events cost.
+-- The number of steps that events cost.
 use Rattle.std.specs.Prelude.{ℕ, ◌+◌, List, [], ◌∷◌, Result, unwrap_or}
 use Rattle.std.specs.List.{slice_get}
 use Rattle.std.specs.Option.{option_map}
@@ -62,9 +62,9 @@ abbrev pub most_wasted_steps : World → Event → Result Reply WorldFault → �
 most_wasted_steps w event (Ok reply) = 0
 most_wasted_steps w event (Err fault) = steps_unless (fault_of_event w event) (most_steps_of_event w event)
 
--- ---- lists of events, each in the world after those before it
+-- ---- lists of events, each in the world after the events before it
 
--- the sum of the counts of some events with these answers, each in the world after those before it
+-- the sum of the counts of some events with these answers, each in the world after the events before it
 abbrev pub sum_of_answers : (World → Event → Result Reply WorldFault → ℕ)
     → World → List Event → List (Result Reply WorldFault) → ℕ
 sum_of_answers count w [] replies = 0

@@ -53,7 +53,7 @@ pub enum Event {
         /// The message with the heads.
         message: u64,
     },
-    /// A message with edits reaches the replica, from whichever sender, for the first time or again.
+    /// A message with edits reaches the replica, whoever sent it, for the first time or again.
     Take {
         /// The replica.
         at: u32,

@@ -1,4 +1,4 @@
-//! The causes for which an event is refused, and for which a list of events is not played.
+//! Why an event is refused, and why a list of events is not played.
 
 ghost use Rattle.std.specs.Prelude.{◌≡◌};
 ghost use Rattle.road_replica.specs.declared.faults.ReplicaFault.TheVariants as replicas;
@@ -43,7 +43,7 @@ impl From<AllocError> for WorldFault {
 /// Why a list of events is not played to its end.
 #[derive(Clone, Copy, Debug, PartialEq, Eq, Error)]
 pub enum PlayFault {
-    /// There was no memory to open the world, or for the list of replies.
+    /// An allocation failed, for the world or for the list of replies.
     #[error("no memory")]
     OutOfMemory,
 }

@@ -20,7 +20,7 @@ pub enum Sending {
 }
 
 impl Sending {
-    /// Return the event by which a replica makes the message.
+    /// Return the event in which a replica makes the message.
     pub fn event(self, at: u32) -> Event
         ensures { result ≡ sending_event at self }
     {

@@ -99,7 +99,7 @@ impl World {
         &self.plan
     }
 
-    /// Return the replica of a number, if the world has it.
+    /// Return the replica with a number, or `None` if the world has no such replica.
     pub fn replica(&self, number: u32) -> Option<&Replica>
         ensures there { IsSome result ↔ (number < length self.now.replicas) }
         ensures number { IfSome result (λ replica. replica.now.number ≡ number) }
@@ -109,7 +109,8 @@ impl World {
         self.replicas.get(number as usize)
     }
 
-    /// Return the message of a number, if there is one. Its edits are winners and fit the plan.
+    /// Return the message with a number, or `None` if the world has no such message. Its edits are winners and fit the
+    /// plan.
     pub fn message(&self, number: u64) -> Option<&Message>
         ensures there { IsSome result ↔ (number < length self.now.messages) }
         ensures message { IfSome result (λ message. slice_get self.now.messages number ≡ Some message.now) }

@@ -16,7 +16,7 @@ use std::process::Abort;
 use std::sync::{Arc, Wait};
 use std::test::Fail;
 use std::thread::Threads;
-use tests_plans::{Counter, FREE, LONG, queue, random_settings};
+use tests_plans::{Counter, Counting, FREE, LONG, queue, random_settings};
 
 /// Cells on both sides of the places where the road may be divided.
 const BLOCKS: &[u32] = &[
@@ -196,7 +196,7 @@ fn compare_span<C: Crew>(
     kept: &mut KeptRun,
 ) -> Result<Road, Fail> {
     let Some(ran) = crew.run(alloc, span, road, kept)? else {
-        return Err(Fail::new("a crew that runs no spans"));
+        return Err(Fail::new("a crew that does not run a span"));
     };
     holds(rt, span.steps() as usize, are_same(&ran, wanted));
     Ok(ran.road)
@@ -367,6 +367,19 @@ fn one_runs_spans_as_they_are_one_by_one(rt: HostRuntime) -> Result<(), Fail> {
     let plan = shared_plan(alloc, &LONG)?;
     let courses = courses_of(alloc, &plan, &[0, 200, 8_000], SPANS)?;
     one_runs(&rt, alloc, &plan, &courses)
+}
+
+#[test]
+fn a_crew_that_computes_speeds_runs_spans_one_step_after_another(
+    rt: HostRuntime,
+) -> Result<(), Fail> {
+    let alloc = rt.alloc();
+    let plan = shared_plan(alloc, &LONG)?;
+    let course = run_course(alloc, &plan, 200, SPANS)?;
+    let mut crew = Counting { calls: 0 };
+    compare_course(&rt, alloc, &mut crew, &plan, &course, &mut KeptRun::none())?;
+    assert!(rt; crew.calls == 310 && crew.most_steps() == 1);
+    Ok(())
 }
 
 // Let lasting workers run the courses of a case.

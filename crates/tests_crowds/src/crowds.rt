@@ -1,4 +1,4 @@
-//! Crowds on the free road, which the tests gather.
+//! Crowds on the free road, which the tests run.
 
 use crate::shares::may_gather;
 use road_crowd::crowd;
@@ -36,7 +36,7 @@ pub(crate) fn free_road(alloc: Global) -> Result<Arc<Plan>, Fail> {
 }
 
 /// Return the result of a crowd of these shares on the free road.
-pub(crate) fn left<R: Threads + Wait, G: Gate + Sync>(
+pub(crate) fn run_crowd<R: Threads + Wait, G: Gate + Sync>(
     rt: &R,
     alloc: Global,
     shares: &[Vec<Edit>],
@@ -51,6 +51,6 @@ pub(crate) fn left<R: Threads + Wait, G: Gate + Sync>(
 }
 
 /// Return whether the result of a crowd has these edits, this number of writes and this row.
-pub(crate) fn has_left(left: &Crowd, edits: &[Edit], journal: u32, row: &str) -> bool {
-    left.edits.as_slice() == edits && left.journal == journal && left.row.as_str() == row
+pub(crate) fn has_result(crowd: &Crowd, edits: &[Edit], journal: u32, row: &str) -> bool {
+    crowd.edits.as_slice() == edits && crowd.journal == journal && crowd.row.as_str() == row
 }

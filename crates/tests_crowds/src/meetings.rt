@@ -1,6 +1,6 @@
 //! Two sessions of a crowd are at their gate at once.
 
-use crate::crowds::{block_and_withdrawal, left};
+use crate::crowds::{block_and_withdrawal, run_crowd};
 use std::slice;
 use std::test::Fail;
 use tests_plans::Meeting;
@@ -13,9 +13,9 @@ fn two_sessions_meet(rt: HostRuntime) -> Result<(), Fail> {
     let alloc = rt.alloc();
     let shares = block_and_withdrawal(alloc)?;
     let meeting = Meeting::new(rt.clone()?, 2, TURNS);
-    let left = left(&rt, alloc, shares.as_slice(), 6, &meeting)?;
+    let crowd = run_crowd(&rt, alloc, shares.as_slice(), 6, &meeting)?;
     let was_held = meeting.was_held(1);
-    assert!(rt; was_held && left.journal == 4);
+    assert!(rt; was_held && crowd.journal == 4);
     Ok(())
 }
 
@@ -27,7 +27,7 @@ fn one_after_another_do_not_meet(rt: HostRuntime) -> Result<(), Fail> {
     let shares = block_and_withdrawal(alloc)?;
     let meeting = Meeting::new(rt.clone()?, 2, 100);
     for share in &shares {
-        let _ = left(&rt, alloc, slice::from_ref(share), 6, &meeting)?;
+        let _ = run_crowd(&rt, alloc, slice::from_ref(share), 6, &meeting)?;
     }
     let was_held = meeting.was_held(1);
     assert!(rt; !was_held);

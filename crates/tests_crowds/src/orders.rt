@@ -1,6 +1,6 @@
 //! Many orders of the same writes have the same result.
 
-use crate::crowds::{block_and_withdrawal, edit, has_left, left};
+use crate::crowds::{block_and_withdrawal, edit, has_result, run_crowd};
 use road_plan::Object;
 use road_scenario::{Edit, Value};
 use road_workers::NoGate;
@@ -10,7 +10,7 @@ use std::test::Fail;
 /// The number of edits of each share.
 const EDITS: u32 = 40;
 
-/// The number of times that the shares are gathered.
+/// The number of crowds with these shares.
 const TIMES: u32 = 100;
 
 // Return the limit that is set for the only zone at a step.
@@ -35,8 +35,8 @@ fn the_greater_withdrawal_wins(rt: HostRuntime) -> Result<(), Fail> {
     let shares = block_and_withdrawal(alloc)?;
     let withdrawal = edit(Object::Block(8), 4, 2, 64, Value::Withdrawn);
     for _ in 0..TIMES {
-        let left = left(&rt, alloc, shares.as_slice(), 6, &NoGate)?;
-        assert!(rt; has_left(&left, &[withdrawal], 4, "0..2...2...."));
+        let crowd = run_crowd(&rt, alloc, shares.as_slice(), 6, &NoGate)?;
+        assert!(rt; has_result(&crowd, &[withdrawal], 4, "0..2...2...."));
     }
     Ok(())
 }
@@ -52,8 +52,8 @@ fn forty_edits_in_four_orders(rt: HostRuntime) -> Result<(), Fail> {
     ]?;
     let by_step = limits_from(alloc, 0)?;
     for _ in 0..TIMES {
-        let left = left(&rt, alloc, shares.as_slice(), 6, &NoGate)?;
-        assert!(rt; has_left(&left, by_step.as_slice(), 164, "0..2..2....."));
+        let crowd = run_crowd(&rt, alloc, shares.as_slice(), 6, &NoGate)?;
+        assert!(rt; has_result(&crowd, by_step.as_slice(), 164, "0..2..2....."));
     }
     Ok(())
 }

@@ -1,4 +1,4 @@
-//! Which shares a crowd may have.
+//! The shares that a crowd may have.
 
 ghost use Rattle.std.specs.Prelude.{◌≡◌, ◌<◌, ◌≤◌, IsTrue, None, length};
 ghost use Rattle.road_plan.specs.declared.limits.TheConstants.{MOST_SESSIONS};
@@ -10,7 +10,7 @@ use road_plan::limits::MOST_SESSIONS;
 use road_replica::{MOST_CROWD_WRITES, shares_fault, write_count};
 use road_scenario::Edit;
 
-/// Return whether these shares may be gathered to a step.
+/// Return whether a crowd may have these shares and advance to a step.
 pub fn may_gather(plan: &Plan, shares: &[Vec<Edit>], to: u32) -> bool
     ensures some { IsTrue result → 0 < length shares.now }
     ensures few { IsTrue result → length shares.now ≤ MOST_SESSIONS }

@@ -1,6 +1,6 @@
 //! Worked crowds, and edits that no crowd may have.
 
-use crate::crowds::{edit, free_road, has_left, left};
+use crate::crowds::{edit, free_road, has_result, run_crowd};
 use road_plan::Object;
 use road_replica::{ReplicaFault, shares_fault};
 use road_scenario::{Edit, Value};
@@ -11,8 +11,8 @@ use std::test::Fail;
 fn an_empty_share_advances(rt: HostRuntime) -> Result<(), Fail> {
     let alloc = rt.alloc();
     let shares: Vec<Vec<Edit>> = vec![in alloc; Vec::new(alloc)]?;
-    let left = left(&rt, alloc, shares.as_slice(), 0, &NoGate)?;
-    assert!(rt; has_left(&left, &[], 1, "............"));
+    let crowd = run_crowd(&rt, alloc, shares.as_slice(), 0, &NoGate)?;
+    assert!(rt; has_result(&crowd, &[], 1, "............"));
     Ok(())
 }
 

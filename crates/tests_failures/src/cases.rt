@@ -39,20 +39,20 @@ pub(crate) enum Case {
     Scenario(Making),
     ReplicaOpening,
     Write(WriteCase),
-    /// A question after some writes.
+    /// A query after some writes.
     Question(&'static [Write], Question),
     SheetOpening,
-    /// A question to a sheet of some edits.
+    /// A query of a sheet with some edits.
     SheetQuestion(&'static [Edit], sheets::Question),
-    /// A draft whose run is kept up to a step, and what it shows in the end.
+    /// A draft that keeps the run up to a step, and what it shows in the end.
     Draft(u32, Shown),
-    /// The input of the step after so many steps, and its speeds.
+    /// The input of the step after this number of steps, and its speeds.
     Input(u32, &'static [u8]),
-    /// That step, and the row after it.
+    /// The step after this number of steps, and the row after it.
     Push(u32, &'static str),
     Growth(GrowthCase),
     WorldOpening,
-    /// The event of a place in the exchange.
+    /// The event at a place in the exchange.
     Event(usize),
     List,
     StorePrepare,
@@ -68,13 +68,13 @@ const BLOCKS: Write = Write::Edit(BLOCK, 4, 1);
 
 const OPENS: Write = Write::Withdraw(BLOCK, 4);
 
-/// The writes after which a replica holds what another one has a part of.
+/// Writes after which a replica holds edits that another one has in part.
 const EXCHANGE: &[Write] = &[Write::Edit(LIMIT, 3, 1), BLOCKS, Write::Edit(LIMIT, 5, 0)];
 
-/// Imports from where all cars are slow, and from where they stand.
+/// Imports that slow all cars, and that stop them.
 const IMPORTED: &[Edit] = &[edit!(LIMIT, 3, (1, 64), 1), edit!(LIMIT, 5, (2, 64), 0)];
 
-/// The rows of the free road where cars go on as at step 6, and where all are slow in the end.
+/// Rows of the free road: as at step 6, and with all cars slow in the end.
 const LATE_ROW: &str = "0..2...2....";
 
 const SLOW_ROW: &str = "0.1.1.1.1.1.";
@@ -145,7 +145,7 @@ const ROADS: &[(&str, Case)] = pairs![
     "pool-start-gated" => Case::Crew(CrewCase::StartGated),
 ];
 
-// The calls of maps, scenarios and what is beyond heads.
+// The calls of maps, scenarios and deltas.
 const SCENARIOS: &[(&str, Case)] = pairs![
     "map-with" => Case::Map(MapCase::With),
     "map-with-split" => Case::Map(MapCase::WithSplit),
@@ -171,7 +171,7 @@ const SHEETS: &[(&str, Case)] = pairs![
     "sheet-open" => Case::SheetOpening,
     "sheet-state" => Case::SheetQuestion(
         &[BLOCKED], sheets::Question::State(6, cars![(80, 0, 0), (48, 3, 2), (16, 6, 1), (0, 7, 0)])),
-    // It is computed anew from the first checkpoint.
+    // It is recomputed from the first checkpoint.
     "sheet-earlier-state" => Case::SheetQuestion(&[], sheets::Question::State(3, cars![(16, 1, 1), (0, 5, 2)])),
     "sheet-totals" => Case::SheetQuestion(&[], sheets::Question::Totals(2, 5, Totals { cars: 2, speeds: 4 })),
     "sheet-kept-totals" => Case::SheetQuestion(&[], sheets::Question::Totals(0, 6, Totals { cars: 2, speeds: 4 })),
@@ -209,7 +209,7 @@ const REPLICAS: &[(&str, Case)] = pairs![
         Case::Write(WriteCase(&[TO_HORIZON_SIX, BLOCKS], OPENS, Reply::Stamped(stamp!(2, 0)), WITHDRAWN)),
     "replica-take" =>
         Case::Write(WriteCase(&[TO_HORIZON_SIX], Write::Take(&[SLOW]), Reply::Touched(Some(3)), SLOWED)),
-    // What was blocked and opened again comes back by an older message, and nothing changes.
+    // A block that was withdrawn comes back with an older message, and nothing changes.
     "replica-take-old" => Case::Write(WriteCase(
         &[TO_HORIZON_SIX, BLOCKS, OPENS], Write::Take(&[BLOCKED]), Reply::Touched(None), WITHDRAWN)),
     "replica-import" => Case::Write(WriteCase(
@@ -234,7 +234,7 @@ const REPLICAS: &[(&str, Case)] = pairs![
         Case::Question(&[TO_HORIZON_SIX], Question::State(4, cars![(48, 0, 0), (16, 3, 2), (0, 7, 2)])),
     "replica-totals" =>
         Case::Question(&[TO_HORIZON_SIX], Question::Totals(0, 3, Totals { cars: 1, speeds: 2 })),
-    // The totals of a whole interval are kept.
+    // The totals of a whole interval are stored.
     "replica-kept-totals" =>
         Case::Question(&[TO_HORIZON_SIX], Question::Totals(0, 6, Totals { cars: 2, speeds: 4 })),
     "replica-rows" => Case::Question(
@@ -271,7 +271,7 @@ const SESSIONS: &[(&str, Case)] = pairs![
     "session-edit" => Case::Session(BLOCKING, Closing::Judged),
     "session-withdraw" => Case::Session(WITHDRAWING, Closing::Judged),
     "session-take" => Case::Session(TAKING, Closing::Judged),
-    // The journal is looked at as soon as they are refused.
+    // The journal is checked as soon as they are refused.
     "session-advance-journal" => Case::Session(ADVANCING, Closing::Refused),
     "session-edit-journal" => Case::Session(BLOCKING, Closing::Refused),
     "session-withdraw-journal" => Case::Session(WITHDRAWING, Closing::Refused),
@@ -283,7 +283,7 @@ const SESSIONS: &[(&str, Case)] = pairs![
     "session-totals" => Case::Session(SessionCase(
         &[TO_HORIZON_SIX], Act::Totals(0, 3, Totals { cars: 1, speeds: 2 }), TO_SIX, TO_SIX, &[TO_SIX_FIRST]),
         Closing::Judged),
-    // One session, which has only the advance to make; and two.
+    // One session that only advances; and two sessions.
     "crowd-of-one" => Case::Crowd(CrowdCase(&[&[]], &[], 1, LATE_ROW)),
     "crowd-of-two" =>
         Case::Crowd(CrowdCase(&[&[BLOCK_IMPORTED], &[OPENING_IMPORTED]], &[OPENING_IMPORTED], 4, LATE_ROW)),
@@ -298,10 +298,10 @@ const LINES: &[(&str, Case)] = pairs![
     "write-rows" => Case::Line(LineCase::Rows),
 ];
 
-/// How many layers of calls there are.
+/// The number of layers of calls.
 pub(crate) const LAYERS: u32 = 7;
 
-/// Return the calls of a layer, the lowest of which is layer 0.
+/// Return the calls of a layer. The lowest layer is 0.
 pub(crate) fn cases_of(layer: u32) -> &'static [(&'static str, Case)] {
     match layer {
         0 => roads_cases(),
@@ -342,38 +342,40 @@ fn lines_cases() -> &'static [(&'static str, Case)] {
     LINES
 }
 
-/// Try a call so far. None where an allocation failed before the call or in the judging.
-pub(crate) fn tried<R: Threads + Wait + Clone + Drop + Send + 'static>(
+/// Try a call up to a stage. Return `None` if an allocation failed before the call or while it was judged.
+pub(crate) fn try_case<R: Threads + Wait + Clone + Drop + Send + 'static>(
     rt: &R,
     alloc: Global,
     until: Until,
     case: Case,
 ) -> Option<Verdict> {
     match case {
-        Case::Line(case) => lines::tried_line(alloc, until, case),
-        Case::Map(case) => scenarios::tried_map(alloc, until, case),
-        Case::Run(case) => steps::tried_run(alloc, until, &case),
-        Case::Crew(case) => crews::tried_crew(rt, alloc, until, case),
-        Case::Scenario(making) => scenarios::tried_making(alloc, until, making),
-        Case::ReplicaOpening => replicas::tried_opening(alloc, until),
-        Case::Write(case) => replicas::tried_write(alloc, until, &case),
+        Case::Line(case) => lines::try_line(alloc, until, case),
+        Case::Map(case) => scenarios::try_map(alloc, until, case),
+        Case::Run(case) => steps::try_run(alloc, until, &case),
+        Case::Crew(case) => crews::try_crew(rt, alloc, until, case),
+        Case::Scenario(making) => scenarios::try_making(alloc, until, making),
+        Case::ReplicaOpening => replicas::try_opening(alloc, until),
+        Case::Write(case) => replicas::try_write(alloc, until, &case),
         Case::Question(writes, question) => {
-            replicas::tried_question(alloc, until, writes, &question)
+            replicas::try_question(alloc, until, writes, &question)
         }
-        Case::SheetOpening => sheets::tried_opening(alloc, until),
+        Case::SheetOpening => sheets::try_opening(alloc, until),
         Case::SheetQuestion(edits, question) => {
-            sheets::tried_question(alloc, until, edits, &question)
+            sheets::try_question(alloc, until, edits, &question)
         }
-        Case::Draft(keep, shown) => sheets::tried_draft(alloc, until, keep, &shown),
-        Case::Input(steps, speeds) => sheets::tried_input(alloc, until, steps, speeds),
-        Case::Push(steps, row) => sheets::tried_push(alloc, until, steps, row),
-        Case::Growth(case) => sheets::tried_growth(alloc, until, &case),
-        Case::WorldOpening => worlds::tried_opening(alloc, until),
-        Case::Event(place) => worlds::tried_event(alloc, until, place),
-        Case::List => worlds::tried_list(alloc, until),
-        Case::StorePrepare => sessions::tried_prepare(rt, alloc, until),
-        Case::StoreOpen => sessions::tried_open(rt, alloc, until),
-        Case::Session(case, closing) => sessions::tried_call(rt, alloc, until, closing, &case),
-        Case::Crowd(case) => crowds::tried_crowd(rt, alloc, until, &case),
+        Case::Draft(keep, shown) => sheets::try_draft(alloc, until, keep, &shown),
+        Case::Input(steps, speeds) => sheets::try_input(alloc, until, steps, speeds),
+        Case::Push(steps, row) => sheets::try_push(alloc, until, steps, row),
+        Case::Growth(case) => sheets::try_growth(alloc, until, &case),
+        Case::WorldOpening => worlds::try_opening(alloc, until),
+        Case::Event(place) => worlds::try_event(alloc, until, place),
+        Case::List => worlds::try_list(alloc, until),
+        Case::StorePrepare => sessions::try_prepare(rt, alloc, until),
+        Case::StoreOpen => sessions::try_open(rt, alloc, until),
+        Case::Session(case, closing) => sessions::try_session_call(
+            rt, alloc, until, closing, &case,
+        ),
+        Case::Crowd(case) => crowds::try_crowd(rt, alloc, until, &case),
     }
 }

@@ -1,7 +1,7 @@
 //! Crews: the speeds of a step of the dense road, 64 steps of a long one, and the start of lasting workers.
 
 use crate::roads::shared_plan;
-use crate::verdict::{Call, Refusal, Until, Verdict, Wrong, accepted, tried};
+use crate::verdict::{Call, Refusal, Until, Verdict, Wrong, try_call, verdict_of};
 use road_cells::Road;
 use road_ends::{Span, StepInput, enter};
 use road_plan::{Plan, Settings};
@@ -14,13 +14,13 @@ use tests_plans::{Counter, DENSE, LONG, queue};
 /// The new speeds of the dense road's first step.
 const SPEEDS: &[u8] = &[0, 1, 0, 1, 0, 0, 1, 0, 1];
 
-/// So many cells of the long road are taken: there are cars enough for two workers.
+/// The number of cells of the long road that are taken: enough cars for two workers.
 const TAKEN: u32 = 8_000;
 
-/// How many lasting workers are asked.
+/// The number of lasting workers.
 const WORKERS: u32 = 2;
 
-/// What a crew is asked.
+/// The task of a crew.
 #[derive(Drop)]
 enum Task {
     /// The speeds of the dense road's first step.
@@ -29,20 +29,20 @@ enum Task {
     Steps(Span, Road, Arc<Counter>),
 }
 
-/// What is tried of a crew.
+/// The kind of crew to try.
 #[derive(Clone, Copy, PartialEq, Eq)]
 pub(crate) enum CrewCase {
-    /// One computes alone.
+    /// A single caller computes.
     Alone,
     /// Two threads are made for the call.
     Scoped,
     /// Two lasting workers compute, each its piece.
     Pool,
-    /// They run steps of a long road, a stretch each.
+    /// Two lasting workers run steps of a long road, a stretch each.
     Run,
-    /// They are started.
+    /// Two lasting workers are started.
     Start,
-    /// They are started with a gate.
+    /// Two lasting workers are started with a gate.
     StartGated,
 }
 
@@ -76,8 +76,8 @@ fn long_run(alloc: Global) -> Option<Task> {
     Some(Task::Steps(span, road, gate))
 }
 
-// Return whether a crew runs a span, and each of its workers passes the gate for that: the contract of the run states its
-// road and totals.
+// Return whether a crew runs a span, and each of its workers passes the gate for that: the contract of the run states
+// its road and totals.
 fn runs<C: Crew>(
     alloc: Global,
     crew: &mut C,
@@ -90,7 +90,7 @@ fn runs<C: Crew>(
     Ok(ran.is_some() && gate.passed() == before.saturating_add(WORKERS))
 }
 
-// Return whether a crew gives what it is asked.
+// Return whether a crew does its task.
 fn gives<C: Crew>(alloc: Global, crew: &mut C, task: &Task) -> Result<bool, CrewFault> {
     match task {
         Task::Speeds(input) => Ok(crew.speeds(alloc, input)?.as_slice() == SPEEDS),
@@ -98,7 +98,7 @@ fn gives<C: Crew>(alloc: Global, crew: &mut C, task: &Task) -> Result<bool, Crew
     }
 }
 
-// What a crew is asked, and the crew.
+// A crew and its task.
 #[derive(Drop)]
 struct Asking<C> {
     crew: C,
@@ -119,22 +119,22 @@ impl<C: Crew> Call for Asking<C> {
     }
 }
 
-// Try one who computes alone.
-fn tried_alone(alloc: Global, until: Until) -> Option<Verdict> {
+// Try a single caller.
+fn try_alone(alloc: Global, until: Until) -> Option<Verdict> {
     let task = first_speeds(alloc)?;
-    tried(alloc, until, &mut Asking { crew: Alone, task })
+    try_call(alloc, until, &mut Asking { crew: Alone, task })
 }
 
 // Try the speeds of two threads that are made for the call.
-fn tried_scoped<R: Threads + Wait>(rt: &R, alloc: Global, until: Until) -> Option<Verdict> {
+fn try_scoped<R: Threads + Wait>(rt: &R, alloc: Global, until: Until) -> Option<Verdict> {
     let task = first_speeds(alloc)?;
     let gate = Box::new(alloc, NoGate).ok()?;
     let crew = Scoped::new(rt, WORKERS, gate);
-    tried(alloc, until, &mut Asking { crew, task })
+    try_call(alloc, until, &mut Asking { crew, task })
 }
 
 // Start two lasting workers, with a gate or without.
-fn started<R: Threads + Wait + Clone + Drop + Send + 'static>(
+fn start_two<R: Threads + Wait + Clone + Drop + Send + 'static>(
     rt: &R,
     alloc: Global,
     is_gated: bool,
@@ -148,14 +148,14 @@ fn started<R: Threads + Wait + Clone + Drop + Send + 'static>(
     }
 }
 
-// Start those who do a task, and pass its gate if it has one.
-fn started_for<R: Threads + Wait + Clone + Drop + Send + 'static>(
+// Start two lasting workers for a task, with its gate if it has one.
+fn start_for<R: Threads + Wait + Clone + Drop + Send + 'static>(
     rt: &R,
     alloc: Global,
     task: &Task,
 ) -> Option<Pool<R>> {
     match task {
-        Task::Speeds(_) => started(rt, alloc, false)?.ok(),
+        Task::Speeds(_) => start_two(rt, alloc, false)?.ok(),
         Task::Steps(_, _, gate) => {
             let gate = Arc::try_clone(gate).ok()?;
             Pool::start_on(rt.clone().ok()?, alloc, WORKERS, gate, WORKERS).ok()
@@ -164,22 +164,22 @@ fn started_for<R: Threads + Wait + Clone + Drop + Send + 'static>(
 }
 
 // Try two lasting workers.
-fn tried_pool<R: Threads + Wait + Clone + Drop + Send + 'static>(
+fn try_pool<R: Threads + Wait + Clone + Drop + Send + 'static>(
     rt: &R,
     alloc: Global,
     until: Until,
     task: Task,
 ) -> Option<Verdict> {
-    let crew = started_for(rt, alloc, &task)?;
+    let crew = start_for(rt, alloc, &task)?;
     let mut asking = Asking { crew, task };
-    let verdict = tried(alloc, until, &mut asking);
+    let verdict = try_call(alloc, until, &mut asking);
     let Asking { crew, .. } = asking;
     crew.finish();
     verdict
 }
 
-// Judge workers that were started: they give the speeds. None where an allocation failed in that.
-fn judged_start<R: Threads + Wait + Clone + Drop + Send + 'static>(
+// Judge workers that were started: they must return the speeds. Return `None` if an allocation failed meanwhile.
+fn judge_start<R: Threads + Wait + Clone + Drop + Send + 'static>(
     alloc: Global,
     mut pool: Pool<R>,
     task: &Task,
@@ -188,28 +188,28 @@ fn judged_start<R: Threads + Wait + Clone + Drop + Send + 'static>(
     let given = gives(alloc, &mut pool, task);
     pool.finish();
     match given {
-        Ok(is_right) => Some(accepted(verdict, is_right)),
+        Ok(is_right) => Some(verdict_of(verdict, is_right)),
         Err(CrewFault::OutOfMemory) => None,
         Err(CrewFault::WorkersGone) => Some(Verdict::Wrong(Wrong::Workers)),
     }
 }
 
-// Start two lasting workers once more.
-fn started_again<R: Threads + Wait + Clone + Drop + Send + 'static>(
+// Start two lasting workers again.
+fn start_again<R: Threads + Wait + Clone + Drop + Send + 'static>(
     rt: &R,
     alloc: Global,
     is_gated: bool,
     task: &Task,
     verdict: Verdict,
 ) -> Option<Verdict> {
-    match started(rt, alloc, is_gated)? {
-        Ok(pool) => judged_start(alloc, pool, task, verdict),
+    match start_two(rt, alloc, is_gated)? {
+        Ok(pool) => judge_start(alloc, pool, task, verdict),
         Err(_) => Some(Verdict::Wrong(Wrong::Again)),
     }
 }
 
 // Try the start of two lasting workers.
-fn tried_start<R: Threads + Wait + Clone + Drop + Send + 'static>(
+fn try_start<R: Threads + Wait + Clone + Drop + Send + 'static>(
     rt: &R,
     alloc: Global,
     until: Until,
@@ -219,29 +219,29 @@ fn tried_start<R: Threads + Wait + Clone + Drop + Send + 'static>(
     if until == Until::Prepared {
         return Some(Verdict::Left);
     }
-    match started(rt, alloc, is_gated)? {
+    match start_two(rt, alloc, is_gated)? {
         Ok(pool) if until == Until::Called => {
             pool.finish();
             Some(Verdict::Left)
         }
-        Ok(pool) => judged_start(alloc, pool, &task, Verdict::Right),
-        Err(fault) => started_again(rt, alloc, is_gated, &task, fault.due()?),
+        Ok(pool) => judge_start(alloc, pool, &task, Verdict::Right),
+        Err(fault) => start_again(rt, alloc, is_gated, &task, fault.due()?),
     }
 }
 
 /// Try a crew.
-pub(crate) fn tried_crew<R: Threads + Wait + Clone + Drop + Send + 'static>(
+pub(crate) fn try_crew<R: Threads + Wait + Clone + Drop + Send + 'static>(
     rt: &R,
     alloc: Global,
     until: Until,
     case: CrewCase,
 ) -> Option<Verdict> {
     match case {
-        CrewCase::Alone => tried_alone(alloc, until),
-        CrewCase::Scoped => tried_scoped(rt, alloc, until),
-        CrewCase::Pool => tried_pool(rt, alloc, until, first_speeds(alloc)?),
-        CrewCase::Run => tried_pool(rt, alloc, until, long_run(alloc)?),
-        CrewCase::Start => tried_start(rt, alloc, until, false),
-        CrewCase::StartGated => tried_start(rt, alloc, until, true),
+        CrewCase::Alone => try_alone(alloc, until),
+        CrewCase::Scoped => try_scoped(rt, alloc, until),
+        CrewCase::Pool => try_pool(rt, alloc, until, first_speeds(alloc)?),
+        CrewCase::Run => try_pool(rt, alloc, until, long_run(alloc)?),
+        CrewCase::Start => try_start(rt, alloc, until, false),
+        CrewCase::StartGated => try_start(rt, alloc, until, true),
     }
 }

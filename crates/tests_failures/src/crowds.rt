@@ -1,4 +1,4 @@
-//! Crowds of the free road: each session works on a thread of its own, and its allocations are among those that fail.
+//! Crowds on the free road. Each session writes on a thread of its own, and the allocations of these threads fail, too.
 
 ghost use Rattle.std.specs.Prelude.{◌≡◌, ◌<◌, ◌≤◌, None, length};
 ghost use Rattle.std.specs.Arc.{arc_value};
@@ -8,7 +8,7 @@ ghost use Rattle.road_replica.specs.declared.crowds.TheConstants.{MOST_CROWD_WRI
 ghost use Rattle.tests_failures.specs.declared.crowds.TheConstants.{LAST};
 
 use crate::roads::free_plan;
-use crate::verdict::{Call, Until, Verdict, tried};
+use crate::verdict::{Call, Until, Verdict, try_call};
 use road_crowd::crowd;
 use road_plan::Plan;
 use road_replica::Crowd;
@@ -20,7 +20,7 @@ use std::thread::Threads;
 use tests_crowds::may_gather;
 use tests_portraits::Portrait;
 
-/// The shares of a crowd that works to step 6, and what is left of it: its edits, its writes and the last row.
+/// The shares of a crowd that advances to step 6, and its result: the edits, the number of writes and the last row.
 #[derive(Clone, Copy)]
 pub(crate) struct CrowdCase(
     pub(crate) &'static [&'static [Edit]],
@@ -41,7 +41,7 @@ fn shares_of_case(alloc: Global, case: &CrowdCase) -> Option<Vec<Vec<Edit>>> {
     Some(shares)
 }
 
-// A crowd that may gather.
+// A crowd whose shares are accepted.
 #[derive(Drop)]
 struct Gathering<'a, R> {
     rt: &'a R,
@@ -77,7 +77,7 @@ impl<R: Threads + Wait> Call for Gathering<'_, R> {
 }
 
 /// Try a crowd.
-pub(crate) fn tried_crowd<R: Threads + Wait>(
+pub(crate) fn try_crowd<R: Threads + Wait>(
     rt: &R,
     alloc: Global,
     until: Until,
@@ -94,5 +94,5 @@ pub(crate) fn tried_crowd<R: Threads + Wait>(
         shares,
         case: *case,
     };
-    tried(alloc, until, &mut gathering)
+    try_call(alloc, until, &mut gathering)
 }

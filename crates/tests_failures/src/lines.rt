@@ -1,7 +1,7 @@
 //! Lines that are read, and replies that are written.
 
 use crate::roads::{BLOCKED, LESS, OPENED};
-use crate::verdict::{Call, Until, Verdict, tried};
+use crate::verdict::{Call, Until, Verdict, try_call};
 use road_format::{
     Answer, Command, LineFault, PlanLine, PlanLineFault, read_command, read_plan, reply_line,
 };
@@ -13,7 +13,7 @@ use tests_portraits::Portrait;
 /// What is read or written.
 #[derive(Clone, Copy, PartialEq, Eq)]
 pub(crate) enum LineCase {
-    /// A plan is made of its parts.
+    /// A plan is made from its parts.
     Plan,
     PlanLine,
     Import,
@@ -35,7 +35,7 @@ const EDITS_REPLY: &str =
 
 const ROWS_REPLY: &str = "{\"rows\":[\"0..2...2#...\",\".1...2.0#...\"]}\n";
 
-// The making of a plan of its parts.
+// Making a plan from its parts.
 #[derive(Clone, Copy)]
 struct Planning;
 
@@ -53,7 +53,7 @@ impl Call for Planning {
     }
 }
 
-// The reading of a plan line.
+// Reading a plan line.
 #[derive(Clone, Copy)]
 struct ReadingPlan;
 
@@ -80,7 +80,7 @@ impl Call for ReadingPlan {
     }
 }
 
-// The reading of a command.
+// Reading a command.
 #[derive(Clone, Copy)]
 struct Reading(&'static str);
 
@@ -116,7 +116,7 @@ impl Call for Reading {
     }
 }
 
-// The writing of a reply.
+// Writing a reply.
 #[derive(Drop)]
 struct Replying {
     answer: Answer,
@@ -153,8 +153,8 @@ impl Call for Replying {
 }
 
 // Try to write a reply.
-fn tried_reply(alloc: Global, until: Until, answer: Answer, case: LineCase) -> Option<Verdict> {
-    tried(alloc, until, &mut Replying { answer, case })
+fn try_reply(alloc: Global, until: Until, answer: Answer, case: LineCase) -> Option<Verdict> {
+    try_call(alloc, until, &mut Replying { answer, case })
 }
 
 // Return the edits of a reply.
@@ -172,13 +172,13 @@ fn rows(alloc: Global) -> Option<Answer> {
 }
 
 /// Try a line.
-pub(crate) fn tried_line(alloc: Global, until: Until, case: LineCase) -> Option<Verdict> {
+pub(crate) fn try_line(alloc: Global, until: Until, case: LineCase) -> Option<Verdict> {
     match case {
-        LineCase::Plan => tried(alloc, until, &mut Planning),
-        LineCase::PlanLine => tried(alloc, until, &mut ReadingPlan),
-        LineCase::Import => tried(alloc, until, &mut Reading(IMPORT_LINE)),
-        LineCase::Edit => tried(alloc, until, &mut Reading(EDIT_LINE)),
-        LineCase::Edits => tried_reply(alloc, until, edits(alloc)?, case),
-        LineCase::Rows => tried_reply(alloc, until, rows(alloc)?, case),
+        LineCase::Plan => try_call(alloc, until, &mut Planning),
+        LineCase::PlanLine => try_call(alloc, until, &mut ReadingPlan),
+        LineCase::Import => try_call(alloc, until, &mut Reading(IMPORT_LINE)),
+        LineCase::Edit => try_call(alloc, until, &mut Reading(EDIT_LINE)),
+        LineCase::Edits => try_reply(alloc, until, edits(alloc)?, case),
+        LineCase::Rows => try_reply(alloc, until, rows(alloc)?, case),
     }
 }

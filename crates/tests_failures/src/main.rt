@@ -1,12 +1,12 @@
-//! Tries one call, and judges it: prepares what it is called on, calls, and compares the answer and all that is shown
-//! then with what was worked out. If the call is refused for out of memory, all must be as before, and the same
-//! call must then answer as if it had not been refused. One allocation failing in turn, whichever it is, no run may say
-//! that something is wrong: `tools/fail-in-turn` does that.
+//! Try one call and judge it: prepare the state, make the call, and compare the answer and the state afterwards with
+//! worked results. If the call is refused for out of memory, the state must be unchanged, and the same call must then
+//! answer as if it had not been refused. `tools/fail-in-turn` runs this with each allocation failing in turn, and no
+//! run may find something wrong.
 //!
-//! `tests_failures NAME` tries the call of a name. It prints `right` if it answered at once, `right again` if it was
-//! refused first, `right with new threads` if that was because a thread could not be started, `right behind a refused
-//! event` if one event of a list was refused and left out, `wrong: ..`, or `not met` if an allocation failed before the
-//! call or in the judging.
+//! `tests_failures NAME` tries the call with this name. It prints `right` if the call answered at once, `right again`
+//! if it was refused first, `right with new threads` if it was refused because a thread could not be started, `right
+//! behind a refused event` if one event of a list was refused and skipped, `wrong: ..`, or `not met` if an allocation
+//! failed before the call or while it was judged.
 //! `tests_failures NAME prepared` ends before the call, and `tests_failures NAME called` before the judging.
 //! `tests_failures list` prints all names, and `tests_failures all` tries them one after another.
 #![tactic(auto)]
@@ -25,14 +25,14 @@ mod steps;
 mod verdict;
 mod worlds;
 
-use crate::cases::{Case, LAYERS, cases_of, tried};
+use crate::cases::{Case, LAYERS, cases_of, try_case};
 use crate::verdict::{Until, Verdict};
 use std::alloc::Global;
 use std::sync::Wait;
 use std::thread::Threads;
 use std::{env, io};
 
-// Tell what came of a call; nothing where it was not judged.
+// Print the verdict on a call, if it was judged.
 fn tell<R: Print>(rt: &R, verdict: Option<Verdict>) -> io::Result<()> {
     match verdict {
         Some(Verdict::Left) => Ok(()),
@@ -46,8 +46,8 @@ fn tell<R: Print>(rt: &R, verdict: Option<Verdict>) -> io::Result<()> {
     }
 }
 
-// Return the case of a name.
-fn named(name: &str) -> Option<Case> {
+// Return the case with a name.
+fn case_named(name: &str) -> Option<Case> {
     for layer in 0..LAYERS {
         for (other, case) in cases_of(layer) {
             if *other == name {
@@ -58,7 +58,7 @@ fn named(name: &str) -> Option<Case> {
     None
 }
 
-// Return how far a word says that a call is tried.
+// Return the stage up to which a call is tried, from its word.
 fn until(word: &str) -> Until {
     match word {
         "prepared" => Until::Prepared,
@@ -67,15 +67,15 @@ fn until(word: &str) -> Until {
     }
 }
 
-// Try the call of a name so far.
+// Try the call with a name up to a stage.
 fn try_one<R: Print + Threads + Wait + Clone + Drop + Send + 'static>(
     rt: &R,
     alloc: Global,
     name: &str,
     until: Until,
 ) -> io::Result<()> {
-    match named(name) {
-        Some(case) => tell(rt, tried(rt, alloc, until, case)),
+    match case_named(name) {
+        Some(case) => tell(rt, try_case(rt, alloc, until, case)),
         None => println!(rt; "wrong: there is no such call"),
     }
 }
@@ -90,14 +90,14 @@ fn list<R: Print>(rt: &R) -> io::Result<()> {
     Ok(())
 }
 
-// Try all calls, and tell each that is not right at once.
+// Try all calls, and print each verdict other than `right`.
 fn try_all<R: Print + Threads + Wait + Clone + Drop + Send + 'static>(
     rt: &R,
     alloc: Global,
 ) -> io::Result<()> {
     for layer in 0..LAYERS {
         for (name, case) in cases_of(layer) {
-            let verdict = tried(rt, alloc, Until::Judged, *case);
+            let verdict = try_case(rt, alloc, Until::Judged, *case);
             if verdict != Some(Verdict::Right) {
                 println!(rt; "{name}")?;
                 tell(rt, verdict)?;
@@ -107,7 +107,7 @@ fn try_all<R: Print + Threads + Wait + Clone + Drop + Send + 'static>(
     println!(rt; "all calls are tried")
 }
 
-// Do what the program's words ask for, of which the first is its name.
+// Do what the program's arguments say. The first one is the program's name.
 fn obey<R: Print + Threads + Wait + Clone + Drop + Send + 'static>(
     rt: &R,
     alloc: Global,
@@ -122,7 +122,7 @@ fn obey<R: Print + Threads + Wait + Clone + Drop + Send + 'static>(
     }
 }
 
-// Return the program's words.
+// Return the program's arguments.
 fn words_of(rt: &HostRuntime) -> io::Result<Vec<String>> {
     let mut words = Vec::new(rt.alloc());
     for word in env::args(rt)? {

@@ -1,4 +1,4 @@
-//! The faults by which calls are refused where an allocation fails.
+//! The faults that are due if an allocation fails.
 
 use crate::verdict::{Refusal, Verdict};
 use road_format::{LineFault, PlanLineFault};
@@ -9,7 +9,7 @@ use road_sheet::SheetFault;
 use road_workers::CrewFault;
 use road_world::{PlayFault, WorldFault};
 
-// Return the verdict where this is the fault that is due.
+// Return the verdict on a refused call whose fault is due.
 fn again(is_due: bool) -> Option<Verdict> {
     if is_due { Some(Verdict::Again) } else { None }
 }
@@ -80,7 +80,7 @@ impl Refusal for PlayFault {
     }
 }
 
-/// A reader takes no memory: the store has had its place from the start.
+/// A reader needs no memory, since the store has reserved its place.
 impl Refusal for OpenFault {
     fn due(&self) -> Option<Verdict> {
         match self {
@@ -99,7 +99,7 @@ impl Refusal for WriteFault {
     }
 }
 
-/// A look itself takes no memory: what finds none is the question to the sheet.
+/// A look itself needs no memory: only the query of the sheet can fail for it.
 impl Refusal for LookFault {
     fn due(&self) -> Option<Verdict> {
         match self {

@@ -1,7 +1,7 @@
-//! Writes to a replica, and what it is asked.
+//! Writes to a replica, and queries of it.
 
 use crate::roads::{OPENING, Shown, free_plan, holds, shows};
-use crate::verdict::{Call, Until, Verdict, tried};
+use crate::verdict::{Call, Until, Verdict, try_call};
 use road_cells::Car;
 use road_delta::{Head, Heads, heads_of};
 use road_detector::Totals;
@@ -25,7 +25,7 @@ pub(crate) enum Write {
 }
 
 impl Write {
-    // Return the edits that it hands over.
+    // Return the edits that it takes or imports.
     fn edits(&self) -> &'static [Edit] {
         match self {
             Write::Import(edits) => edits,
@@ -34,8 +34,8 @@ impl Write {
         }
     }
 
-    /// Make the scenario of the edits that it hands over.
-    pub(crate) fn given(&self, alloc: Global) -> Option<Scenario> {
+    /// Make the scenario of the edits that it takes or imports.
+    pub(crate) fn scenario(&self, alloc: Global) -> Option<Scenario> {
         Scenario::of_edits(alloc, self.edits()).ok()
     }
 }
@@ -52,7 +52,7 @@ pub(crate) struct WriteCase(
 // ---- writes
 
 // Write to a replica.
-fn written(
+fn apply_write(
     alloc: Global,
     replica: &mut Replica,
     write: &Write,
@@ -72,14 +72,14 @@ fn written(
     }
 }
 
-// Write to a replica that accepts it.
+// Make a write that the replica must accept.
 fn accept(alloc: Global, replica: &mut Replica, write: &Write) -> Option<()> {
-    let given = write.given(alloc)?;
-    written(alloc, replica, write, &given).ok()?;
+    let given = write.scenario(alloc)?;
+    apply_write(alloc, replica, write, &given).ok()?;
     Some(())
 }
 
-// Write to a replica that accepts all.
+// Make writes that the replica must accept.
 fn accept_all(alloc: Global, replica: &mut Replica, writes: &[Write]) -> Option<()> {
     for write in writes {
         accept(alloc, replica, write)?;
@@ -109,7 +109,7 @@ impl Call for Writing {
     }
 
     fn make(&mut self, alloc: Global) -> Result<Reply, ReplicaFault> {
-        written(alloc, &mut self.replica, &self.case.1, &self.given)
+        apply_write(alloc, &mut self.replica, &self.case.1, &self.given)
     }
 
     fn is_right(&mut self, alloc: Global, reply: Reply) -> Option<bool> {
@@ -117,14 +117,14 @@ impl Call for Writing {
     }
 }
 
-// Return a replica of the free road that nobody has written to.
+// Return a replica of the free road before any write.
 fn new_replica(alloc: Global) -> Option<Replica> {
     Replica::open(alloc, free_plan(alloc)?, 0).ok()
 }
 
 /// Try a write.
-pub(crate) fn tried_write(alloc: Global, until: Until, case: &WriteCase) -> Option<Verdict> {
-    let given = case.1.given(alloc)?;
+pub(crate) fn try_write(alloc: Global, until: Until, case: &WriteCase) -> Option<Verdict> {
+    let given = case.1.scenario(alloc)?;
     let replica = new_replica(alloc)?;
     let mut writing = Writing {
         replica,
@@ -132,17 +132,17 @@ pub(crate) fn tried_write(alloc: Global, until: Until, case: &WriteCase) -> Opti
         case: *case,
     };
     accept_all(alloc, &mut writing.replica, case.0)?;
-    tried(alloc, until, &mut writing)
+    try_call(alloc, until, &mut writing)
 }
 
-// Return whether this is replica 0, and shows this.
+// Return whether this is replica 0 and shows the expected state.
 fn is_replica(alloc: Global, replica: &Replica, shown: &Shown) -> Option<bool> {
     Some(replica.number() == 0 && shows(alloc, replica.sheet(), shown)?)
 }
 
 // ---- questions
 
-/// What a replica is asked, and what it tells.
+/// A query of a replica, and the expected answer.
 #[derive(Clone, Copy)]
 pub(crate) enum Question {
     Copied(Shown),
@@ -155,7 +155,7 @@ pub(crate) enum Question {
     Rows(u32, u32, &'static [&'static str]),
 }
 
-// What a replica tells: its copy, edits, or whether it is the expected answer.
+// The answer to a query: a copy of the replica, edits, or whether it was the expected answer.
 #[derive(Drop)]
 enum Told {
     Copy(Replica),
@@ -163,7 +163,7 @@ enum Told {
     Expected(bool),
 }
 
-// Return whether these rows are those.
+// Return whether two lists of rows are the same.
 fn are_rows(rows: &[String], wanted: &[&str]) -> bool {
     rows.len() == wanted.len()
         && rows
@@ -183,7 +183,7 @@ fn has_cars(
     Ok(Told::Expected(road.cars() == cars))
 }
 
-// Ask it for rows.
+// Ask a replica for rows.
 fn has_rows(
     alloc: Global,
     replica: &Replica,
@@ -194,13 +194,13 @@ fn has_rows(
     Ok(Told::Expected(are_rows(&told, rows)))
 }
 
-// Ask it for its heads.
+// Ask a replica for its heads.
 fn has_heads(alloc: Global, replica: &Replica, heads: &[Head]) -> Result<Told, ReplicaFault> {
     let told = replica.heads(alloc)?;
     Ok(Told::Expected(told.list() == heads))
 }
 
-// Ask a replica.
+// Query a replica.
 fn tell(
     alloc: Global,
     replica: &Replica,
@@ -220,7 +220,7 @@ fn tell(
     }
 }
 
-// Return whether a replica told what a question expects.
+// Return whether a replica gave the answer that a query expects.
 fn is_told(alloc: Global, question: &Question, told: &Told) -> Option<bool> {
     match (told, question) {
         (Told::Expected(is_expected), _) => Some(*is_expected),
@@ -231,7 +231,7 @@ fn is_told(alloc: Global, question: &Question, told: &Told) -> Option<bool> {
     }
 }
 
-// A question to a replica, and the heads that come with it.
+// A query of a replica, with the heads that it contains.
 #[derive(Drop)]
 struct Asking {
     replica: Replica,
@@ -257,7 +257,7 @@ impl Call for Asking {
     }
 }
 
-// Return the heads that a question brings.
+// Return the heads in a query.
 fn heads_with(alloc: Global, question: &Question) -> Option<Heads> {
     let held: &[Edit] = match question {
         Question::Beyond(held, _) => held,
@@ -267,8 +267,8 @@ fn heads_with(alloc: Global, question: &Question) -> Option<Heads> {
     heads_of(alloc, &scenario).ok()
 }
 
-/// Try a question after some writes.
-pub(crate) fn tried_question(
+/// Try a query after some writes.
+pub(crate) fn try_question(
     alloc: Global,
     until: Until,
     writes: &[Write],
@@ -282,7 +282,7 @@ pub(crate) fn tried_question(
         question: *question,
     };
     accept_all(alloc, &mut asking.replica, writes)?;
-    tried(alloc, until, &mut asking)
+    try_call(alloc, until, &mut asking)
 }
 
 // ---- openings
@@ -308,7 +308,7 @@ impl Call for Opening {
 }
 
 /// Try the opening of a replica.
-pub(crate) fn tried_opening(alloc: Global, until: Until) -> Option<Verdict> {
+pub(crate) fn try_opening(alloc: Global, until: Until) -> Option<Verdict> {
     let plan = free_plan(alloc)?;
-    tried(alloc, until, &mut Opening { plan })
+    try_call(alloc, until, &mut Opening { plan })
 }

@@ -8,7 +8,7 @@ use std::alloc::Global;
 use std::sync::Arc;
 use tests_plans::{BLOCK, BLOCKED_ROWS, FREE, FREE_ROWS, LIMIT, Parts, Row, edit, plan_of};
 
-/// What a sheet shows: rows, of which the last is that of its horizon, and its edits by object and step.
+/// What a sheet shows: rows, the last one at its horizon, and its edits by object and step.
 #[derive(Clone, Copy)]
 pub(crate) struct Shown(pub(crate) &'static [Row], pub(crate) &'static [Edit]);
 
@@ -31,7 +31,7 @@ pub(crate) const LESS: Edit = edit!(LIMIT, 0, (7, 64), 2);
 
 pub(crate) const GREATER: Edit = edit!(LIMIT, 0, (7, 64), 3);
 
-/// What one replica holds, of which another has a part.
+/// The edits of one replica. Another replica has a part of them.
 pub(crate) const HELD: &[Edit] = &[SLOW, CLOSED, BLOCKED_SECOND];
 
 pub(crate) const HELD_ELSEWHERE: &[Edit] = &[CLOSED_ELSEWHERE, BLOCKED_SECOND];
@@ -46,7 +46,7 @@ pub(crate) const WITHDRAWN: Shown = Shown(FREE_ROWS, &[OPENED]);
 
 pub(crate) const SLOWED: Shown = Shown(&[(4, "0.1...1....."), (6, "0.1.1...1...")], &[SLOW]);
 
-/// Return the plan of these parts, to be shared.
+/// Return the plan of these parts, for sharing.
 pub(crate) fn shared_plan(alloc: Global, parts: &Parts) -> Option<Arc<Plan>> {
     let plan = plan_of(alloc, parts).ok()?;
     Arc::new(alloc, plan).ok()
@@ -57,13 +57,13 @@ pub(crate) fn free_plan(alloc: Global) -> Option<Arc<Plan>> {
     shared_plan(alloc, &FREE)
 }
 
-/// Return whether a scenario holds just these edits, by object and step; none where memory was wanted for that.
+/// Return whether a scenario has exactly these edits, by object and step, or `None` if an allocation failed.
 pub(crate) fn holds(alloc: Global, scenario: &Scenario, edits: &[Edit]) -> Option<bool> {
     let held = scenario.edits(alloc).ok()?;
     Some(held.as_slice() == edits)
 }
 
-/// Return the row that a sheet shows at a step; none where memory was wanted for that, or the step is not simulated.
+/// Return the row that a sheet shows at a step, or `None` if an allocation failed or the step is not simulated.
 pub(crate) fn row_at(alloc: Global, sheet: &Sheet, step: u32) -> Option<String> {
     let Ok(road) = sheet.state(alloc, step) else {
         return None;
@@ -72,12 +72,12 @@ pub(crate) fn row_at(alloc: Global, sheet: &Sheet, step: u32) -> Option<String> 
     row_of(alloc, sheet.plan(), sheet.scenario(), &state).ok()
 }
 
-/// Return whether a sheet shows this row; none as for [`row_at`].
+/// Return whether a sheet shows this row, or `None` as [`row_at`] does.
 pub(crate) fn shows_row(alloc: Global, sheet: &Sheet, step: u32, wanted: &str) -> Option<bool> {
     Some(row_at(alloc, sheet, step)?.as_str() == wanted)
 }
 
-/// Return whether a sheet shows just this; none where memory was wanted for that.
+/// Return whether a sheet shows exactly this, or `None` if an allocation failed.
 pub(crate) fn shows(alloc: Global, sheet: &Sheet, shown: &Shown) -> Option<bool> {
     let mut last = None;
     let mut shows = holds(alloc, sheet.scenario(), shown.1)?;

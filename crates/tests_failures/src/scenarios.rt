@@ -1,9 +1,9 @@
-//! Scenarios, what they are made of, and deltas.
+//! Scenarios, the maps that they are made of, and deltas.
 
 use crate::roads::{
     BLOCKED, BLOCKED_SECOND, CLOSED, CLOSED_ELSEWHERE, HELD, HELD_ELSEWHERE, free_plan, holds,
 };
-use crate::verdict::{Call, Until, Verdict, tried};
+use crate::verdict::{Call, Until, Verdict, try_call};
 use lattice_core::OutOfMemory;
 use lattice_core::both::Both;
 use lattice_core::greatest::Greatest;
@@ -16,28 +16,28 @@ use std::alloc::Global;
 use std::sync::Arc;
 use tests_portraits::Portrait;
 
-/// What is made of scenarios: of what one replica holds and, where there are two, of what another one does.
+/// What is made from the scenario of one replica, or from those of two.
 #[derive(Clone, Copy)]
 pub(crate) enum Making {
-    /// An edit is added to others, and these come of it.
+    /// An edit is added to others, with this result.
     WithEdit(&'static [Edit], Edit, &'static [Edit]),
     Joined,
     Copied,
-    /// They are joined, each with a horizon.
+    /// Two scenarios are joined, each with a horizon.
     PairJoined,
     PairCopied,
     /// Two horizons are joined, and one is copied.
     GreatestJoined,
     GreatestCopied,
     Edits,
-    /// The settings at step 4, where cell 8 is blocked.
+    /// The settings at step 4, with cell 8 blocked.
     Settings,
     Heads,
-    /// What is beyond the heads of the other one.
+    /// The edits beyond the heads of the other one.
     Beyond,
 }
 
-/// What two replicas hold together.
+/// All edits of the two replicas.
 const ALL: &[Edit] = &[CLOSED_ELSEWHERE, CLOSED, BLOCKED_SECOND];
 
 type Pair = Both<Scenario, Greatest<u32>>;
@@ -167,7 +167,7 @@ fn heads_with(alloc: Global, edits: &[Edit]) -> Option<Heads> {
 }
 
 /// Try what is made of scenarios.
-pub(crate) fn tried_making(alloc: Global, until: Until, making: Making) -> Option<Verdict> {
+pub(crate) fn try_making(alloc: Global, until: Until, making: Making) -> Option<Verdict> {
     let held: &[Edit] = match &making {
         Making::WithEdit(edits, _, _) => edits,
         _ => HELD,
@@ -183,7 +183,7 @@ pub(crate) fn tried_making(alloc: Global, until: Until, making: Making) -> Optio
         plan,
         making,
     };
-    tried(alloc, until, &mut work)
+    try_call(alloc, until, &mut work)
 }
 
 // ---- maps of registers
@@ -228,7 +228,7 @@ fn map_of(alloc: Global, registers: &[(u32, Register)]) -> Option<Registers> {
     Some(map)
 }
 
-// Return the map of so many even steps from 0 on.
+// Return the map of this number of even steps from 0 on.
 fn even_steps(alloc: Global, count: u32) -> Option<Registers> {
     let mut map = Registers::empty(alloc);
     for place in 0..count {
@@ -237,7 +237,7 @@ fn even_steps(alloc: Global, count: u32) -> Option<Registers> {
     Some(map)
 }
 
-// Return whether a map has two at so many even steps from 0 on, but three at some steps, and nothing else.
+// Return whether a map has exactly the value 2 at this number of even steps from 0 on, but 3 at some of them.
 fn has_even_and(map: &Registers, count: u32, three: &[u32]) -> bool {
     for place in 0..count {
         if map.get(place.saturating_mul(2)).is_none() {
@@ -316,7 +316,7 @@ fn is_map(map: &Registers, case: MapCase) -> bool {
     }
 }
 
-// Return the map of which another one is made.
+// Return the map that another one is made from.
 fn first_map(alloc: Global, case: MapCase) -> Option<Registers> {
     match case {
         MapCase::WithSplit => even_steps(alloc, 256),
@@ -334,8 +334,8 @@ fn second_map(alloc: Global, case: MapCase) -> Option<Registers> {
 }
 
 /// Try what is made of maps.
-pub(crate) fn tried_map(alloc: Global, until: Until, case: MapCase) -> Option<Verdict> {
+pub(crate) fn try_map(alloc: Global, until: Until, case: MapCase) -> Option<Verdict> {
     let one = first_map(alloc, case)?;
     let other = second_map(alloc, case)?;
-    tried(alloc, until, &mut Mapping { one, other, case })
+    try_call(alloc, until, &mut Mapping { one, other, case })
 }

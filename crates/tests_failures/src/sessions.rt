@@ -1,10 +1,10 @@
-//! Sessions of a store on the free road: its opening, their writes, their looks, its closing.
+//! Sessions of a store on the free road: opening the store, writes, looks, closing the store.
 
 ghost use Rattle.std.specs.Prelude.{◌≡◌};
 
 use crate::replicas::Write;
 use crate::roads::{OPENING, Shown, free_plan, holds, shows};
-use crate::verdict::{Call, Refusal, Until, Verdict, Wrong, accepted, tried};
+use crate::verdict::{Call, Refusal, Until, Verdict, Wrong, try_call, verdict_of};
 use road_cells::Car;
 use road_detector::Totals;
 use road_ends::Meter;
@@ -21,7 +21,7 @@ use std::marker::Brand;
 use std::sync::{Arc, Wait};
 use tests_portraits::Portrait;
 
-/// What a session does, and what it is answered.
+/// What a session does, and the expected answer.
 #[derive(Clone, Copy)]
 pub(crate) enum Act {
     /// It writes; its place in the journal, and the reply.
@@ -38,8 +38,8 @@ pub(crate) enum Command {
     Advance(u32),
 }
 
-/// A call of the second of two sessions that is judged: the writes of the first one before it, the call, what is shown
-/// before and after it, and the journal then, each entry by its session and its command.
+/// A call of the second of two sessions: the writes of the first session before it, the call, what is shown before and
+/// after it, and the journal afterwards, each entry by its session and its command.
 #[derive(Clone, Copy)]
 pub(crate) struct SessionCase(
     pub(crate) &'static [Write],
@@ -54,7 +54,7 @@ pub(crate) struct SessionCase(
 pub(crate) enum Closing {
     /// Once the call is judged.
     Judged,
-    /// Then, and the closing is what is tried.
+    /// Once the call is judged, and the closing is the call to try.
     Tried,
     /// As soon as the call is refused.
     Refused,
@@ -127,7 +127,7 @@ fn draw_looks<J: Naming, S: Of<J>>(
 /// Something that sessions write to.
 trait Writes<J: Naming>: Of<J> {
     /// Write for a session.
-    fn written<W: Wait>(
+    fn write_for<W: Wait>(
         &self,
         rt: &W,
         session: &mut Session<J>,
@@ -137,7 +137,7 @@ trait Writes<J: Naming>: Of<J> {
 }
 
 impl<J: Naming, R: Wait + Drop> Writes<J> for Shared<J, R> {
-    fn written<W: Wait>(
+    fn write_for<W: Wait>(
         &self,
         rt: &W,
         session: &mut Session<J>,
@@ -160,7 +160,7 @@ impl<J: Naming, R: Wait + Drop> Writes<J> for Shared<J, R> {
 }
 
 // Write for the session of a number.
-fn written_by<J: Naming, S: Writes<J>, W: Wait>(
+fn write_by<J: Naming, S: Writes<J>, W: Wait>(
     store: &mut Store<J, S, W>,
     number: usize,
     write: &Write,
@@ -172,7 +172,7 @@ fn written_by<J: Naming, S: Writes<J>, W: Wait>(
         sessions,
     } = store;
     match sessions.get_mut(number) {
-        Some(session) => shared.written(rt, session, write, given),
+        Some(session) => shared.write_for(rt, session, write, given),
         None => Err(WriteFault::JournalFull),
     }
 }
@@ -183,15 +183,15 @@ fn accept<J: Naming, S: Writes<J>, W: Wait>(
     store: &mut Store<J, S, W>,
     write: &Write,
 ) -> Option<()> {
-    let given = write.given(alloc)?;
-    let Ok(wrote) = written_by(store, 0, write, &given) else {
+    let given = write.scenario(alloc)?;
+    let Ok(wrote) = write_by(store, 0, write, &given) else {
         return None;
     };
     store.sessions.get_mut(1)?.hear(wrote.receipt);
     Some(())
 }
 
-// Write all of these so.
+// Make all these writes in the same way.
 fn accept_all<J: Naming, S: Writes<J>, W: Wait>(
     alloc: Global,
     store: &mut Store<J, S, W>,
@@ -233,7 +233,7 @@ impl<J: Naming, S: Writes<J>, W: Wait> Call for Writing<J, S, W> {
         let Act::Write(write, _, _) = self.case.1 else {
             return Err(WriteFault::JournalFull);
         };
-        let wrote = written_by(&mut self.store, 1, &write, &self.given)?;
+        let wrote = write_by(&mut self.store, 1, &write, &self.given)?;
         Ok((wrote.place, wrote.reply))
     }
 
@@ -251,14 +251,14 @@ impl<J: Naming, S: Writes<J>, W: Wait> Call for Writing<J, S, W> {
     }
 }
 
-// Judge a write that is not made again where it is refused.
-fn judged_once<J: Naming, S: Writes<J>, W: Wait>(
+// Judge a write that is not made again if it is refused.
+fn judge_once<J: Naming, S: Writes<J>, W: Wait>(
     alloc: Global,
     writing: &mut Writing<J, S, W>,
     told: Result<(u64, Reply), WriteFault>,
 ) -> Option<Verdict> {
     match told {
-        Ok(told) => Some(accepted(Verdict::Right, writing.is_right(alloc, told)?)),
+        Ok(told) => Some(verdict_of(Verdict::Right, writing.is_right(alloc, told)?)),
         Err(fault) => match fault.due() {
             Some(_) => Some(Verdict::Refused),
             None => Some(Verdict::Wrong(Wrong::Cause)),
@@ -266,8 +266,8 @@ fn judged_once<J: Naming, S: Writes<J>, W: Wait>(
     }
 }
 
-// Try such a write.
-fn tried_once<J: Naming, S: Writes<J>, W: Wait>(
+// Try a write that is not made again if it is refused.
+fn try_once<J: Naming, S: Writes<J>, W: Wait>(
     alloc: Global,
     until: Until,
     writing: &mut Writing<J, S, W>,
@@ -279,11 +279,11 @@ fn tried_once<J: Naming, S: Writes<J>, W: Wait>(
     if until == Until::Called {
         return Some(Verdict::Left);
     }
-    judged_once(alloc, writing, told)
+    judge_once(alloc, writing, told)
 }
 
-// Try a write, once where the store is closed as soon as it is refused.
-fn tried_write<J: Naming, S: Writes<J>, W: Wait>(
+// Try a write. It is not made again if the store is to be closed as soon as it is refused.
+fn try_write<J: Naming, S: Writes<J>, W: Wait>(
     alloc: Global,
     until: Until,
     closing: Closing,
@@ -291,22 +291,22 @@ fn tried_write<J: Naming, S: Writes<J>, W: Wait>(
 ) -> Option<Verdict> {
     accept_all(alloc, &mut writing.store, writing.case.0)?;
     if closing == Closing::Refused {
-        tried_once(alloc, until, writing)
+        try_once(alloc, until, writing)
     } else {
-        tried(alloc, until, writing)
+        try_call(alloc, until, writing)
     }
 }
 
 // ---- questions
 
-// What a session is told: a sheet, or whether it is the expected answer.
+// The answer to a session's query: a sheet, or whether it was the expected answer.
 #[derive(Drop)]
 enum Told {
     Sheet(Arc<Sheet>),
     Expected(bool),
 }
 
-// A question of the second session.
+// A query of the second session.
 #[derive(Drop)]
 struct Asking<J: Naming, S, W> {
     store: Store<J, S, W>,
@@ -367,16 +367,16 @@ impl<J: Naming, S: Writes<J>, W: Wait> Call for Asking<J, S, W> {
 }
 
 // Try a question.
-fn tried_question<J: Naming, S: Writes<J>, W: Wait>(
+fn try_question<J: Naming, S: Writes<J>, W: Wait>(
     alloc: Global,
     until: Until,
     asking: &mut Asking<J, S, W>,
 ) -> Option<Verdict> {
     accept_all(alloc, &mut asking.store, asking.case.0)?;
-    tried(alloc, until, asking)
+    try_call(alloc, until, asking)
 }
 
-// ---- what is left
+// ---- the closed store
 
 // Return whether this is an entry of the journal.
 fn is_entry(alloc: Global, entry: &Entry, (session, command): &(u32, Command)) -> Option<bool> {
@@ -402,9 +402,9 @@ fn is_closed_with(
     Some(is_journal && shows(alloc, &closed.sheet, shown)?)
 }
 
-// Judge what is left of a store that was closed after a call of this verdict: where that was refused and not made
-// again, the journal lacks its entry.
-fn judged_closed(
+// Judge the result of a store that was closed after a call with this verdict. If the call was refused and not made
+// again, the journal must not have its entry.
+fn judge_closed(
     alloc: Global,
     closed: &Closed,
     verdict: Verdict,
@@ -416,11 +416,11 @@ fn judged_closed(
         Verdict::Refused => is_closed_with(alloc, closed, journal.split_last()?.1, &before)?,
         _ => is_closed_with(alloc, closed, journal, &after)?,
     };
-    Some(accepted(verdict, is_right))
+    Some(verdict_of(verdict, is_right))
 }
 
-// Close a store after a call of this verdict, and judge what is left where that is asked.
-fn closed_after<J: Naming, R: Wait + Drop, W: Drop>(
+// Close a store after a call with this verdict, and judge the result if that is required.
+fn close_after<J: Naming, R: Wait + Drop, W: Drop>(
     alloc: Global,
     until: Until,
     store: Store<J, Shared<J, R>, W>,
@@ -436,13 +436,14 @@ fn closed_after<J: Naming, R: Wait + Drop, W: Drop>(
         return Some(Verdict::Wrong(Wrong::Open));
     };
     if until == Until::Judged {
-        judged_closed(alloc, &closed, verdict?, case)
+        judge_closed(alloc, &closed, verdict?, case)
     } else {
         Some(Verdict::Left)
     }
 }
 
-// Return how far a call is tried whose store is closed then: wholly where the closing is what is tried.
+// Return the stage up to which a call is tried before its store is closed: to the end if the closing is the call to
+// try.
 fn until_closing(until: Until, closing: Closing) -> Until {
     match closing {
         Closing::Tried => Until::Judged,
@@ -451,7 +452,7 @@ fn until_closing(until: Until, closing: Closing) -> Until {
 }
 
 // Try the call of a store, and close it.
-fn acted<J: Naming, R: Wait + Drop, W: Wait + Drop>(
+fn act_and_close<J: Naming, R: Wait + Drop, W: Wait + Drop>(
     alloc: Global,
     store: Store<J, Shared<J, R>, W>,
     given: Scenario,
@@ -462,16 +463,16 @@ fn acted<J: Naming, R: Wait + Drop, W: Wait + Drop>(
     let (so_far, case) = (until_closing(until, closing), *case);
     if let Act::Write(_, _, _) = case.1 {
         let mut writing = Writing { store, given, case };
-        let verdict = tried_write(alloc, so_far, closing, &mut writing);
-        closed_after(alloc, until, writing.store, verdict, &case)
+        let verdict = try_write(alloc, so_far, closing, &mut writing);
+        close_after(alloc, until, writing.store, verdict, &case)
     } else {
         let mut asking = Asking { store, case };
-        let verdict = tried_question(alloc, so_far, &mut asking);
-        closed_after(alloc, until, asking.store, verdict, &case)
+        let verdict = try_question(alloc, so_far, &mut asking);
+        close_after(alloc, until, asking.store, verdict, &case)
     }
 }
 
-// Open what was prepared, try the call, or the closing after it, and judge what is left of the store.
+// Open a prepared store, try the call or the closing after it, and judge the closed store.
 fn goes<J: Naming, R: Wait + Drop, W: Wait + Drop>(
     rt: W,
     alloc: Global,
@@ -494,47 +495,47 @@ fn goes<J: Naming, R: Wait + Drop, W: Wait + Drop>(
         shared,
         sessions,
     };
-    acted(alloc, store, given, until, closing, case)
+    act_and_close(alloc, store, given, until, closing, case)
 }
 
-// Return the scenario that a call hands over.
-fn given_by(alloc: Global, case: &SessionCase) -> Option<Scenario> {
+// Return the scenario that a call passes.
+fn scenario_of(alloc: Global, case: &SessionCase) -> Option<Scenario> {
     match case.1 {
-        Act::Write(write, _, _) => write.given(alloc),
+        Act::Write(write, _, _) => write.scenario(alloc),
         _ => Some(Scenario::empty(alloc)),
     }
 }
 
 // Prepare a replica of the free road for two sessions and three writes.
-fn prepared_for_two<R: Wait + Drop>(rt: R, alloc: Global) -> Option<Prepared<R>> {
+fn prepare_for_two<R: Wait + Drop>(rt: R, alloc: Global) -> Option<Prepared<R>> {
     prepare(rt, alloc, free_plan(alloc)?, 0, 2, 3).ok()
 }
 
 // Try a call of a session in a new store.
-fn tried_in_store<R: Wait + Drop + Copy>(
+fn try_in_store<R: Wait + Drop + Copy>(
     rt: R,
     alloc: Global,
     until: Until,
     closing: Closing,
     case: &SessionCase,
 ) -> Option<Verdict> {
-    let given = given_by(alloc, case)?;
-    let prepared = prepared_for_two(rt, alloc)?;
+    let given = scenario_of(alloc, case)?;
+    let prepared = prepare_for_two(rt, alloc)?;
     goes::<Brand, R, R>(rt, alloc, prepared, given, until, closing, case)
 }
 
-/// Try a call of a session, or the closing of the store after it, which takes no memory. If the store is closed as
-/// soon as the call is refused, that is made again in another one.
-pub(crate) fn tried_call<R: Wait + Drop + Copy>(
+/// Try a call of a session, or the closing of the store after it, which needs no memory. If the store is closed as soon
+/// as the call is refused, make the call again in another store.
+pub(crate) fn try_session_call<R: Wait + Drop + Copy>(
     rt: R,
     alloc: Global,
     until: Until,
     closing: Closing,
     case: &SessionCase,
 ) -> Option<Verdict> {
-    match tried_in_store(rt, alloc, until, closing, case)? {
+    match try_in_store(rt, alloc, until, closing, case)? {
         Verdict::Refused => {
-            let again = tried_in_store(rt, alloc, Until::Judged, Closing::Judged, case)?;
+            let again = try_in_store(rt, alloc, Until::Judged, Closing::Judged, case)?;
             Some(if again == Verdict::Right {
                 Verdict::Again
             } else {
@@ -547,7 +548,7 @@ pub(crate) fn tried_call<R: Wait + Drop + Copy>(
 
 // ---- opening
 
-// Open what was prepared, and judge whether it is as a new store must be.
+// Open a prepared store, and judge whether it is as a new store must be.
 fn opens<J: Naming, R: Wait + Drop>(
     alloc: Global,
     prepared: Prepared<R>,
@@ -563,11 +564,11 @@ fn opens<J: Naming, R: Wait + Drop>(
     if until == Until::Called {
         return Ok(Some(Verdict::Left));
     }
-    Ok(judged_opening(alloc, &shared, sessions.as_mut_slice(), verdict))
+    Ok(judge_opening(alloc, &shared, sessions.as_mut_slice(), verdict))
 }
 
 // Judge a store that was opened.
-fn judged_opening<J: Naming, R: Wait + Drop>(
+fn judge_opening<J: Naming, R: Wait + Drop>(
     alloc: Global,
     shared: &Shared<J, R>,
     sessions: &mut [Session<J>],
@@ -575,23 +576,23 @@ fn judged_opening<J: Naming, R: Wait + Drop>(
 ) -> Option<Verdict> {
     let are_two = sessions.len() == 2;
     let is_new = are_shown(alloc, shared, sessions, &OPENING)?;
-    Some(accepted(verdict, are_two && is_new))
+    Some(verdict_of(verdict, are_two && is_new))
 }
 
-// Prepare a store once more and open it, after it was refused so.
-fn opened_again<R: Wait + Drop + Copy>(rt: R, alloc: Global, fault: OpenFault) -> Option<Verdict> {
+// Prepare a store again and open it, after it was refused with this fault.
+fn open_again<R: Wait + Drop + Copy>(rt: R, alloc: Global, fault: OpenFault) -> Option<Verdict> {
     let Some(verdict) = fault.due() else {
         return Some(Verdict::Wrong(Wrong::Cause));
     };
-    let prepared = prepared_for_two(rt, alloc)?;
+    let prepared = prepare_for_two(rt, alloc)?;
     match opens::<Brand, R>(alloc, prepared, Until::Judged, verdict) {
         Ok(verdict) => verdict,
         Err(_) => Some(Verdict::Wrong(Wrong::Again)),
     }
 }
 
-// Open what was prepared; if that is refused, prepare and open it again.
-fn opened<R: Wait + Drop + Copy>(
+// Open a prepared store. If that is refused, prepare and open it again.
+fn open_or_retry<R: Wait + Drop + Copy>(
     rt: R,
     alloc: Global,
     prepared: Prepared<R>,
@@ -600,38 +601,38 @@ fn opened<R: Wait + Drop + Copy>(
     match opens::<Brand, R>(alloc, prepared, until, Verdict::Right) {
         Ok(verdict) => verdict,
         Err(_) if until == Until::Called => Some(Verdict::Left),
-        Err(fault) => opened_again(rt, alloc, fault),
+        Err(fault) => open_again(rt, alloc, fault),
     }
 }
 
-/// Try the opening of what was prepared.
-pub(crate) fn tried_open<R: Wait + Drop + Copy>(
+/// Try to open a prepared store.
+pub(crate) fn try_open<R: Wait + Drop + Copy>(
     rt: R,
     alloc: Global,
     until: Until,
 ) -> Option<Verdict> {
-    let prepared = prepared_for_two(rt, alloc)?;
+    let prepared = prepare_for_two(rt, alloc)?;
     if until == Until::Prepared {
         return Some(Verdict::Left);
     }
-    opened(rt, alloc, prepared, until)
+    open_or_retry(rt, alloc, prepared, until)
 }
 
-// Judge what was prepared, or prepare it again: only memory can be wanted for that.
-fn judged_prepared<R: Wait + Drop + Copy>(
+// Judge a prepared store, or prepare it again if an allocation failed: nothing else can fail.
+fn judge_prepared<R: Wait + Drop + Copy>(
     rt: R,
     alloc: Global,
     prepared: Result<Prepared<R>, OpenFault>,
 ) -> Option<Verdict> {
     match prepared {
-        Ok(prepared) => opened(rt, alloc, prepared, Until::Judged),
-        Err(OpenFault::OutOfMemory) => opened_again(rt, alloc, OpenFault::OutOfMemory),
+        Ok(prepared) => open_or_retry(rt, alloc, prepared, Until::Judged),
+        Err(OpenFault::OutOfMemory) => open_again(rt, alloc, OpenFault::OutOfMemory),
         Err(OpenFault::NoPlace) => Some(Verdict::Wrong(Wrong::Cause)),
     }
 }
 
 /// Try to prepare a store.
-pub(crate) fn tried_prepare<R: Wait + Drop + Copy>(
+pub(crate) fn try_prepare<R: Wait + Drop + Copy>(
     rt: R,
     alloc: Global,
     until: Until,
@@ -644,5 +645,5 @@ pub(crate) fn tried_prepare<R: Wait + Drop + Copy>(
     if until == Until::Called {
         return Some(Verdict::Left);
     }
-    judged_prepared(rt, alloc, prepared)
+    judge_prepared(rt, alloc, prepared)
 }

@@ -1,4 +1,4 @@
-//! Sheets: what they are asked, their drafts, and their growth.
+//! Sheets: queries of them, their drafts, and their growth.
 
 ghost use Rattle.std.specs.Prelude.{◌≡◌, ◌<◌, ◌≤◌};
 ghost use Rattle.road_plan.specs.declared.limits.TheConstants.{GREATEST_HORIZON};
@@ -7,7 +7,7 @@ ghost use Rattle.road_scenario.specs.Faults.{AreInRange};
 ghost use Rattle.road_sheet.specs.Sheets.{next_input};
 
 use crate::roads::{OPENING, Shown, free_plan, shows, shows_row};
-use crate::verdict::{Call, Until, Verdict, Wrong, accepted, tried};
+use crate::verdict::{Call, Until, Verdict, Wrong, try_call, verdict_of};
 use road_cells::Car;
 use road_detector::Totals;
 use road_ends::{Meter, StepInput};
@@ -44,14 +44,14 @@ impl Call for Opening {
 }
 
 /// Try the opening of a sheet.
-pub(crate) fn tried_opening(alloc: Global, until: Until) -> Option<Verdict> {
+pub(crate) fn try_opening(alloc: Global, until: Until) -> Option<Verdict> {
     let plan = free_plan(alloc)?;
-    tried(alloc, until, &mut Opening { plan })
+    try_call(alloc, until, &mut Opening { plan })
 }
 
 // ---- growth
 
-/// A growth that is judged: the horizon before it, the step that it goes to, the step that it touches, how many steps it
+/// A growth: the horizon before it, the step to which it extends, the step that it touches, the number of steps that it
 /// computes, and what is shown after it.
 #[derive(Clone, Copy)]
 pub(crate) struct GrowthCase(
@@ -62,7 +62,7 @@ pub(crate) struct GrowthCase(
     pub(crate) Shown,
 );
 
-// Return how many steps a growth may compute: those behind the horizon, or from the touched step and 63 before it.
+// Return how many steps a growth may compute: those past the horizon, or those from 63 steps before the touched one.
 fn most_steps(case: &GrowthCase) -> u64 {
     let GrowthCase(horizon, to, touched, _, _) = *case;
     let last = horizon.max(to);
@@ -90,7 +90,7 @@ impl Call for Growing {
 
     type Fault = GrownFault;
 
-    // It draws the sheet that grows, and whether more steps were computed than may be.
+    // Draw the sheet that grows, and whether too many steps were computed.
     fn draw(&mut self, alloc: Global, portrait: &mut Portrait) -> Option<()> {
         portrait.draw_number(self.steps.saturating_sub(most_steps(&self.case)))?;
         portrait.draw_sheet(alloc, &self.sheet)
@@ -117,7 +117,7 @@ impl Call for Growing {
     }
 }
 
-// Return the growth of a sheet, where the edits fit its plan.
+// Return the growth of a sheet. The edits must fit its plan.
 fn growth_of(sheet: Sheet, scenario: Scenario, to: u32, case: GrowthCase) -> Option<Growing> {
     if to > GREATEST_HORIZON || scenario.fits(sheet.plan()).is_some() {
         return None;
@@ -149,10 +149,10 @@ fn sheet_of(grown: Result<Grown, GrownFault>) -> Option<Sheet> {
 }
 
 /// Try a growth.
-pub(crate) fn tried_growth(alloc: Global, until: Until, case: &GrowthCase) -> Option<Verdict> {
+pub(crate) fn try_growth(alloc: Global, until: Until, case: &GrowthCase) -> Option<Verdict> {
     let scenario = Scenario::of_edits(alloc, case.4.1).ok()?;
     let sheet = run_of(alloc, &[], case.0)?;
-    tried(
+    try_call(
         alloc,
         until,
         &mut growth_of(sheet, scenario, case.1, *case)?,
@@ -161,14 +161,14 @@ pub(crate) fn tried_growth(alloc: Global, until: Until, case: &GrowthCase) -> Op
 
 // ---- questions
 
-/// What a sheet is asked, and what it tells.
+/// A query of a sheet, and the expected answer.
 #[derive(Clone, Copy)]
 pub(crate) enum Question {
     State(u32, &'static [Car]),
     Totals(u32, u32, Totals),
 }
 
-// A question to a sheet.
+// A query of a sheet.
 #[derive(Drop)]
 struct Asking {
     sheet: Sheet,
@@ -204,8 +204,8 @@ impl Call for Asking {
     }
 }
 
-/// Try a question to the sheet of some edits at step 6.
-pub(crate) fn tried_question(
+/// Try a query of the sheet of some edits at step 6.
+pub(crate) fn try_question(
     alloc: Global,
     until: Until,
     edits: &[Edit],
@@ -213,7 +213,7 @@ pub(crate) fn tried_question(
 ) -> Option<Verdict> {
     let sheet = run_of(alloc, edits, 6)?;
     let question = *question;
-    tried(alloc, until, &mut Asking { sheet, question })
+    try_call(alloc, until, &mut Asking { sheet, question })
 }
 
 // ---- drafts
@@ -242,8 +242,8 @@ fn finish(alloc: Global, draft: &mut Draft, to: u32) -> Option<()> {
     Some(())
 }
 
-// Begin a draft, where that is possible.
-fn drafted(
+// Begin a draft, if that is possible.
+fn begin_draft(
     alloc: Global,
     sheet: &Sheet,
     scenario: &Scenario,
@@ -261,7 +261,7 @@ fn drafted(
     Ok(sheet.draft(alloc, scenario, keep)?)
 }
 
-// The beginning of a draft that shows this in the end, of a sheet up to there, whose run is kept up to a step.
+// Beginning a draft of a sheet, which keeps the run up to a step and shows this in the end.
 #[derive(Drop)]
 struct Drafting {
     sheet: Sheet,
@@ -280,7 +280,7 @@ impl Call for Drafting {
     }
 
     fn make(&mut self, alloc: Global) -> Result<Draft, SheetFault> {
-        drafted(alloc, &self.sheet, &self.scenario, self.keep)
+        begin_draft(alloc, &self.sheet, &self.scenario, self.keep)
     }
 
     fn is_right(&mut self, alloc: Global, mut draft: Draft) -> Option<bool> {
@@ -291,12 +291,7 @@ impl Call for Drafting {
 }
 
 /// Try the beginning of a draft.
-pub(crate) fn tried_draft(
-    alloc: Global,
-    until: Until,
-    keep: u32,
-    shown: &Shown,
-) -> Option<Verdict> {
+pub(crate) fn try_draft(alloc: Global, until: Until, keep: u32, shown: &Shown) -> Option<Verdict> {
     let (to, _) = *shown.0.last()?;
     let scenario = Scenario::of_edits(alloc, shown.1).ok()?;
     let sheet = run_of(alloc, &[], to)?;
@@ -306,14 +301,14 @@ pub(crate) fn tried_draft(
         keep,
         shown: *shown,
     };
-    tried(alloc, until, &mut drafting)
+    try_call(alloc, until, &mut drafting)
 }
 
-// Return the draft of a run that goes on at a step.
+// Return the draft of a run that resumes at a step.
 fn draft_at(alloc: Global, step: u32) -> Option<Draft> {
     let scenario = Scenario::empty(alloc);
     let sheet = run_of(alloc, &[], step)?;
-    drafted(alloc, &sheet, &scenario, step).ok()
+    begin_draft(alloc, &sheet, &scenario, step).ok()
 }
 
 // Draw a draft.
@@ -352,15 +347,15 @@ impl Call for Entering {
     }
 }
 
-/// Try the input of the step after some steps: the speeds of its cars are these.
-pub(crate) fn tried_input(
+/// Try the input of the step after some steps. The speeds of its cars must be these.
+pub(crate) fn try_input(
     alloc: Global,
     until: Until,
     steps: u32,
     speeds: &'static [u8],
 ) -> Option<Verdict> {
     let draft = draft_at(alloc, steps)?;
-    tried(alloc, until, &mut Entering { draft, speeds })
+    try_call(alloc, until, &mut Entering { draft, speeds })
 }
 
 // Return whether a draft is as it was drawn.
@@ -370,7 +365,7 @@ fn is_drawn(alloc: Global, draft: &Draft, before: &Portrait) -> Option<bool> {
     Some(after.is_same(before))
 }
 
-// Add one more step to a draft, and once more where that is refused.
+// Add one more step to a draft, and retry if that is refused.
 fn push(
     alloc: Global,
     draft: &mut Draft,
@@ -388,7 +383,7 @@ fn push(
     }
 }
 
-// Add the step to a draft that refused it, and must be as before.
+// Add the step to a draft that has refused it once. The draft must be unchanged.
 fn push_again(
     alloc: Global,
     draft: &mut Draft,
@@ -410,7 +405,7 @@ fn push_again(
 }
 
 // Draw a draft, and try to add one more step to it.
-fn pushed(alloc: Global, until: Until, draft: &mut Draft) -> Option<Verdict>
+fn judge_push(alloc: Global, until: Until, draft: &mut Draft) -> Option<Verdict>
     requires { draft.old.horizon < GREATEST_HORIZON }
 {
     let Ok(input) = draft.input(alloc) else {
@@ -427,20 +422,20 @@ fn pushed(alloc: Global, until: Until, draft: &mut Draft) -> Option<Verdict>
     push(alloc, draft, &input, &speeds, &before)
 }
 
-// Judge a draft to which a step was added: its last row is this.
+// Judge a draft after one more step. Its last row must be this.
 fn is_pushed(alloc: Global, draft: Draft, row: &str, verdict: Verdict) -> Option<Verdict> {
     let sheet = draft.sheet();
     let is_shown = shows_row(alloc, &sheet, sheet.horizon(), row)?;
-    Some(accepted(verdict, is_shown))
+    Some(verdict_of(verdict, is_shown))
 }
 
-/// Try to add one more step after some steps: the row after it is this.
-pub(crate) fn tried_push(alloc: Global, until: Until, steps: u32, row: &str) -> Option<Verdict> {
+/// Try to add one more step after some steps. The row after it must be this.
+pub(crate) fn try_push(alloc: Global, until: Until, steps: u32, row: &str) -> Option<Verdict> {
     let mut draft = draft_at(alloc, steps)?;
     if draft.horizon() >= GREATEST_HORIZON {
         return None;
     }
-    let verdict = pushed(alloc, until, &mut draft)?;
+    let verdict = judge_push(alloc, until, &mut draft)?;
     if until == Until::Judged {
         is_pushed(alloc, draft, row, verdict)
     } else {

@@ -1,11 +1,11 @@
-//! Runs stepped by one caller: the road after each step is copied and drawn, its cars enter, get their speeds and move,
-//! and all of that is done as one step.
+//! Runs by a single caller, step by step: copy and draw the road, let cars enter, compute their speeds, move them; and
+//! all of that again as one step.
 
 ghost use Rattle.std.specs.Arc.{arc_value};
 ghost use Rattle.road_scenario.specs.Faults.{AreInRange};
 
 use crate::roads::shared_plan;
-use crate::verdict::{Call, Until, Verdict, both, judged};
+use crate::verdict::{Call, Until, Verdict, both, judge};
 use road_cells::Road;
 use road_ends::{Meter, OutOfMemory, StepInput, Stepped, enter, finish, leave, step_alone};
 use road_plan::Plan;
@@ -16,11 +16,11 @@ use std::sync::Arc;
 use tests_plans::{Parts, Row, row_of};
 use tests_portraits::Portrait;
 
-/// Rows of a run, of which the last is that after its last step.
+/// Rows of a run. The last one is the row after its last step.
 #[derive(Clone, Copy)]
 pub(crate) enum Rows {
     At(&'static [Row]),
-    /// Those after each step from the first on.
+    /// The rows after each step, from the first on.
     Each(&'static [&'static str]),
 }
 
@@ -47,7 +47,7 @@ impl Rows {
     }
 }
 
-/// A run that is stepped: the parts of its plan, its edits, and its rows.
+/// A run: the parts of its plan, its edits, and its rows.
 #[derive(Clone, Copy)]
 pub(crate) struct RunCase(
     pub(crate) Parts,
@@ -64,13 +64,13 @@ struct Run {
 }
 
 // Draw the road of a run at a step.
-fn drawn(alloc: Global, run: &Run, step: u32, road: &Road) -> Result<String, OutOfMemory> {
+fn draw_row(alloc: Global, run: &Run, step: u32, road: &Road) -> Result<String, OutOfMemory> {
     let settings = run.scenario.settings_at(alloc, &run.plan, step)?;
     row_of(alloc, road, settings.blocks(), run.plan.length())
 }
 
 // Make the input of a step.
-fn entered(
+fn make_input(
     alloc: Global,
     run: &Run,
     step: u32,
@@ -93,7 +93,7 @@ fn road_after(alloc: Global, input: &StepInput) -> Result<Road, OutOfMemory> {
 }
 
 // Compute a step.
-fn stepped(
+fn compute_step(
     alloc: Global,
     run: &Run,
     step: u32,
@@ -113,7 +113,7 @@ struct Step {
     next: Road,
 }
 
-// What is called in each step.
+// The calls of a step.
 #[derive(Clone, Copy)]
 enum Part {
     Copy,
@@ -134,7 +134,7 @@ const PARTS: [Part; 6] = [
     Part::Step,
 ];
 
-// A call in a step. Nothing that it is given can change.
+// A call in a step. It cannot change its arguments.
 #[derive(Clone, Copy)]
 struct Stepping<'a> {
     run: &'a Run,
@@ -148,16 +148,16 @@ fn is_copied(step: &Step) -> Result<bool, OutOfMemory> {
     Ok(step.next.copied()?.cars() == step.next.cars())
 }
 
-// Return whether that road is drawn as is listed.
+// Return whether the road after a step is drawn as listed.
 fn is_drawn(alloc: Global, run: &Run, rows: &Rows, step: &Step) -> Result<bool, OutOfMemory> {
     let later = step.number.saturating_add(1);
-    let row = drawn(alloc, run, later, &step.next)?;
+    let row = draw_row(alloc, run, later, &step.next)?;
     Ok(rows.agree(later, row.as_str()))
 }
 
-// Return whether an input is made with the cars of the one that was made before.
+// Return whether a new input has the same cars as the one made before.
 fn is_entered(alloc: Global, run: &Run, step: &Step) -> Result<bool, OutOfMemory> {
-    let input = entered(alloc, run, step.number, &step.road)?;
+    let input = make_input(alloc, run, step.number, &step.road)?;
     Ok(input.step() == step.number && input.road().cars() == step.input.road().cars())
 }
 
@@ -167,15 +167,15 @@ fn is_moved(alloc: Global, run: &Run, step: &Step) -> Result<bool, OutOfMemory> 
     Ok(leave(&run.plan, road).cars() == step.next.cars())
 }
 
-// Return whether a step is finished so.
+// Return whether a step is finished with the same road.
 fn is_finished(alloc: Global, step: &Step) -> Result<bool, OutOfMemory> {
     Ok(road_after(alloc, &step.input)?.cars() == step.next.cars())
 }
 
-// Return whether a step is computed as a whole so, and is counted.
+// Return whether computing the step as a whole has the same result, and is counted.
 fn is_stepped(alloc: Global, run: &Run, step: &Step) -> Result<bool, OutOfMemory> {
     let mut meter = Meter::new();
-    let done = stepped(alloc, run, step.number, &step.road, &mut meter)?;
+    let done = compute_step(alloc, run, step.number, &step.road, &mut meter)?;
     Ok(done.road.cars() == step.next.cars() && meter.ticks() == 1)
 }
 
@@ -202,11 +202,11 @@ impl Call for Stepping<'_> {
 
 // Prepare a step from a road.
 fn step_from(alloc: Global, run: &Run, number: u32, road: &Road) -> Option<Step> {
-    let done = stepped(alloc, run, number, road, &mut Meter::new()).ok()?;
+    let done = compute_step(alloc, run, number, road, &mut Meter::new()).ok()?;
     Some(Step {
         number,
         road: road.copied().ok()?,
-        input: entered(alloc, run, number, road).ok()?,
+        input: make_input(alloc, run, number, road).ok()?,
         next: done.road,
     })
 }
@@ -224,7 +224,7 @@ fn steps_of(alloc: Global, run: &Run, last: u32) -> Option<Vec<Step>> {
 }
 
 // Try the calls of a step.
-fn tried_step(alloc: Global, run: &Run, rows: &Rows, step: &Step) -> Option<Verdict> {
+fn try_step(alloc: Global, run: &Run, rows: &Rows, step: &Step) -> Option<Verdict> {
     let mut verdict = Verdict::Right;
     for part in PARTS {
         let mut stepping = Stepping {
@@ -233,17 +233,17 @@ fn tried_step(alloc: Global, run: &Run, rows: &Rows, step: &Step) -> Option<Verd
             step,
             part,
         };
-        let done = judged(alloc, &mut stepping, &Portrait::new(alloc))?;
+        let done = judge(alloc, &mut stepping, &Portrait::new(alloc))?;
         verdict = both(verdict, done);
     }
     Some(verdict)
 }
 
 // Try the steps of a run, one after the other.
-fn tried_steps(alloc: Global, run: &Run, rows: &Rows, steps: &[Step]) -> Option<Verdict> {
+fn try_steps(alloc: Global, run: &Run, rows: &Rows, steps: &[Step]) -> Option<Verdict> {
     let mut verdict = Verdict::Right;
     for step in steps {
-        verdict = both(verdict, tried_step(alloc, run, rows, step)?);
+        verdict = both(verdict, try_step(alloc, run, rows, step)?);
     }
     Some(verdict)
 }
@@ -259,12 +259,12 @@ fn run_of(alloc: Global, case: &RunCase) -> Option<Run> {
 }
 
 // Try each step of a run.
-fn tried_from(alloc: Global, until: Until, run: &Run, rows: &Rows) -> Option<Verdict> {
+fn try_from_step(alloc: Global, until: Until, run: &Run, rows: &Rows) -> Option<Verdict> {
     let steps = steps_of(alloc, run, rows.last()?)?;
     if until == Until::Prepared {
         return Some(Verdict::Left);
     }
-    let verdict = tried_steps(alloc, run, rows, &steps)?;
+    let verdict = try_steps(alloc, run, rows, &steps)?;
     if until == Until::Called {
         return Some(Verdict::Left);
     }
@@ -272,7 +272,7 @@ fn tried_from(alloc: Global, until: Until, run: &Run, rows: &Rows) -> Option<Ver
 }
 
 /// Try each step of a run.
-pub(crate) fn tried_run(alloc: Global, until: Until, case: &RunCase) -> Option<Verdict> {
+pub(crate) fn try_run(alloc: Global, until: Until, case: &RunCase) -> Option<Verdict> {
     let run = run_of(alloc, case)?;
-    tried_from(alloc, until, &run, &case.2)
+    try_from_step(alloc, until, &run, &case.2)
 }

@@ -1,33 +1,34 @@
-//! What comes of a call, whether an allocation fails in it or not.
+//! The verdict on a call, whether an allocation fails in it or not.
 
 use std::alloc::Global;
 use tests_portraits::Portrait;
 
-/// How far a call is tried, so that the allocations up to there can be counted.
+/// The stage up to which a call is tried, so that the allocations up to there can be counted.
 #[derive(Clone, Copy, PartialEq, Eq)]
 pub(crate) enum Until {
-    /// What it is called on is prepared.
+    /// The state before the call is prepared.
     Prepared,
-    /// It has answered.
+    /// The call has answered.
     Called,
-    /// Its answer is judged.
+    /// The answer is judged.
     Judged,
 }
 
-/// What came of a call.
+/// The verdict on a call.
 #[derive(Clone, Copy, PartialEq, Eq)]
 pub(crate) enum Verdict {
-    /// It was not tried so far.
+    /// The program ended at an earlier stage.
     Left,
     /// It gave the expected answer at once.
     Right,
-    /// It was refused for out of memory, and gave the expected answer when it was made again.
+    /// It was refused for out of memory, and a retry gave the expected answer.
     Again,
-    /// It was refused since a thread could not be started, and gave the expected answer when it was made again.
+    /// It was refused because a thread could not be started, and a retry gave the expected answer.
     Restarted,
-    /// One event of a list was refused for out of memory, and all was as without it; the list then gave the expected answer.
+    /// One event of a list was refused for out of memory, and all else was as without it. A retry gave the expected
+    /// answer.
     Skipped,
-    /// It was refused as is due, and not made again.
+    /// It was refused with a fault that is due, and not retried.
     Refused,
     Wrong(Wrong),
 }
@@ -35,11 +36,11 @@ pub(crate) enum Verdict {
 /// What is wrong.
 #[derive(Clone, Copy, PartialEq, Eq)]
 pub(crate) enum Wrong {
-    /// The answer, or what the call leaves.
+    /// The answer, or the state after the call.
     Answer,
     /// It was refused for a cause that is not due.
     Cause,
-    /// It was refused, and all is not as before.
+    /// It was refused, and something has changed.
     Changed,
     /// It was refused again.
     Again,
@@ -50,7 +51,7 @@ pub(crate) enum Wrong {
 }
 
 impl Wrong {
-    /// Return it in words.
+    /// Return the verdict in words.
     pub(crate) fn text(self) -> &'static str {
         match self {
             Wrong::Answer => "the answer, or what it leaves, is another one",
@@ -65,23 +66,23 @@ impl Wrong {
 
 /// Why a call is refused.
 pub(crate) trait Refusal {
-    /// Return the verdict on a call that was refused so where an allocation failed, and then gave the expected answer;
-    /// none where no failed allocation is the cause.
+    /// Return the verdict on a call that was refused for this cause and then gave the expected answer, or `None` if a
+    /// failed allocation cannot be the cause.
     fn due(&self) -> Option<Verdict>;
 }
 
-/// A call, with what it is called on and what it must answer.
+/// A call, with the state before it and the expected answer.
 pub(crate) trait Call {
     type Answer: Drop;
 
     type Fault: Refusal + Copy;
 
-    /// Draw all that is shown of what it is called on; none, here and below, where memory was wanted for that.
+    /// Draw everything that the state shows. Here and below, the result is `None` if an allocation failed.
     fn draw(&mut self, _alloc: Global, _portrait: &mut Portrait) -> Option<()> {
         Some(())
     }
 
-    /// Return whether it writes: else what it is called on is the same after it.
+    /// Return whether it writes. If not, it must leave the state unchanged.
     fn writes(&self) -> bool {
         false
     }
@@ -89,12 +90,12 @@ pub(crate) trait Call {
     /// Make the call.
     fn make(&mut self, alloc: Global) -> Result<Self::Answer, Self::Fault>;
 
-    /// Return whether this is the expected answer, and after a write all is as it must be.
+    /// Return whether this is the expected answer and, after a write, the state is as expected.
     fn is_right(&mut self, alloc: Global, answer: Self::Answer) -> Option<bool>;
 }
 
-/// Return this verdict where an answer, and what the call left, are the expected ones.
-pub(crate) fn accepted(verdict: Verdict, is_right: bool) -> Verdict {
+/// Return this verdict if the answer and the state after the call are as expected.
+pub(crate) fn verdict_of(verdict: Verdict, is_right: bool) -> Verdict {
     if is_right {
         verdict
     } else {
@@ -102,7 +103,7 @@ pub(crate) fn accepted(verdict: Verdict, is_right: bool) -> Verdict {
     }
 }
 
-/// Return the verdict on two calls of which one at most is refused.
+/// Return the verdict on two calls. At most one of them is refused.
 pub(crate) fn both(first: Verdict, second: Verdict) -> Verdict {
     match (first, second) {
         (Verdict::Wrong(_), _) | (_, Verdict::Right) => first,
@@ -110,7 +111,7 @@ pub(crate) fn both(first: Verdict, second: Verdict) -> Verdict {
     }
 }
 
-/// Return whether what a call is called on is as it was drawn.
+/// Return whether the state of a call is as it was drawn.
 pub(crate) fn is_as<C: Call>(alloc: Global, call: &mut C, before: &Portrait) -> Option<bool> {
     let mut after = Portrait::new(alloc);
     call.draw(alloc, &mut after)?;
@@ -118,7 +119,7 @@ pub(crate) fn is_as<C: Call>(alloc: Global, call: &mut C, before: &Portrait) -> 
 }
 
 // Judge the answer of a call.
-fn answered<C: Call>(
+fn judge_answer<C: Call>(
     alloc: Global,
     call: &mut C,
     before: &Portrait,
@@ -127,11 +128,11 @@ fn answered<C: Call>(
 ) -> Option<Verdict> {
     let is_right = call.is_right(alloc, answer)?;
     let is_kept = call.writes() || is_as(alloc, call, before)?;
-    Some(accepted(verdict, is_right && is_kept))
+    Some(verdict_of(verdict, is_right && is_kept))
 }
 
-// Judge a call that was refused: all must be as before, and then it is made again.
-fn refused<C: Call>(
+// Judge a call that was refused: the state must be unchanged. Then retry it.
+fn judge_refusal<C: Call>(
     alloc: Global,
     call: &mut C,
     before: &Portrait,
@@ -144,32 +145,32 @@ fn refused<C: Call>(
         return Some(Verdict::Wrong(Wrong::Changed));
     }
     match call.make(alloc) {
-        Ok(answer) => answered(alloc, call, before, verdict, answer),
+        Ok(answer) => judge_answer(alloc, call, before, verdict, answer),
         Err(_) => Some(Verdict::Wrong(Wrong::Again)),
     }
 }
 
-/// Make a call, once more where it is refused, and judge it.
-pub(crate) fn judged<C: Call>(alloc: Global, call: &mut C, before: &Portrait) -> Option<Verdict> {
+/// Make a call, retry it if it is refused, and judge it.
+pub(crate) fn judge<C: Call>(alloc: Global, call: &mut C, before: &Portrait) -> Option<Verdict> {
     match call.make(alloc) {
-        Ok(answer) => answered(alloc, call, before, Verdict::Right, answer),
-        Err(fault) => refused(alloc, call, before, fault),
+        Ok(answer) => judge_answer(alloc, call, before, Verdict::Right, answer),
+        Err(fault) => judge_refusal(alloc, call, before, fault),
     }
 }
 
 // Make a call.
-fn called<C: Call>(alloc: Global, call: &mut C) -> Verdict {
+fn make_call<C: Call>(alloc: Global, call: &mut C) -> Verdict {
     let _ = call.make(alloc);
     Verdict::Left
 }
 
-/// Draw what a call is called on, make the call, and judge it.
-pub(crate) fn tried<C: Call>(alloc: Global, until: Until, call: &mut C) -> Option<Verdict> {
+/// Draw the state before a call, make the call, and judge it.
+pub(crate) fn try_call<C: Call>(alloc: Global, until: Until, call: &mut C) -> Option<Verdict> {
     let mut before = Portrait::new(alloc);
     call.draw(alloc, &mut before)?;
     match until {
         Until::Prepared => Some(Verdict::Left),
-        Until::Called => Some(called(alloc, call)),
-        Until::Judged => judged(alloc, call, &before),
+        Until::Called => Some(make_call(alloc, call)),
+        Until::Judged => judge(alloc, call, &before),
     }
 }

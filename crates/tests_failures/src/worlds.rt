@@ -1,7 +1,7 @@
 //! Events of a world of three replicas of the free road, and lists of them.
 
 use crate::roads::{free_plan, shows_row};
-use crate::verdict::{Call, Refusal, Until, Verdict, tried};
+use crate::verdict::{Call, Refusal, Until, Verdict, try_call};
 use road_delta::Head;
 use road_ends::Meter;
 use road_plan::{Object, Plan};
@@ -38,7 +38,7 @@ pub(crate) struct Told(
 );
 
 impl Told {
-    // Return the event; none where there was no memory for its edits.
+    // Return the event, or `None` if there was no memory for its edits.
     fn event(&self, alloc: Global) -> Option<Event> {
         let at = self.0;
         Some(match self.1 {
@@ -62,7 +62,7 @@ impl Told {
     }
 }
 
-/// Each kind of event: two replicas make edits, one asks the other for what it lacks, the third takes the answer.
+/// Each kind of event: two replicas make edits, one asks the other for missing edits, the third takes the answer.
 pub(crate) const EXCHANGE: &[Told] = &[
     Told(0, Act::Advance(6), Reply::Horizon(6), "0..2...2...."),
     Told(
@@ -218,26 +218,26 @@ impl Call for Opening {
 }
 
 /// Try the opening of a world.
-pub(crate) fn tried_opening(alloc: Global, until: Until) -> Option<Verdict> {
+pub(crate) fn try_opening(alloc: Global, until: Until) -> Option<Verdict> {
     let plan = free_plan(alloc)?;
-    tried(alloc, until, &mut Opening { plan })
+    try_call(alloc, until, &mut Opening { plan })
 }
 
 // ---- events
 
 // Apply an event.
-fn applied(alloc: Global, world: &mut World, event: &Event) -> Result<Reply, WorldFault> {
+fn apply_event(alloc: Global, world: &mut World, event: &Event) -> Result<Reply, WorldFault> {
     world.apply(alloc, event, &mut Alone, &mut Meter::new())
 }
 
-// Apply the event of a list, which is accepted.
+// Apply an event of a list, which must be accepted.
 fn accept(alloc: Global, world: &mut World, told: &Told) -> Option<()> {
     let event = told.event(alloc)?;
-    applied(alloc, world, &event).ok()?;
+    apply_event(alloc, world, &event).ok()?;
     Some(())
 }
 
-// Apply the events of a list, all of which are accepted.
+// Apply the events of a list, which must all be accepted.
 fn accept_all(alloc: Global, world: &mut World, list: &[Told]) -> Option<()> {
     for told in list {
         accept(alloc, world, told)?;
@@ -267,7 +267,7 @@ impl Call for Applying {
     }
 
     fn make(&mut self, alloc: Global) -> Result<Reply, WorldFault> {
-        applied(alloc, &mut self.world, &self.event)
+        apply_event(alloc, &mut self.world, &self.event)
     }
 
     fn is_right(&mut self, alloc: Global, reply: Reply) -> Option<bool> {
@@ -283,7 +283,7 @@ fn new_world(alloc: Global) -> Option<World> {
 }
 
 /// Try the event of this place in the exchange.
-pub(crate) fn tried_event(alloc: Global, until: Until, place: usize) -> Option<Verdict> {
+pub(crate) fn try_event(alloc: Global, until: Until, place: usize) -> Option<Verdict> {
     let event = EXCHANGE.get(place)?.event(alloc)?;
     let world = new_world(alloc)?;
     let mut applying = Applying {
@@ -292,13 +292,13 @@ pub(crate) fn tried_event(alloc: Global, until: Until, place: usize) -> Option<V
         place,
     };
     accept_all(alloc, &mut applying.world, EXCHANGE.get(..place)?)?;
-    tried(alloc, until, &mut applying)
+    try_call(alloc, until, &mut applying)
 }
 
 // ---- lists of events
 
-// Why a list is not played as it must be: it was refused before its first event; or one event was refused, and all is as
-// without that event; or it was played in another way.
+// Why a list is not played as expected: it was refused before its first event; or one event was refused, and all else
+// is as without that event; or the result is wrong.
 #[derive(Clone, Copy)]
 enum ListFault {
     Play(PlayFault),
@@ -342,7 +342,7 @@ fn is_same_reply(reply: &Result<Reply, WorldFault>, other: &Result<Reply, WorldF
     }
 }
 
-// Apply all events but the one at a place, and answer whether each has this reply.
+// Apply all events but the one at a place, and return whether each has this reply.
 fn are_replies_without(
     alloc: Global,
     world: &mut World,
@@ -353,7 +353,7 @@ fn are_replies_without(
     let mut are_same = replies.len() == events.len();
     for (number, (event, reply)) in events.iter().zip(replies).enumerate() {
         if number != place {
-            are_same = is_same_reply(&applied(alloc, world, event), reply) && are_same;
+            are_same = is_same_reply(&apply_event(alloc, world, event), reply) && are_same;
         }
     }
     are_same
@@ -368,8 +368,8 @@ fn is_same_world(alloc: Global, world: &World, other: &World) -> Option<bool> {
     Some(first.is_same(&second))
 }
 
-// Return whether what was played is what the other events leave of a new world, each reply too, where the event at a
-// place was refused.
+// Return whether, if the event at a place was refused, the world and all other replies are the same as if the list did
+// not have that event.
 fn is_without(
     alloc: Global,
     world: &mut World,
@@ -382,7 +382,7 @@ fn is_without(
 }
 
 // Return what was played, if no event was refused.
-fn all_accepted(alloc: Global, events: &[Event], played: Played) -> Result<Played, ListFault> {
+fn accept_list(alloc: Global, events: &[Event], played: Played) -> Result<Played, ListFault> {
     let Some((place, fault)) = first_refused(&played.replies) else {
         return Ok(played);
     };
@@ -395,7 +395,7 @@ fn all_accepted(alloc: Global, events: &[Event], played: Played) -> Result<Playe
     }
 }
 
-// Return whether each event of a list was answered as is wanted.
+// Return whether each event of a list was answered as expected.
 fn are_wanted(replies: &[Result<Reply, WorldFault>], list: &[Told]) -> bool {
     let mut are_wanted = replies.len() == list.len();
     for (reply, told) in replies.iter().zip(list) {
@@ -414,7 +414,7 @@ impl Call for Playing {
             return Err(ListFault::Play(PlayFault::OutOfMemory));
         };
         match play(alloc, plan, 3, &self.events, &mut Alone, &mut Meter::new()) {
-            Ok(played) => all_accepted(alloc, &self.events, played),
+            Ok(played) => accept_list(alloc, &self.events, played),
             Err(fault) => Err(ListFault::Play(fault)),
         }
     }
@@ -435,8 +435,8 @@ fn events_of(alloc: Global, list: &[Told]) -> Option<Vec<Event>> {
 }
 
 /// Try the exchange as one list of events.
-pub(crate) fn tried_list(alloc: Global, until: Until) -> Option<Verdict> {
+pub(crate) fn try_list(alloc: Global, until: Until) -> Option<Verdict> {
     let plan = free_plan(alloc)?;
     let events = events_of(alloc, EXCHANGE)?;
-    tried(alloc, until, &mut Playing { plan, events })
+    try_call(alloc, until, &mut Playing { plan, events })
 }

@@ -140,6 +140,33 @@ fn reads_commands(rt: HostRuntime) -> Result<(), Fail> {
     Ok(())
 }
 
+// Commands, and the names of their replicas.
+const REPLICAS: &[(&str, Option<&str>)] = pairs![
+    r#"{"edit":{"at":"A","object":["limit",2],"step":3,"value":1}}"# => Some("A"),
+    r#"{"withdraw":{"at":"B","object":["limit",2],"step":3}}"# => Some("B"),
+    r#"{"advance":{"at":"C","to":6}}"# => Some("C"),
+    r#"{"cells":{"at":"D","step":6}}"# => Some("D"),
+    r#"{"cars":{"at":"E","step":6}}"# => Some("E"),
+    r#"{"count":{"at":"F","detector":2,"from":0,"to":6}}"# => Some("F"),
+    r#"{"diagram":{"at":"G","from":0,"to":6}}"# => Some("G"),
+    r#"{"scenario":{"at":"H"}}"# => Some("H"),
+    r#"{"import":{"at":"I","edits":[],"form":1}}"# => Some("I"),
+    r#"{"send":{"at":"J","name":"m1"}}"# => Some("J"),
+    r#"{"heads":{"at":"K","name":"h"}}"# => Some("K"),
+    r#"{"beyond":{"at":"L","heads":"h","name":"d"}}"# => Some("L"),
+    r#"{"take":{"at":"M","message":"m1"}}"# => Some("M"),
+    r#"{"crowd":{"form":1,"shares":[[]],"to":6}}"# => None,
+];
+
+#[test]
+fn names_the_replica_of_each_command(rt: HostRuntime) -> Result<(), Fail> {
+    for (line, replica) in REPLICAS {
+        let command = read_command(rt.alloc(), line.as_bytes())?;
+        assert!(rt; command.replica() == *replica, "{line}");
+    }
+    Ok(())
+}
+
 /// An answer as in a table, with borrowed names and lists.
 enum Said {
     Open(u32),

@@ -60,7 +60,7 @@ impl Crew for Counting {
     }
 }
 
-/// A crew that asks another crew for the speeds of each step, because it runs no spans.
+/// A crew that asks another crew for the speeds of one step after another.
 #[derive(Drop)]
 pub struct StepByStep<C> {
     /// The crew that computes.
@@ -135,6 +135,10 @@ impl<C> Running<C> {
 
 impl<C: Crew> Crew for Running<C> {
     ghost times_gone = { λ crew. crew.gone };
+
+    fn most_steps(&self) -> u32 {
+        self.crew.most_steps()
+    }
 
     fn speeds(&mut self, alloc: Global, input: &Arc<StepInput>) -> Result<Vec<u8>, CrewFault> {
         let answer = self.crew.speeds(alloc, input);

@@ -25,7 +25,7 @@ macro_rules! pairs {
     };
 }
 
-/// Writes the parts of a plan, some of which differ from the free road's. `Parts` and `FREE` must be in scope.
+/// Writes the parts of a plan that differs from the free road's in some parts. `Parts` and `FREE` must be in scope.
 #[macro_export]
 macro_rules! parts {
     ($($field:ident: $value:expr),* $(,)?) => {

@@ -76,7 +76,7 @@ impl Beside {
     }
 
     /// Go on from a road at a step, the run under way with the cars of the road on a stretch. Fail if it cannot.
-    pub(crate) fn take_up(
+    pub(crate) fn restart_on(
         &mut self,
         alloc: Global,
         settings: &Settings,
@@ -85,7 +85,7 @@ impl Beside {
         road: &Road,
     ) -> Result<(), Fail> {
         let near = cars_on(alloc, road, stretch)?;
-        if !self.try_take_up(alloc, settings, step, stretch, &near)? {
+        if !self.try_restart(alloc, settings, step, stretch, &near)? {
             return Err(Fail::new("a road that a run cannot go on from"));
         }
         Ok(self.begin_plainly(alloc, settings, step, road)?)
@@ -107,7 +107,7 @@ impl Beside {
     }
 
     /// Let only the run under way go on from a road at a step, if it can.
-    pub(crate) fn try_take_up(
+    pub(crate) fn try_restart(
         &mut self,
         alloc: Global,
         settings: &Settings,
@@ -119,7 +119,7 @@ impl Beside {
         if step > GREATEST_HORIZON || stretch.end > self.plan.length() {
             return Err(Fail::new("a step or a stretch beyond the end"));
         }
-        Ok(self.run.take_up(alloc, own, step, stretch, road)?)
+        Ok(self.run.restart_on(alloc, own, step, stretch, road)?)
     }
 
     /// Take changed settings from the next step on.
@@ -147,8 +147,8 @@ impl Beside {
         Ok(())
     }
 
-    /// Make one step of both. The run under way is told of only a few steps ahead, so that it needs memory again and
-    /// again.
+    /// Make one step of both. The caller announces only a few steps to the run under way, so that it needs memory again
+    /// and again.
     pub(crate) fn step(&mut self, alloc: Global) -> Result<(), Fail> {
         if self.run.next_step() >= GREATEST_HORIZON {
             return Err(Fail::new("a step beyond the greatest horizon"));
@@ -171,7 +171,7 @@ impl Beside {
         Ok(())
     }
 
-    /// Begin all counts anew.
+    /// Set all counts to zero.
     pub(crate) fn restart_counts(&mut self, alloc: Global) -> Result<(), OutOfMemory> {
         self.totals = nothing(alloc, &self.plan)?;
         self.run.restart_counts();

@@ -1,4 +1,4 @@
-//! Counts that begin anew.
+//! Counts that restart at zero.
 
 use crate::beside::{Beside, Place, holds_at};
 use road_detector::Totals;
@@ -9,7 +9,7 @@ use std::process::Abort;
 use std::test::Fail;
 use tests_plans::LONG;
 
-/// Steps before which counts begin anew: at a span's first step, in its middle, at its last.
+/// Steps before which counts restart: at a span's first step, in its middle, at its last.
 const RESTARTS: &[u32] = &[0, 30, 63, 64, 100, 128];
 
 // Return whether nothing is counted.
@@ -25,15 +25,15 @@ fn counts_something(alloc: Global, beside: &Beside) -> Result<bool, OutOfMemory>
     Ok(!is_nothing(&totals))
 }
 
-// Begin all counts anew before a step. Return whether there were some before (except before the first step), and none
-// after.
+// Restart all counts before a step. Return whether something was counted before (except before the first step), and
+// nothing is counted afterwards.
 fn check_restart(alloc: Global, beside: &mut Beside, step: u32) -> Result<bool, OutOfMemory> {
     let counted = counts_something(alloc, beside)?;
     beside.restart_counts(alloc)?;
     Ok((step == 0 || counted) && !counts_something(alloc, beside)?)
 }
 
-// Make steps of both, and begin the counts anew before some of them.
+// Make steps of both, and restart the counts before some of them.
 fn check_each_restart(rt: &impl Abort, alloc: Global, beside: &mut Beside) -> Result<(), Fail> {
     let name = "step";
     for number in 0..140u32 {
@@ -47,7 +47,7 @@ fn check_each_restart(rt: &impl Abort, alloc: Global, beside: &mut Beside) -> Re
 }
 
 #[test]
-fn counts_begin_anew(rt: HostRuntime) -> Result<(), Fail> {
+fn counts_restart(rt: HostRuntime) -> Result<(), Fail> {
     let mut beside = Beside::of_parts(rt.alloc(), &LONG)?;
     check_each_restart(&rt, rt.alloc(), &mut beside)
 }
@@ -61,26 +61,26 @@ fn go_on(alloc: Global, beside: &mut Beside, steps: u32) -> Result<(), Fail> {
 }
 
 // Let both go on from their own road at a step.
-fn take_up_own(alloc: Global, beside: &mut Beside, step: u32) -> Result<(), Fail> {
+fn restart_own(alloc: Global, beside: &mut Beside, step: u32) -> Result<(), Fail> {
     let road = beside.road().copied()?;
     let settings = Settings::of_plan(alloc, beside.plan())?;
     let stretch = Stretch {
         first: 0,
         end: beside.plan().length(),
     };
-    beside.take_up(alloc, &settings, step, stretch, &road)
+    beside.restart_on(alloc, &settings, step, stretch, &road)
 }
 
 // Return whether something is counted in a hundred steps, and nothing once both go on from the road.
 fn check_restart_from_road(alloc: Global, beside: &mut Beside) -> Result<bool, Fail> {
     go_on(alloc, beside, 100)?;
     let counted = counts_something(alloc, beside)?;
-    take_up_own(alloc, beside, 100)?;
+    restart_own(alloc, beside, 100)?;
     Ok(counted && !counts_something(alloc, beside)?)
 }
 
 #[test]
-fn counts_begin_anew_where_a_run_goes_on_from_a_road(rt: HostRuntime) -> Result<(), Fail> {
+fn counts_restart_if_a_run_goes_on_from_a_road(rt: HostRuntime) -> Result<(), Fail> {
     let mut beside = Beside::of_parts(rt.alloc(), &LONG)?;
     assert!(rt; check_restart_from_road(rt.alloc(), &mut beside)?);
     Ok(())

@@ -61,7 +61,7 @@ fn try_go_on(
     }
     let settings = random_settings(alloc, beside.plan(), 5)?;
     let road = road_with(alloc, car, stretch)?;
-    beside.try_take_up(alloc, &settings, 5, stretch, &road)
+    beside.try_restart(alloc, &settings, 5, stretch, &road)
 }
 
 // Check whether a run goes on from a row's road. Check that a refusal has changed nothing, neither the road nor the

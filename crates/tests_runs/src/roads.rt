@@ -59,7 +59,7 @@ fn a_run_from_the_empty_road_is_the_plain_steps(rt: HostRuntime) -> Result<(), F
 const STARTS: &[u32] = &[0, 1, 37, 63, 64, 1_048_300];
 
 // Go on from a road with about this number of cars at a step.
-fn take_up_random(
+fn restart_random(
     alloc: Global,
     dice: &mut Dice,
     beside: &mut Beside,
@@ -72,11 +72,11 @@ fn take_up_random(
     };
     let road = random_road(alloc, dice, beside.plan(), cars)?;
     let settings = random_settings(alloc, beside.plan(), dice.below(1_000))?;
-    beside.take_up(alloc, &settings, step, whole, &road)
+    beside.restart_on(alloc, &settings, step, whole, &road)
 }
 
 // Go on from a road with about this number of cars at each of these steps.
-fn take_up_each(
+fn restart_each(
     rt: &impl Abort,
     alloc: Global,
     dice: &mut Dice,
@@ -84,7 +84,7 @@ fn take_up_each(
     cars: u32,
 ) -> Result<(), Fail> {
     for step in STARTS {
-        take_up_random(alloc, dice, beside, cars, *step)?;
+        restart_random(alloc, dice, beside, cars, *step)?;
         are_same_throughout(rt, alloc, beside, 70, "begun at step", *step)?;
     }
     Ok(())
@@ -94,18 +94,18 @@ fn take_up_each(
 const TAKEN: &[u32] = &[8, 40, 500, 3_000];
 
 // Go on from full, thinner and thin roads of this number of cells.
-fn take_up_roads(rt: &impl Abort, alloc: Global, dice: &mut Dice, length: u32) -> Result<(), Fail> {
+fn restart_roads(rt: &impl Abort, alloc: Global, dice: &mut Dice, length: u32) -> Result<(), Fail> {
     let mut beside = Beside::of_plan(alloc, random_plan(alloc, dice, length)?)?;
-    take_up_each(rt, alloc, dice, &mut beside, length)?;
-    take_up_each(rt, alloc, dice, &mut beside, length / 3)?;
-    take_up_each(rt, alloc, dice, &mut beside, length / 20)
+    restart_each(rt, alloc, dice, &mut beside, length)?;
+    restart_each(rt, alloc, dice, &mut beside, length / 3)?;
+    restart_each(rt, alloc, dice, &mut beside, length / 20)
 }
 
 #[test]
 fn a_run_goes_on_from_any_road_at_any_step(rt: HostRuntime) -> Result<(), Fail> {
     let mut dice = Dice::of(2);
     for length in TAKEN {
-        take_up_roads(&rt, rt.alloc(), &mut dice, *length)?;
+        restart_roads(&rt, rt.alloc(), &mut dice, *length)?;
     }
     Ok(())
 }

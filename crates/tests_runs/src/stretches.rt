@@ -42,7 +42,7 @@ fn widen(stretch: Stretch, length: u32) -> Stretch {
 }
 
 // Go on from the cars of a road on a stretch.
-fn take_up(
+fn restart_on(
     alloc: Global,
     beside: &mut Beside,
     course: Course,
@@ -50,7 +50,7 @@ fn take_up(
     road: &Road,
 ) -> Result<(), Fail> {
     let settings = random_settings(alloc, beside.plan(), course.seed)?;
-    beside.take_up(alloc, &settings, course.step, stretch, road)
+    beside.restart_on(alloc, &settings, course.step, stretch, road)
 }
 
 // Compare both on a stretch, and return the number of cars on it.
@@ -78,7 +78,7 @@ fn runs_as_the_whole_road(
     mut stretch: Stretch,
     road: &Road,
 ) -> Result<usize, Fail> {
-    take_up(alloc, beside, course, stretch, road)?;
+    restart_on(alloc, beside, course, stretch, road)?;
     let number = stretch.first;
     let length = beside.plan().length();
     let mut compared = 0_usize;
@@ -103,7 +103,7 @@ fn runs_as_alone(
     road: &Road,
 ) -> Result<(), Fail> {
     let near = cars_on(alloc, road, stretch)?;
-    take_up(alloc, beside, course, stretch, &near)?;
+    restart_on(alloc, beside, course, stretch, &near)?;
     let settings = random_settings(alloc, beside.plan(), course.seed)?;
     let number = stretch.first;
     let length = beside.plan().length();

@@ -51,11 +51,11 @@ impl Hasher for AllAlike {
     }
 }
 
-/// A gatherer that gathers no crowd: the thread of its first session cannot be started.
+/// Fails to run any crowd: the thread of the first session cannot be started.
 pub(crate) struct Unmanned;
 
 impl Crowds for Unmanned {
-    fn gathered(
+    fn gather(
         &self,
         _alloc: Global,
         _plan: &Arc<Plan>,
@@ -125,14 +125,15 @@ fn is_end(ended: &Result<Served, ServeFault>, end: End) -> bool {
     }
 }
 
-// Return whether a run over an input ends as expected, and writes this number of bytes of the replies.
-fn ends(alloc: Global, input: &str, run: &Run) -> Result<bool, Fail> {
+// Return whether a run over an input ends as expected, and writes this number of bytes of the replies. The sink takes at
+// most `step` bytes in each call.
+fn ends(alloc: Global, input: &str, run: &Run, step: usize) -> Result<bool, Fail> {
     let &(((lines, bytes), (piece, reads), (room, writes, flushes)), (end, written)) = run;
     if piece == 0 {
         return Ok(false);
     }
     let taken = Vec::with_capacity(alloc, 1000)?;
-    let mut writer = MemorySink::new(taken, room, writes, flushes);
+    let mut writer = MemorySink::new(taken, room, writes, flushes).with_step(step);
     let mut reader = MemorySource::new(input.as_bytes(), piece, reads);
     let ended = serve_within(
         alloc,
@@ -155,7 +156,28 @@ fn ends(alloc: Global, input: &str, run: &Run) -> Result<bool, Fail> {
 fn limits_and_faults(rt: HostRuntime) -> Result<(), Fail> {
     let input = format!(in rt.alloc(); "{FREE_ROAD}{COMMANDS}")?;
     for (number, run) in RUNS.iter().enumerate() {
-        assert!(rt; ends(rt.alloc(), &input, run)?, "run {number}");
+        assert!(rt; ends(rt.alloc(), &input, run, usize::MAX)?, "run {number}");
+    }
+    Ok(())
+}
+
+// A run, the most bytes that its sink takes in one call, and its end.
+const SHORT_WRITES: &[(usize, Run)] = pairs![
+    1 => (((3, 1000), (7, ALL), (1000, ALL, ALL)), (End::Whole, Some(53))),
+    5 => (((3, 1000), (1000, ALL), (1000, ALL, ALL)), (End::Whole, Some(53))),
+    5 => (((3, 1000), (1000, ALL), (14, ALL, ALL)), (End::Write, Some(14))),
+    // The third call fails, after two of five bytes.
+    5 => (((3, 1000), (1000, ALL), (1000, Failing::Once(2), ALL)), (End::Write, Some(10))),
+    // A sink that takes nothing fails.
+    0 => (((3, 1000), (7, ALL), (1000, ALL, ALL)), (End::Write, Some(0))),
+];
+
+// After a short write, the rest is written.
+#[test]
+fn short_writes_go_on(rt: HostRuntime) -> Result<(), Fail> {
+    let input = format!(in rt.alloc(); "{FREE_ROAD}{COMMANDS}")?;
+    for (number, (step, run)) in SHORT_WRITES.iter().enumerate() {
+        assert!(rt; ends(rt.alloc(), &input, run, *step)?, "run {number}");
     }
     Ok(())
 }
@@ -184,7 +206,7 @@ const CROWDS: &str = r#"{"crowd":{"form":2,"shares":[[["limit",0,0,1,3,1]]],"to"
 {"advance":{"at":"A","to":1}}
 "#;
 
-// A crowd that cannot be gathered ends the run. The crew was not used, and has not failed. A refused crowd starts
+// A crowd that cannot be run ends the run. The crew was not used, and has not failed. A refused crowd starts
 // nothing.
 #[test]
 fn a_crowd_without_threads(rt: HostRuntime) -> Result<(), Fail> {

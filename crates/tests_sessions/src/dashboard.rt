@@ -37,7 +37,7 @@ fn write<J: Naming, R: Wait + Drop, W: Wait>(
     Ok(wrote.receipt)
 }
 
-// Do so, and leave the news.
+// Do so, and leave the news for the dashboards.
 fn write_and_leave_news<J: Naming, R: Wait + Drop, W: Wait>(
     rt: &W,
     shared: &Shared<J, R>,
@@ -80,7 +80,7 @@ fn is_told<J: Naming, R: Wait + Drop, W: Wait>(
     Ok(shows(alloc, &sheet, BLOCKED_ROWS))
 }
 
-// Let the second one look, which is told nothing. It may be shown less, but never less than before.
+// Let the second dashboard look. It hears of no write, so it may be shown less, but never less than before.
 fn watch<J: Naming, R: Wait + Drop>(
     shared: &Shared<J, R>,
     session: &mut Session<J>,

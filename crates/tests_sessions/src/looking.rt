@@ -133,7 +133,7 @@ fn one_after_another<J: Naming + Send + Sync, R: Wait + Drop + Send, W: Threads 
     Ok(both(rt, shared, writer, reader))
 }
 
-// Return whether a session that was told nothing finds the finished write, while another one holds the lock.
+// Return whether a session that has heard of no write finds the finished one, while another session holds the lock.
 fn looks_meanwhile<J: Naming + Send + Sync, R: Wait + Drop + Send, W: Threads + Wait + Sync>(
     rt: &W,
     prepared: Prepared<R>,

@@ -156,7 +156,7 @@ fn totals_agree(
 }
 
 // Return whether the states agree with a new cache. The owner of a cache or a sheet has one way out.
-fn states_agree_anew(
+fn states_agree_with_new_cache(
     alloc: Global,
     sheet: &Sheet,
     straight: &Sheet,
@@ -167,7 +167,7 @@ fn states_agree_anew(
 }
 
 // Return whether the totals agree with a new cache.
-fn totals_agree_anew(
+fn totals_agree_with_new_cache(
     alloc: Global,
     sheet: &Sheet,
     straight: &Sheet,
@@ -190,8 +190,8 @@ fn sheets_agree(
     let from = dice.step().min(to);
     let detector = dice.below(2);
     Ok(
-        states_agree_anew(alloc, sheet, straight, dice.steps)?
-            && totals_agree_anew(alloc, sheet, straight, detector, (from, to))?,
+        states_agree_with_new_cache(alloc, sheet, straight, dice.steps)?
+            && totals_agree_with_new_cache(alloc, sheet, straight, detector, (from, to))?,
     )
 }
 

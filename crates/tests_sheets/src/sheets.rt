@@ -13,7 +13,7 @@ use tests_plans::{Counting, Parts, Running, plan_of};
 /// Who computes the steps of an extension, and counts them.
 #[derive(Clone, Copy)]
 pub(crate) enum Way {
-    /// A crew that is asked for the speeds of each step.
+    /// A crew that computes the speeds of each step.
     StepByStep,
     /// A crew that runs many steps at once.
     ByRuns,

@@ -29,13 +29,13 @@ AreCarsOf a cars =
     AreColumnsOf a (slice_range cars.cells.items cars.head cars.tail)
     (slice_range cars.speeds.items cars.head cars.tail) (slice_range cars.numbers.items cars.head cars.tail)
 
--- columns hold a list of cars from the first place on
+-- new columns hold a list of cars, from the first place on
 pub record HoldsCars (cars : List Car) (old new : CarColumns) : Type 0 where
   pub head : new.head ≡ 8
   pub tail : new.tail ≡ 8 + length cars
   pub cells_each : length new.cells.items ≡ length old.cells.items
 
--- the cars are moved to the first places of their columns, which stay as long
+-- the cars are moved to the first places of their columns, whose length stays the same
 pub record ShiftsBack (old new : CarColumns) : Type 0 where
   pub head : new.head ≡ 8
   pub tail : new.tail ≡ 8 + (old.tail - old.head)

@@ -5,8 +5,8 @@ use Rattle.road_detector.specs.Passes.{no_totals, plus}
 use Rattle.road_detector.specs.declared.counts.Totals.{Totals}
 use Rattle.road_columns.specs.Private.Sites.{IsOfSteps, unpacked}
 
--- before step t the count of each of n detectors is of the steps of its interval, and its totals are of the steps
--- before
+-- before step t, each of n detectors has its count of the steps of the current interval, and its totals of all steps
+-- before that interval
 pub record AreCounts (n t : ℕ) (passes : List ℕ) (totals : List Totals) : Type 0 where
   pub passes_each : length passes ≡ n
   pub totals_each : length totals ≡ n
@@ -14,10 +14,10 @@ pub record AreCounts (n t : ℕ) (passes : List ℕ) (totals : List Totals) : Ty
   pub cars_before : (d : ℕ) → d < n → (slice_index_or totals d no_totals).cars ≤ 64 * (t / 64)
   pub speeds_before : (d : ℕ) → d < n → (slice_index_or totals d no_totals).speeds ≤ 576 * (t / 64)
 
--- the totals of a detector, with its count in the interval
+-- the totals of a detector, its count in the interval included
 abbrev pub total_in : List ℕ → List Totals → ℕ → Totals
 total_in passes totals d = plus (slice_index_or totals d no_totals) (unpacked (slice_index passes d))
 
--- the totals of all detectors
+-- the totals of all detectors, their counts in the interval included
 abbrev pub totals_in : List ℕ → List Totals → List Totals
 totals_in passes totals = map (total_in passes totals) (range_with_len 0 (length totals))

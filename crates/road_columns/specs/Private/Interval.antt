@@ -20,7 +20,7 @@ pub record AreEntered (words : IntervalWords) (tail : ℕ) : Type 0 where
   pub rising : ArePlacesRising words.entered words.beside.items
   pub in_order : AreInOrder (entered_of_words words) tail
 
--- everything but the words of the cars stays, with as much room for these words
+-- nothing changes but the words of the cars, and there is as much room for them as before
 pub record KeepsRest (old new : IntervalWords) : Type 0 where
   pub source : new.source ≡ old.source
   pub drawn : new.drawn ≡ old.drawn
@@ -39,7 +39,8 @@ pub record CanKeep (words : IntervalWords) (place tail width : ℕ) : Type 0 whe
   pub room : words.entered < length words.beside.items
   pub entered : AreEntered words tail
 
--- the words of a car are kept: at most one more car has entered between others, and the columns end a place further
+-- the words of an entering car are kept: at most one more car has entered between others, and the columns end one place
+-- later
 pub record KeepsCar (old new : IntervalWords) (tail : ℕ) : Type 0 where
   pub rest : KeepsRest old new
   pub bound : new.entered ≤ old.entered + 1

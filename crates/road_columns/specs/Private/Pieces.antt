@@ -13,7 +13,7 @@ use Rattle.road_columns.specs.declared.step_words.StepWords.{StepWords}
 abbrev pub ahead_at : ℕ → ℕ → List ℕ → ℕ → ℕ
 ahead_at from front cells q = if nat_eq q from then front else slice_index cells (q - 1)
 
--- its speed by rules 1 and 2
+-- the speed of the car at a place by rules 1 and 2
 abbrev pub wanted_at : ℕ → ℕ → ℕ → List ℕ → List ℕ → ℕ → ℕ
 wanted_at from front limit cells speeds q =
     wanted_speed (slice_index speeds q) limit
@@ -28,8 +28,8 @@ pub record IsHigh16At (row : List ℕ) (index n : ℕ) (beside : List ℕ) (batc
       → slice_index row (q - m) ≡ high16
   pub own : (i : ℕ) → i < n → slice_index beside i ≡ q → slice_index (slice_index_or batches i []) index ≡ high16
 
--- a step has the words of the cars up to the end of a piece: a word in the row for each, and the places of the cars
--- that have entered between others
+-- a step has the words of the cars up to the end of a piece: enough words in its row, and the places of the cars that
+-- have entered between others
 pub record HaveWords (words : StepWords) (piece : Piece) : Type 0 where
   pub row : piece.to ≤ length words.row.now
   pub beside : piece.last ≤ length words.beside.now
@@ -37,8 +37,8 @@ pub record HaveWords (words : StepWords) (piece : Piece) : Type 0 where
   pub high : (i : ℕ) → i < piece.last → slice_index words.beside.now i < piece.to
   pub places : (i : ℕ) → i < piece.last → i ≤ slice_index words.beside.now i
 
--- among the cars that have entered between others, those before index `first` stand in front of a piece, and the next
--- ones in it
+-- of the cars that have entered between others, those before index `first` stand in front of a piece, and the next ones
+-- in it
 pub record BeginsAt (beside : List ℕ) (piece : Piece) : Type 0 where
   pub before : (i : ℕ) → i < piece.first → slice_index beside i < piece.from
   pub after : (i : ℕ) → piece.first ≤ i → i < piece.last → piece.from ≤ slice_index beside i

@@ -30,8 +30,8 @@ pub record IsOfRegion (count : ℕ) (ends : List ℕ) (r q : ℕ) : Type 0 where
   pub before_end : q < slice_index ends r
   pub from : r + 1 < count → slice_index ends (r + 1) ≤ q
 
--- the places of the first cars before this many regions, from `from` to `to`: the first region ends behind all cars,
--- and each later one in front of it
+-- `ends` has the places of the first cars before `count` regions, from `from` to `to`: the place of the first region is
+-- behind all cars, and that of each later region is in front of it
 pub record AreEndsOf (count from to : ℕ) (ends : List ℕ) : Type 0 where
   pub as_many : length ends ≡ count
   pub last : slice_index ends 0 ≡ to

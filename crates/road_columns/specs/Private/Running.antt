@@ -20,7 +20,7 @@ use Rattle.road_columns.specs.declared.interval.IntervalWords.{IntervalWords}
 use Rattle.road_columns.specs.declared.layout.Layout.{Layout}
 use Rattle.road_columns.specs.declared.under_way.UnderWay.TheInside.{Inside}
 
--- the run that callers see
+-- a run as callers see it
 abbrev pub run_of : Inside → UnderWay
 run_of x = record {
   plan = arc_value x.plan;
@@ -40,7 +40,7 @@ pub record IsLayout (g : Layout) : Type 0 where
   pub slowing_is : g.slowing ≡ false → AreFree g.regions.now
   pub sites_are : AreSitesOf g.plan.now g.regions.now g.sites.now
 
--- cars stand in columns, and the kept places of sites are right
+-- the columns hold the cars, and the stored places of the sites are right
 pub record AreStanding (p : Plan) (sites : List ℕ) (cars : CarColumns) (words : IntervalWords) : Type 0 where
   pub source_is : (stream place : ℕ) → drawn_word words.source stream place ≡ word p.words stream place
   pub inlets_each : length words.inlets.items ≡ length p.inlets
@@ -57,7 +57,7 @@ pub record AreReady (g : Layout) (first k n : ℕ) (cars : CarColumns) (words : 
   pub room_beside : words.entered + length g.plan.now.inlets ≤ length words.beside.items + n
   pub free : words.worded ≡ false → AreFree g.regions.now
 
--- the parts of a run agree before step t, on the cells from lo to before hi
+-- the parts of a run fit together before step t, on the cells from lo to before hi
 pub record AreRunning (p : Plan) (sites : List ℕ) (t lo hi : ℕ) (cars : CarColumns) (words : IntervalWords)
     (counts : Counts) : Type 0 where
   pub up_to : t ≤ GREATEST_HORIZON
@@ -67,7 +67,7 @@ pub record AreRunning (p : Plan) (sites : List ℕ) (t lo hi : ℕ) (cars : CarC
   pub counts_are : AreCounts (length p.detectors) t counts.passes.items counts.totals.items
   pub words_are : words.drawn ≡ true → HaveIntervalWords p (64 * (t / 64)) (t % 64) cars words
 
--- the parts of this run agree
+-- the parts of this run fit together
 pub record IsRunning (x : Inside) : Type 0 where
   pub within : IsWithinLimits (arc_value x.plan)
   pub fits : Fits (arc_value x.plan) (arc_value x.settings)

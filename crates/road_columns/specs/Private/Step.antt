@@ -34,8 +34,8 @@ pub record AreSitesOf (p : Plan) (regions : List Region) (sites : List ℕ) : Ty
   pub firsts : (r : ℕ) → r < length regions → slice_index sites (length p.inlets + length p.detectors + r)
       ≡ (region_at regions r).first
 
--- the first of the cars at the places from head to before tail leaves if it has reached the exit, and the next one is
--- the first then
+-- the first of the cars at the places from head to before tail leaves if it has reached the exit; then the next one is
+-- the first
 pub record LetsLeave (exit : ℕ) (cells cells' : List ℕ) (head result tail : ℕ) : Type 0 where
   pub from : head ≤ result
   pub to : result ≤ head + 1

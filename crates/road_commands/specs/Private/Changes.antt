@@ -62,6 +62,6 @@ made_answer w (events.Beyond r message) name =
 made_answer w event name = Refused refusals.NoMessage
 
 -- a refusal is answered, if it has an answer; else a crew's fault is passed on
-abbrev pub IsTold : Option Refusal → Result replies_declared.Answer CrewFault → Type 0
-IsTold refusal (Ok answer) = option_map Refused refusal ≡ Some (answer_view answer)
-IsTold refusal (Err lost) = refusal ≡ None
+abbrev pub AnswersRefusal : Option Refusal → Result replies_declared.Answer CrewFault → Type 0
+AnswersRefusal refusal (Ok answer) = option_map Refused refusal ≡ Some (answer_view answer)
+AnswersRefusal refusal (Err lost) = refusal ≡ None

@@ -31,14 +31,14 @@ abbrev pub works_from : ℕ → List (List Edit) → ℕ → List (ℕ × List E
 works_from n [] to = []
 works_from n (share ∷ shares) to = (n, share_entries n share to) ∷ works_from (n + 1) shares to
 
--- no named cause of the replica's stands against what a session writes: the edits of its share, and an advance
+-- the replica has no named cause to refuse the writes of a session: the edits of its share, and an advance
 abbrev pub IsAccepted : Plan → ℕ → List Edit → Type 0
 IsAccepted plan to share = (import_fault plan share ≡ None) × (advance_fault to ≡ None)
 
--- nor against what any session writes
+-- the replica has no named cause to refuse the writes of any session
 abbrev pub AreAccepted : Plan → ℕ → List (List Edit) → Type 0
 AreAccepted plan to shares = AllByRecursion (IsAccepted plan to) shares
 
--- why such a write is refused: the journal is full, or there was no memory
+-- a write that can only be refused because the journal is full or an allocation failed
 abbrev pub IsFullOrNoMemory : WriteFault → Type 0
 IsFullOrNoMemory fault = (fault ≡ JournalFull) ⊎ (fault ≡ OfReplica causes.OutOfMemory)

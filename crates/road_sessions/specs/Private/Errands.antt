@@ -1,4 +1,4 @@
--- What a command is answered, what it leaves of a replica, and what a session is replied that wished it.
+-- The parts of a write: the replica's answer to a command, the reply to the session, and the replica afterwards.
 use Rattle.std.specs.Prelude.{◌≡◌, max}
 use Rattle.std.specs.declared.option.Option.{Option}
 use Rattle.std.specs.declared.option.Option.TheVariants.{None, Some}
@@ -13,16 +13,16 @@ use Rattle.road_sessions.specs.declared.entry.Entry.{Entry}
 use Rattle.road_sessions.specs.declared.entry.SheetCommand.{SheetCommand}
 use Rattle.road_sessions.specs.declared.entry.SheetCommand.TheVariants.{Take, Advance}
 
--- what a replica answers to a command: the touched step, or the horizon
+-- the answer of a replica to a command: the touched step, or the horizon
 abbrev pub reply_to_command : SheetCommand → Replica → Reply
 reply_to_command (Take edits) r = Touched (touched_step r.sheet edits)
 reply_to_command (Advance to) r = Horizon (max r.sheet.horizon to)
 
--- the reply to a session: the stamp of the edit that was made, if one was, else the answer
+-- the reply to a session: the stamp of the edit, if the replica made one, else the replica's answer
 abbrev pub reply_with : Option Stamp → Reply → Reply
 reply_with (Some stamp) answer = Stamped stamp
 reply_with None answer = answer
 
--- the replica that an entry leaves, whose command its plan allows
+-- `next` is the replica after an entry whose command its plan allows
 abbrev pub IsNext : Replica → Entry → Replica → Type 0
 IsNext r e next = IsAllowed r.sheet.plan (entry_command e.command) × (next ≡ replica_after (entry_command e.command) r)

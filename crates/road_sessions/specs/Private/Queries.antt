@@ -1,4 +1,4 @@
--- What a session asks of the sheet that is published.
+-- Queries of the published sheet.
 use Rattle.std.specs.declared.option.Option.{Option}
 use Rattle.std.specs.declared.option.Option.TheVariants.{None}
 use Rattle.road_sheet.specs.Sheets.{Sheet, state_fault, totals_fault}
@@ -6,7 +6,7 @@ use Rattle.road_sheet.specs.declared.faults.SheetFault.{SheetFault}
 use Rattle.road_sessions.specs.declared.query.Query.{Query}
 use Rattle.road_sessions.specs.declared.query.Query.TheVariants.{Look, State, Totals}
 
--- the first named cause for which a sheet refuses what is asked of it
+-- the first named cause for which a sheet refuses a query
 abbrev pub query_fault : Query → Sheet → Option SheetFault
 query_fault Look s = None
 query_fault (State step) s = state_fault s step

@@ -55,7 +55,7 @@ abbrev pub IsRunAt : Span → Array → ℕ → ℕ → StretchAnswer → Type 0
 IsRunAt span a n w answer = IfOk answer
     (IsRunOf (cut span.plan.cells (cars_of a) n w) (cut span.plan.cells (cars_of a) n (w + 1)) span a)
 
--- one place for each worker, with its answer if that has come; so many stretches before theirs are the caller's own
+-- one place for each worker, with its answer if that has come; this many stretches before theirs are the caller's own
 abbrev pub AreRun : Span → Array → ℕ → List (Option StretchAnswer) → Type 0
 AreRun span a own places = AreRight (λ w. IsRunAt span a (own + length places) (own + w)) places
 

@@ -5,7 +5,7 @@ use Rattle.road_cells.specs.declared.car.TheConstants.{GREATEST_SPEED}
 use Rattle.road_ends.specs.Laws.{AgreeNear}
 use Rattle.road_ends.specs.Span.{Span}
 use Rattle.road_detector.specs.Passes.{no_totals, total_from}
-use Rattle.road_columns.specs.UnderWay.{UnderWay, nothing_counted, stepped}
+use Rattle.road_columns.specs.UnderWay.{UnderWay, zero_counts, run_after_step}
 use Rattle.road_workers.specs.Private.Stretches.{has_site, road_after, total_on}
 
 -- a run stands before the steps of a span, under its settings, on the cells from lo to before hi, with this road
@@ -17,14 +17,14 @@ pub record IsReady (lo hi : ℕ) (span : Span) (a : Array) (run : UnderWay) : Ty
   pub to : run.hi ≡ hi
   pub road : run.road ≡ a
 
--- a run whose counts begin anew
+-- a run whose counts are set to zero
 abbrev pub uncounted : UnderWay → UnderWay
-uncounted run = record run { totals = nothing_counted run.plan }
+uncounted run = record run { totals = zero_counts run.plan }
 
--- a run after so many more steps
+-- a run after k more steps
 abbrev pub after_steps : ℕ → UnderWay → UnderWay
 after_steps zero run = run
-after_steps (suc k) run = stepped (after_steps k run)
+after_steps (suc k) run = run_after_step (after_steps k run)
 
 -- k steps of a span are made on the whole road, from an array, and counted
 pub record IsWhole (span : Span) (k : ℕ) (a : Array) (run : UnderWay) : Type 0 where

@@ -21,7 +21,7 @@ use Rattle.road_workers.specs.declared.stretch.joining.Joined.{Joined}
 abbrev pub cars_between : ℕ → ℕ → Array → List Car
 cars_between lo hi a = cars_from lo (map (vehicle_at a) (range_with_len lo (hi - lo)))
 
--- the road after so many steps of a span, from the road before it
+-- the road after k steps of a span, from the road before it
 abbrev pub road_after : Span → ℕ → Array → Array
 road_after span k a = road_after_steps span.plan (λ _. span.settings) span.step k a
 
@@ -33,12 +33,12 @@ has_site lo hi p d = nat_le lo (slice_index p.detectors d) && nat_lt (slice_inde
 abbrev pub passes_on : ℕ → ℕ → StepInput → List ℕ → ℕ → Totals
 passes_on lo hi input speeds d = if has_site lo hi input.plan d then passes_at input speeds d else no_totals
 
--- what a detector counts in so many steps of a span, if its site is one of these cells; else nothing
+-- what a detector counts in k steps of a span, if its site is one of these cells; else nothing
 abbrev pub total_on : ℕ → ℕ → Span → ℕ → Array → ℕ → Totals
 total_on lo hi span k a d =
     if has_site lo hi span.plan d then total_from span.plan (λ _. span.settings) span.step k a d else no_totals
 
--- these are the totals of each detector, of so many steps of a span
+-- these are the totals of each detector in k steps of a span
 pub record AreTotalsOn (lo hi : ℕ) (span : Span) (k : ℕ) (a : Array) (totals : List Totals) : Type 0 where
   pub each : length totals ≡ length span.plan.detectors
   pub counted : (d : ℕ) → d < length totals → slice_index_or totals d no_totals ≡ total_on lo hi span k a d
@@ -58,7 +58,7 @@ abbrev pub IsRunnableNear : ℕ → ℕ → Span → Array → Type 0
 IsRunnableNear lo hi span near = IsRunnable (lo - GREATEST_SPEED * span.steps)
     (min (hi + GREATEST_SPEED * span.steps) span.plan.cells) span.plan near
 
--- where the stretch at place w of n begins, of a road of so many cells: at the car that has w n-th parts of the cars
+-- where the stretch at place w of n begins, of a road of this many cells: at the car that has w n-th parts of the cars
 -- behind it; the first begins with the road, and the last ends with it
 abbrev pub cut : ℕ → List Car → ℕ → ℕ → ℕ
 cut cells cars n w =

@@ -7,7 +7,7 @@ ghost use Rattle.road_ends.specs.Input.{input_speeds};
 ghost use Rattle.road_workers.specs.Private.Pieces.{piece_start};
 ghost use Rattle.road_workers.specs.Private.Gathered.{AreGathered, AreThere, IsMissing, TakesOne};
 
-use crate::piece::{Piece, PieceAnswer, appended};
+use crate::piece::{Piece, PieceAnswer, append};
 use crate::pool::job::PieceDone;
 use road_ends::StepInput;
 
@@ -70,7 +70,7 @@ pub(super) fn put_together(
 {
     let mut whole = Ok(whole);
     for place in places {
-        whole = appended(whole, place.unwrap());
+        whole = append(whole, place.unwrap());
     }
     whole
 }

@@ -94,7 +94,7 @@ impl PieceJob {
     }
 
     // Compute the piece.
-    pub fn done(self, alloc: Global) -> PieceDone
+    pub fn compute(self, alloc: Global) -> PieceDone
         ensures input { result.input ≡ self.input }
         ensures piece { result.piece ≡ self.piece }
     {
@@ -123,7 +123,7 @@ impl StretchJob {
     }
 
     // Run the stretch, in the run that the worker keeps.
-    pub fn done(self, alloc: Global, kept: &mut KeptRun) -> StretchDone
+    pub fn run(self, alloc: Global, kept: &mut KeptRun) -> StretchDone
         ensures span { result.span ≡ self.span }
         ensures near { result.near ≡ self.near }
         ensures stretch { result.stretch ≡ self.stretch }

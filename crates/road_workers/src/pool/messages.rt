@@ -23,7 +23,7 @@ pub(super) struct Inbox {
 }
 
 // Return why a job was not sent, if it was not: its worker has gone, or there was no memory for it.
-pub(super) fn sent(given: Result<(), SendError<Job>>) -> Result<(), CrewFault>
+pub(super) fn result_of_send(given: Result<(), SendError<Job>>) -> Result<(), CrewFault>
     ensures sent { given ≡ Ok tt → result ≡ Ok tt }
     ensures gone { (job : Job) → given ≡ Err (Send.Disconnected job) → result ≡ Err Fault.WorkersGone }
     ensures no_memory { (job : Job) → given ≡ Err (Send.OutOfMemory job) → result ≡ Err Fault.OutOfMemory }
@@ -35,8 +35,8 @@ pub(super) fn sent(given: Result<(), SendError<Job>>) -> Result<(), CrewFault>
     }
 }
 
-// Send so many workers a job each by this send, in their order, up to the first that is refused. Return how many were
-// sent, and why the next one was not. So the caller waits for no answer that nobody was asked for.
+// Send a job to each of the first `workers` workers, in their order, up to the first that is refused. Return how many
+// were sent, and why the next one was not. So the caller waits only for answers to jobs that were sent.
 pub(super) fn send_each<F: Fn(u32) -> Result<(), CrewFault>>(
     workers: u32,
     send: F,
@@ -61,11 +61,11 @@ pub(super) fn next_done<R: Wait>(rt: &R, inbox: &mut Inbox) -> Result<Done, Crew
     ensures { IfErr result (λ fault. fault ≡ Fault.WorkersGone) }
 {
     inbox.lookout.spin_for_message(&inbox.replies);
-    told(inbox.replies.recv(rt))
+    result_of_receive(inbox.replies.recv(rt))
 }
 
-// Return what was said, if anything was.
-fn told(heard: Result<Reply, RecvError>) -> Result<Done, CrewFault>
+// Return the finished job that was received, or that a worker or all workers have gone.
+fn result_of_receive(heard: Result<Reply, RecvError>) -> Result<Done, CrewFault>
     ensures done { (done : Done) → heard ≡ Ok (Said.Done done) → result ≡ Ok done }
     ensures one_gone { heard ≡ Ok Said.Gone → result ≡ Err Fault.WorkersGone }
     ensures all_gone { (silence : RecvError) → heard ≡ Err silence → result ≡ Err Fault.WorkersGone }

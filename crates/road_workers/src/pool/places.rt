@@ -6,7 +6,7 @@ ghost use Rattle.road_workers.specs.Private.Gathered.{AreMissing, AreThere};
 use road_ends::OutOfMemory;
 use std::alloc::Global;
 
-// Make one place for each worker, none of which has answered yet.
+// Make one place for each worker. None has answered yet.
 pub(super) fn places_for<A: Drop>(
     alloc: Global,
     workers: u32,
@@ -21,7 +21,7 @@ pub(super) fn places_for<A: Drop>(
     Ok(places)
 }
 
-// Return whether so many workers, from the first on, have answered.
+// Return whether the first `workers` workers have answered.
 pub(super) fn are_there<A>(places: &[Option<A>], workers: u32) -> bool
     requires { workers ≤ length places.now }
     ensures { IsTrue result → AreThere workers places.now }

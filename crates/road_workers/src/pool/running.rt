@@ -14,12 +14,12 @@ ghost use Rattle.road_workers.specs.declared.faults.CrewFault.TheVariants as Fau
 use crate::faults::CrewFault;
 use crate::kept_run::KeptRun;
 use crate::pool::job::{Done, Job, StretchAnswer, StretchJob};
-use crate::pool::messages::{Inbox, next_done, send_each, sent};
+use crate::pool::messages::{Inbox, next_done, result_of_send, send_each};
 use crate::pool::places::{are_there, places_for};
 use crate::pool::sharing::{Shares, is_shared};
 use crate::pool::side_by_side::{accept_run, put_side_by_side};
 use crate::pool::{Pool, Worker};
-use crate::stretch::joining::{Joined, first_joined, nothing_joined, ran_of};
+use crate::stretch::joining::{Joined, join_first, join_none, whole_run};
 use crate::stretch::{road_near, run_stretch, stretch_at};
 use crate::whole::run_alone;
 use road_cells::Road;
@@ -61,7 +61,7 @@ impl<R: Wait> Pool<R> {
         }
         let shares = Shares { span, road, own };
         let joined = self.run_side_by_side(alloc, shares, kept)?;
-        Ok(Some(ran_of(span, road, cells, joined)))
+        Ok(Some(whole_run(span, road, cells, joined)))
     }
 
     // Run a span by the stretches of all workers, and the caller's own.
@@ -85,16 +85,16 @@ impl<R: Wait> Pool<R> {
         let (jobs, sent) = send_each(count, |worker| {
             send_stretch(rt, alloc, shares, workers, worker)
         });
-        let front = own_run(alloc, shares, count, kept);
+        let front = run_own_stretch(alloc, shares, count, kept);
         let taken = take_stretches(rt, &mut self.inbox, &mut places, jobs, shares);
-        let front = all_ran(taken, sent, front)?;
+        let front = check_answers(taken, sent, front)?;
         Ok(put_side_by_side(shares, front, places)?)
     }
 }
 
 // Return what the caller's stretch came to, if each worker was sent its own and has answered. A lost worker is named
 // before all else, and why a job was not sent before a want of memory of the caller.
-fn all_ran(
+fn check_answers(
     taken: Result<(), CrewFault>,
     sent: Result<(), CrewFault>,
     front: Result<Joined, OutOfMemory>,
@@ -126,12 +126,12 @@ fn send_stretch<R: Wait>(
     let near = road_near(alloc, span, road, stretch)?;
     let job = StretchJob::new(span.copied()?, near, stretch);
     let jobs = &workers[worker as usize].jobs;
-    sent(jobs.send(rt, Job::Stretch(job)))
+    result_of_send(jobs.send(rt, Job::Stretch(job)))
 }
 
-// Run the caller's stretch, in front of those of so many workers, in the run that is lent to it. If it has none, that
-// is nothing.
-fn own_run(
+// Run the caller's stretch, in front of those of the workers, in the run that is lent to it. If the caller has none,
+// return no cars and no counts.
+fn run_own_stretch(
     alloc: Global,
     shares: Shares,
     workers: u32,
@@ -146,14 +146,14 @@ fn own_run(
 {
     let Shares { span, road, own } = shares;
     if own == 0 {
-        return nothing_joined(alloc, span);
+        return join_none(alloc, span);
     }
     let first = stretch_at(road, span.plan().length(), own + workers, 0);
     let ran = run_stretch(alloc, span, road, first, kept)?;
-    Ok(first_joined(ran, first.end))
+    Ok(join_first(ran, first.end))
 }
 
-// Take what so many workers, from the first on, answer for this span. What comes twice or from elsewhere is dropped.
+// Take what the first `workers` workers answer for this span. Duplicates and other answers are dropped.
 fn take_stretches<R: Wait>(
     rt: &R,
     inbox: &mut Inbox,

@@ -15,8 +15,8 @@ const HAND_OVER: u64 = 40_000;
 // How many cells behind a stretch and ahead of it are run with it, for each step of the span.
 const MARGINS: u64 = 18;
 
-// Return whether a span of a road of so many cars is run by so many stretches, for which there are processors: if each
-// takes four fifths at most of what one thread takes alone, with what is near it and its way to a worker.
+// Return whether a span of a road is run by `stretches` stretches, for which there are processors: if each takes
+// four fifths at most of what one thread takes alone, with what is near it and its way to a worker.
 // `bench/time-workers` measures it.
 pub(super) fn is_shared(cars: usize, cells: u32, steps: u32, stretches: u32) -> bool {
     let alone = u64::from(steps).saturating_mul(cars as u64);
@@ -38,7 +38,7 @@ pub(super) struct Shares<'a> {
 }
 
 impl<'a> Shares<'a> {
-    // Return the stretch of a worker, of so many.
+    // Return the stretch of a worker among `workers` workers.
     pub(super) fn stretch_of(self, workers: u32, worker: u32) -> Stretch
         requires own { self.own ≤ 1 }
         requires few { workers ≤ MOST_WORKERS }

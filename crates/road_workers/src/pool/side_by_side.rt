@@ -8,7 +8,7 @@ ghost use Rattle.road_workers.specs.Private.Stretches.{IsJoined, IsRunOf, cut};
 
 use crate::pool::job::{StretchAnswer, StretchDone};
 use crate::pool::sharing::Shares;
-use crate::stretch::joining::{Joined, beside, with_room};
+use crate::stretch::joining::{Joined, join_next, with_room};
 use crate::stretch::{is_near, stretch_at};
 use road_cells::Road;
 use road_ends::{OutOfMemory, Span, Stretch};
@@ -144,5 +144,5 @@ fn put_behind(
     prove!(span.steps() <= GREATEST_HORIZON);
     let front = front?;
     let next = next?;
-    beside(span, road, stretch, front, next)
+    join_next(span, road, stretch, front, next)
 }

@@ -34,7 +34,7 @@ pub(super) fn processors_of<R: Threads>(rt: &R) -> u32 {
 }
 
 impl Lookout {
-    // Return how each of so many threads looks on so many processors: not at all if they have none each, for a
+    // Return how each thread looks if `threads` threads share the processors: not at all if they have none each, for a
     // spinning thread would keep another one from its work.
     pub fn of(threads: u32, processors: u32) -> Lookout {
         let has_own = threads <= processors;

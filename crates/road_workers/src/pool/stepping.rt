@@ -13,7 +13,7 @@ use crate::piece::{Piece, PieceAnswer, cars_in, list_for};
 use crate::pool::Worker;
 use crate::pool::gathering::{accept, put_together};
 use crate::pool::job::{Done, Job, PieceJob};
-use crate::pool::messages::{Inbox, next_done, send_each, sent};
+use crate::pool::messages::{Inbox, next_done, result_of_send, send_each};
 use crate::pool::places::{are_there, places_for};
 use road_ends::StepInput;
 use std::alloc::Global;
@@ -58,10 +58,10 @@ fn send_job<R: Wait>(
     let piece = Piece::of(worker, workers.len() as u32, cars);
     let job = PieceJob::new(Arc::try_clone(input)?, piece);
     let jobs = &workers[worker as usize].jobs;
-    sent(jobs.send(rt, Job::Piece(job)))
+    result_of_send(jobs.send(rt, Job::Piece(job)))
 }
 
-// Take what so many workers, from the first on, answer for this step. What comes twice or from elsewhere is dropped.
+// Take what the first `workers` workers answer for this step. Duplicates and other answers are dropped.
 fn take_pieces<R: Wait>(
     rt: &R,
     inbox: &mut Inbox,

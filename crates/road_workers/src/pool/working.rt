@@ -76,17 +76,17 @@ fn answer_job<R: Wait, F: Fn(Reply) -> Result<(), SendError<Reply>>>(
     ensures nobody { IsFalse result → (done : Done) × IsAnswerTo job done
         × F.post send (Said.Done done) (Err (Disconnected (Said.Done done))) }
 {
-    let done = result_of(job, alloc, kept);
+    let done = do_job(job, alloc, kept);
     deliver(rt, Reply::Done(done), send)
 }
 
 // Do a job. The worker keeps a run.
-fn result_of(job: Job, alloc: Global, kept: &mut KeptRun) -> Done
+fn do_job(job: Job, alloc: Global, kept: &mut KeptRun) -> Done
     ensures { IsAnswerTo job result }
 {
     match job {
-        Job::Piece(job) => Done::Piece(job.done(alloc)),
-        Job::Stretch(job) => Done::Stretch(job.done(alloc, kept)),
+        Job::Piece(job) => Done::Piece(job.compute(alloc)),
+        Job::Stretch(job) => Done::Stretch(job.run(alloc, kept)),
     }
 }
 

@@ -22,7 +22,7 @@ pub(crate) struct Joined {
 }
 
 // Make what no stretch at all comes to, before the first cell.
-pub(crate) fn nothing_joined(alloc: Global, span: &Span) -> Result<Joined, OutOfMemory>
+pub(crate) fn join_none(alloc: Global, span: &Span) -> Result<Joined, OutOfMemory>
     ensures { IfOk result (λ joined. (a : Array) → IsJoined 0 span.now a joined) }
 {
     let detectors = span.plan().detectors().len();
@@ -34,7 +34,7 @@ pub(crate) fn nothing_joined(alloc: Global, span: &Span) -> Result<Joined, OutOf
 
 // Begin with what the first stretch comes to, which ends before a cell: its list of cars is kept, without those that
 // stand farther on.
-pub(crate) fn first_joined(ran: SpanResult, end: u32) -> Joined
+pub(crate) fn join_first(ran: SpanResult, end: u32) -> Joined
     ensures { (span : Span) (a : Array) → IsRunOf 0 end span a ran → IsJoined end span a result }
 {
     let SpanResult { road, totals } = ran;
@@ -44,7 +44,7 @@ pub(crate) fn first_joined(ran: SpanResult, end: u32) -> Joined
     Joined { cars, totals }
 }
 
-// Make room for so many more cars.
+// Make room for more cars.
 pub(crate) fn with_room(joined: Joined, more: usize) -> Result<Joined, OutOfMemory>
     ensures { (end : ℕ) (span : Span) (a : Array) → IsJoined end span a joined → IfOk result (IsJoined end span a) }
 {
@@ -54,7 +54,7 @@ pub(crate) fn with_room(joined: Joined, more: usize) -> Result<Joined, OutOfMemo
 }
 
 // Put what a stretch comes to behind what those before it come to: of each of its cars a copy.
-pub(crate) fn beside(
+pub(crate) fn join_next(
     span: &Span,
     road: &Road,
     stretch: Stretch,
@@ -93,7 +93,7 @@ fn add(totals: &mut Vec<Totals>, others: &[Totals])
 }
 
 // Make the road of what all its stretches come to, after a step at least.
-pub(crate) fn ran_of(span: &Span, road: &Road, cells: u32, joined: Joined) -> SpanResult
+pub(crate) fn whole_run(span: &Span, road: &Road, cells: u32, joined: Joined) -> SpanResult
     requires some { 0 < span.now.steps }
     requires cells { cells ≡ span.now.plan.cells }
     requires within { IsWithinLimits span.now.plan }

@@ -23,18 +23,18 @@ pub record IsReplicaOf (plan : Plan) (number : ℕ) (replica : Replica) : Type 0
   pub plan_is : replica.sheet.plan ≡ plan
   pub sheet : IsSheet replica.sheet
 
--- no edit of a set exceeds another, and all are in the plan and its ranges
+-- edits that may be sent: no edit exceeds another, and all fit the plan
 pub record AreSendable (plan : Plan) (edits : Edits) : Type 0 where
   pub winners : AreWinners edits
   pub in_range : AreInRange plan edits
 
--- a message carries edits that may be sent; heads have no condition
+-- a message that may be sent: it carries edits that may be sent, or heads
 abbrev pub IsSendable : Plan → Message → Type 0
 IsSendable plan (Whole edits) = AreSendable plan edits
 IsSendable plan (Answer edits) = AreSendable plan edits
 IsSendable plan (Asked hs) = Unit {0}
 
--- each replica has its place as its number, they are at most as many as allowed, and each message may be sent
+-- the replicas are numbered by their places, there are not too many, and each message may be sent
 pub record IsWorldKept (plan : Plan) (replicas : List Replica) (messages : List Message) : Type 0 where
   pub few : length replicas ≤ MOST_REPLICAS
   pub each : (number : ℕ) (replica : Replica) → slice_get replicas number ≡ Some replica →

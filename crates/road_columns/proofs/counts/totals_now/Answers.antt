@@ -1,4 +1,4 @@
--- One more total.
+-- Each turn appends the total of one more detector.
 use Rattle.std.proofs.Common.{◌∙◌, ◌++◌, [], ◌∷◌, sym, arith}
 use Rattle.std.proofs.lemmas.List.FromFn.{map-range_with_len_more}
 use Rattle.road_columns.specs.Private.Counts.{total_in}

@@ -1,4 +1,4 @@
--- The cells of the zones so far.
+-- The cells of the zones visited so far are alike.
 use Rattle.std.proofs.Common.{◌+◌, ◌*◌, ◌/◌, ◌<◌, arith}
 use Rattle.std.proofs.Math.Nat.{div-lt_iff_lt-mul, mul-le-mul_right}
 use Rattle.road_columns.proofs.cutting.alike_end.Goals as goal

@@ -1,4 +1,4 @@
--- One more region, up to the exit.
+-- Each turn adds one more region, until the exit is reached.
 use Rattle.std.proofs.Common.{◌<◌, ◌≤◌, sym, subst, arith}
 use Rattle.road_plan.specs.Plan.{exit_start}
 use Rattle.road_columns.proofs.RegionsCut.{AreRegionsUpTo, all_regions, one_more}

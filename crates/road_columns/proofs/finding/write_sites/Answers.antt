@@ -1,4 +1,4 @@
--- Part by part, each behind those before it.
+-- Each part is written behind the parts before it.
 use Rattle.std.proofs.Common.{◌≡◌, ◌∙◌, ◌+◌, ℕ, List, length, slice_index, sym, ap, arith}
 use Rattle.std.specs.List.{slice_index_or}
 use Rattle.road_columns.proofs.finding.write_sites.Goals as goal

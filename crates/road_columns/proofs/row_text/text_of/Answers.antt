@@ -14,7 +14,7 @@ use Rattle.road_columns.proofs.Refilled.{refilled}
 use Rattle.road_columns.proofs.RowsMarked.{digits_of, row_marked}
 use Rattle.road_columns.proofs.row_text.text_of.Goals as goal
 
--- what is said of an accepted text is said of that text
+-- a fact about an accepted text is a fact about its bytes
 told : {E : Type 0} (r : Result (String Global) E) (text : String Global) (bytes : Vec ℕ Global) → r ≡ Ok text → IfOk r (λ t. string_vec t ≡ bytes) → string_vec text ≡ bytes
 told r text bytes is ok = subst (λ r. IfOk r (λ t. string_vec t ≡ bytes)) is ok
 

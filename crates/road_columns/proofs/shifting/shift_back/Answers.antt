@@ -1,4 +1,4 @@
--- What stood at the places from the head on stands at the first ones.
+-- The values at the places from the head on are now at the first places.
 use Rattle.std.proofs.Common.{◌≡◌, ◌∙◌, ◌+◌, ◌-◌, length, slice_index, ap, arith, refl}
 use Rattle.road_columns.proofs.Refilled.{refilled}
 use Rattle.road_columns.proofs.ShiftedColumns.{cars_shifted, closed, closed-behind, closed-front, closed-kept, closed-long, columns_shifted, places_shifted}

@@ -1,4 +1,4 @@
--- Lane by lane.
+-- Each lane of the result is computed from the lanes of the arguments, so the lanes are compared one by one.
 use Rattle.std.proofs.Common.{◌≡◌, ◌+◌, ◌/◌, ◌%◌, [], ◌∷◌, ◌++◌, slice_index, get_or, arith}
 use Rattle.road_columns.proofs.Eights.{each_of_eight}
 use Rattle.road_columns.proofs.TurnedRows.{on_left, on_right}

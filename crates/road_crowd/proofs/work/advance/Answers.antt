@@ -1,4 +1,4 @@
--- No named cause stands against an advance within the limit, so it is refused for a full journal or out of memory.
+-- No named cause applies to an advance within the limit, so it is refused only for a full journal or out of memory.
 use Rattle.road_crowd.proofs.CrowdRefusals.{refused_there}
 use Rattle.road_crowd.proofs.work.advance.Goals as goal
 

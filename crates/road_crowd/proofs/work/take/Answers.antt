@@ -1,4 +1,5 @@
--- No named cause stands against an edit that fits the plan, so its write is refused for a full journal or out of memory.
+-- No named cause applies to an edit that fits the plan, so its write is refused only for a full journal or out of
+-- memory.
 use Rattle.std.proofs.Common.{◌∙◌, ap}
 use Rattle.road_plan.specs.Plan.{Plan}
 use Rattle.road_scenario.specs.Edits.{Edits}

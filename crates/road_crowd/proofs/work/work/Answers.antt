@@ -1,4 +1,4 @@
--- No named cause stands against an edit of a share that is accepted.
+-- No named cause applies to an edit of an accepted share.
 use Rattle.road_crowd.proofs.CrowdRefusals.{edit_of_share}
 use Rattle.road_crowd.proofs.work.work.Goals as goal
 

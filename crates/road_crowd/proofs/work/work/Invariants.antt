@@ -1,4 +1,4 @@
--- What holds while a session takes the edits of its share: those before are written, and nothing else.
+-- The loop in which a session takes the edits of its share: exactly the edits so far are written.
 use Rattle.std.proofs.Common.{◌≡◌, take}
 use Rattle.road_sessions.specs.Merges.{entries_written}
 use Rattle.road_crowd.specs.Private.Works.{takes_of}

@@ -1,4 +1,4 @@
--- A draft of the joined scenario, simulated to the greater horizon, is the grown sheet, by so many steps at most.
+-- A draft of the joined scenario, simulated to the greater horizon, is the grown sheet, by at most the allowed number of steps.
 use Rattle.std.proofs.Common.{◌≡◌, ◌∙◌, ◌-◌, max, ap, arith}
 use Rattle.road_sheet.specs.Drafts.{draft_start}
 use Rattle.road_sheet.specs.Sheets.{Sheet}

@@ -1,4 +1,4 @@
--- All shares of the ledger count as many writes as the journal has entries, so it is just what the sessions wrote.
+-- The shares of the ledger count as many writes as the journal has entries, so the journal is exactly what they wrote.
 use Rattle.std.proofs.Common.{◌≡◌, List, length, sym, ap, subst, arith}
 use Rattle.std.specs.List.{AllByRecursion}
 use Rattle.road_sessions.specs.Closings.{AreApart, IsWrittenBy, write_count}

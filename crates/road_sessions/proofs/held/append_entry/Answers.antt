@@ -1,4 +1,4 @@
--- What is published has the entry behind the history.
+-- The published history is the history before with the entry appended.
 use Rattle.std.proofs.Common.{rules}
 use Rattle.road_sessions.proofs.held.append_entry.Goals as goal
 

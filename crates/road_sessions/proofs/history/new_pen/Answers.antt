@@ -1,4 +1,4 @@
--- Whatever the logbook is, there may be a pen more.
+-- In any logbook one more pen can be made.
 use Rattle.std.proofs.Common.{◌∙◌, ap, sym}
 use Rattle.road_sessions.proofs.AppendedEntries.{may_make_pen}
 use Rattle.road_sessions.proofs.history.new_pen.Goals as goal

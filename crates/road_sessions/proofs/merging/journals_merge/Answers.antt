@@ -1,4 +1,4 @@
--- By recursion on the journal: its plan, its edits and its horizon.
+-- Plan, edits and horizon are proved separately, each by recursion on the journal.
 use Rattle.road_sessions.proofs.MergedJournals.{sheet_of_replay}
 use Rattle.road_sessions.proofs.merging.journals_merge.Goals as goal
 

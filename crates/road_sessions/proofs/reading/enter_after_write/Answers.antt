@@ -1,4 +1,4 @@
--- The rule of the store lets a reader in after its session's write.
+-- The rule of the store lets a reader enter after its session's write.
 use Rattle.road_sessions.proofs.StoreRule.{may_enter_after_write}
 use Rattle.road_sessions.proofs.reading.enter_after_write.Goals as goal
 

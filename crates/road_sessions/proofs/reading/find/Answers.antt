@@ -1,4 +1,4 @@
--- What was found goes on from what the session had seen, with a sheet or without one.
+-- What was found extends what the session had seen, whether the sheet can be shared or not.
 use Rattle.std.proofs.Common.{◌<◌, List, ap, arith, inl, inr, length, refl, subst, sym}
 use Rattle.std.specs.Prelude.{IfErr}
 use Rattle.left_right.specs.Sides.{view}

@@ -1,4 +1,4 @@
--- The rule of the store holds of its writer alone, which has found nothing yet.
+-- A new store has only its writer, and nobody has found anything yet, so its rule holds.
 use Rattle.std.proofs.Common.{[], sym}
 use mathlib.Core.Option.{some-ne-none}
 use Rattle.road_sessions.proofs.StoreRule.{admits_new_view}

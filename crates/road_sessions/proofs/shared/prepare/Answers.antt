@@ -1,4 +1,4 @@
--- The replica is the one of that number.
+-- The replica has the given number.
 use Rattle.road_sessions.proofs.shared.prepare.Goals as goal
 
 pub returns-clause-replica : goal.returns-clause-replica

@@ -1,4 +1,4 @@
--- What the loop keeps that waits for memory: nothing is handed over yet.
+-- The loop that waits for memory: nothing is handed over yet.
 use Rattle.std.proofs.Common.{◌≡◌, drop}
 use Rattle.road_sessions.proofs.store.hand_over.Given as goal
 

@@ -1,4 +1,4 @@
--- What is kept for the settings is computed again, with the places of the sites.
+-- Everything stored for the settings is computed again, with the places of the sites.
 use Rattle.std.proofs.Common.{◌≡◌, sym, ap, subst}
 use Rattle.std.proofs.Math.Path.{transport}
 use Rattle.std.specs.Arc.{arc_value}

@@ -2,7 +2,7 @@
 use Rattle.std.proofs.Common.{◌≡◌, ◌∙◌, length, sym, ap, arith}
 use Rattle.std.proofs.Math.Path.{transport}
 use Rattle.std.specs.Arc.{arc_value}
-use Rattle.road_columns.specs.UnderWay.{UnderWay, nothing_counted}
+use Rattle.road_columns.specs.UnderWay.{UnderWay, zero_counts}
 use Rattle.road_columns.specs.Private.Cars.{road_of}
 use Rattle.road_columns.specs.Private.Counts.{AreCounts, totals_in}
 use Rattle.road_columns.proofs.Refilled.{refilled}
@@ -63,5 +63,5 @@ returns c =
       lo = run.lo;
       hi = run.hi;
       road = run.road;
-      totals = nothing_counted run.plan;
+      totals = zero_counts run.plan;
     }) c.self.view_is

@@ -1,4 +1,4 @@
--- The speeds of its cars are digits.
+-- The speeds of the run's cars are digits, so the road has a row.
 use Rattle.road_columns.specs.Private.Cars.{road_of}
 use Rattle.road_columns.proofs.StretchSteps.{digits}
 use Rattle.road_columns.proofs.under_way.UnderWay.row.Goals as goal

@@ -1,4 +1,4 @@
--- The parts after a step.
+-- After a step the parts of the run fit together again, and the run that callers see is the next one.
 use Rattle.std.proofs.Common.{◌≡◌, ◌≤◌, ◌∙◌, ◌+◌, List, length, map, min, sym, ap, subst, slice_index_or, arith}
 use Rattle.std.specs.List.{range_with_len}
 use Rattle.std.specs.Arc.{arc_value}
@@ -8,7 +8,7 @@ use Rattle.road_ends.specs.Input.{StepInput, input_next, input_speeds}
 use Rattle.road_ends.specs.EntriesBetween.{input_between}
 use Rattle.road_detector.specs.Passes.{no_totals, passes_at, plus}
 use Rattle.road_detector.specs.declared.counts.Totals.{Totals}
-use Rattle.road_columns.specs.UnderWay.{stepped}
+use Rattle.road_columns.specs.UnderWay.{run_after_step}
 use Rattle.road_columns.specs.Private.Cars.{road_of}
 use Rattle.road_columns.specs.Private.Counts.{totals_in}
 use Rattle.road_columns.specs.Private.Interval.{HaveRoom}
@@ -17,7 +17,7 @@ use Rattle.road_columns.proofs.IntervalStarts.{few_cars}
 use Rattle.road_columns.proofs.LongerColumns.{on_err, road_longer, running_longer}
 use Rattle.road_columns.proofs.under_way.UnderWay.step.Goals as goal
 
--- what is counted after a step of an input
+-- the totals after a step of an input
 abbrev counted : StepInput → List Totals → List Totals
 counted input totals = map (λ d. plus (slice_index_or totals d no_totals) (passes_at input (input_speeds input) d)) (range_with_len 0 (length totals))
 
@@ -66,8 +66,8 @@ returns-in_err-make_room-clause-err c =
     })
     ∙ c.self.view_is)
 
-pub returns-clause-stepped : goal.returns-clause-stepped
-returns-clause-stepped c =
+pub returns-clause-run_after_step : goal.returns-clause-run_after_step
+returns-clause-run_after_step c =
     let x = c.self.inside in
     let r = c.run_step in
     let inside : c.self.inside.cars.tail ≤ length c.self.inside.cars.cells.items = let within = c.self.invariant.running.standing.cars_are.inside in omega arith in
@@ -82,4 +82,4 @@ returns-clause-stepped c =
       road = (r.ensures.road ∙ (λ k. input_next (input_between x.stretch.first x.stretch.end (c.deref-2.ensures k) (c.deref-3.ensures k) x.step (same k)))) j;
       totals = (r.ensures.totals ∙ (λ k. counted (input_between x.stretch.first x.stretch.end (c.deref-2.ensures k) (c.deref-3.ensures k) x.step (same k)) (totals_in x.counts.passes.items x.counts.totals.items))) j;
     })
-    ∙ ap stepped c.self.view_is
+    ∙ ap run_after_step c.self.view_is

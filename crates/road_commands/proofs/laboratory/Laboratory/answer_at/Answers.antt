@@ -1,8 +1,10 @@
 -- An import is the event of its edits, the name of a message is its text, a query uses no crew, and a command that is
 -- not a crowd gathers none.
-use Rattle.std.proofs.Common.{subst}
-use Rattle.road_commands.proofs.NamedReplicas.{of_outcome}
+use Rattle.std.proofs.Common.{IsSome, rules, subst}
+use Rattle.road_commands.proofs.NamedReplicas.{of_outcome, of_query}
 use Rattle.road_commands.proofs.Outcomes.{import_is}
+use Rattle.road_format.specs.CommandGrammar.{query_of}
+use Rattle.road_format.specs.Views.{command_view}
 use Rattle.road_commands.specs.Laboratory.{Outcome}
 use Rattle.road_commands.specs.Private.Outcomes.{IsOutcome}
 use Rattle.road_commands.proofs.laboratory.Laboratory.answer_at.Goals as goal
@@ -24,17 +26,7 @@ returns-in-Beyond g c = rw c.in-Beyond.is (of_outcome _ _ _ _ _ _ (rw c.deref.en
 pub returns-in-Take : goal.returns-in-Take
 returns-in-Take g c = rw c.in-Take.is (of_outcome _ _ _ _ _ _ (rw c.deref-in-Take.ensures at c.take.ensures))
 
-pub returns-in-Cells : goal.returns-in-Cells
-returns-in-Cells g c = rw c.in-Cells.is (of_outcome _ _ _ _ _ _ (c.ask.ensures (g.C.Crew.times_gone c.args.crew.now)))
-
-pub returns-in-Cars : goal.returns-in-Cars
-returns-in-Cars g c = rw c.in-Cars.is (of_outcome _ _ _ _ _ _ (c.ask-in-Cars.ensures (g.C.Crew.times_gone c.args.crew.now)))
-
-pub returns-in-Count : goal.returns-in-Count
-returns-in-Count g c = rw c.in-Count.is (of_outcome _ _ _ _ _ _ (c.ask-in-Count.ensures (g.C.Crew.times_gone c.args.crew.now)))
-
-pub returns-in-Diagram : goal.returns-in-Diagram
-returns-in-Diagram g c = rw c.in-Diagram.is (of_outcome _ _ _ _ _ _ (c.ask-in-Diagram.ensures (g.C.Crew.times_gone c.args.crew.now)))
-
-pub returns-in-Scenario : goal.returns-in-Scenario
-returns-in-Scenario g c = rw c.in-Scenario.is (of_outcome _ _ _ _ _ _ (c.ask-in-Scenario.ensures (g.C.Crew.times_gone c.args.crew.now)))
+pub returns-in_default : goal.returns-in_default
+returns-in_default g c =
+    let asks : IsSome (query_of (command_view c.args.command)) = search rules in
+    of_query c.args.self.now c.args.at (command_view c.args.command) _ _ _ asks (c.ask.ensures (g.C.Crew.times_gone c.args.crew.now))

@@ -1,4 +1,4 @@
--- The replica was just opened, so what the journal leaves are its edits merged.
+-- The replica was opened without edits, so replaying the journal leaves exactly its merged edits.
 use Rattle.std.proofs.Common.{◌∙◌, ap}
 use Rattle.road_replica.specs.Replicas.{Replica}
 use Rattle.road_sessions.proofs.MergedJournals.{sheet_of_opened}

@@ -1,4 +1,5 @@
--- What the loop that makes the sessions keeps: they have seen and written nothing, and a part of the ledger is left for each one to come.
+-- The loop that makes the sessions: they have seen and written nothing, and each session to come has a part of the
+-- ledger.
 use Rattle.std.proofs.Common.{◌≡◌, ◌+◌, length}
 use Rattle.road_sessions.specs.Sessions.{AreNewSessions}
 use Rattle.road_sessions.proofs.held.Held.new_sessions.Given as goal

@@ -1,4 +1,4 @@
--- An accepted command ticks no more often than a refused one may.
+-- An accepted command counts no more steps than a refused one may.
 use Rattle.std.proofs.Common.{subst}
 use Rattle.road_rewind.specs.Growth.{TicksAtMost}
 use Rattle.road_replica.specs.Replicas.{Replica}

@@ -1,4 +1,4 @@
--- The plan of the replica that is held is that of the replica which was opened.
+-- The stored replica has the plan of the replica that was opened.
 use Rattle.std.proofs.Common.{◌≡◌, ◌∙◌, ap, subst}
 use Rattle.road_plan.specs.Plan.{Plan}
 use Rattle.road_replica.specs.Replicas.{Replica}

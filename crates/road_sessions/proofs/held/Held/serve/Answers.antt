@@ -1,5 +1,5 @@
--- What a session has seen is a prefix of the journal, so its accepted write is one of a legal history, and a refused one
--- is refused behind that.
+-- What a session has seen is a prefix of the journal. So its accepted write extends a legal history, and its refused
+-- write is refused after one.
 use Rattle.std.proofs.Common.{◌≡◌, ◌∙◌, ℕ, List, subst, sym}
 use mathlib.Core.List.{IsPrefix}
 use Rattle.left_right.specs.Sides.{view}
@@ -16,9 +16,9 @@ returns-clause-write g c =
     let seen : List Entry = c.args.membership.now.seen in
     let journal : List Entry = c.args.self.now.journal.items in
     let before : IsPrefix seen journal = subst (λ (l : List Entry). IsPrefix seen l) c.args.self.now.journalled c.know.ensures.prefix in
-    let after : c.seen.result ≡ c.write.new.self.journal.items = c.seen.ensures.same ∙ c.write.new.self.journalled in
-    let legal : IsLegal r c.seen.result = subst (λ (l : List Entry). IsLegal r l) (sym c.seen.ensures.same) c.seen.ensures.legal in
-    is_write g.J.Naming.limit r c.args.session c.args.wish.now seen journal c.seen.result (view c.args.membership.now.reader.place) (view c.enter_after_write_here.new.reader.place) c.in_ok-place.place c.in_ok-place.reply c.args.meter.now c.write.new.meter
+    let after : c.prefix.result ≡ c.write.new.self.journal.items = c.prefix.ensures.same ∙ c.write.new.self.journalled in
+    let legal : IsLegal r c.prefix.result = subst (λ (l : List Entry). IsLegal r l) (sym c.prefix.ensures.same) c.prefix.ensures.legal in
+    is_write g.J.Naming.limit r c.args.session c.args.wish.now seen journal c.prefix.result (view c.args.membership.now.reader.place) (view c.enter_after_write_here.new.reader.place) c.in_ok-place.place c.in_ok-place.reply c.args.meter.now c.write.new.meter
     before (after ∙ c.in_ok-place.ensures.journal) legal c.in_ok-place.ensures.reply.0 c.in_ok-place.ensures.reply.1 c.enter_after_write_here.ensures
     (subst (λ (n : ℕ). IsAccepted n c.args.wish.now r journal c.args.meter.now c.write.new.meter) c.args.self.now.room c.in_ok-place.ensures.write)
 

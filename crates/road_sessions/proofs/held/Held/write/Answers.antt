@@ -1,4 +1,5 @@
--- Where the replica refuses, nothing is computed; where the entry is not put, no named cause stands, and the steps that were computed are few.
+-- If the replica refuses the write, no step is computed. If only the entry is refused, no named cause applies, and few
+-- steps were computed.
 use Rattle.std.proofs.Common.{◌≡◌, List, None, false, length, nat_le, rules, subst}
 use Rattle.road_rewind.specs.Growth.{TicksAtMost}
 use Rattle.road_replica.specs.Replicas.{Replica}

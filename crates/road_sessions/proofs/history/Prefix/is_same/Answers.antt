@@ -1,4 +1,4 @@
--- Two histories that are prefixes of each other are one.
+-- Two histories that are prefixes of each other are equal.
 use Rattle.std.proofs.Common.{◌≤◌, ◌<◌, Bool, length, subst}
 use Rattle.std.specs.Prelude.{MatchBool}
 use Rattle.road_sessions.proofs.Prefixes.{whole_prefix}

@@ -1,4 +1,4 @@
--- The exchange writes the entry at the end of the whole history, which stays legal.
+-- The exchange appends the entry to the whole history, which stays legal.
 use Rattle.std.proofs.Common.{◌≡◌, ◌∙◌, List, [], ◌∷◌, ◌++◌, ap, arith, length, length-append, refl, subst, sym}
 use Rattle.road_sessions.specs.Journals.{IsLegal}
 use Rattle.road_sessions.specs.declared.entry.Entry.{Entry}

@@ -1,4 +1,4 @@
--- Who has the pen of the next page has seen all pages, so whatever was seen is a prefix.
+-- Whoever has the pen of the next page has seen all pages, so everything that others have seen is a prefix.
 use Rattle.std.proofs.Common.{◌∙◌, List, ap, subst, sym}
 use mathlib.Core.List.{IsPrefix}
 use Rattle.road_sessions.specs.declared.entry.Entry.{Entry}

@@ -1,4 +1,4 @@
--- What is written is what the session wishes.
+-- The write is the one that the wish asks for.
 use Rattle.road_sessions.proofs.session.Session.edit.Goals as goal
 
 pub returns-clause-write : goal.returns-clause-write

@@ -1,4 +1,4 @@
--- Who hears of a longer history has seen it.
+-- A session that hears of a longer history has seen it.
 use Rattle.std.proofs.Common.{◌∙◌, [], sym}
 use Rattle.std.proofs.lemmas.List.{append-nil}
 use Rattle.road_sessions.proofs.session.Session.hear.Goals as goal

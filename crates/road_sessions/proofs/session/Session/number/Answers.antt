@@ -1,4 +1,4 @@
--- A session is seen with the number that it keeps.
+-- Contracts see a session with its stored number.
 use Rattle.std.proofs.Common.{◌<◌, ℕ, ap, subst}
 use Rattle.road_sessions.specs.Sessions.{Session}
 use Rattle.road_sessions.proofs.session.Session.number.Goals as goal

@@ -1,4 +1,4 @@
--- After an accepted write a session is as sessions are, and its share counts one write more.
+-- An accepted write keeps the invariant of sessions, and the session's share counts one more write.
 use Rattle.std.proofs.Common.{◌∙◌, arith}
 use Rattle.left_right.specs.Sides.{view as view_at}
 use Rattle.road_sessions.specs.Sessions.{Session, session_of}

@@ -15,5 +15,5 @@ returns-in-Some-clause-fits c = (rw c.in-Some.is at (c.in_ok-settings.ensures c.
 pub returns-clause-settings : goal.returns-clause-settings
 returns-clause-settings c =
     let s = c.args.sheet.now in
-    subst (λ (e : Edits). IfOk c.renewed.result (λ settings. arc_value settings ≡ settings_of s.plan e c.args.step)) c.scenario.ensures.scenario
-    (subst (λ (p : Plan). IfOk c.renewed.result (λ settings. arc_value settings ≡ settings_of p c.scenario.result.now c.args.step)) c.plan.ensures c.renewed.ensures.settings)
+    subst (λ (e : Edits). IfOk c.renew.result (λ settings. arc_value settings ≡ settings_of s.plan e c.args.step)) c.scenario.ensures.scenario
+    (subst (λ (p : Plan). IfOk c.renew.result (λ settings. arc_value settings ≡ settings_of p c.scenario.result.now c.args.step)) c.plan.ensures c.renew.ensures.settings)

@@ -27,7 +27,7 @@ returns-in_ok-full c =
     let read = rw c.deref-then-shelves-len.ensures at c.index.ensures in
     let here = read_at (λ x. arc_value x) shelves (c.args.count / 64) c.index.result.now c.deref-then-shelves-len-2.result.now (omega arith) read c.deref-then-shelves-len-2.ensures in
     let some : map (λ x. arc_value x) (arc_value c.in_ok-full.full).items ≡ take (c.args.count / 64) (map (λ x. arc_value x) shelves) =
-    cc (c.in_ok-full.ensures.ok, c.in_ok-shared.ensures, c.deref-then-shelves-len-4.ensures.value, c.deref-then-shelves-len-3.ensures) in
+    cc (c.in_ok-full.ensures.ok, c.in_ok-share_first.ensures, c.deref-then-shelves-len-4.ensures.value, c.deref-then-shelves-len-3.ensures) in
     first_on_shelf (map (λ x. arc_value x) shelves) _ c.self.inside.last c.args.self.now c.deref-then-shelves-len-2.result.now c.in_ok-last.last c.args.count c.self.invariant.0 c.self.view_is here some c.in_ok-last.ensures
 
 pub returns-in_ok-full-2 : goal.returns-in_ok-full-2

@@ -18,5 +18,5 @@ invariant_of-result c =
     (c.in_ok-open_interval.ensures.start ∙ sym c.in_ok-open_interval.ensures.road)
     (c.in_ok-open_interval.ensures.totals ∙ ap (λ n. replicate n no_totals) (ap length c.detectors.ensures.detectors ∙ ap (λ (q : Plan). length q.detectors) (c.deref.ensures ∙ sym c.in_ok-plan.ensures.plan)))
 
-pub shared_with_plan-requires : goal.shared_with_plan-requires
-shared_with_plan-requires c = omega (arith, many_whole _ _ _ _ _ c.self.invariant c.self.view_is)
+pub share_with_plan-requires : goal.share_with_plan-requires
+share_with_plan-requires c = omega (arith, many_whole _ _ _ _ _ c.self.invariant c.self.view_is)

@@ -17,5 +17,5 @@ invariant_of-result c =
     c.in_ok-open_interval.ensures.totals
     c.in_ok-open_interval.ensures.road
 
-pub shared_with_plan-requires : goal.shared_with_plan-requires
-shared_with_plan-requires c = omega (arith, c.whole_intervals.ensures, many_whole _ _ _ _ _ c.self.invariant c.self.view_is)
+pub share_with_plan-requires : goal.share_with_plan-requires
+share_with_plan-requires c = omega (arith, c.whole_intervals.ensures, many_whole _ _ _ _ _ c.self.invariant c.self.view_is)

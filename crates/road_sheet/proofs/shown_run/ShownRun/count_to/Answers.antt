@@ -7,7 +7,7 @@ use Rattle.road_scenario.specs.Settings.{settings_of}
 use Rattle.road_columns.specs.UnderWay.{UnderWay}
 use Rattle.road_sheet.specs.Sheets.{state_of, total_of}
 use Rattle.road_sheet.proofs.RunTotals.{counted_more, none_yet}
-use Rattle.road_sheet.proofs.ShownRuns.{length-nothing_counted, nothing_counted-at}
+use Rattle.road_sheet.proofs.ShownRuns.{length-zero_counts, zero_counts-at}
 use Rattle.road_sheet.proofs.shown_run.ShownRun.count_to.Goals as goal
 
 pub loop-counted-init : goal.loop-counted-init
@@ -22,8 +22,8 @@ loop-counted-init c =
     let below : d < length run.plan.detectors = omega (arith, many, c.requires.in_plan) in
     record {
       step = sym c.next_step-counted.ensures;
-      each = ap (λ (r : UnderWay). length r.totals) anew ∙ length-nothing_counted run.plan ∙ many;
-      counted = ap (λ (r : UnderWay). slice_index_or r.totals d no_totals) anew ∙ nothing_counted-at run.plan d below
+      each = ap (λ (r : UnderWay). length r.totals) anew ∙ length-zero_counts run.plan ∙ many;
+      counted = ap (λ (r : UnderWay). slice_index_or r.totals d no_totals) anew ∙ zero_counts-at run.plan d below
           ∙ none_yet s.plan (settings_of s.plan s.edits) d run.step ∙ sym (ap (total_of s d run.step) (c.next_step-counted.ensures ∙ step));
       shown = record {
         plan = ap (λ (r : UnderWay). r.plan) anew ∙ shown.plan;

@@ -45,8 +45,8 @@ loop-place-preserved c =
           let on : done + (k + 1) ≡ length (c.loop-place.yielded ++ place ∷ []) + k = omega arith in
           subst (λ w. IfSome (slice_index_or (into_iter_items c.next.new.self) k d) (IsAnswerOf input n w)) on
           (subst (λ p. IfSome p (IsAnswerOf input n (done + (k + 1)))) same (was.rest (k + 1) d (omega arith)));
-      front = subst (λ k. IfOk c.appended-whole.result (λ new. new.items ≡ take (piece_start n m k) all)) (sym next)
-          (c.appended-whole.ensures all (piece_start n m done) (piece_start n m (done + 1)) (pieces_rise n m done) was.front its);
+      front = subst (λ k. IfOk c.append-whole.result (λ new. new.items ≡ take (piece_start n m k) all)) (sym next)
+          (c.append-whole.ensures all (piece_start n m done) (piece_start n m (done + 1)) (pieces_rise n m done) was.front its);
     }
 
 pub returns : goal.returns

@@ -1,4 +1,4 @@
--- What the session wrote is what its share says.
+-- The session wrote its share.
 use Rattle.std.proofs.Common.{◌≡◌, List, IfOk, subst}
 use Rattle.road_scenario.specs.declared.edit.Edit.{Edit}
 use Rattle.road_sessions.specs.Sessions.{Session}
@@ -7,5 +7,5 @@ use Rattle.road_crowd.proofs.threads.fn.start.spawn_with.Goals as goal
 
 pub returns : goal.returns
 returns g c =
-    subst (λ (es : List Edit). IfOk c.worked.result (λ (after : Session). work_of after ≡ (c.captures.session.number, share_entries c.captures.session.number es c.captures.task.now.to)))
-    c.as_slice.ensures.value c.worked.ensures
+    subst (λ (es : List Edit). IfOk c.run_session.result (λ (after : Session). work_of after ≡ (c.captures.session.number, share_entries c.captures.session.number es c.captures.task.now.to)))
+    c.as_slice.ensures.value c.run_session.ensures

@@ -1,8 +1,0 @@
--- Values are shared, one after another.
-use Rattle.std.proofs.Common.{◌≡◌, map, take}
-use Rattle.std.specs.Arc.{arc_value}
-use Rattle.road_sheet.proofs.shelf.shared.Given as goal
-
--- those so far
-abbrev pub invariant-loop-value : goal.invariant-loop-value
-invariant-loop-value g l = map arc_value l.shared.items ≡ map arc_value (take l.value-index l.values)
