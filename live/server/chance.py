@@ -40,7 +40,7 @@ class Question:
         self.is_stopped = False
 
     async def answer(self, asked: dict[str, Any], progress: Callable[[], None]) -> dict[str, Any]:
-        """The figures, of the days that were done where it was stopped; `progress` is called after each day."""
+        """Return the figures; if it was stopped, those of the days that were done. `progress` is called after each day."""
         self._process = await asyncio.create_subprocess_exec(
             *figures.gently(__name__, NICE), stdin=asyncio.subprocess.PIPE, stdout=asyncio.subprocess.PIPE,
             env=figures.environment(asked["program"]), start_new_session=True, cwd=LIVE)
@@ -81,7 +81,7 @@ class DayQuestions:
         self.now: Question | None = None
 
     def begin(self, index: int, days: int, name: Callable[[int], str]) -> Question:
-        """A question of a seat, in the place of the one that it had; another seat's is not disturbed."""
+        """Begin a question of a seat, in the place of the one that it had. Another seat's goes on."""
         now = self.now
         if now is not None and now.index != index:
             raise Refused("Busy", f"{name(now.index)} asks about {now.days} days just now, of which {now.done} are done: one "
@@ -121,7 +121,7 @@ def main() -> None:
 
 
 def days_of(asked: dict[str, Any]) -> Iterator[Day]:
-    """The days, as they are done."""
+    """Yield the days as they are done."""
     from zegdrut.days import SEEDS, run_day, unwrap_day
     from zegdrut.units import Units
     wanted = [demands(asked, side) for side in SIDES]

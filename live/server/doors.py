@@ -148,7 +148,7 @@ async def says_something(connection: socket.socket) -> None:
 
 
 def neighbourhood(address: str) -> str:
-    """Return what counts as one address: of IPv6 a network of 64 bits, all of which one host may have."""
+    """Return what counts as one address: for IPv6 a network of 64 bits, since one host may have all of it."""
     if ":" not in address:
         return address
     long = ipaddress.IPv6Address(address.partition("%")[0])
@@ -159,12 +159,12 @@ class Strangers:
     """Looks after connections: of too many the oldest are cut, and those that last too long."""
 
     def __init__(self, connections: Callable[[], Iterable[Any]], known: Callable[[], set[Any]]) -> None:
-        """All connections, and those on which the token was shown."""
+        """Take the functions that give all connections, and those that have shown the token."""
         self._connections, self._known = connections, known
         self._since: dict[Any, float] = {}
 
     async def watch(self) -> None:
-        """For ever."""
+        """Look for ever."""
         while True:
             await asyncio.sleep(EVERY)
             self.look(time.monotonic())

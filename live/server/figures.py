@@ -39,13 +39,13 @@ MOST_WAITING = 8
 NICE = 5  # less than who edits, and more than what takes long
 GUARD = "ROAD_LAB_GUARD"  # by which a program of zegdrut ends with the process that started it
 SIDES = "before", "after"
-NUMBER = 64  # in the stamps of edits: of no replica
+NUMBER = 64  # in the stamps of edits; no replica has it
 ENTRY = 60  # steps of entry whose travel times are told together
 
 
 @contextlib.asynccontextmanager
 async def alone(index: int) -> AsyncIterator[None]:
-    """What runs a road beside the laboratory: one at a time, and one of each seat."""
+    """Run a road beside the laboratory: one at a time, and one of each seat."""
     if index in WAITING or len(WAITING) >= MOST_WAITING:
         raise Refused("Busy", "another road is run for this: ask again later")
     WAITING.append(index)
@@ -182,7 +182,7 @@ class DrivenRoad:
 
 
 def detector_told(one: Any) -> dict[str, Any]:
-    """Return a detector's count as it is told: cars, the sum of speeds, flow in cars per hour, speed in km/h, seconds on."""
+    """Return a detector's count for a reply: cars, the sum of speeds, flow in cars per hour, speed in km/h, seconds on."""
     return {"cars": one.cars, "speeds": one.speeds, "flow": one.flow, "speed": one.time_mean_speed, "on": one.seconds_on}
 
 
@@ -218,7 +218,7 @@ def road_of(road: DrivenRoad, wanted: list[Rates], window: Window) -> dict[str, 
 
 
 def cost(before: Trips, after: Trips, window: Window) -> dict[str, Any]:
-    """Return what the change costs: the delay in vehicle hours of so many cars, and how much later they are at each detector."""
+    """Return what the change costs: the delay in vehicle hours, the cars, and how much later they are at each detector."""
     from zegdrut.trips import compare_trips
     found: TripsCompared = compare_trips(before, after, window)
     return {"delay_hours": found.delay_hours, "delayed": found.cars, "later": times_told(found.at_sites)}

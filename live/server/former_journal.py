@@ -1,6 +1,6 @@
 """A journal of form 1 or 2, read into a state: the same roads, by the rules of its time.
 
-There the shared road also had repairs. They say nothing any more, so places in it are counted anew.
+There the shared road also had repairs. They say nothing any more, so places in it are counted again.
 """
 from __future__ import annotations
 
@@ -17,7 +17,7 @@ if TYPE_CHECKING:
 
 
 class Former:
-    """What must be known of a journal while it is read."""
+    """The state that is needed while such a journal is read."""
 
     def __init__(self, state: State) -> None:
         self._state = state
@@ -72,4 +72,4 @@ class Former:
                  value.get("unsent") is True).apply(self._state)
 
     def _answer(self, value: Fields) -> None:
-        """A repair alone."""
+        """Ignore a repair alone."""

@@ -1,4 +1,4 @@
-"""The journal of a folder: what a server has confirmed, a JSON object a line, on the disk before anybody is told.
+"""Keep the journal of a folder: what a server has confirmed, a JSON object a line, on the disk before anybody hears of it.
 
     entries, size = read_entries(path)         what stands there, without what was never confirmed; `Entries` one by one
     with lock(folder): ..              one server a folder; its journal is locked, too
@@ -90,12 +90,12 @@ def sync_folder(folder: Path) -> None:
 
 
 def appended(path: Path) -> int:
-    """A file that is appended to, of its owner alone."""
+    """Open a file to append to, for its owner alone."""
     return os.open(path, os.O_WRONLY | os.O_CREAT | os.O_APPEND, 0o600)
 
 
 def write(file: int, pieces: Iterable[bytes]) -> None:
-    """Writes all of it, and returns when it is on the disk."""
+    """Write all of it, and return when it is on the disk."""
     for piece in pieces:
         while piece:
             piece = piece[os.write(file, piece):]
@@ -103,7 +103,7 @@ def write(file: int, pieces: Iterable[bytes]) -> None:
 
 
 def put_in_place(path: Path, pieces: Iterable[bytes]) -> int:
-    """Makes a file, or puts another in its place, whole or not at all; it stays open, to append to."""
+    """Make a file, or put another in its place, whole or not at all; it stays open, to append to."""
     file = put_beside(path, pieces)
     try:
         os.rename(beside(path), path)
@@ -206,7 +206,7 @@ class Journal:
             return os.open(self.path, os.O_RDONLY)
 
     def write(self, entry: Entry, then: Then = lambda: None) -> asyncio.Future[None]:
-        """A future that is done once the entry is on the disk, and `then` was called; or fails with `NotWritten`."""
+        """Return a future that is done once the entry is on the disk, and `then` was called; or fails with `NotWritten`."""
         done: asyncio.Future[None] = asyncio.get_running_loop().create_future()
         done.add_done_callback(lambda one: one.cancelled() or one.exception())  # whoever asks is told
         if self.fault is not None:
@@ -219,7 +219,7 @@ class Journal:
         return done
 
     def waits(self, seconds: float) -> bool:
-        """Whether the disk has owed an answer for so long."""
+        """Return whether the disk has owed an answer for some seconds."""
         return self._began is not None and time.monotonic() - self._began > seconds
 
     async def settled(self) -> None:
@@ -278,7 +278,7 @@ class Journal:
         os.fsync(self._file)
 
     def confirmed(self) -> list[Entry]:
-        """What was confirmed, from the disk, whether that can be written or not."""
+        """Return what was confirmed, from the disk, whether that can be written or not."""
         return read_entries(self.path, self.size)[0]
 
     async def mend(self, entry: Entry) -> None:
@@ -357,7 +357,7 @@ class Journal:
         await self._write_all()
 
     def _rename(self, file: int, copied: int) -> None:
-        """A new file that is renamed over the old one: whoever reads sees the one or the other, and it is locked first."""
+        """Rename a new file over the old one: whoever reads sees the one or the other, and it is locked first."""
         self._copy(file, copied)
         lock_of_new = held(beside(self.path))
         try:
@@ -381,7 +381,7 @@ class Journal:
 
 
 def close_all(*files: int) -> None:
-    """Close files of which nothing is needed any more."""
+    """Close files that nobody needs any more."""
     for file in files:
         with contextlib.suppress(OSError):
             os.close(file)

@@ -24,7 +24,7 @@ from .journal import Broken, Entries, Entry, Journal, NotWritten, packed, put_in
 from .listeners import Listeners
 from .model.operations import Operation
 from .model.road import Road
-from .program import Gone, Program, command_of, start
+from .program import ProgramExited, Program, command_of, start
 from .refusals import Refused
 from .screen import Differences, Screen
 from .settings import Settings
@@ -299,10 +299,10 @@ class Keeper:
                 self._change_in_time()
                 try:
                     return await job()
-                except Gone as fault:
+                except ProgramExited as fault:
                     logging.warning("%s: another is started", fault)
                     await self.replace(str(fault))
-        except Gone as fault:
+        except ProgramExited as fault:
             logging.error("%s", fault)
         raise Refused("NoProgram", "the program ended over this, twice; the server's log says why")
 

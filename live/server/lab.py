@@ -37,7 +37,7 @@ Makes = Callable[[SeatReplica, Stamp, About], Operation]  # makes an operation o
 T = TypeVar("T")
 
 
-class Early(Refused):
+class FutureStamp(Refused):
     """An operation of another site that is taken later."""
 
     def __init__(self, one: Operation) -> None:
@@ -66,7 +66,7 @@ class Lab:
         return self.keeper.state
 
     async def _look_after(self) -> None:
-        """What is done now and then: the clock is kept, unused seats are freed, a long journal is shortened."""
+        """Keep the clock, free unused seats, and shorten a long journal, now and then."""
         settings = self.keeper.settings
         size, rounds = settings.most_journal, 0
         while True:
@@ -104,7 +104,7 @@ class Lab:
 
     async def put_edits(self, index: int, times: Times, *, key: str, note: str, edits: list[Any],
                         shape: Shape | None = None) -> Reply:
-        """Put raw edits. A shape that is told of them is for the eye alone."""
+        """Put raw edits. Their shape is for the eye alone."""
         values: dict[RawName, int | None] = {(kind, thing, step): value for kind, thing, step, value in edits}
         for name, value in values.items():
             self._checks.edit(name, value)
@@ -191,7 +191,7 @@ class Lab:
         return [one for one in self.state.private(seat) if one.stamp[0] > latest]
 
     def _stamp_anew(self, seat: SeatReplica, write: Write) -> None:
-        """Stamp private operations anew that a wrong clock has put too far ahead: no other site would take them."""
+        """Give new stamps to private operations that a wrong clock has put too far ahead: no other site would take them."""
         early = in_order(self._early(seat))
         if not early:
             return
@@ -299,7 +299,7 @@ class Lab:
         return await self._write(index, make, times, takes_long=True)
 
     def news(self, index: int, most: int) -> Reply:
-        """What was shared by others and this seat has not taken."""
+        """Return what was shared by others and this seat has not taken."""
         seat, shared, upto = self.state.seats[index], self.state.shared, self.keeper.confirmed
         begin = max(seat.upto, upto - LOOKED_AT)  # of one who never takes not all is gone through for each news
         fresh = [one for one in shared.order(begin, upto) if one not in seat.own]
@@ -310,13 +310,13 @@ class Lab:
                 "changes": [lister.operation(one, None) for one in fresh[-most:]]}
 
     async def works_are_shared(self) -> None:
-        """What is shared so far every new seat has from the start."""
+        """Give every new seat from the start what is shared so far."""
         await confirmed(self.keeper.record(Works(self.keeper.confirmed)), {})
 
     # What comes from other sites
 
     async def came(self, operations: list[Operation], title: str, times: Times) -> bool:
-        """Take operations of another site, all of which passed `check`. Return whether there was anything new. `times` gets the
+        """Take operations of another site; all passed `check`. Return whether there was anything new. `times` gets the
         `work`."""
         async def make(write: Write) -> int | None:
             shared = self.state.shared
@@ -348,5 +348,5 @@ class Lab:
         await confirmed(self.keeper.record(Bound(number, folder)), {})
 
     async def back(self, stamps: list[Stamp]) -> None:
-        """These came back from the broker: they need not be sent again."""
+        """Note that these came back from the broker: they need not be sent again."""
         await confirmed(self.keeper.record(CameBack(stamps)), {})

@@ -1,5 +1,5 @@
-"""What a page shows of the changes that a replica holds: a line for each, with where it is in force, who covers the rest, and
-all that was done to it."""
+"""List the changes that a replica holds, for a page: a line for each, with where it is in force, who covers the rest, and all
+that was done to it."""
 from __future__ import annotations
 
 import time
@@ -78,7 +78,7 @@ class Lister:
         return None if shape is None else shape.end
 
     def operation(self, one: Operation, line: Stamp | None, won: Operation | None = None) -> dict[str, Any]:
-        """Return what was done to a line, or to what lines, and by whom; `won` is the operation to which it lost."""
+        """Return what an operation did to a line, or to its lines, and who made it; `won` is the operation that beat it."""
         about = one.about
         more: dict[str, Any] = {"idle": True} if one in self._idle else {}
         if not self._road.record.counts(one):

@@ -1,4 +1,4 @@
-"""The road of a new folder: a plan line, or a freeway in km, of which recipes/freeway makes a plan line and shapes."""
+"""Read the road of a new folder: a plan line, or a freeway in km. recipes/freeway turns that into a plan line and shapes."""
 from __future__ import annotations
 
 import json
@@ -48,7 +48,7 @@ def read_plan(path: Path) -> Any:
         raise Broken(f"no plan at {path}: {fault.strerror}") from None
     try:
         value = json.loads(text)
-        packed(value).encode()  # halves of signs, and what is no number, can be read and not written
+        packed(value).encode()  # halves of signs, and NaN, can be read and not written
     except (ValueError, RecursionError) as fault:
         raise Broken(f"{path} is no plan line, and no freeway in km: {fault}") from None
     if type(value) is not dict:
@@ -74,7 +74,7 @@ def read_road(path: Path, program: str) -> Planned:
 
 
 def by_recipe(path: Path, program: str) -> Any:
-    """The plan and the shapes of a freeway in km; what has to be other than it says is told."""
+    """Return the plan and the shapes of a freeway in km, and print what has to differ from what it says."""
     said: list[str] = []
     command = [sys.executable, str(FREEWAY), "--plan", str(path.resolve())]
     with subprocess.Popen(command, stdout=subprocess.PIPE, stderr=subprocess.PIPE, text=True,
@@ -94,13 +94,13 @@ def by_recipe(path: Path, program: str) -> Any:
 
 
 def shape_of(value: Any) -> Shape:
-    """A shape, checked as that of a tab."""
+    """Return a shape, checked as that of a tab."""
     shape: Shape = Asked("gesture", {"shape": value}).shape()
     return shape
 
 
 def is_another(path: Path, plan: dict[str, Any], kept: Path) -> bool:
-    """Whether a file is of another road than a folder, which keeps a freeway in km beside its plan."""
+    """Return whether a file and a folder have different roads. A folder keeps a freeway in km beside its plan."""
     value = read_plan(path)
     if is_freeway(value):
         return not kept.exists() or bool(read_plan(kept) != value)

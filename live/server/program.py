@@ -25,7 +25,7 @@ LOOKS = 8  # in that time
 LONG_ROAD = 4_096  # cells from which on threads pay; where others work, too, more than two do not
 
 
-class Gone(Exception):
+class ProgramExited(Exception):
     """The program ended, or does not answer."""
 
 
@@ -61,7 +61,7 @@ class Program:
         self.horizons: dict[str, int] = {}
 
     async def ask(self, line: bytes) -> bytes:
-        """Return the reply to a line; raise `Gone` if none comes."""
+        """Return the reply to a line; raise `ProgramExited` if none comes."""
         return (await self.ask_all([line]))[0]
 
     async def ask_all(self, lines: Sequence[bytes]) -> list[bytes]:
@@ -81,13 +81,13 @@ class Program:
             raise
         except (OSError, ValueError) as fault:
             self.kill()
-            raise Gone(f"the program does not answer: {fault!r}") from None
+            raise ProgramExited(f"the program does not answer: {fault!r}") from None
         finally:
             if self._watch is not None:
                 self._watch.cancel()
         if not replies[-1].endswith(b"\n"):
             status = await self._process.wait()
-            raise Gone(self._fault or f"the program ended with status {status}")
+            raise ProgramExited(self._fault or f"the program ended with status {status}")
         return [reply[:-1] for reply in replies]
 
     def _look(self, before: object, idle: int) -> None:
@@ -134,7 +134,7 @@ class Program:
 
 
 async def start(command: list[str], plan: bytes) -> Program:
-    """Start a program, and let it read the plan line. Raise `Gone`, or `BadPlan` with its refusal."""
+    """Start a program, and let it read the plan line. Raise `ProgramExited`, or `BadPlan` with its refusal."""
     try:
         if not os.access(command[0], os.X_OK):
             raise PermissionError(f"{command[0]} is no program")
@@ -142,7 +142,7 @@ async def start(command: list[str], plan: bytes) -> Program:
             *dies_with_us(command), stdin=asyncio.subprocess.PIPE, stdout=asyncio.subprocess.PIPE, limit=LONGEST_REPLY,
             start_new_session=True)
     except OSError as fault:
-        raise Gone(f"the program cannot be started: {fault}") from None
+        raise ProgramExited(f"the program cannot be started: {fault}") from None
     program = Program(process)
     reply = json.loads(await program.ask(plan))
     program.lines = 0

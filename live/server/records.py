@@ -145,7 +145,7 @@ SHARED, UNSENT = (how(lambda value: value is True, name=name) for name in ("shar
 
 @dataclass(frozen=True)
 class Folder(Entry):
-    """Which road a folder has, and which site it is."""
+    """A folder's road, and its site."""
 
     kind = "lab"
     plan: dict[str, Json] = field(metadata=how(read_object))
@@ -159,7 +159,7 @@ class Folder(Entry):
 
 @dataclass(frozen=True)
 class Upgraded(Entry):
-    """What stands before is of a former form, and what follows of this one."""
+    """The entries before have a former form, and those that follow this one."""
 
     kind = "form"
     form: int = field(default_factory=lambda: JOURNAL_FORM, metadata=form(JOURNAL_FORM))
@@ -170,7 +170,7 @@ class Upgraded(Entry):
 
 @dataclass(frozen=True)
 class Clock(Entry):
-    """How late it is, how many steps pass in a second, and where a fast clock stops."""
+    """The clock: how late it is, how many steps pass in a second, and where a fast clock stops."""
 
     kind = "clock"
     rate: float = field(metadata=NUMBER)
@@ -293,7 +293,7 @@ class Came(Entry):
 
 @dataclass(frozen=True)
 class Take(Entry):
-    """A seat takes the first so many operations of the shared road."""
+    """A seat takes the first operations of the shared road, up to a place."""
 
     kind = "take"
     seat: int = field(metadata=SEAT)
@@ -341,7 +341,7 @@ class Keys(Entry):
 
 @dataclass(frozen=True)
 class News(Said):
-    """What was shared in one go: how many operations the shared road had then, and of how many it was."""
+    """Operations that were shared at once: their number, and how many the shared road had then."""
 
     upto: int = field(metadata=PLACE)
     who: str = field(metadata=TEXT)
@@ -350,7 +350,7 @@ class News(Said):
     size: int = field(metadata=PLACE)
 
     def told(self) -> dict[str, Json]:
-        """Return it as tabs are told."""
+        """Return it as a tab gets it."""
         return {name: value for name, value in self.fields().items() if name != "upto"}
 
 
@@ -367,7 +367,7 @@ class AllNews(Entry):
 
 @dataclass(frozen=True)
 class Works(Entry):
-    """So many operations of the shared road every new seat has from the start: the works of a freeway file."""
+    """The number of shared operations that every new seat has from the start: the works of a freeway file."""
 
     kind = "works"
     upto: int = field(metadata=PLACE)

@@ -24,7 +24,7 @@ if TYPE_CHECKING:
 DAYS = 5
 NICE = 8
 PATIENCE = 600.0
-MOST_DATES = 12  # of a demand over time, that are told
+MOST_DATES = 12  # of a demand over time, in a sentence
 
 
 async def make(index: int, asked: dict[str, Any], path: str) -> str:

@@ -9,7 +9,7 @@ from typing import Any, Protocol
 
 from .journal import packed
 from .keeper import Keeper, Times
-from .program import Gone, Program, command_of, import_lines, start
+from .program import ProgramExited, Program, command_of, import_lines, start
 from .refusals import Refused
 from .turns import MORE, Job
 
@@ -96,12 +96,12 @@ class Preview:
     async def _started(self) -> Program:
         """Start a program, which ends at once if the seat has let the two roads go meanwhile."""
         if self._is_over:
-            raise Gone(LET_GO)
+            raise ProgramExited(LET_GO)
         plan = {**self._keeper.state.plan, "replicas": list(SIDES)}
         program = await start(command_of(self._keeper.path, plan), packed(plan).encode())
         if self._is_over:
             program.kill()
-            raise Gone(LET_GO)
+            raise ProgramExited(LET_GO)
         self._program = program
         return program
 
@@ -112,14 +112,14 @@ class Preview:
                 while (said := await body()) is MORE:
                     pass
                 return said
-            except Gone as fault:
+            except ProgramExited as fault:
                 self.close()
                 raise no_preview() from fault
 
     async def say_all(self, lines: list[bytes], times: Times) -> list[bytes]:
         """Return the replies to lines, in a job."""
         if self._program is None:
-            raise Gone(LET_GO)
+            raise ProgramExited(LET_GO)
         began = time.perf_counter()
         replies = await self._program.ask_all(lines)
         times["program"] = times.get("program", 0) + time.perf_counter() - began

@@ -1,4 +1,4 @@
-"""What can be set: read in one place, when a server starts."""
+"""Read all settings, in one place, when a server starts."""
 from __future__ import annotations
 
 import os

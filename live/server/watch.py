@@ -19,7 +19,7 @@ from pathlib import Path
 from typing import Any, Callable
 
 HERE = str(Path(__file__).resolve().parent)
-CLIENT = str(Path(HERE, "client.py"))  # what asks a server is none
+CLIENT = str(Path(HERE, "client.py"))  # which is not part of a server
 LOOKS = 4  # times that a piece of the greatest length is looked at
 FRAMES = 4  # of the stack that are told
 SAID = "all others waited"

@@ -18,7 +18,7 @@ from server.refusals import Refused
 from server.records import SeatUsed
 from server.journal import Journal
 from server.model.operations import About, Operation, edit
-from server.program import Gone, Program
+from server.program import ProgramExited, Program
 from server.settings import Settings
 from server.stamps import StampClock
 from server.turns import MORE
@@ -138,7 +138,7 @@ class Written(Case):
     async def test_what_is_on_the_disk_was_done_though_there_is_no_program(self) -> None:
         """It ended, and none can be started for a while: the next one is given it."""
         async def none(*_: Any) -> Program:
-            raise Gone("the program cannot be started")
+            raise ProgramExited("the program cannot be started")
         await self.here.put(self.ben, ["limit", 1, 50, 4])
         for act in (self.here.put(self.ada, [*LIMIT, 3]), self.here.share(self.ben), self.here.take(self.ada)):
             for seat, at in ((self.ada, "seat1"), (self.ben, "seat2"), (self.ben, "shared")):  # it has what they hold so far

@@ -1,4 +1,4 @@
-"""What engineers do to a road, and what stands there because of it. No input, no output and no clock.
+"""Model what engineers do to a road, and what stands there because of it. It has no input, no output and no clock.
 
 A replica is a set of operations. An operation never changes, and sets merge by union. Everything else is a function of the
 set, and each module has one part of it:

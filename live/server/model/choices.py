@@ -1,4 +1,4 @@
-"""What a seat can undo, redo, share and forget."""
+"""Choose what a seat can undo, redo, share and forget."""
 from __future__ import annotations
 
 from typing import AbstractSet, NamedTuple
@@ -53,7 +53,7 @@ def undoable(road: Road, number: int) -> Undoable:
 
 
 def overruling(road: Road, one: Operation) -> list[Operation]:
-    """Return the operations because of which the undo of this one changes nothing, the newest first."""
+    """Return the operations that leave nothing to the undo of this one, the newest first."""
     record = road.record
     root = record.root_of(one)
     found = {setter for name in root.sets for setter in [road.setter(name)] if setter is not None}

@@ -19,7 +19,7 @@ Plan = Callable[[str, int], "int | None"]
 
 
 class Step:
-    """What made one road out of another."""
+    """The step that made one road out of another."""
 
     def __init__(self, before: Road, fresh: set[Operation], flipped: set[Operation], names: set[Name]) -> None:
         self.before = weakref.ref(before)
@@ -189,7 +189,7 @@ def stands(road: Road, line: Stamp) -> bool:
 
 
 def last_setter(road: Road, line: Stamp) -> Stamp | None:
-    """Return the operation by which a line is what it is: what a change of it has seen."""
+    """Return the operation that made a line what it is: a change of it has seen that one."""
     setter = road.setter(line)
     if setter is not None:
         return setter.stamp
