@@ -58,7 +58,7 @@ class Keeper:
 
     def __init__(self, folder: Path, program: str, settings: Settings) -> None:
         self.folder, self.path, self.settings = folder, program, settings
-        self.stamps = StampClock()
+        self.stamps = StampClock(settings.milliseconds)
         self.state = State(self.stamps, time.time_ns() // 1_000)
         self.wanted: dict[int, int] = {}  # how far each replica shall have run
         self.here: set[int] = set()  # seats with a tab

@@ -71,7 +71,7 @@ class Sites:
         self._seal = Seal(self._id, key_of(options.site_key) if options.site_key else None, lab.keeper.folder / "seen.json")
         self._connected = False
         self._peers = Peers(lab, self._run, self._road, self._say, lambda: self._tell())
-        self._keeper.stamps.ahead = self._peers.ahead
+        self._keeper.stamps.follow(self._peers.ahead)
         self._told: Deque[str] = collections.deque(maxlen=TOLD)
         self._sent: dict[Operation, tuple[float, float]] = {}  # when, and how long until it is sent again
         self._sums: dict[str, tuple[str, str]] = {}  # of a folder: its hash when it was last heard, and ours then

@@ -230,7 +230,7 @@ class Tabs:
         self._all: set[Tab] = set()
         self.changing: collections.Counter[int] = collections.Counter()  # commands of a seat, also of tabs that have gone
         self._standing = describe_standing(lab.keeper.path)  # what is to be known of the program: that it is unproved
-        self.broker: Callable[[], Any] = lambda: None  # its state, for the page
+        self._broker: Callable[[], Any] = lambda: None  # its state, for the page
         listeners, keeper = lab.keeper.listeners, lab.keeper
         listeners.on("shared", self._news)
         listeners.on("seats", self._seats)
@@ -266,7 +266,7 @@ class Tabs:
                 "horizon": self.lab.keeper.wanted.get(index, 0), **self.lab.keeper.clock().fields(), "ahead": AHEAD,
                 "time": round(time.time(), 3),
                 "most": {"edits": MOST_EDITS, "rows": MOST_ROWS, "bytes": MOST_BYTES,
-                         "days": self.lab.keeper.settings.days}, "broker": self.broker(),
+                         "days": self.lab.keeper.settings.days}, "broker": self._broker(),
                 "trouble": self._trouble, "standing": self._standing, "day": self._day()}
 
     def _day(self) -> dict[str, Any]:
@@ -361,8 +361,12 @@ class Tabs:
             if tab.index is not None:
                 tab.tell(kind, value)
 
+    def follow_broker(self, state: Callable[[], Any]) -> None:
+        """Tell tabs from now on what `state` says of the broker."""
+        self._broker = state
+
     def tell_broker(self) -> None:
-        self._tell_all("broker", self.broker())
+        self._tell_all("broker", self._broker())
 
     def _clock(self) -> None:
         self._tell_all("clock", self.lab.keeper.clock().fields())
