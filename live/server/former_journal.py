@@ -21,7 +21,7 @@ class Former:
 
     def __init__(self, state: State) -> None:
         self._state = state
-        self._places = [0]  # of the first so many shared gestures, how many operations they are
+        self._places = [0]  # how many operations the first N shared gestures are, by N
 
     def apply(self, kind: str, value: Fields) -> bool:
         """Apply an entry that differs from one of form 3; return whether it does."""

@@ -121,7 +121,7 @@ class Keeper:
         form, self._former = self._former, None
         await self.journal.write(Upgraded().written())
         await self.compact()
-        logging.warning("the journal was of form %d: it is written anew, and the old one is kept as %s", form, kept)
+        logging.warning("the journal was of form %d: it is written again, and the old one is kept as %s", form, kept)
 
     async def compact(self) -> None:
         """Shorten the journal: each operation once."""

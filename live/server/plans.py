@@ -61,8 +61,8 @@ def is_freeway(value: dict[str, Any]) -> bool:
 
 
 def read_road(path: Path, program: str) -> Planned:
-    """What a file has; `Broken` says why it cannot be read. For a freeway it is measured, for some seconds, by which chances
-    its demand comes in."""
+    """Return what a file has; raise `Broken` if it cannot be read. For a freeway the chances that admit its demand are measured,
+    for some seconds."""
     value = read_plan(path)
     if not is_freeway(value):
         return Planned(value)

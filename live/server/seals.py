@@ -28,7 +28,7 @@ from typing import Any, Callable, Dict
 from .journal import Broken, packed, put_in_place, sync_folder
 
 LATE = 600.0  # seconds that a sealed message may be on its way, or two clocks apart
-AHEAD = 200  # numbers, which are milliseconds, by which what is on the disk is above what was taken
+AHEAD = 200  # numbers, which are milliseconds, that the bound on the disk is above what was taken
 WINDOW = 4_096  # numbers of a folder that may come in another order
 MOST_FOLDERS = 256
 SHORTEST_KEY = 16  # bytes

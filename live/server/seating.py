@@ -22,7 +22,7 @@ from .refusals import Refused
 from .state import SeatReplica, State
 from .writing import confirmed
 
-JUMP = 60.0  # seconds between what passed and what the system's clock says
+JUMP = 60.0  # seconds between the time that passed and the system's clock
 NOTED = 1 / 24  # of the time after which a seat that nobody uses is free
 
 

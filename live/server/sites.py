@@ -52,8 +52,8 @@ SENDERS = {STRANGERS: "Somebody who does not say who it is", UNSEALED: "Somebody
 
 
 class Pause(NamedTuple):
-    """When a folder was told what it may lack, for how long it is told no more, from which operation on it goes on at once where
-    that was a piece, and what was held here: once that is more, the pause is no longer than the first one."""
+    """When a folder got what it may lack, and for how long it gets no more; from which operation on it gets the next piece at once;
+    and what was held here: once that is more, the pause is no longer than the first one."""
 
     told: float
     long: float
@@ -92,7 +92,7 @@ class Sites:
         host, port = self._broker
         self._client.connect_async(host, port, keepalive=30)
         self._client.loop_start()
-        self._tasks = [supervised("what other sites are told", self._announce, self._keeper.ended)]
+        self._tasks = [supervised("what other sites hear", self._announce, self._keeper.ended)]
         return self
 
     async def __aexit__(self, kind: type[BaseException] | None, fault: BaseException | None,

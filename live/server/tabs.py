@@ -203,7 +203,7 @@ def taken_apart(text: str) -> tuple[int, str, Any]:
     value = json.loads(text, parse_constant=no_number, parse_float=finite)
     if type(value) is not dict or type(value.get("id")) is not int or len(value) != 2:
         raise ValueError("no command")
-    json.dumps(value, ensure_ascii=False).encode()  # half of a surrogate pair is none
+    json.dumps(value, ensure_ascii=False).encode()  # half of a surrogate pair is not UTF-8
     number = value.pop("id")
     if not 0 <= number < 1 << 53:
         raise ValueError("no number")
@@ -354,7 +354,7 @@ class Tabs:
         self._seats()
         asyncio.get_running_loop().call_later(TOLD_EVERY, tab.let_go, 4001, "the seat was left")
 
-    # What is told
+    # News
 
     def _tell_all(self, kind: str, value: Any) -> None:
         for tab in self._all:
@@ -362,7 +362,7 @@ class Tabs:
                 tab.tell(kind, value)
 
     def follow_broker(self, state: Callable[[], Any]) -> None:
-        """Tell tabs from now on what `state` says of the broker."""
+        """Tell tabs from now on the broker's state."""
         self._broker = state
 
     def tell_broker(self) -> None:

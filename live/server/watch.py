@@ -21,7 +21,7 @@ from typing import Any, Callable
 HERE = str(Path(__file__).resolve().parent)
 CLIENT = str(Path(HERE, "client.py"))  # which is not part of a server
 LOOKS = 4  # times that a piece of the greatest length is looked at
-FRAMES = 4  # of the stack that are told
+FRAMES = 4  # of the stack in a warning
 SAID = "all others waited"
 LONG = 0.01  # seconds of processor of a full collection of garbage
 

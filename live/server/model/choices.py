@@ -71,7 +71,7 @@ def private(road: Road, shared: Road, number: int) -> list[Operation]:
 
 
 def shareable(road: Road, shared: Road, number: int, then: Road | None = None) -> list[Operation]:
-    """Return the private operations that count and by which the shared road would differ. An undo of what others never had is
+    """Return the private operations that count and would change the shared road. An undo of what others never had is
     not among them. `then` is the shared road with all private operations, if that is known."""
     own = sendable(road, shared, number)
     if number // SEATS in shared.record.excluded:

@@ -86,7 +86,7 @@ NO_MORE: Mapping[str, Json] = MappingProxyType({})
 
 @dataclass(frozen=True, slots=True)
 class About:
-    """Who made an operation, and when. `shape` is how raw edits were drawn; `more` are fields of later versions."""
+    """The maker of an operation, its time and note. `shape` is how raw edits were drawn; `more` are fields of later versions."""
 
     who: str = ""
     note: str = ""
@@ -223,7 +223,7 @@ def exclude(stamp: Stamp, site: int, is_out: bool, about: About = NOTHING) -> Op
 
 
 def stamped_anew(operations: Iterable[Operation], stamps: Mapping[Stamp, Stamp]) -> list[Operation]:
-    """Return these operations under new stamps, by the old ones. What they say of each other is said of the new ones. Raises
+    """Return these operations under new stamps, by the old ones. They refer to the new ones of each other. Raise
     ValueError if one refers to an operation that keeps a later stamp."""
     def renamed(name: Name) -> Name:
         return stamps.get(name, name) if is_line(name) else name

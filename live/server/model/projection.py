@@ -137,7 +137,7 @@ def numbers(road: Road, kind: str, index: int, begin: int, end: int, shapes: Ite
 
 
 def starts(road: Road, index: int) -> dict[int, int]:
-    """Return the same for cars that start, about which the plan says nothing: from the first layer's end on, where none is,
+    """Return the same for cars that start, about which the plan says nothing: from the first layer's end on, if there is none,
     they have the slowing chance of their zone at that time."""
     slow = numbers(road, "slow", index, 0, END, from_the_top(road.touching(("slow", index, index, 0, END))))
     found: dict[int, int] = {}

@@ -199,7 +199,7 @@ def last_setter(road: Road, line: Stamp) -> Stamp | None:
 def change(road: Road, stamp: Stamp, line: Stamp, shape: Shape | None, on_top: bool = False,
            about: About = NOTHING) -> Operation:
     """Give a line another shape at the height where it is, or none, which withdraws it. It takes the place of raw edits, and
-    the line's stamp goes on naming one layer. A line of which nothing stands comes on top."""
+    the line's stamp goes on naming one layer. A line that does not stand comes on top."""
     sets: dict[Name, Shape | None] = {name: None for name in sorted(parts_of(road, line))}
     sets[line] = shape
     is_lifted = shape is not None and (on_top or not stands(road, line))
