@@ -91,11 +91,8 @@ impl Sheet {
         ensures sheet { IfOk result (λ sheet. sheet ≡ opening_sheet (arc_value plan)) }
         ensures within { IsWithinLimits (arc_value plan) }
     {
-        let open_interval = Interval::begin(
-            alloc,
-            Checkpoint::empty(alloc)?,
-            plan.detectors().len(),
-        )?;
+        let detectors = plan.detectors().len();
+        let open_interval = Interval::begin(alloc, Checkpoint::empty(alloc)?, detectors)?;
         let intervals = SharedIntervals::empty(alloc)?;
         Ok(Sheet {
             plan,

@@ -17,7 +17,7 @@ loop-step-preserved g c =
     let count : step - start.horizon + span.steps ≡ step + c.steps-step.result - start.horizon = omega (arith, invariant.after, steps) in
     record {
       after = omega (arith, invariant.after);
-      before = omega (arith, c.in_ok-span.ensures.before, here, steps);
+      before = omega (arith, c.in_ok-span.ensures.before, here, steps, c.min-end.ensures);
       draft = c.in_ok-simulate_span.ensures.simulated ∙ ap (λ (x : Sheet). sheet_after_span span x) (c.in_ok-span.ensures.unchanged ∙ invariant.draft)
           ∙ ap (λ (n : ℕ). let later : Sheet = record { plan = start.plan; edits = start.edits; horizon = step + n } in later) (sym steps);
       meter = c.in_ok-simulate_span.ensures.steps ∙ ap (λ (m : ℕ). meter_after m span.steps) invariant.meter
@@ -31,4 +31,4 @@ returns-in_err-simulate_span-clause-few g c =
     let invariant = c.loop-step.invariant in
     let here : c.loop-step.draft.horizon ≡ step = ap (λ (x : Sheet). x.horizon) invariant.draft in
     few_after c.args.meter.now (step - c.args.draft.now.horizon) c.in_ok-span.span.steps (c.args.to - c.args.draft.now.horizon) c.loop-step.meter c.simulate_span.new.meter invariant.meter
-    (omega (arith, invariant.after, here, c.in_ok-span.ensures.before)) c.simulate_span.ensures.few
+    (omega (arith, invariant.after, here, c.in_ok-span.ensures.before, c.min-end.ensures)) c.simulate_span.ensures.few

@@ -1,17 +1,26 @@
--- A run of the crew is counted as its steps.
-use Rattle.std.proofs.Common.{◌+◌, ◌-◌, ◌^◌, ◌∙◌, ℕ, min, ap, arith}
+-- The crew runs the span, and it is counted as its steps.
+use Rattle.std.proofs.Common.{◌+◌, ◌-◌, ◌^◌, ◌∙◌, ℕ, min, ap, arith, subst, sym}
+use Rattle.std.proofs.lemmas.Bool.{false≢true}
+use Rattle.std.specs.Prelude.{is_some}
+use Rattle.road_ends.specs.Laws.{StayOnRoad}
+use Rattle.road_workers.specs.Crews.{CanBeRun}
+use Rattle.road_rewind.proofs.NextSpans.{next_can_be_run}
 use Rattle.road_rewind.proofs.StepCounts.{ticks_at_once}
 use Rattle.road_rewind.proofs.rewind.simulate_span.Goals as goal
 
-pub returns-in_ok-push_span-in-Ok-Some-clause-steps :
-    goal.returns-in_ok-push_span-in-Ok-Some-clause-steps
-returns-in_ok-push_span-in-Ok-Some-clause-steps g c =
-    ticks_at_once c.args.meter.now c.args.span.now.steps c.count.new.self c.requires.next.some (c.count.ensures ∙ ap (λ (n : ℕ). min (c.args.meter.now + n) (2 ^ 64 - 1)) c.steps.ensures.steps)
+pub unreachable-requires : goal.unreachable-requires
+unreachable-requires g c =
+    let stay = subst StayOnRoad (c.deref.ensures ∙ c.plan.ensures.plan) c.cars_stay_on_road.ensures in
+    let can = next_can_be_run c.args.draft.now c.args.span.now c.requires.next c.plan.ensures.within c.steps-steps.ensures.within_limit stay in
+    false≢true (ap is_some (sym c.in_default.is) ∙ c.in_ok-ran.ensures.some (subst (CanBeRun c.args.span.now) (sym c.road.ensures) can))
 
-pub returns-in_ok-push_span-in-Ok-Some-clause-few :
-    goal.returns-in_ok-push_span-in-Ok-Some-clause-few
-returns-in_ok-push_span-in-Ok-Some-clause-few g c = record {
+pub returns-clause-steps : goal.returns-clause-steps
+returns-clause-steps g c =
+    ticks_at_once c.args.meter.now c.args.span.now.steps c.count.new.self c.requires.next.some (c.count.ensures ∙ ap (λ (n : ℕ). min (c.args.meter.now + n) (2 ^ 64 - 1)) c.steps-steps.ensures.steps)
+
+pub returns-clause-few : goal.returns-clause-few
+returns-clause-few g c = record {
   ticks = c.args.span.now.steps;
   few = omega arith;
-  counted = ticks_at_once c.args.meter.now c.args.span.now.steps c.count.new.self c.requires.next.some (c.count.ensures ∙ ap (λ (n : ℕ). min (c.args.meter.now + n) (2 ^ 64 - 1)) c.steps.ensures.steps);
+  counted = ticks_at_once c.args.meter.now c.args.span.now.steps c.count.new.self c.requires.next.some (c.count.ensures ∙ ap (λ (n : ℕ). min (c.args.meter.now + n) (2 ^ 64 - 1)) c.steps-steps.ensures.steps);
 }

@@ -12,10 +12,10 @@ pub invariant_of-result : goal.invariant_of-result
 invariant_of-result c =
     let p = arc_value c.args.plan in
     opened p c.empty-3.result _ c.in_ok-open_interval.open_interval c.empty-4.result
-    (subst IsWithinLimits c.deref.ensures c.detectors.ensures.within)
+    (subst IsWithinLimits c.deref.ensures c.detectors-detectors.ensures.within)
     (subst AreWinners (sym c.empty-3.ensures.none) winners-empty)
     (c.empty-3.ensures.fits p)
     c.in_ok-intervals.ensures
-    (c.in_ok-open_interval.ensures.start ∙ c.empty.ensures)
-    (c.in_ok-open_interval.ensures.totals ∙ ap (λ n. replicate n no_totals) (ap length c.detectors.ensures.detectors ∙ ap (λ (q : Plan). length q.detectors) c.deref.ensures))
+    (c.in_ok-open_interval.ensures.start ∙ c.in_ok-empty.ensures)
+    (c.in_ok-open_interval.ensures.totals ∙ ap (λ n. replicate n no_totals) (ap length c.detectors-detectors.ensures.detectors ∙ ap (λ (q : Plan). length q.detectors) c.deref.ensures))
     c.empty-4.ensures
