@@ -11,7 +11,6 @@ a place, beside its own.
 from __future__ import annotations
 
 import asyncio
-import itertools
 from typing import Any, Iterable, Iterator, Mapping
 
 from .records import (JOURNAL_FORM, AllNews, AnyEntry, Bound, Came, Clock, Fields, Folder, Keys, Made, News, SeatFreed,
@@ -248,6 +247,7 @@ class State:
         self.stop: int | None = None
         self.by_stamp: dict[Stamp, Operation] = {}
         self._twins: dict[Stamp, tuple[Operation, ...]] = {}  # others of a stamp
+        self._greatest, self._later = 0, list[int]()  # the greatest count by the clock when it was asked last, and those above
         self.lately: dict[int, tuple[Road, Road]] = {}  # of a seat: the shared road, and that with all private operations
         self._clock = clock or StampClock()
         self._former: Former | None = None
@@ -285,6 +285,8 @@ class State:
         found = next((other for other in known if other.is_same(one)), None)
         if found is None:
             self._set_stamp(one.stamp, (*known, one))
+            if one.stamp[0] > self._greatest:
+                self._later.append(one.stamp[0])
         return found or one
 
     def of_stamp(self, stamp: Stamp) -> tuple[Operation, ...]:
@@ -345,8 +347,12 @@ class State:
         """Return a new stamp of a seat: above all that is held here, and above all that was made at this site, so that a clock
         that goes back puts nothing beneath what is older. What is too far ahead of the clock does not count."""
         latest = self._clock.latest_count()
-        counts = itertools.chain((count for count, _ in self.by_stamp), (other.count for other in self.seats))
-        return self._clock.count_after(max((count for count in counts if count <= latest), default=0)), seat.number
+        if self._greatest > latest:  # the clock has gone back
+            self._greatest, self._later = 0, [count for count, _ in self.by_stamp]
+        self._greatest = max((count for count in self._later if count <= latest), default=self._greatest)
+        self._later = [count for count in self._later if count > latest]
+        made = max((other.count for other in self.seats if other.count <= latest), default=0)
+        return self._clock.count_after(max(self._greatest, made)), seat.number
 
     def private(self, seat: SeatReplica) -> list[Operation]:
         """Return the seat's own operations that have not been shared."""
