@@ -150,8 +150,9 @@ class Turns:
                     self._turn.remove(short)
                     await self._one_turn(short, is_within=True)
         finally:
-            turn.cancel()
-            await asyncio.wait([turn])
+            if not turn.done():
+                turn.cancel()
+                await asyncio.wait([turn])
         return turn.result()
 
     def _is_short(self, seat: int) -> bool:
