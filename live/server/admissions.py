@@ -1,6 +1,6 @@
 """Measure how many cars per hour an inlet admits with each inflow chance, as zegdrut.demand does.
 
-As a program this module reads questions {limit, slowing, start, cell, before} line by line, and answers each in a line: the curve
+As a program this module reads questions {limit, slowing, start, entry, cell, before} line by line, and answers each in a line: the curve
 {points, capacity}, `points` as [chance in 1/65,536, cars per hour] in rising chances.
 """
 from __future__ import annotations
@@ -43,7 +43,7 @@ def measured(asked: dict[str, Any]) -> dict[str, Any]:
     """Return the curve that a question asks for. Beside other inlets it takes fewer chances: it would take too long."""
     from zegdrut.demand import Drivers, Effort, Inlet, measure_admission
     from zegdrut.units import ALWAYS
-    drivers = Drivers(asked["limit"], asked["slowing"], asked["start"])
+    drivers = Drivers(asked["limit"], asked["slowing"], asked["start"], asked["entry"])
     before = [Inlet(*inlet) for inlet in asked["before"]]
     effort = Effort(may_refine=False, is_fine=True) if before else Effort()
     found = measure_admission(drivers, asked["cell"], before, effort)

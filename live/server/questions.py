@@ -8,6 +8,7 @@ from typing import Any, Union
 
 from zegdrut import Edit
 from zegdrut.grammar import LAST_HORIZON
+from zegdrut.lost import find_entry
 from zegdrut.rows import count_cars
 from zegdrut.trips import DetectorCount, Window, count_seconds_on
 
@@ -245,7 +246,8 @@ class Questions:
         cell = plan["inlets"][inlet][0]
         limit, slowing = plan["zones"][cell // plan["zone"]]
         beside = sorted([plan["inlets"][one][0], chance_of] for one, chance_of in before if chance_of)
-        return await self._admissions.curve({"limit": limit, "slowing": slowing, "start": start, "cell": cell if beside else 0,
+        entry = find_entry(plan, cell) if beside else 0
+        return await self._admissions.curve({"limit": limit, "slowing": slowing, "start": start, "entry": entry, "cell": cell if beside else 0,
                                              "before": beside}, self._keeper.path)
 
     # What would be

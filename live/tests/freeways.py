@@ -92,6 +92,22 @@ class Freeways(Case):
                           {"inlet": 0, "start": None, "before": [[0, 70_000]]}):
                 self.assertEqual((await ada.reply("admission", **wrong))["refused"], "Range")
 
+    async def test_the_inlet_is_widened_for_its_demand(self) -> None:
+        """1,750 cars an hour are more than slowed drivers admit: nobody is slowed on the first 0.3 km. The demand is that of the file, also
+        at a ramp beside it."""
+        server = self.server(plan={**KM, "slowing": 0.2, "main": 1_750, "ramps": [[0.6, 40]], "stalled": []})
+        async with server.seat() as ada:
+            plan = ada.welcome["plan"]
+            self.assertEqual((plan["zone"], [slow for _, slow in plan["zones"]][:3]), (20, [0, 0, 13_107]))
+            await ada.say("clock", to=900)
+            said = await ada.ask("figures", of="mine", **{"from": 0, "to": 900})
+            for asked, wanted in zip(said["after"]["asked"], (1_750 / 4, 40 / 4)):
+                self.assertAlmostEqual(asked, wanted, delta=0.01 * wanted)
+            curve = await ada.say("admission", inlet=1, start=None, before=[[0, plan["inlets"][0][1]]])
+            (low, less), (high, more) = next((one, other) for one, other in zip(curve["points"], curve["points"][1:])
+                                             if one[0] <= plan["inlets"][1][1] <= other[0])
+            self.assertAlmostEqual(less + (more - less) * (plan["inlets"][1][1] - low) / (high - low), 40, delta=1)
+
     async def test_a_freeway_that_was_not_begun_whole_is_begun_anew(self) -> None:
         """Its server was killed before the works were shared."""
         folder, keys = new_folder(), dict[Path, dict[str, str]]()

@@ -68,7 +68,7 @@ class Frames(Case):
     async def test_no_other_files_are_served(self) -> None:
         for path in ("/serve", "/lab.py", "/token", "/plan.json", "/../token", "/%2e%2e/token", "/page/..%2f..%2ftoken",
                      "/page/%2e%2e", "/page/../lab.py", "/page/a.py", "/page/README.md", "/tests/hostile.py",
-                     "/tests/line.test.mjs", "/viewer/drawing.js/", "/viewer/page.js", "/viewer/index.html", "/viewer/drawing.d.mts",
+                     "/tests/connection.test.mjs", "/viewer/drawing.js/", "/viewer/page.js", "/viewer/index.html", "/viewer/drawing.d.mts",
                      "//etc/passwd"):
             reader, writer = await asyncio.open_connection("127.0.0.1", int(self.base.rpartition(":")[2]))
             writer.write(f"GET {path} HTTP/1.1\r\nHost: {self.base[7:]}\r\nConnection: close\r\n\r\n".encode())

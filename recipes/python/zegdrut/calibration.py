@@ -34,10 +34,10 @@ from dataclasses import dataclass
 from typing import Callable, NamedTuple, Sequence
 
 from . import demand
-from .comparison import Day, Model, make_model, simulate_day
+from .comparison import Day, Model, make_model, simulate_day, with_measured_demand, with_stations
 from .demand import QUICK, BeyondCapacity, count_demand, count_processors
 from .errors import Fault, LabError
-from .freeway import Figures
+from .freeway import ENTRY, Figures
 from .measured import Measured
 from .units import HOUR, KMH
 
@@ -116,8 +116,14 @@ class Calibration:
 # The error
 
 def apply_point(figures: Figures, point: Point) -> Figures:
-    """Return the figures of a road with the drivers of a point."""
-    return dataclasses.replace(figures, slowing=point.slowing, start=point.start)
+    """Return the figures of a road with the drivers of a point. Its entry is the same for all points."""
+    return dataclasses.replace(figures, slowing=point.slowing, start=point.start, entry=ENTRY if figures.entry is None else figures.entry)
+
+
+def make_calibrated(figures: Figures, measured: Measured, point: Point) -> Figures:
+    """Return the figures of the road of a point: its drivers, and the measured demand times its factor."""
+    found, _ = with_measured_demand(with_stations(apply_point(figures, point), measured), measured, point.factor)
+    return found
 
 
 KNOWN_TOTAL, KNOWN_SPEED, KNOWN_DELAY = 0.005, 0.3, 0.5

@@ -42,6 +42,8 @@ class Clock:
     begin: int = 0
     date: datetime.date | None = None
     zone: ZoneInfo | None = None
+    fold: int = 0
+    """1 if step 0 is in an hour that comes twice, and is the second one."""
 
     @classmethod
     def read(cls, begin: object = None, date: object = None, timezone: object = None) -> Clock:
@@ -52,9 +54,12 @@ class Clock:
         if zone is not None and day is None:
             raise InvalidTime("timezone: add a date: whether the clock changes depends on the day")
         clock = cls(seconds, day, zone)
-        if zone is not None:
-            clock._instant(datetime.datetime.combine(clock._day(0), clock._time(seconds)), f"begin: {begin!r}")
-        return clock
+        if zone is None:
+            return clock
+        match = TIME.fullmatch(str(begin).strip())
+        instant = clock._instant(datetime.datetime.combine(clock._day(0), clock._time(seconds)), f"begin: {begin!r}",
+                                 match.group(4) if match else None)
+        return cls(seconds, day, zone, instant.astimezone(zone).fold)
 
     # Steps
 
@@ -86,6 +91,23 @@ class Clock:
         begin = datetime.datetime.combine(self.date, self._time(self.begin))
         return round((moment.replace(tzinfo=None) - begin).total_seconds())
 
+    def find_moment(self, time: datetime.time) -> datetime.datetime:
+        """Return the date and time of a clock time: on the day of the begin, or on the next day if it is before the begin."""
+        seconds = time.hour * 3_600 + time.minute * 60 + time.second
+        return datetime.datetime.combine(self._day(0 if seconds >= self.begin else 1), time)
+
+    def comes_twice(self, moment: datetime.datetime) -> bool:
+        """Return whether a date and time without an offset comes twice, because the clock is put back."""
+        return self.zone is not None and moment.tzinfo is None and not self.skips(moment) and (
+            moment.replace(tzinfo=self.zone, fold=0).utcoffset() != moment.replace(tzinfo=self.zone, fold=1).utcoffset())
+
+    def skips(self, moment: datetime.datetime) -> bool:
+        """Return whether a date and time without an offset does not exist, because the clock is put forward."""
+        if self.zone is None or moment.tzinfo is not None:
+            return False
+        there = moment.replace(tzinfo=self.zone).astimezone(datetime.timezone.utc).astimezone(self.zone)
+        return there.replace(tzinfo=None) != moment.replace(fold=0)
+
     # Texts
 
     def to_text(self, step: int) -> str:
@@ -100,6 +122,12 @@ class Clock:
             days = f" (day {(self.begin + step) // DAY + 1})" if self.begin + step >= DAY else ""
             return self.to_text(step) + days
         return local.isoformat(sep=" ", timespec="seconds" if local.second else "minutes")
+
+    def shift(self, steps: int) -> tuple[str, str]:
+        """Return the fields `begin` and `date` of a clock that begins some steps later, or earlier if `steps` is negative."""
+        local = self.to_datetime(steps)
+        begin = f"{local:%H:%M:%S}" if local.second else f"{local:%H:%M}"
+        return begin + (format_offset(local) if local.fold else ""), local.date().isoformat()
 
     def to_datetime(self, step: int) -> datetime.datetime:
         """Return the date and time of a step. Without a date the day is 1 January 2001."""
@@ -122,7 +150,7 @@ class Clock:
 
     def _start(self) -> datetime.datetime:
         local = datetime.datetime.combine(self._day(0), self._time(self.begin))
-        return local.replace(tzinfo=self.zone).astimezone(datetime.timezone.utc)
+        return local.replace(tzinfo=self.zone, fold=self.fold).astimezone(datetime.timezone.utc)
 
     def _instant(self, local: datetime.datetime, name: str, offset: str | None = None) -> datetime.datetime:
         """Return the instant of a local time. InvalidTime: the clock skips it, or does not have that offset then."""
@@ -138,6 +166,12 @@ class Clock:
             if one.utcoffset() == wanted:
                 return instant
         raise InvalidTime(f"{name}: the offset from UTC in {self.zone} is then {both[0].strftime('%z')}")
+
+
+def format_offset(local: datetime.datetime) -> str:
+    """Return the offset from UTC of a time with a time zone: "+01:00"."""
+    offset = f"{local:%z}"
+    return f"{offset[:3]}:{offset[3:5]}"
 
 
 def read_date(value: object, field: str) -> datetime.date:

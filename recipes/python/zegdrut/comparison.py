@@ -18,19 +18,18 @@ from typing import Any, Callable, NamedTuple, Sequence
 
 from .demand import Effort, Rates, convert_demands, count_processors
 from .errors import Fault
-from .freeway import Figures, Road, Section, make_road
-from .intervals import Estimate, estimate_mean
+from .freeway import Figures, Road, make_road, to_rates, warm_up_minutes, widen_inlet, with_warm_up
+from .intervals import Estimate, average_known, estimate_mean
 from .lab import RoadLab
 from .measured import Measured
 from .road_scripts import Chances, make_commands, make_plan, make_base_edits
-from .units import HOUR, KMH, to_cells, to_km, to_steps
+from .units import HOUR, KMH, count_things, to_km
 from .wire import Record
 
-ENTRY = 0.3
-"""The km at the beginning of the road where nobody is slowed. There the inlet admits up to 1,800 cars per hour and lane. Five minutes of a
-real freeway often bring more cars than an inlet with slowed drivers admits."""
 MOST_AT_INLET = 1_780.0
 """The greatest demand in cars per hour and lane. Cars above it enter in the following minutes."""
+NOT_WHOLE, NO_COUNT = "no whole hour", "no count"
+"""Reasons for which a station hour is left out."""
 GOOD = 5.0
 """Guidelines require a GEH below this in 85 % of the cases."""
 SAME_PLACE = 0.1
@@ -54,6 +53,8 @@ class Model:
 
     name: str
     measured: Measured
+    figures: Figures
+    """The road of the window, without the minutes before it."""
     road: Road
     chances: Chances
     seed: int
@@ -78,36 +79,35 @@ class Model:
         return self.measured.intervals * self.measured.interval
 
 
-def warm_up_minutes(figures: Figures) -> int:
-    """Return the minutes that fill the road before the window: twice the free travel time, rounded up to five minutes."""
-    return math.ceil(2 * figures.length / figures.limit * 60 / 5) * 5
-
-
-def with_measured_demand(figures: Figures, measured: Measured, factor: float = 1.0) -> Figures:
-    """Return the figures of a road with measured demand, beginning with a warm-up before the window. Fault: there are too few stations."""
+def with_stations(figures: Figures, measured: Measured) -> Figures:
+    """Return the figures of a road with a detector at each compared station. Fault: there are too few stations, or one is not on the road."""
     if len(measured.main) < 2:
         raise Fault("only one main-line station is left: it gives the demand, and none is left to compare. Give more stations")
-    warm = warm_up_minutes(figures)
-    ramps = [(km, shift_demand(demand, warm, factor)) for km, demand in measured.ramp_demands()]
-    for km, cars in figures.ramps:
-        if all(abs(km - one) > SAME_PLACE for one, _ in ramps):
-            pairs = cars if isinstance(cars, list) else [(0.0, cars)]
-            ramps.append((km, shift_demand([(to_steps(minute), rate) for minute, rate in pairs], warm, factor)))
-    sections = [one._replace(begin=one.begin + warm if one.begin > 0 else 0, end=one.end + warm) for one in figures.sections]
-    minutes = measured.intervals * measured.interval / 60 + warm
-    sections.append(Section(0, ENTRY, 0, minutes, slowing=0.0, start=0.0))
-    stalled = [one._replace(begin=one.begin + warm, end=one.end + warm) for one in figures.stalled]
     places = [min(max(one.station.km, 0.0075), figures.length - 0.015) for one in measured.main[1:]]
     for one, place in zip(measured.main[1:], places):
         if abs(one.station.km - place) > 0.02:
             raise Fault(f"station {one.station.name} is at km {one.station.km:g}, outside the road of {figures.length:g} km: correct length or --origin")
-    return dataclasses.replace(figures, main=shift_demand(measured.demand(), warm, factor), ramps=ramps, sections=sections, stalled=stalled,
-                               detectors=places, minutes=minutes, begin=None, date=None, timezone=None)
+    return dataclasses.replace(figures, detectors=places)
 
 
-def shift_demand(rates: Rates, minutes: int, factor: float) -> list[tuple[float, float]]:
-    """Convert a demand to minutes, and begin it some minutes earlier with its first value."""
-    return [(0.0 if place == 0 else step / 60 + minutes, cars * factor) for place, (step, cars) in enumerate(rates)]
+def with_measured_demand(figures: Figures, measured: Measured, factor: float = 1.0) -> tuple[Figures, list[str]]:
+    """Return the figures of a road with the measured demand times a factor, and notes on it.
+
+    Ramps without a station keep the demand of the file, times the factor. Main demand above MOST_AT_INLET enters later."""
+    ramps = [(km, to_minutes(demand, factor)) for km, demand in measured.ramp_demands()]
+    for km, cars in figures.ramps:
+        if all(abs(km - one) > SAME_PLACE for one, _ in ramps):
+            ramps.append((km, to_minutes(to_rates(cars), factor)))
+    end = measured.intervals * measured.interval
+    main, number = spread_excess([(step, cars * factor) for step, cars in measured.demand()], MOST_AT_INLET, end)
+    notes = [f"the main demand is above {MOST_AT_INLET:,.0f} cars per hour and lane in {count_things(number, 'interval')}: the excess "
+             "enters in the following minutes"] if number else []
+    return dataclasses.replace(figures, main=to_minutes(main), ramps=sorted(ramps)), notes
+
+
+def to_minutes(rates: Rates, factor: float = 1.0) -> list[tuple[float, float]]:
+    """Convert a demand to minutes, times a factor."""
+    return [(step / 60, cars * factor) for step, cars in rates]
 
 
 def spread_excess(rates: Rates, most: float, end: int) -> tuple[Rates, int]:
@@ -125,22 +125,23 @@ def spread_excess(rates: Rates, most: float, end: int) -> tuple[Rates, int]:
     return found, number
 
 
-def make_model(name: str, figures: Figures, measured: Measured, factor: float = 1.0, effort: Effort = Effort(),
+def make_model(name: str, figures: Figures, measured: Measured, factor: float | None = 1.0, effort: Effort = Effort(),
              progress: Callable[[int], None] = lambda inlet: None) -> Model:
-    """Make the model of a road with measured demand. BeyondCapacity: a demand exceeds the capacity of its inlet."""
-    given = with_measured_demand(figures, measured, factor)
-    road = make_road(given)
-    (cell, main), *ramps = road.inlets
-    main, number = spread_excess(main, MOST_AT_INLET, road.steps)
-    road.inlets = [(cell, main), *ramps]
-    if number:
-        road.notes.append(f"the main demand is above {MOST_AT_INLET:,.0f} cars per hour and lane in {number} intervals: the excess "
-                          "enters in the following minutes")
+    """Make the model of a road with the measured demand times a factor, or with its own demand if `factor` is None.
+
+    BeyondCapacity: a demand exceeds the capacity of its inlet."""
+    given, notes = with_stations(figures, measured), list[str]()
+    if factor is not None:
+        given, notes = with_measured_demand(given, measured, factor)
+    given = widen_inlet(given, effort)
+    warm = warm_up_minutes(given)
+    road = make_road(with_warm_up(given, warm))
+    road.notes += notes
     # Detectors after the first inlet, and at and after each ramp, count the cars that enter.
-    road.detectors += [1, *(gate for place, _ in ramps for gate in (place, place + 1))]
+    road.detectors += [1, *(gate for place, _ in road.inlets[1:] for gate in (place, place + 1))]
     places, demands = [place for place, _ in road.inlets], [demand for _, demand in road.inlets]
-    chances = convert_demands(places, demands, road.drivers._replace(entry=to_cells(ENTRY)), effort, progress)
-    return Model(name, measured, road, chances, figures.seed, warm_up_minutes(figures) * 60)
+    chances = convert_demands(places, demands, road.drivers, effort, progress)
+    return Model(name, measured, given, road, chances, figures.seed, warm * 60)
 
 
 # Days
@@ -219,6 +220,29 @@ def compare_hours(measured: Measured, days: Sequence[Day]) -> list[Hour]:
     return found
 
 
+class LeftOut(NamedTuple):
+    """A station hour that is not compared: the station, the first step of the hour, and the reason."""
+
+    station: str
+    first: int
+    reason: str
+
+
+def list_left_out(measured: Measured) -> list[LeftOut]:
+    """Return the station hours of the window that `compare_hours` leaves out. The last one of a window may be a part of an hour."""
+    found = []
+    an_hour = HOUR // measured.interval
+    for series in measured.main[1:]:
+        for begin in range(0, measured.intervals, an_hour):
+            counted = series.cars[begin:begin + an_hour]
+            missing = sum(one is None for one in counted)
+            reason = (NOT_WHOLE if len(counted) < an_hour else "" if not missing else NO_COUNT if missing == an_hour
+                      else f"{missing} of {count_things(an_hour, 'row')} missing")
+            if reason:
+                found.append(LeftOut(series.station.name, begin * measured.interval, reason))
+    return found
+
+
 def estimate_days(values: Sequence[float]) -> tuple[float, float | None]:
     """Return the mean over days, and half its 95 % interval (None for one day)."""
     if len(values) < 2:
@@ -246,9 +270,9 @@ class SpeedError(NamedTuple):
 
 
 def compute_speed(days: Sequence[Day], index: int, place: int) -> float | None:
-    """Return the simulated time-mean speed of an interval over all days in km/h, or None without a car."""
-    cars = sum(day[index][place].cars for day in days)
-    return sum(day[index][place].speeds for day in days) / cars * KMH if cars else None
+    """Return the mean of the days' time-mean speeds of an interval in km/h, over the days with a car then, or None without a car."""
+    passed = [day[index][place] for day in days]
+    return average_known([one.speeds / one.cars * KMH if one.cars else None for one in passed])
 
 
 def compare_speeds(measured: Measured, days: Sequence[Day]) -> list[SpeedError]:

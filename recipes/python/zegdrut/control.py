@@ -14,10 +14,12 @@ Later edits of an object that a controller sets are withdrawn first.
 from __future__ import annotations
 
 from dataclasses import dataclass
-from typing import Callable, Iterable, Sequence
+from itertools import accumulate
+from typing import Callable, Iterable, NamedTuple, Sequence
 
 from .demand import Admission, Rates, count_demand, find_rate
 from .lab import RoadLab
+from .trips import Trips, entry_inlet, entry_step
 from .units import HOUR, KMH
 
 PERIOD = 60
@@ -91,7 +93,7 @@ class RampMeter(Controller):
 
     Each minute the rate becomes rate + gain * (setpoint - occupancy), within [least, most]. Rates are in cars per hour, occupancies in
     per cent, measured at a cell downstream of the ramp. Cars wait before the ramp in a vertical queue: `queue` is arrivals minus
-    admitted cars, and `waiting` is its sum over the seconds. Before step `start` the rate is `most`.
+    admitted cars at the last decision (`measure_queue` has each second). Before step `start` the rate is `most`.
 
     gates: the detector after the inlet, the detector at it, and its cell. They show who has entered.
     """
@@ -101,7 +103,7 @@ class RampMeter(Controller):
         self.inlet, self.gates, self.cell, self.arrivals, self.admission = inlet, gates, cell, arrivals, admission
         self.setpoint, self.gain, self.least, self.most, self.start = setpoint, gain, least, most, start
         self.rate = most
-        self.queue, self.waiting, self.longest, self.standing = 0.0, 0.0, 0.0, False
+        self.queue, self.standing = 0.0, False
         self.rates: list[tuple[int, float, float, float]] = []
         """For each minute: the step, the occupancy in per cent, the rate in cars per hour, and the queue in cars."""
 
@@ -112,8 +114,6 @@ class RampMeter(Controller):
         admitted = view.cars(behind) - view.cars(before) + standing - self.standing
         self.standing = standing
         self.queue += count_demand(self.arrivals, view.first, view.last) - admitted
-        self.waiting += max(self.queue, 0.0) * (view.last - view.first)
-        self.longest = max(self.longest, self.queue)
         occupancy = view.occupancy(self.cell)
         if view.last >= self.start:
             self.rate = min(max(self.rate + self.gain * (self.setpoint - occupancy), self.least), self.most)
@@ -122,3 +122,22 @@ class RampMeter(Controller):
         self.rates.append((view.last, occupancy, self.rate, self.queue))
         wanted = max(find_rate(self.arrivals, view.last) + self.queue * HOUR / PERIOD, 0.0)
         return [("inflow", self.inlet, self.admission(view.last).chance(min(self.rate, wanted)))]
+
+
+class Queue(NamedTuple):
+    """The vertical queue before an inlet in a run: its sum over all seconds in vehicle hours, and the greatest one in cars."""
+
+    vehicle_hours: float
+    longest: float
+
+
+def measure_queue(trips: Trips, inlet: int, arrivals: Rates) -> Queue:
+    """Measure the queue before an inlet in the whole run: in each second the arrivals up to then, minus the cars admitted up to then.
+
+    Arrivals are a steady flow and cars enter at random, so that the queue of a free inlet scatters around 0 and is negative at times."""
+    admitted = [0] * trips.horizon
+    for number in trips.left:
+        if entry_inlet(number) == inlet:
+            admitted[entry_step(number)] += 1
+    queue = [count_demand(arrivals, 0, step + 1) - cars for step, cars in enumerate(accumulate(admitted))]
+    return Queue(sum(queue) / HOUR, max(queue, default=0.0))

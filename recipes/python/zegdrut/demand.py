@@ -52,6 +52,9 @@ TOLERANCE = 0.003
 """The share by which an interpolated flow may differ from a simulated one."""
 NARROWEST = 0.03
 MOST_ROUNDS = 4
+MOST_REFINED = 12
+"""The number of demands at which the curve of an inlet is refined. Between them it is interpolated."""
+MOST_ZONES = 64
 
 
 class Inlet(NamedTuple):
@@ -127,7 +130,7 @@ def open_road(inlets: Sequence[Inlet], drivers: Drivers, detectors: list[int], s
     """Start a road with one limit and one kind of drivers that is free after its last inlet."""
     is_slow = drivers.limit <= 2 or drivers.slowing > 0.4 * ALWAYS
     length = inlets[-1].cell + (LONG_ROAD if is_slow else SHORT_ROAD)
-    zone = drivers.entry or length
+    zone = max(drivers.entry, -(-length // MOST_ZONES)) if drivers.entry else length
     zones = [(drivers.limit, 0 if drivers.entry and index == 0 else drivers.slowing) for index in range(-(-length // zone))]
     lab = RoadLab(Plan(length=length, zone=zone, inlets=list(inlets), zones=zones, detectors=detectors, words=seed))
     if drivers.start is not None and drivers.start != drivers.slowing:
@@ -297,7 +300,8 @@ def _measure(drivers: Drivers, cell: int, before: tuple[Inlet, ...], effort: Eff
         if demands and place >= 3 and HOUR * chance / found[chance] > 1.25 * demands[-1]:
             break  # (greater chances are not needed)
     if demands:
-        for demand in demands if effort.may_refine else ():
+        every = -(-len(demands) // MOST_REFINED)
+        for demand in demands[::-every] if effort.may_refine else ():
             _refine_at(demand, admission, simulate, found)
         return admission()
     parts = list(zip(first, first[1:])) if effort.may_refine else []

@@ -2,11 +2,12 @@
 from __future__ import annotations
 
 import dataclasses
+import math
 from dataclasses import dataclass, field
-from typing import Callable, Iterator, NamedTuple, Optional
+from typing import Callable, Iterator, NamedTuple, Optional, Sequence
 
 from .clock import Clock
-from .demand import BeyondCapacity, Drivers, Rates, convert_demands
+from .demand import BeyondCapacity, Drivers, Effort, Rates, convert_demands, measure_admission
 from .errors import Fault as Fault
 from .freeway_files import Demand, Figures as Figures, Section as Section, Stalled as Stalled
 from .units import ALWAYS, CELLS_A_KM, KMH, to_cells, to_km, to_limit, to_chance, to_steps
@@ -16,6 +17,11 @@ CELLS = range(8, 8_193)
 MOST_STEPS = 1_048_576
 MOST_ZONES = 64
 FASTEST = 9
+ENTRY = 0.3
+"""The km at the beginning of the road where nobody is slowed, if slowed drivers could not admit the main demand. An inlet without slowing
+admits up to 1,800 cars per hour. Five minutes of a real freeway often bring more cars than an inlet with slowed drivers admits."""
+NEARLY_FULL = 0.98
+"""The share of its capacity that an inlet with slowed drivers must not exceed."""
 
 
 # The road in cells and steps
@@ -42,11 +48,17 @@ class Road:
     start: int | None = None
     clock: Clock | None = None
     """None if the file has no begin: times are then minutes."""
+    entry: int = 0
+    """The number of zones at the beginning of the road where nobody is slowed."""
 
     @property
     def base_edits(self) -> list[RoadEdit]:
-        """Return the edits of step 0 that the road also has without sections: slow-to-start in all zones."""
-        return [] if self.start is None else [("start", zone, 0, self.start) for zone in range(self.zones)]
+        """Return the edits of step 0 that the road also has without sections: slow-to-start in all zones after the entry."""
+        return [] if self.start is None else [("start", zone, 0, self.start) for zone in range(self.entry, self.zones)]
+
+    def find_slowing(self, zone: int) -> int:
+        """Return the slowing chance of a zone outside sections."""
+        return 0 if zone < self.entry else self.slowing
 
     def format_time(self, step: int) -> str:
         """Return the time of a step: a clock time, or a minute if the file has no begin."""
@@ -55,7 +67,7 @@ class Road:
     @property
     def drivers(self) -> Drivers:
         """Return the limit and the slowing chances of the road outside its sections."""
-        return Drivers(self.limit, self.slowing, self.start)
+        return Drivers(self.limit, self.slowing, self.start, min(self.entry * self.zone, self.length))
 
     @property
     def zones(self) -> int:
@@ -73,6 +85,52 @@ def measure_chances(road: Road, progress: Callable[[int], None] = lambda inlet: 
     except BeyondCapacity as fault:
         raise Fault(f"a demand of {fault.demand:g} cars per hour at km {to_km(cells[fault.inlet]):g} exceeds the capacity of the inlet, "
                     f"{fault.capacity:.0f} ({fault.drivers}): ask for less") from None
+
+
+def widen_inlet(figures: Figures, effort: Effort = Effort()) -> Figures:
+    """Return the figures with a number as `entry`: the one of the file, or by default 0, or ENTRY if slowed drivers do not admit the main
+    demand. Takes some seconds."""
+    if figures.entry is not None:
+        return figures
+    drivers = Drivers(to_limit(figures.limit), to_chance(figures.slowing), None if figures.start is None else to_chance(figures.start))
+    most = max(cars for _, cars in to_rates(figures.main))
+    try:
+        measure_admission(drivers, effort=effort, demands=[most / NEARLY_FULL]).chance(most / NEARLY_FULL)
+    except BeyondCapacity:
+        return dataclasses.replace(figures, entry=ENTRY)
+    return dataclasses.replace(figures, entry=0.0)
+
+
+def widen_inlets(roads: Sequence[Figures]) -> list[Figures]:
+    """Widen the inlets of roads that are compared: if one needs it, all have it."""
+    found = [widen_inlet(one) for one in roads]
+    most = max(one.entry or 0.0 for one in found)
+    return [dataclasses.replace(one, entry=most) for one in found]
+
+
+def warm_up_minutes(figures: Figures) -> int:
+    """Return the minutes that fill the road before the window: twice the free travel time, rounded up to five minutes."""
+    return math.ceil(2 * figures.length / max(figures.limit, KMH) * 60 / 5) * 5
+
+
+def with_warm_up(figures: Figures, minutes: float) -> Figures:
+    """Return the figures of a run that begins some minutes earlier, with the first demand, so that the road is full at the begin. What
+    lasts from the begin on begins earlier, too."""
+    if not minutes:
+        return figures
+    sections = [one._replace(begin=one.begin + minutes if one.begin > 0 else 0, end=one.end + minutes) for one in figures.sections]
+    stalled = [one._replace(begin=one.begin + minutes, end=one.end + minutes) for one in figures.stalled]
+    begin, date = figures.clock.shift(-to_steps(minutes))
+    return dataclasses.replace(
+        figures, main=shift_demand(figures.main, minutes), ramps=[(km, shift_demand(demand, minutes)) for km, demand in figures.ramps],
+        sections=sections, stalled=stalled, minutes=figures.minutes + minutes, begin=begin, date=None if figures.date is None else date)
+
+
+def shift_demand(demand: Demand, minutes: float) -> Demand:
+    """Return a demand that begins some minutes earlier with its first value."""
+    if not isinstance(demand, list):
+        return demand
+    return [(0.0 if minute == 0 else minute + minutes, cars) for minute, cars in demand]
 
 
 def to_rates(demand: Demand) -> Rates:
@@ -99,6 +157,8 @@ def make_road(figures: Figures) -> Road:
     road = Road(length, choose_zone_width(notes, figures, length), find_limit(notes, "the limit", figures.limit), to_chance(figures.slowing),
                 [(0, to_rates(figures.main))], [], [], to_steps(figures.minutes), notes,
                 None if figures.start is None else to_chance(figures.start), None if figures.begin is None else figures.clock)
+    if figures.entry:
+        road.entry = find_entry(notes, figures.entry, road)
     for km, demand in sorted(figures.ramps, key=lambda ramp: ramp[0]):
         road.inlets.append((find_cell(notes, "the ramp at", km, length), to_rates(demand)))
     road.detectors = [find_cell(notes, "the detector at", km, length) for km in figures.detectors]
@@ -106,10 +166,20 @@ def make_road(figures: Figures) -> Road:
     return road
 
 
+def find_entry(notes: list[str], km: float, road: Road) -> int:
+    """Return the number of zones of the entry, and add a note on it. Fault: it is longer than the road."""
+    if km > to_km(road.length) + 1e-9:
+        raise Fault(f"entry {km:g} km is longer than the road of {to_km(road.length):g} km")
+    zones = max(-(-find_bound(km * CELLS_A_KM, road.zone, road.length) // road.zone), 1)
+    notes.append(f"nobody is slowed on the first {to_km(min(zones * road.zone, road.length)):.6g} km (`entry`), so that the inlet admits "
+                 "up to 1,800 cars per hour")
+    return zones
+
+
 def note_if_rounded(notes: list[str], what: str, asked: float, unit: str, taken: int, size: Callable[[int], float]) -> int:
     """Return the number of cells or steps that is used, and add a note if it is not exactly what was asked."""
     if abs(size(taken) - asked) > 1e-9:
-        notes.append(f"{what} {asked:g} {unit}: rounded to {size(taken):.5g} {unit}")
+        notes.append(f"{what} {asked:g} {unit}: rounded to {size(taken):.6g} {unit}")
     return taken
 
 
@@ -144,6 +214,7 @@ def choose_zone_width(notes: list[str], figures: Figures, length: int) -> int:
             raise Fault(f"zones of {figures.zone:g} km are more than {MOST_ZONES}: use at least {to_km(least):g} km")
         return width
     ends = [km * CELLS_A_KM for section in figures.sections for km in (section.first, section.last)]
+    ends += [figures.entry * CELLS_A_KM] if figures.entry else []
     # Among widths that fit equally well, take the widest.
     return min(range(length, least - 1, -1), key=lambda width: sum(abs(find_bound(end, width, length) - end) for end in ends))
 
@@ -172,26 +243,26 @@ def make_section_edits(notes: list[str], figures: Figures, road: Road) -> Iterat
             raise Fault(f"{name}, {' to '.join(times)}: it must begin before it ends, on the road and in the run")
         first, last = to_km(zones[0] * road.zone), to_km(min((zones[-1] + 1) * road.zone, road.length))
         if abs(first - section.first) > 1e-9 or abs(last - section.last) > 1e-9:
-            notes.append(f"{name}: rounded to km {first:.5g} to {last:.5g}, because zones are {to_km(road.zone):.5g} km wide")
+            notes.append(f"{name}: rounded to km {first:.6g} to {last:.6g}, because zones are {to_km(road.zone):.6g} km wide")
         if section.limit is not None:
             find_limit(notes, f"{name}: the limit", section.limit)
     for zone in range(road.zones):
         over = [section for section, zones in covered.items() if zone in zones]
         dates = sorted({to_steps(date) for section in over for date in (section.begin, section.end)})
         for kind in ("limit", "slow", "start"):
-            before = find_zone_value(kind, over, road, -1)
+            before = find_zone_value(kind, over, road, zone, -1)
             for step in dates:
-                now = find_zone_value(kind, over, road, step)
+                now = find_zone_value(kind, over, road, zone, step)
                 if now is not None and now != before and step < road.steps:
                     yield kind, zone, step, now
                 before = now
 
 
-def find_zone_value(kind: str, over: list[Section], road: Road, step: int) -> int | None:
+def find_zone_value(kind: str, over: list[Section], road: Road, zone: int, step: int) -> int | None:
     """Return the value of a zone at a step under the sections over it; None if nothing sets it.
 
     Standing cars have the slowing chance of all cars unless a section says otherwise."""
-    found: dict[str, int | None] = {"limit": road.limit, "slow": road.slowing, "start": road.start}
+    found: dict[str, int | None] = {"limit": road.limit, "slow": road.find_slowing(zone), "start": None if zone < road.entry else road.start}
     for section in over:
         if to_steps(section.begin) <= step < to_steps(section.end):
             given = {"limit": section.limit, "slow": section.slowing, "start": section.start}
@@ -226,7 +297,7 @@ def make_shapes(figures: Figures, road: Road, chances: list[list[tuple[int, int]
         for (step, chance), end in list(zip(changes, ends))[1:]:
             yield "inflow", inlet, inlet, step, end, chance
     if road.start is not None:
-        yield "start", 0, road.zones - 1, 0, road.steps, road.start
+        yield "start", road.entry, road.zones - 1, 0, road.steps, road.start
     for section in figures.sections:
         zones = find_zones(section, road)
         given = {"limit": (section.limit, to_limit), "slow": (section.slowing, to_chance), "start": (section.start, to_chance)}
@@ -276,10 +347,10 @@ def describe_change(road: Road, kind: str, indexes: range, step: int, value: int
     since = f"from {road.format_time(step)} (step {step}) on"
     if kind == "block":
         said = f"closure {since} withdrawn" if value is None else f"{'closed' if value else 'open'} {since}"
-        return f"km {to_km(indexes[0]):.5g} (cell {indexes[0]}): {said}"
+        return f"km {to_km(indexes[0]):.6g} (cell {indexes[0]}): {said}"
     first, last = indexes[0] * road.zone, min((indexes[-1] + 1) * road.zone, road.length)
     zones = f"zone {indexes[0]}" if len(indexes) == 1 else f"zones {indexes[0]}-{indexes[-1]}"
-    where = f"km {to_km(first):.5g} to {to_km(last):.5g} ({zones}, cells {first} to {last - 1})"
+    where = f"km {to_km(first):.6g} to {to_km(last):.6g} ({zones}, cells {first} to {last - 1})"
     name = {"limit": "limit", "slow": "slowing", "start": "slowing of standing cars"}[kind]
     if value is None:
         return f"{where}: {name} {since} withdrawn"

@@ -70,6 +70,8 @@ class Figures:
     timezone: str | None = None
     start: float | None = None
     """The slowing chance of standing cars (slow-to-start); None: the same as for all cars."""
+    entry: float | None = None
+    """The km at the beginning of the road where nobody is slowed; None: 0, or ENTRY if the inlet needs it (`freeway.widen_inlet`)."""
 
     @property
     def clock(self) -> Clock:
@@ -110,7 +112,7 @@ class Figures:
 
 NUMBERS = {"length": "a number of km", "limit": "a number of km/h", "slowing": "a chance from 0 to 1", "minutes": "a number of minutes",
            "piece": "a number of minutes", "seed": "a whole number, 0 or more", "zone": "a number of km, or null",
-           "start": "a chance from 0 to 1, or null"}
+           "start": "a chance from 0 to 1, or null", "entry": "a number of km, or null"}
 LISTS = {"ramps": "a list of [km, demand]", "detectors": "a list of km", "stretch": "[from km, to km]", "sections": "a list of sections",
          "stalled": "a list of stalled cars"}
 DEMAND = 'cars per hour; or [["06:30", 900], ["07:00", 1400], ..]; or {"csv": "FILE", "column": "NAME"}'
@@ -141,7 +143,7 @@ class Reader:
 
     def field(self, name: str, value: Json) -> object:
         """Read a field. Fault: it is invalid."""
-        if name in ("zone", "start") and value is None:
+        if name in ("zone", "start", "entry") and value is None:
             return None
         if name in NUMBERS:
             return self.number(name, value)
@@ -165,7 +167,7 @@ class Reader:
     def number(self, name: str, value: Json) -> float:
         """Read a number. Fault: it is something else, or out of range."""
         if not is_number(value) or name == "seed" and (not isinstance(value, int) or value < 0) \
-                or name in ("slowing", "start") and not 0 <= value <= 1:
+                or name in ("slowing", "start") and not 0 <= value <= 1 or name == "entry" and value < 0:
             raise self.fault(name, value, NUMBERS[name])
         return value
 
@@ -258,6 +260,34 @@ class Reader:
         except ValueError:
             return self.clock.to_step(float(text) if text.replace(".", "", 1).isdigit() else text, name) / 60
         return self.clock.find_step(moment) / 60
+
+
+def write_road(path: Path, source: Path, figures: Figures) -> None:
+    """Write the file of a road: the one of `source`, with the demand, drivers, entry, date and detectors of some figures."""
+    clock = figures.clock
+
+    def write_demand(demand: Demand) -> Json:
+        if not isinstance(demand, list):
+            return demand
+        return [[write_time(clock, to_steps(minute)), round(cars, 2)] for minute, cars in demand]
+    found: dict[str, Json] = {
+        **json.loads(source.read_text(encoding="utf-8")), "main": write_demand(figures.main), "slowing": figures.slowing,
+        "ramps": [[km, write_demand(demand)] for km, demand in figures.ramps], "detectors": [*figures.detectors]}
+    more = (("start", figures.start), ("entry", figures.entry), ("date", figures.date))
+    found.update({name: value for name, value in more if value is not None})
+    path.parent.mkdir(parents=True, exist_ok=True)
+    path.write_text("{" + ",\n ".join(f"{json.dumps(name)}: {json.dumps(value, ensure_ascii=False)}" for name, value in found.items())
+                    + "}\n", encoding="utf-8")
+
+
+def write_time(clock: Clock, step: int) -> Json:
+    """Return the time of a step for a file: a clock time, or minutes after the begin if the clock has that time twice."""
+    text = clock.to_text(step)
+    try:
+        is_unique = clock.to_step(text) == step
+    except InvalidTime:
+        is_unique = False
+    return text if is_unique else step / 60
 
 
 def is_number(value: object) -> TypeGuard[float]:

@@ -14,6 +14,8 @@ import math
 from typing import NamedTuple, Sequence
 
 LEVEL = 0.95
+FEW_DAYS = 5
+"""With fewer days an interval is wide because little is known about the scatter of the days."""
 
 
 class Estimate(NamedTuple):
@@ -74,6 +76,33 @@ def estimate_mean(values: Sequence[float]) -> Estimate:
         raise ValueError(f"an interval needs two days or more, not {days}")
     deviation = math.sqrt(sum_squared_deviations(values) / (days - 1) / days)
     return Estimate(math.fsum(values) / days, find_quantile(days - 1) * deviation)
+
+
+def average_known(values: Sequence[float | None]) -> float | None:
+    """Return the mean of the values that are not None, or None if there are none."""
+    known = [value for value in values if value is not None]
+    return math.fsum(known) / len(known) if known else None
+
+
+def may_be_chance(difference: Estimate) -> bool:
+    """Return whether the interval of a difference contains 0. Values that do not differ on any day have no chance."""
+    return difference.half > 0 and abs(difference.mean) <= difference.half
+
+
+CHANCE = "may be chance"
+
+
+def describe_chance(difference: Estimate) -> str:
+    """Return a remark on a difference whose interval contains 0; an empty string for any other."""
+    return CHANCE if may_be_chance(difference) else ""
+
+
+def warn_few_days(days: int) -> list[str]:
+    """Return a warning if an interval of so few days is wide for want of days."""
+    if not 2 <= days < FEW_DAYS:
+        return []
+    return [f"{days} days are few: ± is then {find_quantile(days - 1):.1f} standard errors of the mean (2.0 for many days). "
+            f"Use {FEW_DAYS} days or more"]
 
 
 def estimate_paired(before: Sequence[float], after: Sequence[float]) -> Estimate:

@@ -28,11 +28,19 @@ def list_chances(plan: PlanLine, edits: Sequence[Edit], inlet: int, last: int) -
 
 
 def find_drivers(plan: PlanLine, edits: Sequence[Edit], cell: int) -> Drivers:
-    """Return the drivers of the zone of a cell in the plan. Slow-to-start is not in plans: it comes from an edit of step 0."""
+    """Return the drivers of the zone of a cell in the plan. Slow-to-start is not in plans: it comes from an edit of step 0.
+
+    Zones without slowing at the beginning of the road are the entry of the drivers after them."""
     zone = cell // plan["zone"]
     limit, slowing = plan["zones"][zone]
     start = next((edit.value for edit in edits if tuple(edit.object) == ("start", zone) and edit.step == 0), None)
-    return Drivers(limit, slowing, start)
+    return Drivers(limit, slowing, start, find_entry(plan, cell))
+
+
+def find_entry(plan: PlanLine, cell: int) -> int:
+    """Return the cells at the beginning of the road where nobody is slowed, if the inlet at a cell is after them; else 0."""
+    entry = next(index for index, (_, chance) in enumerate([*plan["zones"], (0, 1)]) if chance) * plan["zone"]
+    return entry if entry <= cell else 0
 
 
 def compute_demands(plan: PlanLine, edits: Sequence[Edit], last: int, effort: Effort = Effort()) -> list[Rates]:

@@ -12,11 +12,11 @@ from collections import Counter
 from dataclasses import dataclass, field, replace
 from typing import Iterable, NamedTuple
 
-from .clock import DAY, Clock
+from .clock import Clock
 from .demand import Rates
 from .errors import Fault
-from .stations import Counts, Row, Station, note_lines
-from .units import HOUR
+from .stations import MOST_TOLD, Counts, Row, Station, note_lines
+from .units import HOUR, count_things
 
 SUSPICIOUS = 10
 """A zero between two intervals with at least this many cars per lane is a fault of the detector."""
@@ -100,10 +100,7 @@ def find_interval(counts: Counts, clock: Clock) -> int:
 
 def find_step(clock: Clock, row: Row) -> int:
     """Return the step of the time of a row. It is negative before the begin."""
-    if isinstance(row.time, datetime.datetime):
-        return clock.find_step(row.time)
-    seconds = row.time.hour * HOUR + row.time.minute * 60 + row.time.second
-    return (seconds - clock.begin) % DAY
+    return clock.find_step(find_moment(clock, row))
 
 
 def check_one_day(counts: Counts, clock: Clock) -> None:
@@ -132,8 +129,8 @@ def put_on_road(counts: Counts, clock: Clock, seconds: int, origin: float | None
     start = origin if origin is not None else main[0].km if main[0].is_mile or is_reversed else 0.0
     notes: list[str] = []
     placed: dict[str, list[PlacedRow]] = {name: [] for name in counts.stations}
-    for row in counts.rows:
-        placed[row.station].append(PlacedRow(row, find_step(clock, row)))
+    for placed_row in place_rows(counts, clock, notes):
+        placed[placed_row.row.station].append(placed_row)
     check_clock_changes(counts, clock, seconds, notes)
     found: list[Series] = []
     for station in counts.stations.values():
@@ -149,7 +146,41 @@ def put_on_road(counts: Counts, clock: Clock, seconds: int, origin: float | None
         notes.append(f"the stations have {' and '.join(map(str, lanes_differ))} lanes: the model has one lane, so it cannot show how the flow "
                      "per lane changes with the number of lanes")
     upstream, downstream = cut_at_exit(lines, ramps, notes)
-    return Measured(clock, interval, upstream, [one for one in ramps if one.station.km < upstream[-1].station.km], [*counts.notes, *notes])
+    joining = [one for one in ramps if one.station.km < upstream[-1].station.km]
+    for one in (upstream[0], *joining):
+        note_interpolated(one, clock, interval, notes)
+    return Measured(clock, interval, upstream, joining, [*counts.notes, *notes])
+
+
+def note_interpolated(series: Series, clock: Clock, interval: int, notes: list[str]) -> None:
+    """Add a note if a station that gives a demand has missing intervals, whose demand `make_rates` interpolates."""
+    missing = [place for place, cars in enumerate(series.cars) if cars is None]
+    if missing and len(missing) < len(series.cars):
+        times = ", ".join(clock.to_text(place * interval) for place in missing[:MOST_TOLD]) + (", .." if len(missing) > MOST_TOLD else "")
+        notes.append(f"the demand of station {series.station.name} is interpolated in {count_things(len(missing), 'interval')} without a "
+                     f"count, at {times}")
+
+
+def place_rows(counts: Counts, clock: Clock, notes: list[str]) -> list[PlacedRow]:
+    """Return the rows with their steps, and add notes on duplicate rows and on times that the clock skips.
+
+    When the clock is put back, an hour comes twice: a second row of the same time then belongs to the second hour."""
+    again = {row.line for row in counts.repeated if isinstance(row.time, datetime.datetime) and clock.comes_twice(row.time)}
+    own = replace(counts, notes=[])
+    note_lines(own, [row.line for row in counts.repeated if row.line not in again], *(
+        f"{what} the station and time of an earlier row: only the first one counts" for what in ("row has", "rows have")))
+    rows = [*counts.rows, *(row._replace(time=row.time.replace(fold=1)) for row in counts.repeated if row.line in again)]
+    skipped = [row.line for row in rows if clock.skips(find_moment(clock, row))]
+    note_lines(own, skipped, *(f"{what} at a time that the clock change in {clock.zone} skips: ignored" for what in ("row is", "rows are")))
+    notes += own.notes
+    return [PlacedRow(row, find_step(clock, row)) for row in rows if row.line not in skipped]
+
+
+def find_moment(clock: Clock, row: Row) -> datetime.datetime:
+    """Return the date and time of a row. A clock time belongs to the day of the run, or to the next day before the begin."""
+    if isinstance(row.time, datetime.datetime):
+        return row.time
+    return clock.find_moment(row.time)
 
 
 def find_lanes_downstream(ramp: Station, main: Iterable[Station], sign: int) -> int:
@@ -176,11 +207,14 @@ def make_series(counts: Counts, station: Station, rows: list[PlacedRow], lanes: 
         cars[place] = row.cars / lanes * (interval / HOUR if counts.are_per_hour else 1)
         speeds[place], lines[place] = row.speed, row.line
     own = replace(counts, notes=[])
-    note_lines(own, odd, f"rows of station {station.name} do not begin at a whole interval of {interval // 60} minutes: ignored")
+    note_lines(own, odd, *(f"{what} at a whole interval of {count_things(interval // 60, 'minute')}: ignored"
+                           for what in (f"row of station {station.name} does not begin", f"rows of station {station.name} do not begin")))
     zero = [place for place, count in enumerate(cars) if count == 0]
     faulty = [place for place in zero if is_suspicious(cars, place)]
-    note_lines(own, [lines[place] for place in zero if place not in faulty], f"rows of station {station.name} have no car")
-    note_lines(own, [lines[place] for place in faulty], f"rows of station {station.name} have no car between two that have many: treated as missing")
+    note_lines(own, [lines[place] for place in zero if place not in faulty], f"row of station {station.name} has no car",
+               f"rows of station {station.name} have no car")
+    note_lines(own, [lines[place] for place in faulty], *(f"{what} no car between two that have many: treated as missing" for what in
+                                                          (f"row of station {station.name} has", f"rows of station {station.name} have")))
     for place in faulty:
         cars[place] = speeds[place] = None
     missing = [place for place, count in enumerate(cars) if count is None and place not in faulty]
@@ -209,7 +243,7 @@ def check_clock_changes(counts: Counts, clock: Clock, seconds: int, notes: list[
         if before != after and before is not None and after is not None:
             is_back = after < before
             notes.append(f"{counts.path}: the clock changes at {clock.to_text((place + 1) * 900)} in {clock.zone}: an hour "
-                        + ("comes twice; rows without an offset from UTC belong to the first" if is_back else "is skipped"))
+                        + ("comes twice; without an offset from UTC the first row of a time belongs to the first hour" if is_back else "is skipped"))
 
 
 def cut_at_exit(lines: list[Series], ramps: list[Series], notes: list[str]) -> tuple[list[Series], list[Series]]:

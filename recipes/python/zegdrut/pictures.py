@@ -22,6 +22,11 @@ WIDTH, HEIGHT = 640, 190
 LEFT, RIGHT, TOP, BOTTOM = 58, 12, 26, 34
 SPEEDS = ((0, (120, 0, 30)), (27, (215, 48, 39)), (54, (252, 141, 89)), (81, (254, 224, 139)), (108, (145, 207, 96)), (135, (26, 152, 80)))
 """The colour scale of all space-time diagrams: km/h, and red, green and blue."""
+BAND = "95 % interval of the mean"
+LETTER = 7.5
+"""The width of a letter of a title or legend, at the most."""
+LEAST_CLOSURE = 6.0
+"""The least height and width of a closure in a space-time diagram, so that it is seen."""
 NO_CAR = (245, 245, 245)
 BLOCKED = (0, 0, 0)
 Colour = tuple[int, int, int]
@@ -101,30 +106,38 @@ class Chart:
                   for value in part if value is not None]
         step = choose_tick(self.top or max(values, default=1.0) or 1.0, 4)
         top = math.ceil((self.top or max(values, default=1.0) or 1.0) / step - 1e-9) * step
-        inner, depth = width - LEFT - RIGHT, height - TOP - BOTTOM
+        room = width - LEFT - RIGHT - LETTER * (len(self.title) + 3)
+        has_own_line = LETTER * sum(len(name) + 4 for name, _, _ in self.list_names()) > room
+        ceiling = TOP + 14 * has_own_line
+        inner, depth = width - LEFT - RIGHT, height - ceiling - BOTTOM
 
         def x(date: float) -> float:
             return LEFT + inner * (date - self.first) / (self.last - self.first)
 
         def y(value: float) -> float:
-            return TOP + depth * (1 - value / top)
+            return ceiling + depth * (1 - value / top)
         parts = [f'<svg xmlns="http://www.w3.org/2000/svg" class="chart" viewBox="0 0 {width} {height}" width="{width}" height="{height}" '
                  'font-family="sans-serif" font-size="11">', f'<text x="{LEFT}" y="14" font-weight="bold">{escape(self.title)}</text>',
-                 f'<text x="{width - RIGHT}" y="14" text-anchor="end">{self.legend()}</text>',
-                 f'<text transform="translate(12 {TOP + depth / 2}) rotate(-90)" text-anchor="middle">{escape(self.unit)}</text>']
+                 f'<text x="{width - RIGHT}" y="{14 + 14 * has_own_line}" text-anchor="end">{self.legend()}</text>',
+                 f'<text transform="translate(12 {ceiling + depth / 2}) rotate(-90)" text-anchor="middle">{escape(self.unit)}</text>']
         for number in range(round(top / step) + 1):
             value = number * step
             parts.append(f'<line x1="{LEFT}" x2="{width - RIGHT}" y1="{y(value):.1f}" y2="{y(value):.1f}" stroke="#ddd"/>'
                          f'<text x="{LEFT - 5}" y="{y(value) + 4:.1f}" text-anchor="end">{value:,.10g}</text>')
-        parts += draw_times(self.clock, self.first, self.last, self.offset, x, TOP + depth)
+        parts += draw_times(self.clock, self.first, self.last, self.offset, x, ceiling + depth)
         for line in self.lines:
             parts += draw_line(line, x, y)
-        parts.append(f'<rect x="{LEFT}" y="{TOP}" width="{inner}" height="{depth}" fill="none" stroke="#333"/></svg>')
+        parts.append(f'<rect x="{LEFT}" y="{ceiling}" width="{inner}" height="{depth}" fill="none" stroke="#333"/></svg>')
         return "".join(parts)
+
+    def list_names(self) -> list[tuple[str, str, str]]:
+        """Return the entries of the legend: name, colour and mark of each line, and of the bands."""
+        found = [(line.name, line.colour, "- - " if line.is_dashed else "— ") for line in self.lines]
+        return [*found, *([(BAND, "#666", "▒ ")] if any(line.low is not None for line in self.lines) else [])]
 
     def legend(self) -> str:
         """Return the names of the lines in their colours."""
-        return "&#160;&#160; ".join(f'<tspan fill="{line.colour}">{"- - " if line.is_dashed else "— "}{escape(line.name)}</tspan>' for line in self.lines)
+        return "&#160;&#160; ".join(f'<tspan fill="{colour}">{mark}{escape(name)}</tspan>' for name, colour, mark in self.list_names())
 
 
 def draw_line(line: Line, x: Callable[[float], float], y: Callable[[float], float]) -> list[str]:
@@ -194,7 +207,9 @@ def draw_field(speeds: Field, title: str, clock: Clock, first: int, last: int, k
         left, right = (LEFT + inner * (min(max(date, first), last) - first) / (last - first) for date in (begin, end))
         up, down = (TOP + depth * (1 - km / kilometres) for km in (high, low))
         if right > left:
-            parts.append(f'<rect x="{left:.1f}" y="{up - 1:.1f}" width="{right - left:.1f}" height="{max(down - up, 2):.1f}" fill="#000"/>')
+            middle, tall, wide = (up + down) / 2, max(down - up, LEAST_CLOSURE), max(right - left, LEAST_CLOSURE)
+            parts.append(f'<rect class="closure" x="{left:.1f}" y="{middle - tall / 2:.1f}" width="{wide:.1f}" height="{tall:.1f}" fill="#000" '
+                         'stroke="#fff" stroke-width="1.2"/>')
     parts.append(f'<rect x="{LEFT}" y="{TOP}" width="{inner}" height="{depth}" fill="none" stroke="#333"/></svg>')
     return "".join(parts)
 

@@ -11,12 +11,12 @@ from dataclasses import dataclass
 from typing import Any, Callable, NamedTuple, Sequence
 
 from .demand import Rates, count_demand, count_processors
-from .intervals import estimate_mean, estimate_paired
+from .intervals import Estimate, average_known, estimate_mean, estimate_paired, may_be_chance
 from .lab import RoadLab
 from .scripts import Script
 from .trips import (DetectorCount, Trips, Window, compare_trips, compute_travel_times, compute_vehicle_hours, count_admitted_cars,
                     count_seconds_on)
-from .units import to_km
+from .units import format_km
 from .wire import Record
 
 PERIOD = 300
@@ -81,7 +81,7 @@ def measure_side(side: Side, day: SideDay, window: Window) -> dict[str, float | 
     asked = sum(count_demand(rates, window.first, window.last) for rates in side.demands)
     came = sum(count_admitted_cars(day.trips, window))
     times = compute_travel_times(day.trips, window, inlet=0)
-    places = [f"km {round(to_km(cell), 3):g}" for cell in side.script.plan["detectors"]]
+    places = [f"km {format_km(cell)}" for cell in side.script.plan["detectors"]]
     found: dict[str, float | None] = {
         "vehicle hours on the road": compute_vehicle_hours(day.trips, window), "demand, cars": asked, "admitted cars": float(came),
         "lost demand, cars": asked - came, "travel time from km 0 to the end, s": times[-1].mean}
@@ -99,6 +99,12 @@ class Row(NamedTuple):
     name: str
     sides: list[tuple[float | None, float | None]]
     difference: tuple[float | None, float | None] | None
+
+    @property
+    def may_be_chance(self) -> bool | None:
+        """Return whether the interval of the difference contains 0, or None if it is unknown. Roads that do not differ have no chance."""
+        mean, half = self.difference or (None, None)
+        return None if mean is None or half is None else may_be_chance(Estimate(mean, half))
 
 
 def estimate_side(values: Sequence[float | None]) -> tuple[float | None, float | None]:
@@ -119,7 +125,7 @@ def make_table(sides: Sequence[Side], days: Sequence[Sequence[SideDay]], window:
         costs = [compare_trips(one.trips, other.trips, window) for one, other in days]
         rows.append(Row("delay, vehicle hours", [(None, None), (None, None)], estimate_side([cost.delay_hours for cost in costs])))
         for index, cell in enumerate([*sides[0].script.plan["detectors"], None]):
-            name = "to the end" if cell is None else f"to km {round(to_km(cell), 3):g}"
+            name = "to the end" if cell is None else f"to km {format_km(cell)}"
             rows.append(Row(f"mean delay {name}, s", [(None, None), (None, None)], estimate_side([cost.at_sites[index].mean for cost in costs])))
     for name in each[0][0]:
         values = [[day[place].get(name) for day in each] for place in range(len(sides))]
@@ -140,7 +146,8 @@ def make_records(sides: Sequence[Side], rows: Sequence[Row]) -> list[Record]:
         for side, (mean, half) in zip(sides, row.sides):
             record.update({side.name: mean, f"± {side.name}": half})
         if len(sides) == 2:
-            record.update({"difference": row.difference and row.difference[0], "± difference": row.difference and row.difference[1]})
+            record.update({"difference": row.difference and row.difference[0], "± difference": row.difference and row.difference[1],
+                           "may be chance": None if row.may_be_chance is None else "yes" if row.may_be_chance else "no"})
         found.append(record)
     return found
 
@@ -157,8 +164,10 @@ def make_flow_series(days: Sequence[SideDay], detector: int, window: Window) -> 
 
 
 def make_speed_series(days: Sequence[SideDay], detector: int, window: Window) -> list[tuple[float, float | None]]:
-    """Return for each period its middle and the time-mean speed in km/h over all days."""
-    return [(part.first + part.steps / 2, sum_counts([day.passed[detector][place] for day in days]).time_mean_speed)
+    """Return for each period its middle and the mean of the days' time-mean speeds in km/h, over the days with a car then.
+
+    The table has means of days, too: a day with many cars counts no more than another."""
+    return [(part.first + part.steps / 2, average_known([day.passed[detector][place].time_mean_speed for day in days]))
             for place, part in enumerate(split_window(window))]
 
 

@@ -10,13 +10,15 @@ from pathlib import Path
 from typing import Sequence
 
 from .clock import Clock
+from .intervals import CHANCE, FEW_DAYS, warn_few_days
 from .pictures import AFTER, BEFORE, Chart, Line, draw_field, draw_scale, make_speed_field
 from .programs import program_path, read_record, sum_file
 from .report import PERIOD, Row, Side, SideDay, make_flow_series, make_speed_series
 from .trips import Window
-from .units import CELLS_A_KM, to_km
+from .units import CELLS_A_KM, count_things, format_km
 
 CELLS_A_PIECE, STEPS_A_PIECE = 7, 30
+NO_BANDS = f'<p class="note">With fewer than {FEW_DAYS} days the charts have no intervals.</p>'
 MISSING = ("more than one lane: there is no overtaking, and all figures are per lane", "off-ramps, junctions and trucks: all cars behave "
            "as their zone says", "a queue before an inlet: demand that finds no place is lost", "speeds between whole cells per second, "
            "which are 27 km/h apart (a cell is 7.5 m)")
@@ -25,12 +27,12 @@ STYLE = """
 body { font: 10.5pt/1.35 sans-serif; color: #111; max-width: 1000px; margin: 1.5em auto; padding: 0 1em }
 h1 { font-size: 17pt; margin: 0 0 .2em } h2 { font-size: 12.5pt; margin: 1em 0 .3em; break-after: avoid }
 p, ul { margin: .3em 0 } ul { padding-left: 1.3em }
-table { border-collapse: collapse; width: 100%; font-size: 9.5pt } thead { display: table-header-group }
+table { border-collapse: collapse; width: 100%; font-size: 9pt; break-inside: avoid; margin-bottom: .8em } thead { display: table-header-group }
 th, td { text-align: right; padding: .12em .5em; border-bottom: 1px solid #ccc } th:first-child, td:first-child { text-align: left }
-tr { break-inside: avoid }
+td { white-space: nowrap } tr { break-inside: avoid }
 svg { max-width: 100%; height: auto; display: block; break-inside: avoid }
 .pairs { display: grid; grid-template-columns: 1fr 1fr; gap: 0 10px } .pairs > div { break-inside: avoid }
-.note { color: #555; font-size: 9pt }
+.note { color: #555; font-size: 9pt } .window { font-size: 12pt; margin: 0 0 .5em } .warning { font-weight: bold }
 @media print { body { margin: 0; padding: 0; max-width: none } * { print-color-adjust: exact; -webkit-print-color-adjust: exact } }
 """
 
@@ -72,16 +74,20 @@ def count_digits(name: str) -> int:
 
 def make_table_html(sides: Sequence[Side], rows: Sequence[Row], days: int) -> str:
     """Return the table of figures as HTML."""
-    head = "".join(f"<th>{escape(side.name)}</th><th>±</th>" for side in sides) + ("<th>difference</th><th>±</th>" if len(sides) == 2 else "")
+    head = "".join(f"<th>{escape(side.name)}</th><th>±</th>" for side in sides)
+    head += "<th>difference</th><th>±</th><th></th>" if len(sides) == 2 else ""
     lines = []
     for row in rows:
         digits = count_digits(row.name)
         cells = [format_number(value, digits) for pair in row.sides for value in pair]
         if len(sides) == 2:
-            cells += [format_number(value, digits) for value in row.difference or (None, None)]
+            cells += [*(format_number(value, digits) for value in row.difference or (None, None)), CHANCE * bool(row.may_be_chance)]
         lines.append(f"<tr><td>{escape(row.name)}</td>" + "".join(f"<td>{cell}</td>" for cell in cells) + "</tr>")
-    said = "± is half the 95 % interval of the mean (Student's t); for the difference it is paired by day." if days > 1 else "One day has no interval."
-    return f'<table><thead><tr><th>mean of {days} days</th>{head}</tr></thead><tbody>{"".join(lines)}</tbody></table><p class="note">{said}</p>'
+    said = ("± is half the 95 % interval of the mean (Student's t), in the unit of its row; for the difference it is paired by day. "
+            f"“{CHANCE}”: the interval of the difference contains 0. A speed is the mean of the days' time-mean speeds." if days > 1
+            else "One day has no interval.")
+    return (f'<table><thead><tr><th>{f"mean of {days} days" if days > 1 else "one day"}</th>{head}</tr></thead><tbody>{"".join(lines)}</tbody>'
+            f'</table><p class="note">{said}</p>')
 
 
 def make_fields_html(contents: Contents) -> str:
@@ -100,17 +106,17 @@ def make_charts_html(contents: Contents) -> str:
     (first, last), parts = contents.window, []
     colours = [BEFORE, AFTER] if len(contents.sides) == 2 else [AFTER]
     for detector, cell in enumerate(contents.detectors):
-        flow = Chart(f"Flow, km {round(to_km(cell), 3):g}", "cars/h", contents.clock, first, last)
-        speed = Chart(f"Time-mean speed, km {round(to_km(cell), 3):g}", "km/h", contents.clock, first, last, top=135.0)
+        flow = Chart(f"Flow, km {format_km(cell)}", "cars/h", contents.clock, first, last)
+        speed = Chart(f"Time-mean speed, km {format_km(cell)}", "km/h", contents.clock, first, last, top=135.0)
         for place, (side, colour) in enumerate(zip(contents.sides, colours)):
             of_side = [both[place] for both in contents.days]
             series = make_flow_series(of_side, detector, contents.window)
-            has_band = all(half is not None for *_, half in series)
+            has_band = len(contents.days) >= FEW_DAYS and all(half is not None for *_, half in series)
             flow.add(Line(side.name, [(date, mean) for date, mean, _ in series], colour,
                           [(mean or 0) - (half or 0) for _, mean, half in series] if has_band else None,
                           [(mean or 0) + (half or 0) for _, mean, half in series] if has_band else None))
             speed.add(Line(side.name, make_speed_series(of_side, detector, contents.window), colour))
-        parts += [f"<div>{chart.draw(470, 165)}</div>" for chart in (flow, speed)]
+        parts += [f"<div>{chart.draw(470, 175)}</div>" for chart in (flow, speed)]
     return f'<div class="pairs">{"".join(parts)}</div>'
 
 
@@ -127,18 +133,29 @@ def format_page(contents: Contents) -> str:
     days, clock, (first, last) = len(contents.days), contents.clock, contents.window
     seeds = f"{contents.seed}" if days == 1 or isinstance(contents.seed, str) else f"{contents.seed} to {contents.seed + days - 1}"
     times = f"{clock.to_text(first)} to {clock.to_text(last)}"
+    few = "".join(f'<p class="warning">{escape(one)}.</p>' for one in warn_few_days(days))
     parts = [
-        f"<h1>{escape(contents.title)}</h1>", make_list_html(contents.facts), "<h2>Works</h2>" + make_list_html(contents.works or ["none"]),
+        f"<h1>{escape(contents.title)}</h1>", f'<p class="window">{escape(describe_window(contents))}</p>', few, make_list_html(contents.facts), "<h2>Works</h2>" + make_list_html(contents.works or ["none"]),
         f'<p class="note">Rounded to the model: {escape("; ".join(contents.notes))}.</p>' if contents.notes else "",
         f"<h2>Space-time diagrams</h2>{make_fields_html(contents)}",
-        f"<h2>Figures, {times}</h2>{make_table_html(contents.sides, contents.rows, days)}",
-        f"<h2>Flow and speed by time, each {PERIOD // 60} minutes, mean of {days} days</h2>{make_charts_html(contents)}"
+        f"<h2>Flow and speed by time, each {PERIOD // 60} minutes, {f'mean of {days} days' if days > 1 else 'one day'}</h2>"
+        + (NO_BANDS if 1 < days < FEW_DAYS else "") + make_charts_html(contents)
         if contents.detectors else "",
+        f"<h2>Figures, {times}</h2>{make_table_html(contents.sides, contents.rows, days)}",
         contents.more, "<h2>What the model does not have</h2>" + make_list_html(MISSING),
         f'<p class="note">Seeds {seeds}; program {escape(describe_program())}. Delay is the time that the cars of both roads spend on the road '
         "in this window, after minus before; lost demand is demand minus admitted cars, and scatters by about two roots of the demand.</p>"]
     return (f'<!DOCTYPE html>\n<html lang="en"><head><meta charset="utf-8"><title>{escape(contents.title)}</title><style>{STYLE}</style></head>'
             f'<body>{"".join(parts)}</body></html>\n')
+
+
+def describe_window(contents: Contents) -> str:
+    """Return the date, the window and the number of days, and whether the road was empty at its begin."""
+    clock, (first, last), days = contents.clock, contents.window, len(contents.days)
+    date = f"{clock.to_datetime(first).date()}, " if clock.date else ""
+    begin = (f"The road is empty at {clock.to_text(0)}: the figures contain its filling" if first == 0 else
+             f"The run begins at {clock.to_text(0)} with an empty road, before these figures")
+    return f"{date}{clock.to_text(first)} to {clock.to_text(last)}, {count_things(days, 'simulated day')}. {begin}."
 
 
 def make_list_html(sentences: Sequence[str]) -> str:

@@ -14,7 +14,8 @@ Chances = list[list[tuple[int, int]]]
 def make_plan(road: Road, chances: Chances, seed: int) -> PlanLine:
     """Make the plan of a road."""
     inlets = [[cell, changes[0][1]] for (cell, _), changes in zip(road.inlets, chances)]
-    return {"length": road.length, "exit": 1, "zone": road.zone, "zones": [[road.limit, road.slowing]] * road.zones,
+    zones = [[road.limit, road.find_slowing(zone)] for zone in range(road.zones)]
+    return {"length": road.length, "exit": 1, "zone": road.zone, "zones": zones,
             "inlets": inlets, "detectors": road.detectors, "words": seed, "replicas": ["A"]}
 
 

@@ -23,6 +23,7 @@ from pathlib import Path
 from typing import Iterable, Mapping, NamedTuple
 
 from .errors import Fault
+from .units import count_things
 
 MILE = 1.609344
 """Kilometres."""
@@ -78,6 +79,8 @@ class Counts:
     are_per_hour: bool = False
     """Whether `cars` of the rows are cars per hour."""
     notes: list[str] = field(default_factory=list)
+    repeated: list[Row] = field(default_factory=list)
+    """Rows with the station and time of an earlier row. They count only in the second hour of two, when the clock is put back."""
 
 
 # Reading
@@ -199,8 +202,9 @@ def read_five_minutes(path: Path, lines: list[tuple[int, list[str]]], stations: 
         counts.rows.append(Row(number, name, time, read_number(path, number, list(FIVE_MINUTES), line, 9),
                                float(speed) * MILE if speed else None))
     counts.stations = used
-    counts.notes += [f"{path}: {times} rows of {name}: ignored" for name, times in sorted(left_out.items())]
-    note_lines(counts, unseen, "rows have 0 % observed or no count: their counts are estimates or empty")
+    counts.notes += [f"{path}: {count_things(times, 'row')} of {name}: ignored" for name, times in sorted(left_out.items())]
+    note_lines(counts, unseen, "row has 0 % observed or no count: its count is an estimate or empty",
+               "rows have 0 % observed or no count: their counts are estimates or empty")
     return counts
 
 
@@ -272,13 +276,13 @@ def read_time(path: Path, number: int, text: str) -> datetime.datetime | datetim
 # Checks
 
 def check_rows(counts: Counts) -> Counts:
-    """Add notes on duplicates, rows out of order and stations out of order. Keep the first of duplicate rows, and sort the rest."""
+    """Add notes on rows out of order and stations out of order. Keep the first of duplicate rows, and sort the rest."""
     seen: dict[tuple[str, object], Row] = {}
-    twice, late, last = [], [], dict[str, Row]()
+    late, last = [], dict[str, Row]()
     for row in counts.rows:
         key = row.station, row.time
         if key in seen:
-            twice.append(row.line)
+            counts.repeated.append(row)
             continue
         seen[key] = row
         before = last.get(row.station)
@@ -286,17 +290,15 @@ def check_rows(counts: Counts) -> Counts:
             late.append(row.line)
         last[row.station] = row
     counts.rows = list(seen.values())
-    note_lines(counts, twice, "rows have the station and time of an earlier row: only the first one counts (at the end of summer time, "
-                             "an hour comes twice)")
-    note_lines(counts, late, "rows are out of order in time: they are sorted")
+    note_lines(counts, late, "row is out of order in time: it is sorted", "rows are out of order in time: they are sorted")
     order = [station.km for station in counts.stations.values() if not station.is_ramp]
     if order != sorted(order) and order != sorted(order, reverse=True):
         counts.notes.append(f"{counts.path}: its stations are out of order along the road: they are sorted by km")
     return counts
 
 
-def note_lines(counts: Counts, lines: list[int], said: str) -> None:
-    """Add a note that names some lines."""
+def note_lines(counts: Counts, lines: list[int], one: str, many: str) -> None:
+    """Add a note that names some lines: `one` is said of a single row, `many` of several."""
     if lines:
         shown = ", ".join(map(str, lines[:MOST_TOLD])) + (", .." if len(lines) > MOST_TOLD else "")
-        counts.notes.append(f"{counts.path}, line{'s' if len(lines) > 1 else ''} {shown}: {len(lines)} {said}")
+        counts.notes.append(f"{counts.path}, line{'s' if len(lines) > 1 else ''} {shown}: {len(lines)} {many if len(lines) > 1 else one}")

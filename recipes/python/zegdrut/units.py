@@ -72,6 +72,16 @@ class Units(NamedTuple):
         return (self.metres or METRES) / (self.seconds or 1) * 3.6
 
 
+def format_km(cell: float) -> str:
+    """Return the km at which a cell begins, up to four decimals: the only form of a place in tables and pictures. A cell is 0.0075 km."""
+    return format_plain(to_km(cell))
+
+
+def count_things(number: int, thing: str, things: str | None = None) -> str:
+    """Return a number with its noun: "1 row", "2 rows"."""
+    return f"{number:,} {thing if number == 1 else things or thing + 's'}"
+
+
 def format_plain(number: float) -> str:
     """Return a number with up to four decimals, without zeros at the end."""
     return f"{number:.4f}".rstrip("0").rstrip(".")

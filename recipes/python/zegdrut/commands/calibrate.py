@@ -4,10 +4,11 @@
 
 ROAD.json and COUNTS.csv are as `zegdrut measured` reads them. The bounds are {"slowing": [0, 0.4], "start": [0, 0.7], "factor":
 [0.9, 1.1]}, or those of a JSON file. Several rounds of points are simulated in parallel on all processors, each over some days. On a
-terminal it shows the progress and the best point.
+terminal it shows the progress and the best point; in a log, a line every ten seconds.
 
-It prints the result and the ten best points. It writes calibrated-NAME.json (ROAD.json with the fitted drivers), tried-NAME.csv (all
-points with their errors) and surface-NAME.svg (a picture of the errors). zegdrut/calibration.py defines the error; an error of about
+It prints the result and the ten best points. It writes calibrated-NAME.json (ROAD.json with the fitted drivers, and the measured demand
+of the main road and of the ramps times the fitted factor), tried-NAME.csv (all points with their errors) and surface-NAME.svg (a picture
+of the errors). zegdrut/calibration.py defines the error; an error of about
 2 is as good as chance allows.
 """
 from __future__ import annotations
@@ -20,17 +21,21 @@ import sys
 from pathlib import Path
 from typing import Sequence
 
-from ..calibration import NAMES, Bounds, Calibration, Search, Trial, calibrate, is_congested
+from ..bars import Bar
+from ..calibration import NAMES, Bounds, Calibration, Point, Search, Trial, calibrate, is_congested, make_calibrated
 from ..demand import BeyondCapacity
 from ..comparison import with_measured_demand
 from ..errors import Fault, LabError
-from ..freeway import make_road
+from ..freeway import Figures, make_road, measure_chances
+from ..freeway_files import write_road
 from ..pictures import draw_points, stack_drawings
 from .measured import add_data_arguments, report_progress, read_data, print_lines
 
 
 NO_CONGESTION = ("no station is congested (more than 10 km/h below its greatest speed): these counts cannot determine the slow-to-start "
                  "chance, and its value is arbitrary. Use counts of a day with a jam")
+SHORT_SEARCH = (f"fewer than {Search.points} points or {Search.days} days: the result may be off by more than its spread, which is that of the "
+                "best points (recipes/measured/README.md has examples)")
 
 
 def read_arguments(words: Sequence[str] | None) -> argparse.Namespace:
@@ -53,12 +58,10 @@ def read_bounds(path: Path | None) -> Bounds:
         raise Fault(f"{path} is not JSON: {fault}") from None
 
 
-def show_progress(done: int, total: int, best: Trial) -> None:
-    """Draw how far the search is, where standard error is a terminal."""
-    if sys.stderr.isatty():
-        point = ", ".join(f"{name} {value:.3f}" for name, value in zip(NAMES, best.point))
-        end = "\n" if done == total else ""
-        print(f"\r{done} of {total} points; the best of the round: {point}, error {best.error:.2f}   ", end=end, file=sys.stderr, flush=True)
+def describe_best(best: Trial) -> str:
+    """Return the best point of a round, for the progress."""
+    point = ", ".join(f"{name} {value:.3f}" for name, value in zip(NAMES, best.point))
+    return f"; the best of the round: {point}, error {best.error:.2f}"
 
 
 def format_trials(tried: Sequence[Trial]) -> list[str]:
@@ -81,29 +84,44 @@ def draw_surface(found: Calibration) -> str:
 
 def run_calibration(given: argparse.Namespace, out: Path) -> None:
     """Read the data, search, and write the results."""
+    if given.points < 10 or given.days < 1:
+        raise Fault("--points must be 10 or more, and --days 1 or more")
     bounds = read_bounds(given.bounds)
     figures, measured = read_data(given)
     print_lines(measured.notes)
-    if given.points < 10 or given.days < 1:
-        raise Fault("--points must be 10 or more, and --days 1 or more")
     search = dataclasses.replace(Search(), points=given.points, days=given.days, elite=max(given.points // 4, 4))
-    print_lines(make_road(with_measured_demand(figures, measured)).notes)
+    point = Point(figures.slowing, figures.start or 0.0, 1.0)
+    print_lines([*make_road(make_calibrated(figures, measured, point)).notes, *with_measured_demand(figures, measured)[1]])
+    if given.points < Search.points or given.days < Search.days:
+        print_lines([SHORT_SEARCH])
     if not is_congested(measured):
         print_lines([NO_CONGESTION])
     report_progress(f"trying {search.total} points")
-    found = calibrate(given.road.stem, figures, measured, bounds, search, show_progress)
+    bar = Bar("points", in_log=True)
+    found = calibrate(given.road.stem, figures, measured, bounds, search, lambda done, total, best: bar.show(done, total, describe_best(best)))
+    bar.end()
     name, folder = given.road.stem, given.out or out / given.road.stem
     folder.mkdir(parents=True, exist_ok=True)
     print("quantity,found,spread of the best points")
     for quantity, value, spread in zip(("slowing chance", "slow-to-start chance", "demand factor"), found.best, found.spread):
         print(f"{quantity},{value:.3f},{spread:.3f}")
     print("\n" + "\n".join(format_trials(found.best_ten())))
-    road = json.loads(given.road.read_text(encoding="utf-8"))
-    road.update(slowing=round(found.best.slowing, 4), start=round(found.best.start, 4))
-    (folder / f"calibrated-{name}.json").write_text(json.dumps(road, indent=1) + "\n", encoding="utf-8")
+    best = found.best._replace(slowing=round(found.best.slowing, 4), start=round(found.best.start, 4))
+    calibrated = make_calibrated(figures, measured, best)
+    write_road(folder / f"calibrated-{name}.json", given.road, calibrated)
     (folder / f"tried-{name}.csv").write_text("".join(f"{line}\n" for line in format_trials(found.tried)), encoding="utf-8")
     (folder / f"surface-{name}.svg").write_text(draw_surface(found), encoding="utf-8")
-    print(f"The calibrated road, the points and the picture are in {folder}", file=sys.stderr)
+    check_admission(calibrated)
+    print(f"The calibrated road, the points and the picture are in {folder}. Compare the road with its counts by "
+          f"`measured {folder / f'calibrated-{name}.json'} {given.counts} --demand road`", file=sys.stderr)
+
+
+def check_admission(figures: Figures) -> None:
+    """Print a line if an inlet of the calibrated road does not admit its demand."""
+    try:
+        measure_chances(make_road(figures))
+    except Fault as fault:
+        print_lines([f"the calibrated road would be refused: {fault}"])
 
 
 def main(words: Sequence[str] | None = None, out: Path = Path("out")) -> int:

@@ -32,12 +32,12 @@ from ..days import Comparison, Day, compare_days, run_over_days
 from ..delay import Delay, Entered, Group, compare_delays, to_vehicle_hours
 from ..demand import Supply
 from ..errors import Fault, LabError
-from ..intervals import Estimate
+from ..intervals import Estimate, warn_few_days
 from ..lab import RoadLab
 from ..lost import compute_demands, compute_supplies
 from ..scripts import open_edited, follow_both, read_script, choose_replica, check_same_road
 from ..trips import Trips, Window, count_admitted_cars
-from ..units import Units
+from ..units import Units, count_things
 
 PICTURE = Path(__file__).with_name("differences.gnuplot")
 
@@ -118,8 +118,8 @@ def print_notes(cost: Delay, seconds: float) -> None:
     """Print what the tables do not show: cars of one run only, and a run that ends too early."""
     lost = sum(inlet.lost - inlet.gained for inlet in cost.inlets.values())
     if lost:
-        print(f"{abs(lost)} {'fewer' if lost > 0 else 'more'} cars entered. They are not in the delay; --demand shows whether "
-              "demand was lost.")
+        more = "fewer" if lost > 0 else "more"
+        print(f"{count_things(abs(lost), f'{more} car')} entered. They are not in the delay; --demand shows whether demand was lost.")
     if cost.inside.delay:
         print(f"The run ends too early: the cars still on the road are {format_hours(cost.inside.delay, seconds)} veh·h "
               "late, and their delay may still grow.")
@@ -159,6 +159,7 @@ def compare_over_days(given: argparse.Namespace) -> None:
     before, after = map(read_script, given.scripts)
     days = run_over_days(before, after, given.days, given.at, read_units(given), given.scripts)
     figures = compare_days(days)
+    print("".join(f"{one}\n" for one in warn_few_days(given.days)), end="", file=sys.stderr, flush=True)
     write_and_print(given.out, "days.csv", format_comparisons(figures))
     write_table(given.out, "by_day.csv", format_days(days))
     draw_differences(given.out, figures[0].difference, given.days)

@@ -18,7 +18,7 @@ sections or stalled cars, without.jsonl is the same road and seed without them.
 the command lists, and their tables are then_demand.csv and so on.
 --plan runs nothing. It prints the plan and the shapes of sections and stalled cars for live/serve.
 
-The stretch is measured by Edie's definitions over its rows. With N the number of cars on its cells in all rows and V the sum of
+The stretch is measured by Edie's definitions over its rows, which are those that the steps of the period lead to. With N the number of cars on its cells in all rows and V the sum of
 their speeds, density is N and flow is V, both per cell and step, and the space-mean speed is V / N.
 """
 from __future__ import annotations
@@ -32,13 +32,14 @@ from typing import Iterable, Iterator, Sequence, cast
 
 from ..demand import Inlet, Supply, count_admitted, count_demand, find_rate
 from ..errors import LabError
-from ..freeway import Fault, Figures, Road, Section, measure_chances, find_changes, describe_changes, make_roads, make_shapes
+from ..freeway import (Fault, Figures, Road, Section, measure_chances, find_changes, describe_changes, make_roads, make_shapes, widen_inlet,
+                       widen_inlets)
 from ..inflow import run_script
 from ..lab import RoadLab
 from ..road_scripts import Chances, make_commands, make_plan, make_script
 from ..scripts import Script
 from ..trips import Trips, Window, count_admitted_cars
-from ..units import CELLS_A_KM, HOUR, KMH, METRES, to_cells, to_steps
+from ..units import CELLS_A_KM, HOUR, KMH, METRES, format_km, to_cells, to_steps
 from ..wire import CountReply, Fields, Reply, RowsReply
 
 FIGURES = Figures(
@@ -145,9 +146,9 @@ def list_counts(road: Road) -> list[Fields]:
 
 
 def list_diagrams(road: Road) -> Iterator[Fields]:
-    """Yield the queries for all rows but the last, in diagrams of the allowed length."""
-    for first in range(0, road.steps, MOST_ROWS):
-        yield {"diagram": {"at": "A", "from": first, "to": min(first + MOST_ROWS, road.steps) - 1}}
+    """Yield the queries for all rows, in diagrams of the allowed length."""
+    for first in range(0, road.steps + 1, MOST_ROWS):
+        yield {"diagram": {"at": "A", "from": first, "to": min(first + MOST_ROWS - 1, road.steps)}}
 
 
 # The tables
@@ -169,22 +170,24 @@ def format_traffic(rows: list[str], stretch: tuple[float, float]) -> tuple[str, 
 def format_detectors(figures: Figures, road: Road, counted: list[CountReply]) -> Lines:
     """Return the table of flow and speed at each detector and minute."""
     lines, found = [f"detector at km,{'time' if road.clock else 'minute'},cars an hour,km/h"], iter(counted)
-    for km in figures.detectors:
+    for cell in road.detectors:
         for first in range(0, road.steps, 60):
             one, duration = next(found), min(60, road.steps - first)
-            lines.append(",".join([f"{km:g}", format_time(road, first), *format_rate(one["cars"], one["speeds"], duration)]))
+            lines.append(",".join([format_km(cell), format_time(road, first), *format_rate(one["cars"], one["speeds"], duration)]))
     return lines
 
 
 def format_stretch(figures: Figures, road: Road, counted: list[CountReply], rows: list[str]) -> Lines:
-    """Return the table of the stretch, with the detector nearest to its middle if the periods are whole minutes."""
+    """Return the table of the stretch, with the detector nearest to its middle if the periods are whole minutes.
+
+    A period has the rows that its steps lead to, as all figures of windows (`trips`)."""
     middle, every = sum(figures.stretch) / 2, to_steps(figures.piece)
     beside = min(range(len(figures.detectors)), key=lambda one: abs(figures.detectors[one] - middle), default=None)
     lines = [f"{'time' if road.clock else 'minute'},cars an hour,cars a km,space-mean km/h"]
     if beside is not None and every % 60:
         beside = None
     if beside is not None:
-        lines[0] += f",detector at km {figures.detectors[beside]:g}: cars an hour,time-mean km/h"
+        lines[0] += f",detector at km {format_km(road.detectors[beside])}: cars an hour,time-mean km/h"
     a_detector = len(counted) // max(len(figures.detectors), 1)
     for first in range(0, road.steps, every):
         last = min(first + every, road.steps)
@@ -192,7 +195,7 @@ def format_stretch(figures: Figures, road: Road, counted: list[CountReply], rows
         if beside is not None:
             of_piece = counted[beside * a_detector:][first // 60:-(-last // 60)]
             words = format_rate(sum(one["cars"] for one in of_piece), sum(one["speeds"] for one in of_piece), last - first)
-        lines.append(",".join([format_time(road, first), *format_traffic(rows[first:last], figures.stretch), *words]))
+        lines.append(",".join([format_time(road, first), *format_traffic(rows[first + 1:last + 1], figures.stretch), *words]))
     return lines
 
 
@@ -284,9 +287,11 @@ def main(words: Sequence[str] | None = None, out: Path = Path("out")) -> int:
     try:
         figures = FIGURES.override(given.file) if given.file else FIGURES
         if given.plan:
-            print_plan(figures)
+            print_plan(widen_inlet(figures))
             return 0
         then = figures.override_works(given.then) if given.then else None
+        figures, *turned = widen_inlets([figures] if then is None else [figures, then])
+        then = turned[0] if turned else None
         run_freeway(figures, given.out or out / (given.file.stem if given.file else ""), then)
     except (LabError, OSError) as fault:
         print(fault, file=sys.stderr)

@@ -15,21 +15,25 @@ from __future__ import annotations
 
 import argparse
 import csv
+import dataclasses
+import datetime
 import io
 import sys
 from pathlib import Path
 from typing import Optional, Sequence, cast
 
 from ..bars import Bar
-from ..comparison import (Day, Hour, Model, compare_hours, compare_speeds, make_model, make_interval_records, compute_total_rmse, compute_share_below,
-                          simulate_day, simulate_days)
+from ..comparison import (Day, Hour, Model, compare_hours, compare_speeds, list_left_out, make_model, make_interval_records, compute_total_rmse, compute_share_below,
+                          simulate_day, simulate_days, with_measured_demand, with_stations)
 from ..demand import BeyondCapacity
 from ..errors import Fault, LabError
-from ..freeway import Figures
+from ..freeway import Figures, make_road, widen_inlet
+from ..freeway_files import write_road
+from ..intervals import FEW_DAYS, warn_few_days
 from ..measured import Measured, put_on_road
 from ..pictures import MEASURED, SIMULATED, Chart, Field, Line, draw_field, draw_scale, stack_drawings, make_speed_field
-from ..stations import read_counts, read_stations
-from ..units import HOUR
+from ..stations import Counts, read_counts, read_stations
+from ..units import HOUR, count_things, format_km
 from ..wire import Record
 from .freeway import FIGURES
 
@@ -43,7 +47,9 @@ def read_arguments(words: Sequence[str] | None) -> argparse.Namespace:
     """Read the command line."""
     parser = argparse.ArgumentParser("zegdrut measured", description=__doc__, formatter_class=argparse.RawDescriptionHelpFormatter)
     add_data_arguments(parser)
+    add_demand_argument(parser)
     parser.add_argument("--days", type=int, default=DAYS, metavar="N", help="number of days, each with a seed (default: %(default)s)")
+    parser.add_argument("--write-road", type=Path, metavar="FILE", help="write the road with the measured demand, and simulate nothing")
     return parser.parse_args(words)
 
 
@@ -51,12 +57,23 @@ def add_data_arguments(parser: argparse.ArgumentParser) -> None:
     """Add the arguments that name the road and its data."""
     parser.add_argument("road", type=Path, metavar="ROAD.json")
     parser.add_argument("counts", type=Path, metavar="COUNTS.csv")
+    add_count_options(parser)
+    parser.add_argument("--out", type=Path, metavar="FOLDER", help="folder of tables and pictures")
+
+
+def add_demand_argument(parser: argparse.ArgumentParser) -> None:
+    """Add the option that chooses the demand of the road."""
+    parser.add_argument("--demand", choices=("counts", "road"), default="counts", help="the demand of the road: the measured one, or that of "
+                        "ROAD.json, such as a calibrated one (default: %(default)s)")
+
+
+def add_count_options(parser: argparse.ArgumentParser) -> None:
+    """Add the options that say how to read measured counts."""
     parser.add_argument("--stations", type=Path, metavar="TABLE.csv", help="table with station, km or miles, and lanes")
     parser.add_argument("--origin", type=float, metavar="KM", help="km of the table that is km 0 of the road (default: 0, or the first station if the table has miles)")
     parser.add_argument("--reverse", action="store_true", help="the km of the table fall in the direction of travel")
     parser.add_argument("--column", action="append", default=[], metavar="speed=NAME", help="title of the column of a quantity")
     parser.add_argument("--unit", action="append", default=[], metavar="speed=mph", help="unit of a speed: km/h, mph or m/s")
-    parser.add_argument("--out", type=Path, metavar="FOLDER", help="folder of tables and pictures")
 
 
 def read_pairs(given: list[str], word: str) -> dict[str, str]:
@@ -68,13 +85,22 @@ def read_pairs(given: list[str], word: str) -> dict[str, str]:
 
 
 def read_data(given: argparse.Namespace) -> tuple[Figures, Measured]:
-    """Read the road and its counts. Fault: one of them is invalid."""
+    """Read the road and its counts, and check that they fit. Fault: one of them is invalid."""
     figures = FIGURES.override(given.road)
     if figures.begin is None:
         raise Fault(f'{given.road} has no begin: add the clock time at which the window begins, such as "begin": "06:30"')
     table = read_stations(given.stations) if given.stations else None
     counts = read_counts(given.counts, table, read_pairs(given.column, "column"), read_pairs(given.unit, "unit"))
-    return figures, put_on_road(counts, figures.clock, round(figures.minutes * 60), given.origin, given.reverse)
+    figures = with_date_of(figures, counts)
+    measured = put_on_road(counts, figures.clock, round(figures.minutes * 60), given.origin, given.reverse)
+    make_road(with_measured_demand(with_stations(figures, measured), measured)[0])
+    return figures, measured
+
+
+def with_date_of(figures: Figures, counts: Counts) -> Figures:
+    """Return the figures with the date of the counts, if they have one date and the road has none."""
+    dates = {row.time.date() for row in counts.rows if isinstance(row.time, datetime.datetime)}
+    return dataclasses.replace(figures, date=str(min(dates))) if figures.date is None and len(dates) == 1 else figures
 
 
 def print_lines(sentences: Sequence[str]) -> None:
@@ -107,21 +133,27 @@ def format_number(value: float | None, digits: int = 1) -> str:
     return "" if value is None else f"{value:.{digits}f}"
 
 
+def find_places(model: Model) -> dict[str, str]:
+    """Return the km of each compared station by its name, as the road has it: in whole cells."""
+    return {one.station.name: format_km(cell) for one, cell in zip(model.measured.main[1:], model.road.detectors)}
+
+
 def format_hours(model: Model, hours: Sequence[Hour]) -> list[str]:
     """Return the table of stations and hours."""
-    lines = ["station,km,from,to,measured cars/h/lane,simulated cars/h/lane,±,GEH per lane,lanes,GEH all lanes"]
+    lines = ["station,km,from,to,measured cars/h/lane,simulated cars/h/lane,± cars/h/lane,GEH per lane,lanes,GEH all lanes"]
     clock, lanes = model.measured.clock, {one.station.name: one.station.lanes for one in model.measured.main}
+    places = find_places(model)
     for one in hours:
-        lines.append(f"{one.station},{one.km:g},{clock.to_text(one.first)},{clock.to_text(one.first + HOUR)},{one.measured:.1f},"
+        lines.append(f"{one.station},{places[one.station]},{clock.to_text(one.first)},{clock.to_text(one.first + HOUR)},{one.measured:.1f},"
                      f"{one.simulated:.1f},{format_number(one.half)},{one.geh:.2f},{lanes[one.station]},{one.geh_all_lanes:.2f}")
     return lines
 
 
 def format_speeds(model: Model, days: Sequence[Day]) -> list[str]:
     """Return the table of speeds by station and for all stations."""
-    errors = compare_speeds(model.measured, days)
+    errors, places = compare_speeds(model.measured, days), find_places(model)
     lines = ["station,km,intervals,RMSE of time-mean speed km/h,simulated minus measured km/h"]
-    lines += [f"{one.station},{one.km:g},{one.intervals},{format_number(one.rmse)},{format_number(one.bias)}" for one in errors]
+    lines += [f"{one.station},{places[one.station]},{one.intervals},{format_number(one.rmse)},{format_number(one.bias)}" for one in errors]
     return [*lines, f"all,,{sum(one.intervals for one in errors)},{format_number(compute_total_rmse(errors))},"]
 
 
@@ -149,17 +181,17 @@ def draw_comparison(model: Model, days: Sequence[Day]) -> str:
 
 def make_comparison_charts(model: Model, days: Sequence[Day]) -> list[Chart]:
     """Return charts of measured and simulated flow and speed by time, two for each station."""
-    measured, charts = model.measured, list[Chart]()
+    measured, charts, places = model.measured, list[Chart](), find_places(model)
     records = cast("list[dict[str, Optional[float]]]", make_interval_records(model, days))  # (the figures of these charts)
     for index, series in enumerate(measured.main[1:]):
         rows = records[index * measured.intervals:(index + 1) * measured.intervals]
         middles = [(place + 0.5) * measured.interval for place in range(measured.intervals)]
         for what, unit, names in (("Flow", "cars/h per lane", ("measured cars/h/lane", "simulated cars/h/lane", "± cars/h/lane")),
                                   ("Time-mean speed", "km/h", ("measured time-mean km/h", "simulated time-mean km/h", ""))):
-            chart = Chart(f"{what}, station {series.station.name}, km {series.station.km:g}", unit, measured.clock, 0, model.steps)
+            chart = Chart(f"{what}, station {series.station.name}, km {places[series.station.name]}", unit, measured.clock, 0, model.steps)
             simulated, half = [row[names[1]] for row in rows], [row.get(names[2]) for row in rows]
             pairs = [(mean, width) for mean, width in zip(simulated, half) if mean is not None and width is not None]
-            has_band = len(pairs) == len(rows)
+            has_band = len(pairs) == len(rows) and len(days) >= FEW_DAYS
             low, high = ([mean + sign * width for mean, width in pairs] if has_band else None for sign in (-1, 1))
             chart.add(Line("simulated", list(zip(middles, simulated)), SIMULATED, low, high))
             chart.add(Line("measured", list(zip(middles, (row[names[0]] for row in rows))), MEASURED, is_dashed=True))
@@ -198,17 +230,19 @@ def draw_space_time(model: Model) -> str:
 
 def compare(given: argparse.Namespace, out: Path) -> None:
     """Read the data, simulate, compare, and write the results."""
+    check_days(given.days, 1)
     figures, measured = read_data(given)
-    print_lines(measured.notes)
+    print_lines([*measured.notes, *warn_few_days(given.days)])
+    if given.write_road is not None:
+        write_measured_road(given, figures, measured)
+        return
 
     def tell_inlet(inlet: int) -> None:
         report_progress(f"measuring the inflow chances of inlet {inlet}")
-    model = make_model(given.road.stem, figures, measured, progress=tell_inlet)
+    model = make_model(given.road.stem, figures, measured, choose_factor(given), progress=tell_inlet)
     print_lines(model.road.notes)
-    if not 1 <= given.days <= 1_000:
-        raise Fault(f"--days is 1 to 1,000, not {given.days:,}")
-    report_progress(f"simulating {given.days} days")
-    bar = Bar("days")
+    report_progress(f"simulating {count_things(given.days, 'day')}")
+    bar = Bar("days", in_log=True)
     days = simulate_days(model, given.days, bar.show)
     bar.end()
     hours = compare_hours(measured, days)
@@ -220,20 +254,44 @@ def compare(given: argparse.Namespace, out: Path) -> None:
         print(f"\n{make_title(model)}\n" + "\n".join(lines))
     write_table(folder, "intervals", model, format_csv(make_interval_records(model, days)))
     print()
-    print_lines(format_shares(hours))
+    print_lines(format_shares(measured, hours))
     window = format_window(model)
     (folder / f"comparison-{model.name}-{window}.svg").write_text(draw_comparison(model, days), encoding="utf-8")
     (folder / f"space-time-{model.name}-{window}.svg").write_text(draw_space_time(model), encoding="utf-8")
     print(f"The tables and pictures are in {folder}", file=sys.stderr)
 
 
-def format_shares(hours: Sequence[Hour]) -> list[str]:
-    """Return the shares of hours with a GEH below 5."""
+def choose_factor(given: argparse.Namespace) -> float | None:
+    """Return the factor of the measured demand: 1, or None for the road's own demand."""
+    return 1.0 if given.demand == "counts" else None
+
+
+def check_days(days: int, least: int) -> None:
+    """Check a number of days. Fault: it is out of range."""
+    if not least <= days <= 1_000:
+        raise Fault(f"--days is {least} to 1,000, not {days:,}")
+
+
+def write_measured_road(given: argparse.Namespace, figures: Figures, measured: Measured) -> None:
+    """Write the road with the measured demand as a file, which freeway, metering and report take."""
+    found, notes = with_measured_demand(with_stations(figures, measured), measured)
+    print_lines(notes)
+    report_progress("measuring whether the inlet at km 0 admits the demand")
+    write_road(given.write_road, given.road, widen_inlet(found))
+    print(given.write_road)
+
+
+def format_shares(measured: Measured, hours: Sequence[Hour]) -> list[str]:
+    """Return how many station hours are compared, why the others are left out, and the shares with a GEH below 5."""
+    left_out = list_left_out(measured)
+    found = [f"{len(hours)} of {count_things(len(hours) + len(left_out), 'station hour')} compared"]
+    if left_out:
+        found.append("left out: " + "; ".join(f"station {one.station} from {measured.clock.to_text(one.first)} ({one.reason})" for one in left_out))
     if not hours:
-        return ["no station has a whole hour without a missing interval, so there is no GEH"]
+        return [*found, "so there is no GEH: it needs whole hours without a missing row"]
     one, every = [hour.geh for hour in hours], [hour.geh_all_lanes for hour in hours]
-    return [f"GEH below 5: {compute_share_below(one):.0%} of {len(hours)} station hours per lane, {compute_share_below(every):.0%} of all lanes "
-            "(guidelines require 85 % of the links)"]
+    return [*found, f"GEH below 5: {compute_share_below(one):.0%} of {count_things(len(hours), 'compared station hour')} per lane, "
+            f"{compute_share_below(every):.0%} of all lanes (guidelines require 85 % of the links)"]
 
 
 def main(words: Sequence[str] | None = None, out: Path = Path("out")) -> int:

@@ -10,11 +10,11 @@ ramp and detector are the km of the ramp and of a detector downstream of it. set
 which a car is in the cell of the detector). gain is in cars per hour and per cent. least and most are the bounds of the rate in cars per
 hour. begin is the time when metering begins. Only the first three are required.
 
-Cars wait before the ramp in a vertical queue (arrivals minus admitted cars), metered or not. Its waiting time counts in vehicle hours,
-beside those on the road. With --then TIME the first day is simulated without control, and then again with metering that had begun at
-that time, by edits in the past. The two are compared.
+Cars wait before the ramp in a vertical queue (arrivals minus admitted cars), metered or not. Its waiting time is the sum of the queue
+over all seconds, in vehicle hours, beside those on the road. With --then TIME the first day is simulated without control, and then again
+with metering that had begun at that time, by edits in the past. The two are compared.
 The command prints a table of means and 95 % intervals (Student's t, paired by day), and writes it to metering-NAME.csv. It writes the
-first day to minutes-NAME.csv.
+first day to minutes-NAME.csv. With --then it writes then-NAME.csv and then-minutes-NAME.csv.
 """
 from __future__ import annotations
 
@@ -30,17 +30,18 @@ from typing import Sequence
 
 from ..bars import Bar
 from ..clock import InvalidTime
-from ..control import RampMeter, run_control
+from ..control import RampMeter, measure_queue, run_control
 from ..demand import Admission, AdmissionBeside, Drivers, Inlet, count_demand, measure_admission, count_processors, find_rate
 from ..errors import Fault, LabError
-from ..freeway import Figures, Road, measure_chances, make_road
+from ..freeway import Figures, Road, measure_chances, make_road, widen_inlet
 from ..freeway_files import is_number, check_names
-from ..intervals import estimate_mean, estimate_paired
+from ..intervals import describe_chance, estimate_mean, estimate_paired, warn_few_days
 from ..lab import RoadLab
 from ..road_scripts import Chances, make_base_edits, make_commands, make_plan
 from ..trips import Trips, Window, count_admitted_cars, compute_vehicle_hours
-from ..units import HOUR, to_cells
+from ..units import to_cells
 from .freeway import FIGURES, report_progress
+from .measured import check_days
 
 DAYS = 20
 
@@ -114,7 +115,7 @@ def read_control(path: Path, figures: Figures) -> Control:
 
 def make_site(name: str, figures: Figures, control: Control) -> Site:
     """Make the road with detectors at and after the ramp, and measure the admission of the ramp beside the main demand."""
-    road = make_road(figures)
+    road = make_road(widen_inlet(figures))
     wanted = to_cells(control.ramp)
     inlet = next((index for index, (cell, _) in enumerate(road.inlets) if index and cell == wanted), None)
     if inlet is None:
@@ -138,15 +139,16 @@ def make_site(name: str, figures: Figures, control: Control) -> Site:
 Numbers = dict[str, float]
 
 
-def measure_day(site: Site, lab: RoadLab, meter: RampMeter) -> Numbers:
+def measure_day(site: Site, lab: RoadLab) -> Numbers:
     """Return the figures of a day."""
     trips = Trips(lab.plan, [])
     trips.follow(lab, "A", site.road.steps)
     day = Window(0, site.road.steps)
-    hours, waiting = compute_vehicle_hours(trips, day), meter.waiting / HOUR
+    hours = compute_vehicle_hours(trips, day)
+    waiting, longest = measure_queue(trips, site.inlet, site.road.inlets[site.inlet][1])
     asked = count_demand(site.road.inlets[0][1], 0, site.road.steps)
     return {"vehicle hours on the road": hours, "vehicle hours waiting at the ramp": waiting, "vehicle hours together": hours + waiting,
-            "longest queue at the ramp, cars": meter.longest, "cars that left the road": float(sum(step is not None for step in trips.left.values())),
+            "longest queue at the ramp, cars": longest, "cars that left the road": float(sum(step is not None for step in trips.left.values())),
             "lost main demand, cars": asked - count_admitted_cars(trips, day)[0]}
 
 
@@ -165,36 +167,43 @@ def run_day(site: Site, seed: int) -> tuple[Numbers, Numbers, RampMeter, RampMet
     for meter in meters:
         with open_day(site, seed) as lab:
             run_control(lab, "A", [meter], 0, site.road.steps)
-            found.append(measure_day(site, lab, meter))
+            found.append(measure_day(site, lab))
     return found[0], found[1], meters[0], meters[1]
 
 
-def run_again(site: Site, seed: int, start: int) -> tuple[Numbers, Numbers]:
-    """Return the figures of a day without metering, and of the same day with metering from step `start` on, by edits in its past."""
+def run_again(site: Site, seed: int, start: int) -> tuple[Numbers, Numbers, RampMeter, RampMeter]:
+    """Return the figures and the meter of a day without metering, and of the same day with metering from step `start` on, by edits in its
+    past."""
     with open_day(site, seed) as lab:
         first = site.meter(math.inf)
         run_control(lab, "A", [first], 0, site.road.steps)
-        before = measure_day(site, lab, first)
+        before = measure_day(site, lab)
         again = site.meter(start)
         run_control(lab, "A", [again], 0, site.road.steps)
-        return before, measure_day(site, lab, again)
+        return before, measure_day(site, lab), first, again
 
 
 # Tables
 
 def format_table(days: Sequence[tuple[Numbers, Numbers]]) -> list[str]:
     """Return the table of means over the days with 95 % intervals: without control, with it, and the difference, paired by day."""
-    lines = ["mean of a day,no control,±,ALINEA,±,difference,±"]
+    lines = ["mean of a day,no control,±,ALINEA,±,difference,±,remark"]
     for name in days[0][0]:
         before, after = [one[name] for one, _ in days], [other[name] for _, other in days]
-        numbers = [number for one in (estimate_mean(before), estimate_mean(after), estimate_paired(before, after)) for number in one]
-        lines.append(f"{name}," + ",".join(f"{number:.2f}" for number in numbers))
+        difference = estimate_paired(before, after)
+        numbers = [number for one in (estimate_mean(before), estimate_mean(after), difference) for number in one]
+        lines.append(f"{name}," + ",".join(f"{number:.2f}" for number in numbers) + "," + describe_chance(difference))
     return lines
+
+
+def format_days(days: Sequence[Numbers], titles: Sequence[str]) -> list[str]:
+    """Return the table of some days."""
+    return [",".join(titles), *(",".join([name, *(f"{day[name]:.2f}" for day in days)]) for name in days[0])]
 
 
 def format_minutes(site: Site, meters: Sequence[RampMeter]) -> list[str]:
     """Return the table of occupancy, rate and queue by minute, without control and with it."""
-    lines = ["time,no control: occupancy %,queue cars,ALINEA: occupancy %,rate cars/h,queue cars"]
+    lines = ["time,no control: occupancy %,no control: queue cars,ALINEA: occupancy %,ALINEA: rate cars/h,ALINEA: queue cars"]
     clock = site.figures.clock
     for (step, plain, _, waiting), (_, occupancy, rate, queue) in zip(*(meter.rates for meter in meters)):
         lines.append(f"{clock.to_text(step)},{plain:.1f},{waiting:.1f},{occupancy:.1f},{rate:.0f},{queue:.1f}")
@@ -203,31 +212,39 @@ def format_minutes(site: Site, meters: Sequence[RampMeter]) -> list[str]:
 
 def compare(given: argparse.Namespace, out: Path) -> None:
     """Read the files, simulate, and write the tables."""
+    check_days(given.days, 2)
     figures = FIGURES.override(given.road)
-    site = make_site(given.road.stem, figures, read_control(given.control, figures))
+    control = read_control(given.control, figures)
+    start = None if given.then is None else figures.clock.to_step(given.then, "--then")
+    if start is not None and not 0 <= start < figures.minutes * 60:
+        raise Fault(f"--then: {given.then} is not in the run, which lasts from {figures.clock.to_text(0)} to "
+                    f"{figures.clock.to_text(round(figures.minutes * 60))}")
+    site = make_site(given.road.stem, figures, control)
     print("".join(f"{note}\n" for note in site.road.notes), end="", file=sys.stderr, flush=True)
     folder = given.out or out / given.road.stem
     folder.mkdir(parents=True, exist_ok=True)
-    if given.then is not None:
-        start = figures.clock.to_step(given.then, "--then")
+    if start is not None:
         report_progress("simulating a day, and the same day again")
-        before, after = run_again(site, figures.seed, start)
-        print(f"seed {figures.seed},as it was,with metering from {figures.clock.to_text(start)} on")
-        print("\n".join(f"{name},{before[name]:.2f},{after[name]:.2f}" for name in before))
+        before, after, *both = run_again(site, figures.seed, start)
+        titles = [f"seed {figures.seed}", "as it was", f"with metering from {figures.clock.to_text(start)} on"]
+        write_tables(folder, site.name, {"then": format_days([before, after], titles), "then-minutes": format_minutes(site, both)})
         return
-    if not 2 <= given.days <= 1_000:
-        raise Fault(f"--days is 2 to 1,000, not {given.days:,}")
-    bar, found = Bar("days"), []
+    print("".join(f"{one}\n" for one in warn_few_days(given.days)), end="", file=sys.stderr, flush=True)
+    bar, found = Bar("days", in_log=True), []
     report_progress(f"simulating {given.days} days without control and with it")
     with ThreadPoolExecutor(count_processors()) as pool:
         for one in pool.map(lambda seed: run_day(site, seed), range(figures.seed, figures.seed + given.days)):
             found.append(one)
             bar.show(len(found), given.days)
     bar.end()
-    for name, lines in (("metering", format_table([one[:2] for one in found])), ("minutes", format_minutes(site, found[0][2:]))):
-        (folder / f"{name}-{site.name}.csv").write_text("".join(f"{line}\n" for line in lines), encoding="utf-8")
-        if name == "metering":
-            print("\n".join(lines))
+    write_tables(folder, site.name, {"metering": format_table([one[:2] for one in found]), "minutes": format_minutes(site, found[0][2:])})
+
+
+def write_tables(folder: Path, road: str, tables: dict[str, list[str]]) -> None:
+    """Write tables, and print the first one."""
+    for name, lines in tables.items():
+        (folder / f"{name}-{road}.csv").write_text("".join(f"{line}\n" for line in lines), encoding="utf-8")
+    print("\n".join(next(iter(tables.values()))))
     print(f"The tables are in {folder}", file=sys.stderr)
 
 

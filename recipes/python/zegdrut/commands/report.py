@@ -4,7 +4,8 @@
 
 ROAD.json is a freeway as `zegdrut freeway` reads it. It is compared with OTHER.json, a file of the same road. By default it is
 compared with itself without its sections and stalled cars, if it has any. Each day is a seed: both roads of a day have the same
-drivers. With --counts the report also compares ROAD.json, with the measured demand, with measured counts (`zegdrut measured`).
+drivers. Each run begins some minutes before the window, so that its road is full: twice the free travel time, unless --warm-up says
+otherwise. With --counts the report also compares ROAD.json with measured counts, by the options of `zegdrut measured`.
 It writes report-NAME-0630-0930.html, and beside it the table and the series as CSV with units.
 """
 from __future__ import annotations
@@ -13,25 +14,32 @@ import argparse
 import csv
 import dataclasses
 import sys
+from dataclasses import dataclass
 from html import escape
 from pathlib import Path
 from typing import Any, Sequence
 
 from ..bars import Bar
-from ..comparison import compare_hours, make_model, simulate_days
+from ..comparison import Model, compare_hours, list_left_out, make_model, simulate_days
 from ..demand import BeyondCapacity
 from ..errors import Fault, LabError
-from ..freeway import Figures, Road, measure_chances, make_roads
+from ..freeway import Figures, Road, measure_chances, make_roads, warm_up_minutes, widen_inlets, with_warm_up
+from ..intervals import warn_few_days
+from ..measured import Measured
 from ..report import PERIOD, Row, Side, SideDay, make_flow_series, make_records, make_speed_series, make_table, run_sides
 from ..report_page import Contents, format_page
 from ..road_scripts import make_script
 from ..trips import Window
-from ..units import CELLS_A_KM, KMH, to_km
+from ..units import CELLS_A_KM, HOUR, KMH, count_things, format_km, to_steps
 from ..wire import Record
 from .freeway import FIGURES, report_progress
-from .measured import add_data_arguments, make_comparison_charts, format_hours, read_data, format_speeds, format_shares, make_title
+from .measured import (add_count_options, add_demand_argument, check_days, choose_factor, format_hours, format_shares, format_speeds,
+                       make_comparison_charts, make_title, read_data)
 
 DAYS = 5
+MOST_WARM_UP = 1_440
+
+
 def read_arguments(words: Sequence[str] | None) -> argparse.Namespace:
     """Read the command line."""
     parser = argparse.ArgumentParser("zegdrut report", description=__doc__, formatter_class=argparse.RawDescriptionHelpFormatter)
@@ -39,7 +47,10 @@ def read_arguments(words: Sequence[str] | None) -> argparse.Namespace:
     parser.add_argument("--against", type=Path, metavar="OTHER.json", help="the road before (default: ROAD.json without its works)")
     parser.add_argument("--days", type=int, default=DAYS, metavar="N", help="number of days, each with a seed (default: %(default)s)")
     parser.add_argument("--counts", type=Path, metavar="CSV", help="measured counts to compare with")
-    parser.add_argument("--stations", type=Path, metavar="TABLE.csv", help="places of the stations")
+    add_count_options(parser)
+    add_demand_argument(parser)
+    parser.add_argument("--warm-up", type=float, metavar="MINUTES", help="minutes of the run before the window (default: twice the free "
+                        "travel time, rounded up to five minutes; 0: the road is empty at the begin)")
     parser.add_argument("--title", help="title of the report")
     parser.add_argument("--out", type=Path, metavar="FILE.html", help="file of the report")
     return parser.parse_args(words)
@@ -47,26 +58,62 @@ def read_arguments(words: Sequence[str] | None) -> argparse.Namespace:
 
 # The roads
 
-def make_sides(given: argparse.Namespace) -> tuple[Figures, list[Road], list[Side]]:
-    """Return the figures, the roads, and the sides of the report. Fault: the two files describe different roads or times."""
+@dataclass(frozen=True)
+class Request:
+    """Hold what was read: the road, the road before it with both names, the minutes before the window, and the measured counts."""
+
+    figures: Figures
+    other: Figures | None
+    names: tuple[str, str]
+    warm: float
+    measured: Measured | None
+
+    @property
+    def window(self) -> Window:
+        """Return the window of all figures."""
+        first = to_steps(self.warm)
+        return Window(first, first + to_steps(self.figures.minutes))
+
+
+def read_request(given: argparse.Namespace) -> Request:
+    """Read and check everything. Fault: a file is invalid, or the two files describe different roads or times."""
+    check_days(given.days, 1)
+    if given.warm_up is not None and not 0 <= given.warm_up <= MOST_WARM_UP:
+        raise Fault(f"--warm-up is 0 to {MOST_WARM_UP:,} minutes, not {given.warm_up:g}")
     figures = FIGURES.override(given.road)
-    other: Figures | None = None
+    other, names = None, ("without works", "with works")
     if given.against is not None:
         other = FIGURES.override(given.against)
-        for name in ("length", "minutes", "begin", "seed", "detectors"):
+        for name in ("length", "minutes", "begin", "date", "seed", "detectors", "entry"):
             if getattr(figures, name) != getattr(other, name):
                 raise Fault(f"{given.against}: {name} is {getattr(other, name)}, but {getattr(figures, name)} in {given.road}: both "
                             "files must describe the same road and time")
+        names = (given.against.stem, given.road.stem)
+        if names[0] == names[1]:
+            names = (f"{names[0]}, before", f"{names[1]}, after")
     elif figures.sections or figures.stalled:
         other = dataclasses.replace(figures, sections=[], stalled=[])
-    after, before = make_roads(figures, other)
-    names = [given.against.stem if given.against else "without works", given.road.stem]
-    pairs = [(names[1], after)] if before is None else [(names[0], before), (names[1], after)]
+    else:
+        names = ("", "simulated")
+    make_roads(figures, other)  # (a road that cannot be made is refused here)
+    measured = None
+    if given.counts is not None:
+        dated, measured = read_data(given)
+        figures = dataclasses.replace(figures, date=dated.date)
+        other = None if other is None else dataclasses.replace(other, date=dated.date)
+    return Request(figures, other, names, warm_up_minutes(figures) if given.warm_up is None else given.warm_up, measured)
+
+
+def make_sides(request: Request) -> tuple[list[Road], list[Side]]:
+    """Return the roads and the sides of the report. They begin before the window."""
+    figures, *others = widen_inlets([request.figures] if request.other is None else [request.figures, request.other])
+    after, before = make_roads(with_warm_up(figures, request.warm), with_warm_up(others[0], request.warm) if others else None)
+    pairs = [(request.names[1], after)] if before is None else [(request.names[0], before), (request.names[1], after)]
     found = []
     for name, road in pairs:
-        report_progress(f"measuring the inflow chances for the demand of {name}")
+        report_progress(f"measuring the inflow chances for the demand of the road {name}")
         found.append(Side(name, make_script(road, measure_chances(road), figures.seed), [demand for _, demand in road.inlets]))
-    return figures, [road for _, road in pairs], found
+    return [road for _, road in pairs], found
 
 
 def describe_works(figures: Figures) -> list[str]:
@@ -107,33 +154,33 @@ def make_lines_html(lines: Sequence[str]) -> str:
             + "".join("<tr>" + "".join(f"<td>{escape(cell)}</td>" for cell in row) + "</tr>" for row in rows) + "</tbody></table>")
 
 
-def make_counts_html(given: argparse.Namespace) -> str:
+def make_counts_html(given: argparse.Namespace, model: Model) -> str:
     """Return the part that compares the road with measured counts, as HTML."""
-    parser = argparse.ArgumentParser()
-    add_data_arguments(parser)
-    words = [str(given.road), str(given.counts), *(["--stations", str(given.stations)] if given.stations else [])]
-    figures, measured = read_data(parser.parse_args(words))
-    model = make_model(given.road.stem, figures, measured)
-    days = simulate_days(model, max(given.days, 2))
+    measured, days = model.measured, simulate_days(model, given.days)
     hours = compare_hours(measured, days)
     told = "".join(f"<li>{escape(one)}</li>" for one in measured.notes)
-    return (f"<h2>Comparison with measured counts</h2><p>{escape(make_title(model))}, with the measured demand. {escape(' '.join(format_shares(hours)))}.</p>"
-            + (f"<ul>{told}</ul>" if told else "") + make_lines_html(format_hours(model, hours)) + make_lines_html(format_speeds(model, days))
-            + f'<div class="pairs">{"".join(f"<div>{one.draw(470, 165)}</div>" for one in make_comparison_charts(model, days))}</div>')
+    whose = "the measured demand" if given.demand == "counts" else f"the demand of {given.road.name}"
+    shares = "; ".join(format_shares(measured, hours)) + "."
+    return (f"<h2>Comparison with measured counts</h2><p>{escape(make_title(model))}, mean of {count_things(given.days, 'day')} with {escape(whose)}. "
+            f"{escape(shares)}</p>" + (f"<ul>{told}</ul>" if told else "") + make_lines_html(format_hours(model, hours))
+            + make_lines_html(format_speeds(model, days))
+            + f'<div class="pairs">{"".join(f"<div>{one.draw(470, 175)}</div>" for one in make_comparison_charts(model, days))}</div>')
 
 
-def make_page(given: argparse.Namespace, figures: Figures, roads: Sequence[Road], sides: Sequence[Side], days: Sequence[Sequence[SideDay]],
-              rows: Sequence[Row]) -> str:
+def make_page(given: argparse.Namespace, request: Request, roads: Sequence[Road], sides: Sequence[Side], days: Sequence[Sequence[SideDay]],
+              rows: Sequence[Row], model: Model | None) -> str:
     """Return the report as HTML."""
-    clock, road = figures.clock, roads[-1]
-    title = given.title or f"{given.road.stem}: {clock.to_text(0)} to {clock.to_text(road.steps)}" + (f", {clock.date}" if clock.date else "")
+    figures, road, window = request.figures, roads[-1], request.window
+    clock = with_warm_up(figures, request.warm).clock
+    title = given.title or given.road.stem
     drivers = f"limit {road.limit * KMH:g} km/h, slowing {figures.slowing:.0%}" + (
         f", slow-to-start {figures.start:.0%}" if figures.start is not None else "")
-    closed = [(round(one.begin * 60), round(one.end * 60), one.at, one.at) for one in figures.stalled]
+    closed = [[(window.first + to_steps(one.begin), window.first + to_steps(one.end), one.at, one.at) for one in side.stalled]
+              for side in (request.other, figures) if side is not None]
     return format_page(Contents(
         title=title, facts=[f"{road.length / CELLS_A_KM:g} km, one lane, {drivers}", *describe_demand(figures)], works=describe_works(figures),
-        notes=road.notes, clock=clock, window=Window(0, road.steps), length=road.length, detectors=road.detectors, sides=sides, days=days,
-        rows=rows, seed=figures.seed, closed=[[] for _ in sides[1:]] + [closed], more=make_counts_html(given) if given.counts else ""))
+        notes=road.notes, clock=clock, window=window, length=road.length, detectors=road.detectors, sides=sides, days=days,
+        rows=rows, seed=figures.seed, closed=closed, more="" if model is None else make_counts_html(given, model)))
 
 
 # The command
@@ -147,14 +194,14 @@ def write_table(path: Path, title: str, records: Sequence[Record]) -> None:
         writer.writerows(records)
 
 
-def make_series_records(figures: Figures, sides: Sequence[Side], roads: Sequence[Road], days: Sequence[Sequence[SideDay]]) -> list[Record]:
+def make_series_records(request: Request, sides: Sequence[Side], roads: Sequence[Road], days: Sequence[Sequence[SideDay]]) -> list[Record]:
     """Return flow and speed by time at each detector as records."""
-    found = []
+    found, window = [], request.window
     for detector, cell in enumerate(roads[0].detectors):
-        each = [(make_flow_series([both[place] for both in days], detector, Window(0, roads[0].steps)),
-                 make_speed_series([both[place] for both in days], detector, Window(0, roads[0].steps))) for place in range(len(sides))]
-        for index, first in enumerate(range(0, roads[0].steps, PERIOD)):
-            record: Record = {"detector km": round(to_km(cell), 4), "time": figures.clock.to_text(first)}
+        each = [(make_flow_series([both[place] for both in days], detector, window),
+                 make_speed_series([both[place] for both in days], detector, window)) for place in range(len(sides))]
+        for index, first in enumerate(range(0, window.steps, PERIOD)):
+            record: Record = {"detector km": format_km(cell), "time": request.figures.clock.to_text(first)}
             for side, (flow, speed) in zip(sides, each):
                 cars, kmh = flow[index][1], speed[index][1]
                 record.update({f"{side.name}: cars/h": None if cars is None else round(cars, 1),
@@ -165,22 +212,27 @@ def make_series_records(figures: Figures, sides: Sequence[Side], roads: Sequence
 
 def write_report(given: argparse.Namespace, out: Path) -> None:
     """Read, run, and write the report."""
-    if not 1 <= given.days <= 1_000:
-        raise Fault(f"--days is 1 to 1,000, not {given.days:,}")
-    figures, roads, sides = make_sides(given)
-    window = Window(0, roads[0].steps)
-    report_progress(f"simulating {given.days} days")
-    bar = Bar("runs")
+    request = read_request(given)
+    figures, window, clock = request.figures, request.window, request.figures.clock
+    print("".join(f"{one}\n" for one in warn_few_days(given.days)), end="", file=sys.stderr, flush=True)
+    model = None
+    if request.measured is not None:
+        report_progress("measuring the inflow chances for the comparison with counts")
+        model = make_model(given.road.stem, figures, request.measured, choose_factor(given))
+    roads, sides = make_sides(request)
+    report_progress(f"simulating {count_things(given.days, 'day')}")
+    bar = Bar("runs", in_log=True)
     days = run_sides(sides, range(figures.seed, figures.seed + given.days), window, bar.show)
     bar.end()
     rows = make_table(sides, days, window)
-    times = f"{figures.clock.to_file_text(0)}-{figures.clock.to_file_text(window.last)}"
+    times = f"{clock.to_file_text(0)}-{clock.to_file_text(window.steps)}"
     path = given.out or out / f"report-{given.road.stem}-{times}.html"
     path.parent.mkdir(parents=True, exist_ok=True)
-    path.write_text(make_page(given, figures, roads, sides, days, rows), encoding="utf-8")
-    title = f"{given.road.stem}, {figures.clock.to_text(0)} to {figures.clock.to_text(window.last)}, mean of {given.days} days"
+    path.write_text(make_page(given, request, roads, sides, days, rows, model), encoding="utf-8")
+    date = f" on {clock.date}" if clock.date else ""
+    title = f"{given.road.stem}, {clock.to_text(0)} to {clock.to_text(window.steps)}{date}, mean of {count_things(given.days, 'day')}"
     write_table(path.with_name(f"figures-{given.road.stem}-{times}.csv"), title, make_records(sides, rows))
-    series = make_series_records(figures, sides, roads, days)
+    series = make_series_records(request, sides, roads, days)
     if series:
         write_table(path.with_name(f"series-{given.road.stem}-{times}.csv"), title, series)
     print(path)

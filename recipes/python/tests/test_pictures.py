@@ -1,0 +1,64 @@
+"""Charts and space-time diagrams are readable, and progress reaches a log."""
+from __future__ import annotations
+
+import contextlib
+import io
+import re
+import unittest
+import unittest.mock
+
+from zegdrut.bars import Bar
+from zegdrut.clock import Clock
+from zegdrut.pictures import Chart, Line, draw_field
+
+HOUR = 3_600
+
+
+def places_of(svg: str) -> dict[str, float]:
+    """Return the y of each text by what it says."""
+    return {re.sub("<[^>]*>", "", text): float(y) for y, text in re.findall(r'<text x="[^"]*" y="([^"]*)"[^>]*>(.*?)</text>', svg)}
+
+
+class Charts(unittest.TestCase):
+    def chart(self, title: str, names: list[str], has_band: bool = False) -> str:
+        chart = Chart(title, "km/h", Clock(), 0, HOUR)
+        for name in names:
+            chart.add(Line(name, [(0, 1.0), (HOUR, 2.0)], "#000", [0.0, 1.0] if has_band else None, [2.0, 3.0] if has_band else None))
+        return chart.draw(470, 175)
+
+    def test_a_long_legend_has_a_line_of_its_own(self) -> None:
+        for title, names, lines in (("Flow", ["a", "b"], 1), ("Time-mean speed, km 2.7975", ["without works", "with works"], 2)):
+            places = places_of(self.chart(title, names))
+            legend = next(y for text, y in places.items() if names[0] in text and text != title)
+            self.assertEqual(len({places[title], legend}), lines)
+
+    def test_a_band_is_in_the_legend(self) -> None:
+        for has_band in (False, True):
+            self.assertEqual("95 % interval of the mean" in self.chart("Flow", ["a"], has_band), has_band)
+
+    def test_a_short_closure_is_seen(self) -> None:
+        """Draw a cell of a road of 6 km, which is a fifth of a pixel high, for six minutes of three hours, which are 28 wide."""
+        svg = draw_field([[90.0]], "Speed", Clock(), 0, 3 * HOUR, 6.0, width=900, height=210, closed=[(HOUR, HOUR + 360, 4.2, 4.2075)])
+        found = re.search('class="closure" x="([^"]*)" y="([^"]*)" width="([^"]*)" height="([^"]*)"', svg)
+        assert found
+        left, top, width, height = map(float, found.groups())
+        self.assertAlmostEqual(left, 58 + 830 / 3, delta=0.1)
+        self.assertAlmostEqual(width, 830 / 30, delta=0.1)
+        self.assertGreaterEqual(height, 6)
+        self.assertAlmostEqual(top + height / 2, 26 + 150 * (1 - 4.20375 / 6), delta=0.2)
+
+
+class Bars(unittest.TestCase):
+    def test_a_log_has_a_line_every_ten_seconds(self) -> None:
+        for in_log, wanted in ((True, "3 of 9 days; so far\n7 of 9 days; so far\n"), (False, "")):
+            times = iter([0.0, 4.0, 9.9, 10.0, 10.0, 13.0, 19.0, 19.9, 25.0, 25.0, 26.0, 27.0])
+            with contextlib.redirect_stderr(io.StringIO()) as said, unittest.mock.patch("time.monotonic", lambda: next(times)):
+                bar = Bar("days", in_log)
+                for done in range(1, 10):
+                    bar.show(done, 9, "; so far")
+                bar.end()
+            self.assertEqual(said.getvalue(), wanted)
+
+
+if __name__ == "__main__":
+    unittest.main()
