@@ -256,8 +256,8 @@ async function refreshUntilDone(whose, refresh) {
   }
 }
 
-/** Ask for the changes of a road, piece by piece; for all if the server has begun its list anew. A
- * piece that is older than what came with an answer meanwhile is left. Return whether all is there.
+/** Ask for the changes of a road, piece by piece; for all if the server has started its list again.
+ * Ignore a piece that is older than what came with another answer. Return whether all is there.
  * @param {"mine" | "shared"} whose
  */
 async function askLayers(whose) {
@@ -278,7 +278,7 @@ async function askLayers(whose) {
   return true;
 }
 
-/** Make the lists anew, if the page has joined. */
+/** Refresh the lists, if the page has joined. */
 export function refreshLists() {
   if (!store.me || !store.layers.mine) return;
   store.changes = listChanges(layersOf("mine"), store.me.number);

@@ -19,14 +19,14 @@ const isRefusal = (said) => "refused" in said;
 
 const always = () => true;
 
-/** Ask a question. Return its answer, or a refusal, which is told; null if the connection broke.
+/** Ask a question. Return its answer, or a refusal, after telling it; null if the connection broke.
  * @template {keyof Answers} Verb
  * @param {Partial<Record<Verb, object>>} command
  * @param {object} how
  * @param {boolean} [how.first]         it goes before those that wait
- * @param {string[]} [how.quiet]        refusals that are not told
+ * @param {string[]} [how.quiet]        refusals not to tell
  * @param {() => boolean} [how.stands]  whether a refusal is still worth telling
- * @param {string} [how.away]           what is told if there is no connection
+ * @param {string} [how.away]           what to tell if there is no connection
  * @returns {Promise<Answers[Verb] | Refusal | null>}
  */
 export async function ask(command, {first = false, quiet = [], stands = always, away = ""} = {}) {

@@ -1,5 +1,5 @@
-// The connection to the server: questions with a number, their answers, and what is told without
-// asking.
+// The connection to the server: numbered questions, their answers, and messages that nobody asked
+// for.
 
 /** @typedef {import("./types.mjs").Answers} Answers */
 /** @typedef {Partial<Record<keyof Answers | "hello" | "seats", object>>} Command */
@@ -46,7 +46,8 @@ export class Connection {
    * @param {object} calls
    * @param {() => Socket} calls.open      makes a socket
    * @param {() => void} calls.onOpen    is called when the socket is open
-   * @param {(value: Told) => void} calls.onTold    is called with what is told without asking
+   * @param {(value: Told) => void} calls.onTold    is called with a message that nobody asked
+   *   for
    * @param {(again: boolean, reason: string, code: number) => void} calls.onLost    is called when
    *   the connection breaks; `again`: it is tried again
    * @param {(act: () => void, wait: number) => void} [calls.later]    calls a function after some

@@ -87,7 +87,7 @@ export class DayClock {
       day: new Intl.DateTimeFormat("en", {dateStyle: "short", timeZone})};
   }
 
-  /** Return the steps at which the clock shows so many seconds after the midnight before step 0,
+  /** Return the steps at which the clock shows a number of seconds after the midnight before step 0,
    * each with its period: none if a clock change skips that time, two if it comes twice.
    * @param {number} seconds
    */

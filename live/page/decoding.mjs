@@ -47,7 +47,7 @@ const isCount = (value) => Number.isInteger(value) && Number(value) >= 0;
  */
 const isWhole = (value) => Number.isInteger(value);
 
-/** Return a value as a list; an empty one if it is none.
+/** Return a value as a list; an empty one if it is not a list.
  * @param {unknown} value
  * @returns {unknown[]}
  */

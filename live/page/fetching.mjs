@@ -12,7 +12,7 @@ import {everyShown, periodShown} from "./view.mjs";
 /** @typedef {import("./types.mjs").Span} Span */
 
 const ASKING = 2;               // questions for rows at a time
-const IDLE = 120;               // milliseconds without news after which figures are reckoned anew
+const IDLE = 120;               // milliseconds without news before figures are computed again
 const QUIET = 400;              // milliseconds without news before cars are counted one by one
 const BUSY = 1000;              // milliseconds until it is asked again of one who was busy
 const MINUTES_AT_ONCE = 60;     // of a question for sums
@@ -117,8 +117,8 @@ export function requestDrawing() {
   return draws;
 }
 
-/** Measure after each drawing; refreshFigures figures once it is quiet, or each second while the clock
- * runs. */
+/** Note the time after each drawing. Refresh the figures once it is quiet, or each second while the
+ * clock runs. */
 export function finishDrawing() {
   store.isDrawing = false;
   for (const timing of store.timings) {
@@ -323,7 +323,7 @@ async function askExact(period) {
 export const exactOf = (period) =>
   (store.figures.exactKey === keyOfPeriod(period) ? store.figures.exact : null);
 
-/** Let a road run to a step. Return whether it has; if not, figures are reckoned again later.
+/** Let a road run to a step. Return whether it has; if not, refresh the figures later.
  * @param {Road} road
  * @param {number} to
  */

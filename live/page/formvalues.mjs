@@ -12,7 +12,7 @@ import {ALWAYS, LAST_STEP, cellOfKm, chanceOfDemand, demandOfChance, kmOf, kmTex
 /** @typedef {import("./types.mjs").Kind} Kind */
 /** @typedef {import("./types.mjs").Shape} Shape */
 
-/** Return a written number; NaN if it is none.
+/** Return a written number; NaN if it is not a number.
  * @param {string} text
  */
 const numberOf = (text) => (text.trim() === "" ? NaN : Number(text));
@@ -34,7 +34,7 @@ export function valueOfTool(kind, first, from) {
   return percent >= 0 && percent <= 100 ? Math.round(percent / 100 * ALWAYS) : NaN;
 }
 
-/** Return the inlet that is chosen, and the step that is written; NaN if it is no time. */
+/** Return the chosen inlet and the written step; NaN if that is not a time. */
 export const demandInForm = () =>
   ({inlet: Number(store.form.inlet), from: store.day.readStep(store.form.timeFrom)});
 

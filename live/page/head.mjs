@@ -46,7 +46,7 @@ function showFaults() {
     ({key: text, sign: text, make: () => element("li", text)}))]);
 }
 
-/** Show other sites, each of which can be excluded. */
+/** Show other sites, each with a button that excludes it. */
 function showSites() {
   $("sites").hidden = !store.sites.length;
   showList($("siteList"), store.sites.map(({site, when: at}) => ({key: String(site),

@@ -1,4 +1,4 @@
-// Actions: the line to the server, who this tab is, and what it is told without asking.
+// Actions: the connection to the server, who this tab is, and the server's messages.
 
 import {assign} from "./assign.mjs";
 import {refreshDiagram} from "./looking.mjs";
@@ -25,7 +25,7 @@ import {titlesOf} from "./listing.mjs";
 /** @typedef {{welcome: Welcome} | (Refusal & {seats?: Seat[]})} HelloAnswer */
 
 const FORM = 3;                 // of what is spoken with the server
-const REPLACED_SHOWN = 60_000;  // milliseconds for which a replaced program is told
+const REPLACED_SHOWN = 60_000;  // milliseconds for which the page shows that the program was restarted
 /** @type {(name: string) => string} */
 const stored = (name) => sessionStorage.getItem(name) ?? "";
 
@@ -99,7 +99,7 @@ export function chooseSeat(seat) {
   notify("hello");
 }
 
-/** Take a seat: ask for all anew, and send what is pending again.
+/** Take a seat: ask for everything again, and send again what is pending.
  * @param {Welcome} said
  */
 async function welcome(said) {
@@ -171,7 +171,7 @@ function noteLost(again, reason, code) {
   store.isAway = true;
 }
 
-/** What is done with what is told without asking. */
+/** Handlers of the server's messages, by their kinds. */
 const HANDLERS = {
   /** @param {{now: number, rate: number, stop?: number | null}} told */
   clock({now, rate, stop = null}) {
@@ -247,7 +247,7 @@ export function closeNote() {
   notify("siteFaults");
 }
 
-/** Note what others shared and this tab has not taken, with a sentence that is told once.
+/** Note what others shared and this tab has not taken. Tell it once.
  * @param {News} news
  */
 function hearNews(news) {
@@ -259,7 +259,7 @@ function hearNews(news) {
   notify("news");
 }
 
-/** Take what is told without asking. Kinds that this page does not know are passed over.
+/** Handle a message of the server. Ignore kinds that this page does not know.
  * @param {Told} value
  */
 function hear(value) {

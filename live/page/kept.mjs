@@ -27,7 +27,7 @@ export function keep(storage, at, pending) {
 const modernize = (act) => ({...act, ...(Array.isArray(act.shape) ? {shape: null} : {}),
                              does: act.does === "undo" || act.does === "redo" ? act.does : "apply"});
 
-/** Return what is kept, and of which seat; of none ("") if nothing is kept.
+/** Return what is kept, and its seat; "" if nothing is kept.
  * @param {Storage} storage
  * @returns {{at: string, acts: [string, Pending][]}}
  */

@@ -18,7 +18,7 @@ import {byStamp, keyOf} from "./stamps.mjs";
  *            meta: string, where: "own" | "held"}} Listed
  */
 
-const MOST_PARTS = 4;           // of a change, that are told
+const MOST_PARTS = 4;           // of a change, that the list shows
 /** @type {Record<Deed, string>} */
 const DONE = {put: "put", change: "changed", withdraw: "withdrawn", top: "put on top",
               undo: "undone", redo: "redone", edits: "edited", exclude: "excluded",
@@ -89,7 +89,8 @@ export class Words {
     return stamp.number === this.number ? "you" : who || "somebody";
   }
 
-  /** Write who made a change, when its last operation was made, and by whom if somebody else did.
+  /** Write who made a change, when its last operation was made, and who made that if it was somebody
+   * else.
    * @param {Change} change
    */
   meta(change) {

@@ -1,4 +1,4 @@
-// Actions: which part of which road the diagram shows, moved and zoomed; the clock that it follows.
+// Actions: the road and the part of it that the diagram shows, moved and zoomed; its clock.
 
 import {ask} from "./asking.mjs";
 import {assign} from "./assign.mjs";
@@ -175,7 +175,7 @@ export function setOpen(fold, isOpen) {
 
 const away = messages.CLOCK_NOT_SET;
 
-/** Let the clock run at so many steps a second; 0: it stands.
+/** Let the clock run at a number of steps a second; 0: it stands.
  * @param {number} rate
  */
 export const setRate = (rate) => ask({clock: {rate}}, {away});

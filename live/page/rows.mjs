@@ -21,7 +21,7 @@ class Level {
     this.fresh = new Uint8Array(64);  // 1: of the present edits, or asked for
   }
 
-  /** Make room for so many rows.
+  /** Make room for a number of rows.
    * @param {number} size
    */
   grow(size) {
@@ -49,7 +49,7 @@ class Level {
     this.fresh.fill(value, first, first + count);
   }
 
-  /** Return the first rows in steps `from` to `to` that are not fresh, at most so many; null: none.
+  /** Return the first rows in steps `from` to `to` that are not fresh, at most `most`; null: none.
    * @param {number} from
    * @param {number} to
    * @param {number} most     rows
@@ -105,7 +105,7 @@ class Minutes {
     return found.length === (to - from) / MINUTE ? found : null;
   }
 
-  /** Return the first part of a period that is missing, at most so many minutes; null: none.
+  /** Return the first missing part of a period, at most `most` minutes; null: none.
    * @param {Span} period     steps
    * @param {number} most     minutes
    * @returns {Span | null}

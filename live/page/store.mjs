@@ -92,7 +92,7 @@ import {HOUR} from "./units.mjs";
  * @property {boolean} isPersisted     the tab's storage has what is pending
  * @property {Press[]} undoPresses     of Undo and Redo, until it is known what they take back
  * @property {Map<string, string>} notes     of what this tab did, by stamps
- * @property {string} passedOver       the newest own change that Undo was told not to take back
+ * @property {string} passedOver       the newest own change that Undo has refused to take back
  * @property {Preview | null} preview
  * @property {Outcome | null} outcome    what the preview would change
  * @property {Days | null} days
@@ -229,14 +229,14 @@ export function watch(parts, show) {
   for (const part of parts) watchers.set(part, [...(watchers.get(part) ?? []), show]);
 }
 
-/** What moves buttons, or makes them anew.
+/** What moves buttons, or replaces them.
  * @type {(keyof Store)[]}
  */
 const MOVES = ["clock", "days", "figures", "connectionText", "changes", "news", "others", "outcome",
                "message", "sites", "siteFaults"];
 
-/** Tell the views that these parts have changed. Those that move buttons are told once no button is
- * held down, so that what is pressed stays where it is.
+/** Show these parts in the views, since they have changed. Those that move buttons wait until no
+ * button is held down, so that what is pressed stays where it is.
  * @param {(keyof Store)[]} parts
  */
 export function notify(...parts) {

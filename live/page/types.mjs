@@ -61,7 +61,7 @@
  */
 
 /**
- * A change as it was told, before it is known which parts are of this road.
+ * A change as the server tells it, before parts of other roads are removed.
  * @typedef {Omit<Change, "isRaw">} TaggedChange
  *
  * A change that leaves the list.
@@ -105,14 +105,14 @@
  */
 
 /**
- * What an inlet admits by each inflow chance (1/65,536), in cars per hour; `points` by rising chances.
+ * What an inlet admits at each inflow chance (1/65,536), in cars per hour; `points` by rising chances.
  * @typedef {object} Curve
  * @property {[chance: number, cars: number][]} points
  * @property {number} capacity
  */
 
 /**
- * A road by which the curves of its inlets are known at each step; null: it is measured just now.
+ * A road that has the curves of its inlets at each step; null: the server is measuring it.
  * @typedef {object} MeasuredRoad
  * @property {Plan} plan
  * @property {import("./dayclock.mjs").DayClock} day
@@ -120,13 +120,13 @@
  */
 
 /**
- * What one road is counted to have, in a period.
+ * What is counted of one road, in a period.
  * @typedef {object} RoadFigures
  * @property {number} vehicle_hours
  * @property {number[]} asked         cars that each inlet is asked for
  * @property {number[]} entered       cars that each inlet lets in
  * @property {number[]} lost          cars of lost demand of each inlet
- * @property {number[]} scatter       cars by which the demand of each inlet scatters by chance
+ * @property {number[]} scatter       how many cars the demand of each inlet scatters by chance
  * @property {DetectorFigures[]} flows
  * @property {Trip[]} travel          to each detector, and last to the road's end
  * @property {Entry[]} entries        the same by the minute of entry, in their order
@@ -146,7 +146,7 @@
  */
 
 /**
- * What two roads are counted to have, car by car.
+ * What is counted of two roads, car by car.
  * @typedef {object} Figures
  * @property {number} from            step
  * @property {number} to
@@ -166,13 +166,13 @@
  */
 
 /**
- * This tab's seat, and what the server says of itself when the tab joins.
+ * This tab's seat, and what the server describes when the tab joins.
  * @typedef {object} Welcome
  * @property {string} at              how the seat's road is named
  * @property {number} seat
  * @property {number} number          the seat's, in stamps
  * @property {string} name
- * @property {string} key             by which the tab has the seat again when it is reloaded
+ * @property {string} key             the tab has its seat again with this when it is reloaded
  * @property {Plan} plan
  * @property {number} now             step of the clock
  * @property {number} rate            steps a second
@@ -249,8 +249,7 @@
  */
 
 /**
- * What is asked over many days: of which roads, of which versions, how many days are done, and the
- * answer.
+ * A comparison over many days: its roads, their versions, how many days are done, and the answer.
  * @typedef {{of: "mine" | "preview", key: string, done: number, said: DaysFigures | null}} Days
  *
  * When a gesture was made, had its rows, was painted, and was confirmed: milliseconds.
@@ -303,7 +302,7 @@
  */
 
 /**
- * What is told without asking: one of these.
+ * A message that nobody asked for: one of these.
  * @typedef {object} Told
  * @property {{now: number, rate: number, stop?: number | null}} [clock]
  * @property {News} [news]

@@ -15,7 +15,7 @@ export const LAST_STEP = 1048575;
  */
 export const kmOf = (cell) => cell * METRES_A_CELL / 1000;
 
-/** Round a length in km to so many decimals, a half up: 3.5025 gives 3.503, although its binary
+/** Round a length in km to a number of decimals, a half up: 3.5025 gives 3.503, although its binary
  * fraction is a little less.
  * @param {number} km
  * @param {number} [digits]

@@ -29,13 +29,13 @@ export function byMeans(view) {
   return store.paint === "zoom" ? meansAreSeen(view) : store.paint === "means";
 }
 
-/** Return the greatest power of two that is at most so many steps; at least 1.
+/** Return the greatest power of two up to a number of steps; at least 1.
  * @param {number} steps
  */
 const powerOfTwo = (steps) => 2 ** Math.max(0, Math.floor(Math.log2(steps)));
 
-/** Return how many steps the rows that are asked for lie apart: some eight rows for a box of mean
- * speeds (four if the road is long), else one for a pixel. */
+/** Return how many steps apart the page asks for rows: some eight rows for a box of mean speeds (four
+ * if the road is long), else one for a pixel. */
 export function everyShown() {
   const view = viewNow();
   if (!byMeans(view) && store.whose !== "both") return powerOfTwo(1 / view.tall);
