@@ -40,20 +40,20 @@ class Part:
 
 
 def all_parts() -> list[Part]:
-    """Return the parts in the order in which they start: those that take long come early."""
+    """Return the parts in the order in which they start: the quick check of pages, then those that take longest."""
     return [
         Part(FIRST, "the pages: limits, links, definitions as in specs/, and plain English", ("tools/definitions --check", "tools/check-pages")),
         Part("live", "live, with real browsers, brokers and faults", ("ROAD_LAB=$road_lab live/test",), (LABORATORY,), 4),
-        Part("failures", "every failure of a call to the outside in turn",
+        Part("failures", "each external call, made to fail in turn",
              ("tools/fail-in-turn --program $road_lab --within $tests_within --calls $tests_failures --jobs $processors",),
              (LABORATORY, WITHIN, CALLS), 3, without_checks=True),
         Part("unproved", "the program without a proof, with checks and without", ("tests/unproved",), processors=2, needs_kit=True),
         Part("process", "the program in its process: words, streams, limits", ("tests/process --program $road_lab",), (LABORATORY,)),
-        Part("recipes", "the recipes, beside figures of other programs", ("ROAD_LAB=$road_lab recipes/test",), (LABORATORY,)),
-        Part("types", "the types of the Python package", ("recipes/python/types",)),
+        Part("recipes", "the recipes, compared with results of other programs", ("ROAD_LAB=$road_lab recipes/test",), (LABORATORY,)),
+        Part("types", "the types of the Python package, and of live's tests", ("recipes/python/types", "live/types")),
         Part("viewer", "the viewer, in a real browser", ("viewer/test",), processors=2),
         Part("refused-uses", "what must not compile", (".ci/refused-uses",), needs_kit=True),
-        Part("lost-worker", "a worker that has gone is missed", (".ci/lost-worker",), needs_kit=True),
+        Part("lost-worker", "the loss of a worker is detected", (".ci/lost-worker",), needs_kit=True),
         Part("scripts", "the scripts of examples/ and tests/scripts", ("tests/run --program $road_lab",), (LABORATORY,)),
         Part("node", "live's page: modules that need no browser, and the types of all",
              ("node --test live/tests/*.test.mjs", "tsc -p live/page")),

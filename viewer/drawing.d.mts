@@ -12,7 +12,7 @@ export interface View { cell: number; step: number; scale: number; tall: number 
 
 export interface Part { cells: [from: number, to: number]; steps: [from: number, to: number] }
 
-export interface Unit { given: boolean; clock: boolean; begin: number | null; place: number; time: number; flow: number; speed: number; density: number }
+export interface Unit { given: boolean; clock: boolean; begin: number | null; place: number; time: number; flow: number; speed: number; density: number; textOf?: (step: number) => string }
 
 export interface Painted { tiles: Tiles; name: string; greatest: number }
 

@@ -125,7 +125,7 @@ const PLAIN = {given: false, clock: false, place: 1, time: 1, flow: 1, speed: 1,
 /** What a cell and a step are: km, minutes, cars an hour, km/h and cars a km, by metres a cell and
     seconds a step; with `clock` times are written as h:mm:ss, or as those of the day where it is
     known how many seconds after midnight the first step is (`begin`). Without metres and seconds,
-    cells and steps. */
+    cells and steps. A page may give it `textOf`, which writes a step as a time. */
 function unitOf(metres, seconds, clock = false, begin = null) {
   if (!(metres > 0 && seconds > 0)) return PLAIN;
   return {given: true, clock, begin, place: metres / 1000, time: seconds / 60, flow: 3600 / seconds,
@@ -148,8 +148,10 @@ function clockText(minutes, begin) {
 }
 
 /** Figures of a step and of a cell in a unit, without the unit's name. */
-const momentText = (step, unit) =>
-  (unit.clock ? clockText(step * unit.time, unit.begin) : long(step * unit.time));
+const momentText = (step, unit) => {
+  if (unit.textOf) return unit.textOf(step);
+  return unit.clock ? clockText(step * unit.time, unit.begin) : long(step * unit.time);
+};
 const placeText = (cell, unit) => long(cell * unit.place);
 
 /** The next greater round figure. */

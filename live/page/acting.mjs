@@ -8,12 +8,12 @@ import {encodeShape, encodeStamp} from "./decoding.mjs";
 import {keep, kept} from "./kept.mjs";
 import {isCovered, privateOf} from "./layers.mjs";
 import {askSeries} from "./fetching.mjs";
-import {linesOf} from "./listing.mjs";
-import {look} from "./looking.mjs";
+import {listChanges} from "./listing.mjs";
+import {refreshDiagram} from "./looking.mjs";
+import * as messages from "./messages.mjs";
 import {Road} from "./rows.mjs";
 import {keyOf} from "./stamps.mjs";
-import {changed, isOwn, known, layersOf, roadOf, store, tell} from "./store.mjs";
-import {plural} from "./units.mjs";
+import {isOwn, layersOf, need, notify, roadOf, store, tell} from "./store.mjs";
 import {periodShown} from "./view.mjs";
 
 /** @typedef {import("./types.mjs").Area} Area */
@@ -22,10 +22,10 @@ import {periodShown} from "./view.mjs";
 /** @typedef {import("./types.mjs").Operation} Operation */
 /** @typedef {import("./types.mjs").Pending} Pending */
 /** @typedef {import("./types.mjs").Stamp} Stamp */
-/** @typedef {"undo" | "redo"} Press */
+/** @typedef {import("./store.mjs").Press} Press */
 
-/** @type {import("./types.mjs").Previewed} */
-export const NOTHING_KNOWN = {why: "", layers: null, names: [], figures: null};
+/** @type {import("./types.mjs").Outcome} */
+export const EMPTY_OUTCOME = {why: "", layers: null, names: [], figures: null};
 /** The roads of a preview.
  * @type {("before" | "after")[]}
  */
@@ -33,8 +33,6 @@ const PREVIEWED = ["before", "after"];
 const TIMINGS = 50;             // that are kept
 const LOOKS = 500;              // milliseconds: who shares sooner wants no figures
 const LONGEST_NOTE = 200;
-const UNSHARED = "Nothing was shared, since the connection is lost: share it once it is back.";
-const UNTAKEN = "Nothing was taken, since the connection is lost: take it once it is back.";
 
 /** Put a shape, or alter a change by it.
  * @param {Area} area
@@ -45,60 +43,56 @@ export function put({shape, note, taken = "", old}) {
   act({gesture: {note, shape: encodeShape(shape), ...layer}}, {note, shape, taken, first});
 }
 
-/** @type {(what: string, line: Change) => string} */
-const noted = (what, line) => `${what}: ${words().text(line)}`.slice(0, LONGEST_NOTE);
+/** @type {(what: string, change: Change) => string} */
+const noted = (what, change) => `${what}: ${words().text(change)}`.slice(0, LONGEST_NOTE);
 
 /** Withdraw a change, or let in the site that it excludes.
- * @param {Change} line
+ * @param {Change} change
  */
-export function withdraw(line) {
-  if (line.site !== null) {
-    leaveOut(line.site, false);
+export function withdraw(change) {
+  if (change.site !== null) {
+    excludeSite(change.site, false);
     return;
   }
-  const note = noted("Withdrew", line);
-  const gesture = {note, layer: encodeStamp(line.name), shape: null};
-  act({gesture}, {note, first: line.shape?.from});
+  const note = noted("Withdrew", change);
+  const gesture = {note, layer: encodeStamp(change.name), shape: null};
+  act({gesture}, {note, first: change.shape?.from});
 }
 
 /** Put a change on top of all others.
- * @param {Change} line
+ * @param {Change} change
  */
-export function putOnTop(line) {
-  const note = noted("On top", line);
-  const gesture = {note, layer: encodeStamp(line.name), top: true};
-  act({gesture}, {note, first: line.shape?.from});
+export function putOnTop(change) {
+  const note = noted("On top", change);
+  const gesture = {note, layer: encodeStamp(change.name), top: true};
+  act({gesture}, {note, first: change.shape?.from});
 }
 
 /** Do once more what an operation did that lost to another.
- * @param {Change} line
+ * @param {Change} change
  * @param {Operation} operation
  */
-export function putAgain(line, {stamp}) {
-  act({again: {stamp: encodeStamp(stamp)}}, {note: noted("Put again", line)});
+export function putAgain(change, {stamp}) {
+  act({again: {stamp: encodeStamp(stamp)}}, {note: noted("Put again", change)});
 }
 
 /** Exclude a site, for all once that is shared; or let it in again.
  * @param {number} site
  * @param {boolean} [out]
  */
-export function leaveOut(site, out = true) {
-  const note = `Site ${site} is ${out ? "left out" : "let in again"}`;
+export function excludeSite(site, out = true) {
+  const note = `Site ${site} is ${out ? "excluded" : "included again"}`;
   act({site: {site, out, note}}, {note});
 }
 
 /** Undo the last own operation, pending or not. */
-export const undoNewest = () => press("undo");
+export const undoNewest = () => queuePress("undo");
 
 /** Redo the last own operation that was undone, pending or not. */
-export const redoNewest = () => press("redo");
+export const redoNewest = () => queuePress("redo");
 
-const NOTHING = {undo: "There is nothing of yours to undo.",
-                 redo: "There is nothing of yours to redo."};
-const DONE = {undo: "Taken back", redo: "Put again"};
-
-/** @type {Map<string, string>} */
-const notes = new Map();        // of what this tab did, by stamps
+const NOTHING = {undo: messages.NOTHING_TO_UNDO, redo: messages.NOTHING_TO_REDO};
+const UNDO_NOTES = {undo: "Undone", redo: "Redone"};
 
 /** Return what an operation was first called, by its stamp, or by its key while it is pending; ""
  * if that is not known any more.
@@ -106,51 +100,54 @@ const notes = new Map();        // of what this tab did, by stamps
  */
 function noteOf(called) {
   const note = typeof called === "string" ? store.pending.get(called)?.note ?? ""
-    : layersOf("mine").changeWith(called)?.note || notes.get(keyOf(called)) || "";
-  return note.replace(/^(Taken back|Put again)(: |$)/, "")
+    : findNote(called);
+  return note.replace(/^(Undone|Redone)(: |$)/, "")
     .replace(/^On top: /, "the place on top of ");
 }
 
-/** Take a press of Z or Redo.
+/** Return the note of an operation; that of its change if nothing else is known.
+ * @param {Stamp} stamp
+ */
+function findNote(stamp) {
+  const change = layersOf("mine").findByOperation(stamp);
+  const operation = change?.operations.find((one) => keyOf(one.stamp) === keyOf(stamp));
+  return operation?.note || store.notes.get(keyOf(stamp)) || change?.note || "";
+}
+
+/** Queue a press of Undo or Redo.
  * @param {Press} does
  */
-function press(does) {
-  store.presses.push(does);
-  pressed();
+function queuePress(does) {
+  store.undoPresses.push(does);
+  runPresses();
 }
 
 /** Do the presses whose target is known. */
-function pressed() {
-  while (store.presses.length) {
-    const [does] = store.presses;
+function runPresses() {
+  while (store.undoPresses.length) {
+    const [does] = store.undoPresses;
     const {[does]: stamp} = next();
     if (stamp === undefined) return;
-    store.presses.shift();
-    if (does === "undo" && isPassedOver(stamp)) continue;
+    store.undoPresses.shift();
+    if (does === "undo" && warnOfBlocked(stamp)) continue;
     if (stamp === null) tell(NOTHING[does], true);
     else {
-      const note = [DONE[does], noteOf(stamp)].filter(Boolean).join(": ");
+      const note = [UNDO_NOTES[does], noteOf(stamp)].filter(Boolean).join(": ");
       const told = typeof stamp === "string" ? stamp : encodeStamp(stamp);
       act({undo: {stamp: told}}, {note, does, undoes: stamp});
     }
   }
 }
 
-let passedOver = "";            // the newest own change that Z was told not to take back
-
-/** Say once who has changed the last own change since: Z does not silently take back the one before
- * it.
- * @param {Stamp | string | null} stamp      what Z would take back
+/** Say once who has changed the last own change since: Undo does not silently take back the one
+ * before it. Return whether that was said now.
+ * @param {Stamp | string | null} stamp      what Undo would take back
  */
-function isPassedOver(stamp) {
+function warnOfBlocked(stamp) {
   const [blocked] = store.pending.size ? [] : layersOf("mine").blocked;
-  if (!blocked || keyOf(blocked.stamp) === passedOver) return false;
-  passedOver = keyOf(blocked.stamp);
-  const what = noteOf(blocked.stamp);
-  const more = stamp === null ? "There is nothing else of yours to undo."
-    : "Z again undoes the change before it.";
-  tell(`${blocked.by.join(" and ") || "Somebody"} changed your last change since`
-    + `${what ? ` (${what})` : ""}: it cannot be undone. ${more}`, true);
+  if (!blocked || keyOf(blocked.stamp) === store.passedOver) return false;
+  store.passedOver = keyOf(blocked.stamp);
+  tell(messages.undoBlocked(blocked.by, noteOf(blocked.stamp), stamp === null), true);
   return true;
 }
 
@@ -159,34 +156,34 @@ function isPassedOver(stamp) {
  * @param {Pending["command"]} command
  * @param {{note: string} & Partial<Pending>} about
  */
-function act(command, {note, shape, first, does = "lay", undoes, taken = ""}) {
+function act(command, {note, shape, first, does = "apply", undoes, taken = ""}) {
   const key = crypto.randomUUID();
   store.pending.set(key, {command, note, shape, first, does, undoes, taken});
-  keepPending();
+  persistPending();
   store.timings.push({key, began: performance.now()});
   if (store.timings.length > TIMINGS) store.timings.shift();
   send(key);
-  if (first !== undefined) roadOf("mine").stale(first);
-  list();
-  look();
+  if (first !== undefined) roadOf("mine").invalidate(first);
+  refreshLists();
+  refreshDiagram();
 }
 
 /** Keep what is pending in the tab's storage, or say that it is not kept. */
-export function keepPending() {
-  store.isKept = keep(sessionStorage, known("me").at, store.pending);
-  if (!store.isKept && store.away && store.pending.size) {
-    tell("This tab keeps nothing: close it, and what is pending is lost.", true);
+export function persistPending() {
+  store.isPersisted = keep(sessionStorage, need("me").at, store.pending);
+  if (!store.isPersisted && store.isAway && store.pending.size) {
+    tell(messages.NOT_PERSISTED, true);
   }
 }
 
 /** Take up what was pending when this tab was loaded, of the seat that it has again. */
-export function fetchKept() {
+export function restorePending() {
   const {at, acts} = kept(sessionStorage);
-  if (acts.length && at === known("me").at) {
+  if (acts.length && at === need("me").at) {
     store.pending = new Map([...acts, ...store.pending]);
   } else if (acts.length) {
-    tell(`${plural(acts.length, "change")} of another seat could not be sent, and is lost.`, true);
-    keepPending();
+    tell(messages.pendingOfOtherSeat(acts.length), true);
+    persistPending();
   }
 }
 
@@ -194,25 +191,25 @@ export function fetchKept() {
  * @param {string} key
  */
 export async function send(key) {
-  const act = store.pending.get(key);
-  if (!act) return;
-  const {command, note, first = Infinity, taken} = act;
-  const said = await ask(withFields(command, {at: known("me").at, key}), {first: true});
+  const pending = store.pending.get(key);
+  if (!pending) return;
+  const {command, note, first = Infinity, taken, does} = pending;
+  const said = await ask(withFields(command, {at: need("me").at, key}), {first: true});
   if (!said) return;
   store.pending.delete(key);
-  keepPending();
+  persistPending();
   const isDone = !("refused" in said);
   const timing = store.timings.find((one) => one.key === key);
   if (timing) assign(timing, {confirmed: performance.now(), us: isDone ? said.us : undefined});
   if (isDone) {
-    notes.set(keyOf(said.stamp), note);
-    tell(`${note}: done${store.whose === "shared" ? ", on your own road" : ""}.${taken}`);
-    if (said.touched !== null && said.touched < first) roadOf("mine").stale(said.touched);
+    store.notes.set(keyOf(said.stamp), note);
+    tell(messages.done(note, does !== "apply", store.whose === "shared") + taken);
+    if (said.touched !== null && said.touched < first) roadOf("mine").invalidate(said.touched);
     await takeLayers("mine", said);
   }
-  pressed();
-  list();
-  look();
+  runPresses();
+  refreshLists();
+  refreshDiagram();
   askPreview();
 }
 
@@ -232,224 +229,211 @@ const withFields = (command, more) => Object.fromEntries(
 async function takeLayers(whose, said) {
   const layers = layersOf(whose);
   const isNext = said.since === layers.next;
-  if (isNext) layers.take(said);
-  if (!isNext || said.more) await refresh(whose);
+  if (isNext) layers.update(said);
+  if (!isNext || said.more) await refreshChanges(whose);
 }
-
-/** What is asked for just now, by road: whether it is to be asked again, and when all is there.
- * @type {Map<string, {again: boolean, done: Promise<void>}>}
- */
-const refreshes = new Map();
 
 /** Ask for what a road has got since. If several want that at once, one asks.
  * @param {"mine" | "shared"} whose
  */
-export function refresh(whose) {
-  const there = refreshes.get(whose);
+export function refreshChanges(whose) {
+  const there = store.refreshes.get(whose);
   if (there) {
     there.again = true;
     return there.done;
   }
-  const going = {again: true, done: Promise.resolve()};
-  refreshes.set(whose, going);
-  going.done = refreshUntilDone(whose, going);
-  return going.done;
+  const refresh = {again: true, done: Promise.resolve()};
+  store.refreshes.set(whose, refresh);
+  refresh.done = refreshUntilDone(whose, refresh);
+  return refresh.done;
 }
 
 /** Ask for what a road has got since, as often as that is wanted meanwhile.
  * @param {"mine" | "shared"} whose
- * @param {{again: boolean}} going
+ * @param {{again: boolean}} refresh
  */
-async function refreshUntilDone(whose, going) {
+async function refreshUntilDone(whose, refresh) {
   let isThere = true;
   try {
-    while (isThere && going.again) {
-      going.again = false;
+    while (isThere && refresh.again) {
+      refresh.again = false;
       isThere = await askLayers(whose);
     }
-    if (isThere) list();
+    if (isThere) refreshLists();
   } finally {
-    refreshes.delete(whose);
+    store.refreshes.delete(whose);
   }
 }
 
-/** Ask for the changes of a road, piece by piece; for all if the server has begun its list anew. A
- * piece that is older than what came with an answer meanwhile is left. Return whether all is there.
+/** Ask for the changes of a road, piece by piece; for all if the server has started its list again.
+ * Ignore a piece that is older than what came with another answer. Return whether all is there.
  * @param {"mine" | "shared"} whose
  */
 async function askLayers(whose) {
   const layers = layersOf(whose);
-  const at = whose === "mine" ? known("me").at : "shared";
+  const at = whose === "mine" ? need("me").at : "shared";
   for (let more = true; more;) {
     const from = layers.next;
     const said = await ask({layers: {at, from}});
     if (!said || "refused" in said) return false;
     if (layers.next !== from) continue;
     if (said.since === 0) {
-      layers.lines.clear();
-      if (from !== 0) roadOf(whose).stale(0);
+      layers.changes.clear();
+      if (from !== 0) roadOf(whose).invalidate(0);
     }
-    layers.take(said);
+    layers.update(said);
     more = said.more;
   }
   return true;
 }
 
-/** Make the lists anew, if the page has joined. */
-export function relist() {
-  if (store.me && store.layers.mine) list();
-}
-
-/** Make the lists anew. */
-function list() {
-  store.lines = linesOf(layersOf("mine"), known("me").number);
-  changed("lines");
+/** Refresh the lists, if the page has joined. */
+export function refreshLists() {
+  if (!store.me || !store.layers.mine) return;
+  store.changes = listChanges(layersOf("mine"), store.me.number);
+  notify("changes");
 }
 
 /** Share operations of changes.
- * @param {Change[]} lines
+ * @param {Change[]} changes
  * @param {Stamp[]} stamps
  */
-async function share(lines, stamps) {
-  const told = {at: known("me").at, name: "shared", stamps: stamps.map(encodeStamp)};
-  const said = await ask({send: told}, {away: UNSHARED});
+async function share(changes, stamps) {
+  const told = {at: need("me").at, name: "shared", stamps: stamps.map(encodeStamp)};
+  const said = await ask({send: told}, {away: messages.NOT_SHARED});
   if (!said || "refused" in said) return;
-  tell(`Shared ${plural(lines.length, "change")}.`);
-  if (said.touched !== null) roadOf("shared").stale(said.touched);
-  await Promise.all([refresh("mine"), refresh("shared")]);
-  look();
+  tell(messages.shared(changes.length));
+  if (said.touched !== null) roadOf("shared").invalidate(said.touched);
+  await Promise.all([refreshChanges("mine"), refreshChanges("shared")]);
+  refreshDiagram();
 }
 
 /** Take what others shared. */
 export async function take() {
-  closeBefore();
+  closePreview();
   const covered = coveredOwn();
   const fresh = untaken();
-  const from = makers(fresh).join(", ");
-  const said = await ask({take: {at: known("me").at, message: "shared"}}, {away: UNTAKEN});
+  const said = await ask({take: {at: need("me").at, message: "shared"}}, {away: messages.NOT_TAKEN});
   if (!said || "refused" in said) return;
-  if (said.touched !== null) roadOf("mine").stale(said.touched);
+  if (said.touched !== null) roadOf("mine").invalidate(said.touched);
   await takeLayers("mine", said);
-  list();
-  tellTaken(`${plural(fresh.length, "change")}${from ? " of " + from : ""}`, covered);
-  look();
+  refreshLists();
+  tellTaken(fresh.length, makers(fresh), covered);
+  refreshDiagram();
 }
 
 /** Return what covers each own change that is covered, by name.
  * @returns {Map<string, string>}
  */
-const coveredOwn = () => new Map([...layersOf("mine").lines.values()].filter(isOwn)
-  .filter(isCovered).map((line) => [keyOf(line.name), words().cover(line)]));
+const coveredOwn = () => new Map([...layersOf("mine").changes.values()].filter(isOwn)
+  .filter(isCovered).map((change) => [keyOf(change.name), words().cover(change)]));
 
-/** Say what was taken, and which own changes it covers.
- * @param {string} changes
+/** Say what was taken, and how many own changes it covers.
+ * @param {number} count
+ * @param {string[]} from
  * @param {Map<string, string>} before       what covered own changes before
  */
-function tellTaken(changes, before) {
+function tellTaken(count, from, before) {
   const lost = [...coveredOwn()].filter(([name, cover]) => before.get(name) !== cover);
-  const losses = lost.length
-    ? `${plural(lost.length, "change")} of yours ${lost.length === 1 ? "is" : "are"} covered by `
-      + "them, whole or in part."
-    : "Nothing of yours is covered by them.";
-  tell(`Took ${changes}. ${losses}`, lost.length > 0);
+  tell(messages.taken(count, from, lost.length), lost.length > 0);
 }
 
-// Before sharing or taking.
+// The preview of sharing or taking.
 
 /** Open a preview of sharing these changes, or all, or of taking what others shared.
  * @param {"share" | "take"} what
- * @param {Change[] | null} [lines]
+ * @param {Change[] | null} [changes]
  */
-export function openBefore(what, lines = null) {
-  const names = lines?.map(({name}) => keyOf(name));
-  const before = {whose: store.before?.whose ?? store.whose, takes: what === "take", names,
-                  ...sharedBy(names)};
-  if (!before.takes && !before.lines.length) return;
-  clearTimeout(store.before?.soon);
-  assign(store, {before, preview: null});
-  changed("before");
+export function openPreview(what, changes = null) {
+  const names = changes?.map(({name}) => keyOf(name));
+  const preview = {whose: store.preview?.whose ?? store.whose, takes: what === "take", names,
+                   ...sharedBy(names)};
+  if (!preview.takes && !preview.changes.length) return;
+  clearTimeout(store.preview?.soon);
+  assign(store, {preview, outcome: null});
+  notify("preview");
   askPreview();
 }
 
 /** Open a preview of sharing all. */
-export const shareAll = () => openBefore("share");
+export const shareAll = () => openPreview("share");
 
 /** Return what sharing the changes of these names, or all, shares now.
  * @param {string[] | undefined} names
  */
 function sharedBy(names) {
-  const lines = unshared().filter(({name}) => !names || names.includes(keyOf(name)));
-  return {lines, stamps: lines.flatMap(privateOf).map(({stamp}) => stamp)};
+  const changes = unshared().filter(({name}) => !names || names.includes(keyOf(name)));
+  return {changes, stamps: changes.flatMap(privateOf).map(({stamp}) => stamp)};
 }
 
 /** Ask what the preview would change: the list at once, the rows of both roads as they are seen,
  * and the figures a moment later. If nothing is left to share, close it.
  */
 export async function askPreview() {
-  const {before} = store;
-  if (!before) return;
-  clearTimeout(before.soon);
-  assign(before, sharedBy(before.names));
-  const {takes, lines, stamps} = before;
-  if (!takes && !lines.length) {
-    closeBefore();
+  const {preview} = store;
+  if (!preview) return;
+  clearTimeout(preview.soon);
+  assign(preview, sharedBy(preview.names));
+  const {takes, changes, stamps} = preview;
+  if (!takes && !changes.length) {
+    closePreview();
     return;
   }
-  changed("preview");
+  notify("outcome");
   const what = takes ? {what: "take"} : {what: "share", stamps: stamps.map(encodeStamp)};
-  const said = await ask({preview: {at: known("me").at, ...what}});
-  if (!said || store.before !== before) return;
+  const said = await ask({preview: {at: need("me").at, ...what}});
+  if (!said || store.preview !== preview) return;
   if ("refused" in said) {
-    const {layers, names} = store.preview ?? NOTHING_KNOWN;
-    store.preview = {why: said.why ?? "", layers, names, figures: null};
+    const {layers, names} = store.outcome ?? EMPTY_OUTCOME;
+    store.outcome = {why: said.why ?? "", layers, names, figures: null};
   } else {
-    if (!store.preview?.layers) store.whose = "both";
+    if (!store.outcome?.layers) store.whose = "both";
     const layers = layersOf(takes ? "mine" : "shared").with(said.layers);
     store.layers.after = layers;
-    for (const name of PREVIEWED) store.roads[name] = new Road(name, known("plan").length);
-    store.preview = {why: "", layers, names: said.layers.map(({name}) => name), figures: null};
-    clearTimeout(before.soon);
-    before.soon = setTimeout(askFigures, LOOKS);
+    for (const name of PREVIEWED) store.roads[name] = new Road(name, need("plan").length);
+    store.outcome = {why: "", layers, names: said.layers.map(({name}) => name), figures: null};
+    clearTimeout(preview.soon);
+    preview.soon = setTimeout(askPreviewFigures, LOOKS);
   }
-  changed("preview");
-  look();
+  notify("outcome");
+  refreshDiagram();
 }
 
 /** Ask for the figures of both roads, counted car by car. */
-async function askFigures() {
-  const {before, preview} = store;
+async function askPreviewFigures() {
+  const {preview, outcome} = store;
   const [from, to] = periodShown();
-  if (!before || !preview || to <= from) return;
-  const stands = () => store.preview === preview;
-  const said = await ask({figures: {at: known("me").at, of: "preview", from, to}},
-    {quiet: ["busy"], stands});
+  if (!preview || !outcome || to <= from) return;
+  const stands = () => store.outcome === outcome;
+  const said = await ask({figures: {at: need("me").at, of: "preview", from, to}},
+    {quiet: ["Busy"], stands});
   if (!said || !stands()) return;
-  if ("refused" in said && said.refused === "busy") {
-    before.soon = setTimeout(askFigures, LOOKS);
+  if ("refused" in said && said.refused === "Busy") {
+    preview.soon = setTimeout(askPreviewFigures, LOOKS);
     return;
   }
-  preview.figures = "refused" in said ? {why: said.why ?? ""} : said;
-  changed("preview");
+  outcome.figures = "refused" in said ? {why: said.why ?? ""} : said;
+  notify("outcome");
   askSeries();
 }
 
 /** Share or take what the preview shows. */
-export function doIt() {
-  const {takes, lines, stamps} = known("before");
-  closeBefore();
-  if (takes) take(); else share(lines, stamps);
+export function confirmPreview() {
+  const {takes, changes, stamps} = need("preview");
+  closePreview();
+  if (takes) take(); else share(changes, stamps);
 }
 
 /** Close the preview. */
-export function closeBefore() {
-  if (!store.before) return;
-  const {soon, whose} = store.before;
+export function closePreview() {
+  if (!store.preview) return;
+  const {soon, whose} = store.preview;
   clearTimeout(soon);
   if (daysShown()) dropDays();
-  assign(store, {whose, before: null, preview: null});
+  assign(store, {whose, preview: null, outcome: null});
   for (const name of PREVIEWED) delete store.roads[name];
   delete store.layers.after;
-  ask({preview: {at: known("me").at, what: null}});
-  changed("before");
-  look();
+  ask({preview: {at: need("me").at, what: null}});
+  notify("preview");
+  refreshDiagram();
 }

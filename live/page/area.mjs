@@ -2,9 +2,10 @@
 // store.
 
 import {MOST_OBJECTS, isTooLate} from "./geometry.mjs";
-import {placesText, shapeText, spanText, takenZonesText, valueText} from "./sentences.mjs";
-import {known, layersOf} from "./store.mjs";
-import {LAST_STEP, chanceText, kmText, limitText, timeText, whole} from "./units.mjs";
+import * as messages from "./messages.mjs";
+import {placesText, shapeText, takenZonesText, valueText} from "./sentences.mjs";
+import {need, layersOf, store} from "./store.mjs";
+import {LAST_STEP, chanceText, kmText, limitText} from "./units.mjs";
 
 /** @typedef {import("./types.mjs").Area} Area */
 /** @typedef {import("./types.mjs").Change} Change */
@@ -17,18 +18,14 @@ import {LAST_STEP, chanceText, kmText, limitText, timeText, whole} from "./units
  * @param {number} from      the step
  */
 export function faultOfValue(kind, first, from) {
-  if (kind !== "inflow") return "A chance is 0 to 100 %.";
-  const [plan, mine] = [known("plan"), layersOf("mine")];
+  if (kind !== "inflow") return messages.CHANCE_OUT_OF_RANGE;
+  const [plan, mine] = [need("plan"), layersOf("mine")];
   const curve = mine.curveAt(first, from);
-  if (!curve) return MEASURED;
+  if (!curve) return messages.MEASURING_INLET;
   const [limit, slowing] = plan.zones[Math.floor(plan.inlets[first][0] / plan.zone)];
-  const beside = mine.plan.inlets.some(([cell]) => cell < plan.inlets[first][0])
-    ? ", beside the cars that pass it" : "";
-  return `This inlet admits 0 to ${whole(curve.capacity)} cars per hour (limit `
-    + `${limitText(limit)}, slowing ${chanceText(slowing)})${beside}.`;
+  const isPassed = plan.inlets.some(([cell]) => cell < plan.inlets[first][0]);
+  return messages.demandOutOfRange(curve.capacity, limitText(limit), chanceText(slowing), isPassed);
 }
-
-const MEASURED = "What this inlet admits is being measured: a few seconds more.";
 
 /** Return a shape with words for it, and why it cannot be put, if so.
  * @param {Shape} shape
@@ -38,14 +35,13 @@ const MEASURED = "What this inlet admits is being measured: a few seconds more."
  */
 export function areaOfShape(shape, old = null, few = false) {
   const {kind, first, last, from, to, value} = shape;
-  const [plan, mine] = [known("plan"), layersOf("mine")];
+  const [plan, mine] = [need("plan"), layersOf("mine")];
   const isValid = !Number.isNaN(value);
   const note = isValid ? shapeText(mine, shape) : "";
   const what = isValid ? valueText(mine, kind, value, first, from) : "";
   const lines = [what, placesText(plan, kind, first, last),
-                 takenZonesText(plan, kind, first, last), spanText(from, to)].filter(Boolean);
-  const fault = few ? "Less than half of a zone is covered: with Shift it is taken, whole."
-    : faultOf(shape);
+                 takenZonesText(plan, kind, first, last), mine.day.spanText(from, to)].filter(Boolean);
+  const fault = few ? messages.TOO_FEW_ZONES : faultOf(shape);
   return {shape, note, lines, fault, old};
 }
 
@@ -54,7 +50,7 @@ export function areaOfShape(shape, old = null, few = false) {
  */
 function faultOf(shape) {
   const {kind, first, last, from, value} = shape;
-  if (isTooLate(shape)) return `The road's clock ends at ${timeText(LAST_STEP)}.`;
-  if (last - first >= MOST_OBJECTS) return `At most ${kmText(MOST_OBJECTS)} km are closed at once.`;
+  if (isTooLate(shape)) return messages.tooLate(store.day.timeText(LAST_STEP));
+  if (last - first >= MOST_OBJECTS) return messages.tooLong(kmText(MOST_OBJECTS));
   return Number.isNaN(value) ? faultOfValue(kind, first, from) : "";
 }

@@ -1,8 +1,9 @@
 // Questions to the server.
 
 import {decodeAnswer} from "./decoding.mjs";
-import {Away} from "./line.mjs";
-import {known, tell} from "./store.mjs";
+import {Disconnected} from "./connection.mjs";
+import * as messages from "./messages.mjs";
+import {need, tell} from "./store.mjs";
 
 const BUSY = 1000;              // milliseconds until it is asked again of one who was busy
 
@@ -18,28 +19,28 @@ const isRefusal = (said) => "refused" in said;
 
 const always = () => true;
 
-/** Ask a question. Return its answer, or a refusal, which is told; null if the connection broke.
+/** Ask a question. Return its answer, or a refusal, after telling it; null if the connection broke.
  * @template {keyof Answers} Verb
  * @param {Partial<Record<Verb, object>>} command
  * @param {object} how
  * @param {boolean} [how.first]         it goes before those that wait
- * @param {string[]} [how.quiet]        refusals that are not told
+ * @param {string[]} [how.quiet]        refusals not to tell
  * @param {() => boolean} [how.stands]  whether a refusal is still worth telling
- * @param {string} [how.away]           what is told if there is no connection
+ * @param {string} [how.away]           what to tell if there is no connection
  * @returns {Promise<Answers[Verb] | Refusal | null>}
  */
 export async function ask(command, {first = false, quiet = [], stands = always, away = ""} = {}) {
-  const line = known("line");
-  const isAway = !line.greeted;
+  const connection = need("connection");
+  const isAway = !connection.isAdmitted;
   const [verb] = /** @type {Verb[]} */ (Object.keys(command));
   try {
-    const said = /** @type {ToldAnswers[Verb] | Refusal} */ (await line.ask(command, first));
+    const said = /** @type {ToldAnswers[Verb] | Refusal} */ (await connection.ask(command, first));
     if (!isRefusal(said)) return decodeAnswer(verb, said);
     const isTold = !quiet.includes(said.refused) && stands();
-    if (isTold) tell(said.why ?? `Refused: ${said.refused}`, true);
+    if (isTold) tell(said.why ?? messages.refusedWithoutReason(said.refused), true);
     return said;
   } catch (fault) {
-    if (!(fault instanceof Away)) throw fault;
+    if (!(fault instanceof Disconnected)) throw fault;
     if (isAway && away) tell(away, true);
     return null;
   }
@@ -51,8 +52,8 @@ export async function ask(command, {first = false, quiet = [], stands = always, 
  */
 export async function askUntilFree(command) {
   for (;;) {
-    const said = await ask(command, {quiet: ["busy"]});
-    if (!said || !("refused" in said) || said.refused !== "busy") return said;
+    const said = await ask(command, {quiet: ["Busy"]});
+    if (!said || !("refused" in said) || said.refused !== "Busy") return said;
     await new Promise((done) => { setTimeout(done, BUSY); });
   }
 }

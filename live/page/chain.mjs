@@ -4,7 +4,7 @@
 /** @typedef {import("./types.mjs").Stamp} Stamp */
 /**
  * A pending act, by its key; `undoes` is the key or the stamp of what it takes back.
- * @typedef {{key: string, does: "lay" | "undo" | "redo", undoes?: string | Stamp}} PendingAct
+ * @typedef {{key: string, does: "apply" | "undo" | "redo", undoes?: string | Stamp}} PendingAct
  *
  * A stamp, or the key of a pending act; null: there is nothing; undefined: that is known once the
  * pending acts are confirmed.
@@ -26,7 +26,7 @@ export function nextOf({undo, redo}, pending) {
     if (does === "redo") redos.pop();
     if (does === "undo") redos.push(key);
     else undos.push(key);
-    if (does === "lay") redos.splice(0, redos.length, null);
+    if (does === "apply") redos.splice(0, redos.length, null);
   }
   return {undo: undos.at(-1), redo: redos.at(-1)};
 }

@@ -5,9 +5,9 @@ import {assign} from "./assign.mjs";
 import {askDays, daysAsked, daysShown, dropDays, dropOldDays, stopDays} from "./days.mjs";
 import {$, button, childrenOf, element, findElement, headCell, row} from "./elements.mjs";
 import {changeText, halfText, meanText, sureText} from "./estimates.mjs";
-import {known, store, when} from "./store.mjs";
+import {need, store, watch} from "./store.mjs";
 import {ORDER} from "./tables.mjs";
-import {kmText, timeText} from "./units.mjs";
+import {kmText} from "./units.mjs";
 
 /** @typedef {import("./types.mjs").DaysFigure} DaysFigure */
 /** @typedef {import("./types.mjs").DaysFigures} DaysFigures */
@@ -16,31 +16,24 @@ const overText = () => `Over ${daysAsked()} days`;
 /** @param {DaysFigures} said */
 const daysText = ({days, stopped}) =>
   (stopped ? `Over ${days} of ${daysAsked()} days, stopped` : overText());
-const READ_MEANS = "each has drivers of its own, the same on both roads. \u00b1 reaches to both "
-  + "ends of the 95 % interval; where that of a difference has 0 in it, the difference may be "
-  + "chance.";
+const READ_MEANS = "each day has its own drivers, the same on both roads. \u00b1 is half the width "
+  + "of the 95 % interval. If the interval of a difference contains 0, the difference may be chance.";
 /** @param {DaysFigures} said */
 const readText = ({days}) => (days > 1 ? `Means of ${days} days: ${READ_MEANS}`
   : "One day alone does not say what is chance.");
 /** @type {Record<string, string>} */
-const NAMES = {vehicle_hours: "Vehicle hours", lost: "Lost demand, cars",
+const FIGURE_NAMES = {vehicle_hours: "Vehicle hours", lost: "Lost demand, cars",
                delay: "Delay, vehicle hours"};
 
 /** Return the name of a figure.
  * @param {DaysFigure} figure
  */
-function nameOf({name}) {
+function nameOfFigure({name}) {
   const [what, place] = name.split(" ");
-  return NAMES[name] ?? (what === "cars"
-    ? `Cars at ${kmText(known("plan").detectors[Number(place)])} km` : "Seconds to the road's end");
+  const cell = need("plan").detectors[Number(place)];
+  return FIGURE_NAMES[name] ?? (what === "cars" ? `Cars at ${kmText(cell)} km`
+    : `Seconds to ${cell === undefined ? "the road's end" : `${kmText(cell)} km`}`);
 }
-
-/** Ask whether the table has a figure. The seconds to detectors are saved alone: it would be too
- * high.
- * @param {DaysFigure} figure
- */
-const isShown = ({name}) => !name.startsWith("seconds ")
-  || known("plan").detectors[Number(name.split(" ")[1])] === undefined;
 
 /** @type {(text: string, small: string) => HTMLElement} */
 const cell = (text, small) => element("td", text, {}, element("small", small));
@@ -55,12 +48,12 @@ function tableOf(said, isPreview) {
   const sides = order.map(([side]) => side);
   const heads = [...order.map(([, head]) => head),
                  isPreview ? "change" : "mine \u2212\u00a0shared"];
-  const lines = figures.filter(isShown).map((one) => row(headCell(nameOf(one), "row"),
+  const lines = figures.map((one) => row(headCell(nameOfFigure(one), "row"),
     ...sides.map((side) => (one.name === "delay" ? element("td")
       : cell(meanText(one[side]), halfText(one[side])))),
     cell(changeText(one.difference), sureText(one.difference))));
   return element("table", "", {className: "over"},
-    element("caption", `${daysText(said)}, ${timeText(from)} to ${timeText(to)}`),
+    element("caption", `${daysText(said)}, ${store.day.timeText(from)} to ${store.day.timeText(to)}`),
     element("thead", "", {}, row(element("td"), ...heads.map((head) => headCell(head)))),
     element("tbody", "", {}, ...lines));
 }
@@ -95,13 +88,13 @@ function showAsking(place) {
 /** @typedef {[asking: keyof PageElements, table: keyof PageElements, one: keyof PageElements]} Ids */
 /** @typedef {import("./elements.mjs").PageElements} PageElements */
 /** @type {Ids} */
-const OF_PREVIEW = ["beforeDays", "beforeOver", "beforeFigures"];
+const OF_PREVIEW = ["previewDays", "previewOver", "previewFigures"];
 /** @type {Ids} */
 const OF_BOTH = ["days", "over", "oneDay"];
 
 /** Show the days of what is compared. */
 function showDays() {
-  const isPreview = Boolean(store.before);
+  const isPreview = Boolean(store.preview);
   const [asking, table, one] = isPreview ? OF_PREVIEW : OF_BOTH;
   if (!findElement(asking)) return;
   showAsking($(asking));
@@ -114,7 +107,7 @@ function showDays() {
 
 /** Listen to the store. */
 export function begin() {
-  when(["days", "before", "me"], showDays);
-  when(["lines"], dropOldDays);
+  watch(["days", "preview", "me"], showDays);
+  watch(["changes"], dropOldDays);
   showDays();
 }

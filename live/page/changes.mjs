@@ -4,39 +4,39 @@ import {nextOf, takenBack} from "./chain.mjs";
 import {privateOf} from "./layers.mjs";
 import {Words, newestFirst} from "./listing.mjs";
 import {keyOf} from "./stamps.mjs";
-import {known, layersOf, layersShown, store} from "./store.mjs";
+import {need, layersOf, layersShown, store} from "./store.mjs";
 
 /** @typedef {import("./chain.mjs").PendingAct} PendingAct */
 /** @typedef {import("./types.mjs").Change} Change */
 /** @typedef {import("./types.mjs").Shape} Shape */
 
 /** Return words for the changes of the own road, or of another. */
-export const words = (layers = layersOf("mine")) => new Words(layers, known("me").number);
+export const words = (layers = layersOf("mine")) => new Words(layers, need("me").number);
 
 /** Return words for the changes of the road that is seen. */
 export const wordsShown = () => words(layersShown());
 
 /** Return the changes that have something that is not shared. */
-export const unshared = () => store.lines.map(({line}) => line)
-  .filter((line) => privateOf(line).length);
+export const unshared = () => store.changes.map(({change}) => change)
+  .filter((change) => privateOf(change).length);
 
 /** Return the operations on a shared change that the own road does not hold.
- * @param {Change} line
+ * @param {Change} change
  */
 export function freshOf({name, operations}) {
-  const there = layersOf("mine").line(name)?.operations ?? [];
+  const there = layersOf("mine").find(name)?.operations ?? [];
   const held = new Set(there.map(({stamp}) => keyOf(stamp)));
   return operations.filter(({stamp}) => !held.has(keyOf(stamp)));
 }
 
 /** Return the changes of the shared road that the own one lacks, whole or in part. */
-export const untaken = () => newestFirst([...layersOf("shared").lines.values()]
-  .filter((line) => freshOf(line).length));
+export const untaken = () => newestFirst([...layersOf("shared").changes.values()]
+  .filter((change) => freshOf(change).length));
 
 /** Return who made what is not taken of changes.
- * @param {Change[]} lines
+ * @param {Change[]} changes
  */
-export const makers = (lines) => [...new Set(lines.flatMap(freshOf)
+export const makers = (changes) => [...new Set(changes.flatMap(freshOf)
   .map(({who}) => who || "somebody"))];
 
 /** @returns {PendingAct[]} */

@@ -47,7 +47,7 @@ const isCount = (value) => Number.isInteger(value) && Number(value) >= 0;
  */
 const isWhole = (value) => Number.isInteger(value);
 
-/** Return a value as a list; an empty one if it is none.
+/** Return a value as a list; an empty one if it is not a list.
  * @param {unknown} value
  * @returns {unknown[]}
  */
@@ -151,7 +151,10 @@ const decodeTrip = ([cars, seconds]) => ({cars, seconds});
  * @param {ToldRoadFigures} told
  * @returns {RoadFigures}
  */
-const decodeRoad = ({travel, ...told}) => ({...told, travel: travel.map(decodeTrip)});
+const decodeRoad = ({travel, travel_by_entry: byEntry = {}, ...told}) => ({...told,
+  travel: travel.map(decodeTrip), entries: Object.entries(byEntry)
+    .map(([step, trips]) => ({step: Number(step), trips: trips.map(decodeTrip)}))
+    .sort((one, other) => one.step - other.step)});
 
 /** Return the figures of two roads.
  * @param {ToldFigures} told

@@ -2,7 +2,7 @@
 // cars per hour; the road has inflow chances.
 
 import {ask} from "./asking.mjs";
-import {changed, store} from "./store.mjs";
+import {notify, store} from "./store.mjs";
 
 /** @typedef {import("./layers.mjs").Layers} Layers */
 /** @typedef {import("./types.mjs").Curve} Curve */
@@ -30,13 +30,13 @@ function stateOf(road, inlet, step) {
  * @returns {Promise<Curve | null>}
  */
 async function fetchCurve(key, state) {
-  const said = await ask({admission: state}, {quiet: ["failed"]});
+  const said = await ask({admission: state}, {quiet: ["Failed"]});
   if (!said || "refused" in said) {
     store.curves.delete(key);
     return null;
   }
   store.curves.set(key, said);
-  changed("curves");
+  notify("curves");
   return said;
 }
 
@@ -48,7 +48,7 @@ async function fetchCurve(key, state) {
 function entryOf(road, inlet, step) {
   const state = stateOf(road, inlet, step);
   const key = JSON.stringify(state);
-  if (!store.curves.has(key) && store.line?.greeted) store.curves.set(key, fetchCurve(key, state));
+  if (!store.curves.has(key) && store.connection?.isAdmitted) store.curves.set(key, fetchCurve(key, state));
   return store.curves.get(key) ?? null;
 }
 

@@ -3,28 +3,29 @@
 import {assign} from "./assign.mjs";
 
 /**
- * The elements by their ids. A preview has those that begin with "before" and follow the title.
- * @typedef {Record<"me" | "clock" | "figuresPart" | "news" | "before" | "hint", HTMLElement>
+ * The elements by their ids. A preview has those that begin with "preview" and follow the title.
+ * @typedef {Record<"me" | "clock" | "figuresPart" | "news" | "preview" | "hint", HTMLElement>
  *   & Record<"line" | "said" | "who" | "helloSaid" | "readout" | "days" | "figuresNote" | "emptyHint"
- *            | "pastRest" | "seriesRead" | "beforeTitles", HTMLParagraphElement>
+ *            | "pastRest" | "seriesRead" | "travelRead" | "previewTitles", HTMLParagraphElement>
  *   & Record<"others" | "rates" | "stop" | "values" | "exactTitle" | "toolHint" | "stride" | "period"
- *            | "beforeDays", HTMLSpanElement>
+ *            | "previewDays", HTMLSpanElement>
  *   & Record<"hour" | "ahead" | "back" | "savePicture" | "saveTranscript" | "saveScript"
- *            | "saveFigures" | "saveReport" | "saveCounts" | "saveChanges" | "undo" | "redo" | "apply"
+ *            | "saveFigures" | "saveTravel" | "saveReport" | "saveCounts" | "saveChanges" | "undo" | "redo" | "apply"
  *            | "dropChange" | "closer" | "farther" | "wholeRoad" | "shareAll", HTMLButtonElement>
  *   & Record<"follow" | "name" | "demand" | "slow" | "start" | "kmFrom" | "kmTo" | "timeFrom"
  *            | "timeTo" | "letters", HTMLInputElement>
  *   & Record<"save" | "asTable" | "sites" | "past" | "series", HTMLDetailsElement>
  *   & Record<"hello", HTMLDialogElement>
  *   & Record<"helloForm" | "exact", HTMLFormElement>
- *   & Record<"beforeTitle", HTMLHeadingElement>
- *   & Record<"seats" | "over" | "oneDay" | "beforeBody" | "beforeCovers" | "beforeOver"
- *            | "beforeFigures", HTMLDivElement>
- *   & Record<"seatList" | "stays" | "legend" | "warnings" | "beforeList" | "seriesLegend", HTMLUListElement>
+ *   & Record<"previewTitle", HTMLHeadingElement>
+ *   & Record<"seats" | "over" | "oneDay" | "travelPart" | "previewBody" | "previewCovers" | "previewOver"
+ *            | "previewFigures", HTMLDivElement>
+ *   & Record<"seatList" | "stays" | "legend" | "warnings" | "previewList" | "seriesLegend", HTMLUListElement>
  *   & Record<"tools" | "whose", HTMLFieldSetElement>
- *   & Record<"limit" | "inlet" | "site" | "watch" | "span" | "paint" | "seriesSite", HTMLSelectElement>
+ *   & Record<"limit" | "inlet" | "site" | "watch" | "span" | "paint" | "seriesSite" | "seriesEnd",
+            HTMLSelectElement>
  *   & Record<"kmFromLabel" | "kmToLabel", HTMLLabelElement>
- *   & Record<"diagram" | "flowChart" | "speedChart", HTMLCanvasElement>
+ *   & Record<"diagram" | "flowChart" | "speedChart" | "travelChart", HTMLCanvasElement>
  *   & Record<"speeds" | "figures", HTMLTableElement>
  *   & Record<"own" | "held" | "siteList" | "history", HTMLOListElement>} PageElements
  */
@@ -170,7 +171,7 @@ export function showList(list, items) {
     assign(made.dataset, {key, sign});
     return made;
   });
-  put(list, now);
+  arrange(list, now);
   if (active && !active.isConnected) refocus(list, at?.dataset.key, place, active.textContent);
   else if (active && document.activeElement !== active) active.focus();
 }
@@ -179,7 +180,7 @@ export function showList(list, items) {
  * @param {HTMLElement} list
  * @param {HTMLElement[]} children
  */
-function put(list, children) {
+function arrange(list, children) {
   /** @type {Set<Element>} */
   const stay = new Set(children);
   for (const one of [...list.children]) if (!stay.has(one)) one.remove();

@@ -3,7 +3,7 @@
 import {ask} from "./asking.mjs";
 import {assign} from "./assign.mjs";
 import {keyOf} from "./stamps.mjs";
-import {changed, known, last, roadOf, store, whoseShown} from "./store.mjs";
+import {BOTH, notify, need, last, roadOf, store, whoseShown} from "./store.mjs";
 import {everyShown, periodShown} from "./view.mjs";
 
 /** @typedef {import("./rows.mjs").Road} Road */
@@ -11,10 +11,8 @@ import {everyShown, periodShown} from "./view.mjs";
 /** @typedef {import("./types.mjs").DetectorFigures} DetectorFigures */
 /** @typedef {import("./types.mjs").Span} Span */
 
-/** @type {RoadName[]} */
-const BOTH = ["mine", "shared"];
 const ASKING = 2;               // questions for rows at a time
-const IDLE = 120;               // milliseconds without news after which figures are reckoned anew
+const IDLE = 120;               // milliseconds without news before figures are computed again
 const QUIET = 400;              // milliseconds without news before cars are counted one by one
 const BUSY = 1000;              // milliseconds until it is asked again of one who was busy
 const MINUTES_AT_ONCE = 60;     // of a question for sums
@@ -24,10 +22,10 @@ const MINUTES_AT_ONCE = 60;     // of a question for sums
  * @param {boolean} [both]
  */
 export function fetchRows(both = !store.clock.rate) {
-  if (!store.me || !store.line?.greeted) return;
+  if (!store.me || !store.connection?.isAdmitted) return;
   const seen = whoseShown();
   if (!fetchOf(seen)) return;
-  settled();
+  noteRowsComplete();
   if (both) fetchOf(BOTH.filter((whose) => !seen.includes(whose)));
 }
 
@@ -35,32 +33,33 @@ export function fetchRows(both = !store.clock.rate) {
  * @param {RoadName[]} names
  */
 function fetchOf(names) {
-  const {look} = store;
+  const {extent} = store;
   const every = everyShown();
-  const to = Math.min(last(), Math.floor(look.step + look.span));
+  const to = Math.min(last(), Math.floor(extent.step + extent.span));
   for (const whose of names) {
     const road = roadOf(whose);
     if (road.horizon < to) {
       advance(road, to);
       return false;
     }
-    while (store.asking < ASKING) {
-      const piece = road.level(every).wanted(look.step, to, mostRows());
+    const level = road.load(every);
+    while (store.openRowQuestions < ASKING) {
+      const piece = level.findMissing(extent.step, to, mostRows());
       if (!piece) break;
-      askRows(whose, every, piece);
+      askRows(whose, level, piece);
     }
-    if (store.asking >= ASKING) return false;
+    if (store.openRowQuestions >= ASKING) return false;
   }
-  return store.asking === 0;
+  return store.openRowQuestions === 0;
 }
 
 /** Return how many rows an answer may have. */
 function mostRows() {
-  const {rows, bytes} = store.most;
-  return Math.max(1, Math.min(rows, Math.floor(bytes / (known("plan").length + 3))));
+  const {rows, bytes} = store.limits;
+  return Math.max(1, Math.min(rows, Math.floor(bytes / (need("plan").length + 3))));
 }
 
-/** Ask whether a road is still looked at: those of a preview go with it.
+/** Ask whether a road is still there: those of a preview go with it.
  * @param {Road} road
  */
 const isKept = (road) => Object.values(store.roads).includes(road);
@@ -79,65 +78,64 @@ async function advance(road, to) {
   fetchRows();
 }
 
-/** Ask for rows of a road, `every` steps apart.
+/** Ask for rows of a road.
  * @param {RoadName} whose
- * @param {number} every
+ * @param {ReturnType<Road["load"]>} level
  * @param {{from: number, to: number, count: number}} piece  steps, and how many rows
  */
-async function askRows(whose, every, {from, to, count}) {
-  const road = roadOf(whose);
-  const level = road.level(every);
-  store.asking++;
+async function askRows(whose, level, {from, to, count}) {
+  const [road, {every}] = [roadOf(whose), level];
+  store.openRowQuestions++;
   level.mark(from, count, 1);
   const said = await ask({diagram: {at: road.at, from, to, ...(every > 1 ? {every} : {})}},
     {stands: () => isKept(road)});
-  store.asking = Math.max(0, store.asking - 1);
+  store.openRowQuestions = Math.max(0, store.openRowQuestions - 1);
   if (!said || "refused" in said) {
     level.mark(from, count, 0);
     return;
   }
-  const steps = level.take(from, said.rows);
+  const steps = level.put(from, said.rows);
   if (steps) {
-    store.repainted = {whose, every, steps};
-    changed("repainted");
+    store.changedRows = {whose, every, steps};
+    notify("changedRows");
   }
   fetchRows();
 }
 
 /** Note that all rows that are seen are there: gestures that are measured have their picture at the
  * next drawing. */
-function settled() {
+function noteRowsComplete() {
   const waiting = store.timings.filter((timing) => !timing.settled);
   for (const timing of waiting) timing.settled = performance.now();
-  if (waiting.length) changed("timings");
+  if (waiting.length) notify("timings");
 }
 
 /** Let the picture be drawn at the next frame of the screen. Return whether that is new. */
-export function drawsSoon() {
-  const draws = !store.drawing;
-  store.drawing = true;
+export function requestDrawing() {
+  const draws = !store.isDrawing;
+  store.isDrawing = true;
   return draws;
 }
 
-/** Measure after each drawing; reckon figures once it is quiet, or each second while the clock
- * runs. */
-export function hasDrawn() {
-  store.drawing = false;
+/** Note the time after each drawing. Refresh the figures once it is quiet, or each second while the
+ * clock runs. */
+export function finishDrawing() {
+  store.isDrawing = false;
   for (const timing of store.timings) {
     if (timing.settled && !timing.painted) timing.painted = performance.now();
   }
-  if (store.idle && store.clock.rate) return;
-  clearTimeout(store.idle ?? undefined);
-  store.idle = setTimeout(whenQuiet, store.clock.rate ? 1000 : IDLE);
+  if (store.idleTimer && store.clock.rate) return;
+  clearTimeout(store.idleTimer ?? undefined);
+  store.idleTimer = setTimeout(whenQuiet, store.clock.rate ? 1000 : IDLE);
 }
 
 /** Ask for what is not seen, and for figures; while the clock stands once no row is awaited. */
 function whenQuiet() {
-  const waits = store.asking && !store.clock.rate;
-  store.idle = waits ? setTimeout(whenQuiet, IDLE) : null;
+  const waits = store.openRowQuestions && !store.clock.rate;
+  store.idleTimer = waits ? setTimeout(whenQuiet, IDLE) : null;
   if (waits) return;
   fetchRows(true);
-  reckon();
+  refreshFigures();
 }
 
 // Figures.
@@ -145,10 +143,10 @@ function whenQuiet() {
 /** Show the figures of a period, as far as they are there, and ask for what is missing.
  * @param {Span} [period]    steps
  */
-export function reckon(period = periodShown()) {
+export function refreshFigures(period = periodShown()) {
   store.figures.wanted = period;
   askFigures(period);
-  changed("figures");
+  notify("figures");
 }
 
 /** Ask for what is missing of the figures of a period; while the clock stands, a moment later for
@@ -157,7 +155,7 @@ export function reckon(period = periodShown()) {
  */
 async function askFigures(period) {
   const {figures} = store;
-  if (figures.asking || !store.line?.greeted || period[1] <= period[0]) return;
+  if (figures.asking || !store.connection?.isAdmitted || period[1] <= period[0]) return;
   figures.asking = true;
   let came = false;
   try {
@@ -167,8 +165,8 @@ async function askFigures(period) {
     figures.asking = false;
   }
   if (!store.clock.rate) askSeries(period);
-  if (came) reckon();
-  else if (!store.clock.rate && periodShown().join() !== period.join()) reckon();
+  if (came) refreshFigures();
+  else if (!store.clock.rate && periodShown().join() !== period.join()) refreshFigures();
   else if (!store.clock.rate) askExactSoon(period);
 }
 
@@ -176,13 +174,13 @@ async function askFigures(period) {
  * @param {DetectorFigures | DetectorFigures[]} count
  * @returns {count is DetectorFigures[]}
  */
-const isSpan = (count) => Array.isArray(count);
+const isOfSpan = (count) => Array.isArray(count);
 
 /** Ask whether a count is that of a detector in the whole period.
  * @param {DetectorFigures | DetectorFigures[]} count
  * @returns {count is DetectorFigures}
  */
-const isWhole = (count) => !Array.isArray(count);
+const isOfPeriod = (count) => !Array.isArray(count);
 
 /** Return how many steps a point of the series is of: at most some 150 points.
  * @param {number} steps     of the period
@@ -195,18 +193,18 @@ const eachOf = (steps) => [60, 300, 900, 3600].find((each) => steps / each <= 15
  */
 const keyOfSeries = (sides, period) => [
   ...sides, ...BOTH.map((whose) => roadOf(whose).version), ...period,
-  ...(store.preview && store.before ? store.before.stamps.map(keyOf) : [])].join();
+  ...(store.outcome && store.preview ? store.preview.stamps.map(keyOf) : [])].join();
 
 /** Ask for flow and speed by time of the two roads that are compared, if those that are shown are
  * of other ones.
  * @param {Span} [period]
  */
 export async function askSeries(period = periodShown()) {
-  const {series, line, preview} = store;
+  const {series, connection, outcome} = store;
   const [from, to] = period;
-  if (series.asking || to <= from || !known("plan").detectors.length || !line?.greeted) return;
+  if (series.asking || to <= from || !need("plan").detectors.length || !connection?.isAdmitted) return;
   /** @type {RoadName[]} */
-  const sides = preview?.layers ? ["before", "after"] : ["shared", "mine"];
+  const sides = outcome?.layers ? ["before", "after"] : ["shared", "mine"];
   const key = keyOfSeries(sides, period);
   if (key === series.key) return;
   series.asking = true;
@@ -214,15 +212,41 @@ export async function askSeries(period = periodShown()) {
     for (const side of sides) if (!await computed(roadOf(side), to)) return;
     const each = eachOf(to - from);
     const said = await Promise.all(sides.map((side) =>
-      ask({counts: {at: roadOf(side).at, from, to, each}}, {quiet: ["busy", "no preview"]})));
-    const flows = said.flatMap((one) => (one && "flows" in one ? [one.flows.filter(isSpan)] : []));
+      ask({counts: {at: roadOf(side).at, from, to, each}}, {quiet: ["Busy", "NoPreview"]})));
+    const flows = said.flatMap((one) => (one && "flows" in one ? [one.flows.filter(isOfSpan)] : []));
     if (flows.length < said.length) return;
-    const names = preview?.layers ? ["now", "then"] : ["shared", "mine"];
-    assign(series, {key, names, from, to, each, flows});
-    changed("series");
+    const names = outcome?.layers ? ["now", "then"] : ["shared", "mine"];
+    const isThere = series.point !== null && series.point < flows[0].length;
+    assign(series, {key, names, from, to, each, flows, point: isThere ? series.point : null});
+    notify("series");
   } finally {
     series.asking = false;
   }
+}
+
+/** Show the series of another detector.
+ * @param {number} site
+ */
+export function chooseSite(site) {
+  store.series.site = site;
+  notify("series");
+}
+
+/** Show travel times to another detector; null: to the road's end.
+ * @param {number | null} end
+ */
+export function chooseEnd(end) {
+  store.series.end = end;
+  notify("series");
+}
+
+/** Read a point of the series, or a minute of entry; null: none.
+ * @param {"point" | "minute"} what
+ * @param {number | null} index
+ */
+export function readPoint(what, index) {
+  store.series[what] = index;
+  notify("series");
 }
 
 /** Ask for what is counted car by car a moment later, once no change waits for its picture.
@@ -232,7 +256,7 @@ function askExactSoon(period) {
   const {figures} = store;
   clearTimeout(figures.soon);
   figures.soon = setTimeout(() => {
-    if (store.asking || store.pending.size) askExactSoon(period);
+    if (store.openRowQuestions || store.pending.size) askExactSoon(period);
     else askExact(period);
   }, QUIET);
 }
@@ -240,7 +264,7 @@ function askExactSoon(period) {
 /** Return a key of a period's figures, which differs once a road has changed.
  * @param {Span} period
  */
-const keyNow = (period) => [...period, ...BOTH.map((whose) => roadOf(whose).version)].join();
+const keyOfPeriod = (period) => [...period, ...BOTH.map((whose) => roadOf(whose).version)].join();
 
 /** Ask for the counts of both roads, if they may differ from those that are shown. Return whether
  * they came.
@@ -249,12 +273,12 @@ const keyNow = (period) => [...period, ...BOTH.map((whose) => roadOf(whose).vers
 async function askCounts(period) {
   const [from, to] = period;
   const {figures} = store;
-  const key = keyNow(period);
+  const key = keyOfPeriod(period);
   if (key === figures.key) return false;
   for (const whose of BOTH) if (!await computed(roadOf(whose), to)) return false;
-  const said = await Promise.all([known("me").at, "shared"].map((at) =>
-    ask({counts: {at, from, to}}, {quiet: ["busy"]})));
-  const counts = said.flatMap((one) => (one && "flows" in one ? [one.flows.filter(isWhole)] : []));
+  const said = await Promise.all([need("me").at, "shared"].map((at) =>
+    ask({counts: {at, from, to}}, {quiet: ["Busy"]})));
+  const counts = said.flatMap((one) => (one && "flows" in one ? [one.flows.filter(isOfPeriod)] : []));
   if (counts.length < said.length) return false;
   assign(figures, {key, period, counts});
   return true;
@@ -266,12 +290,12 @@ async function askCounts(period) {
  */
 async function askSums(whose, period) {
   const road = roadOf(whose);
-  const wanted = road.minutes.wanted(period, MINUTES_AT_ONCE);
+  const wanted = road.minutes.findMissing(period, MINUTES_AT_ONCE);
   if (!wanted || !await computed(road, wanted[1])) return false;
   const {version, at} = road;
-  const said = await ask({sums: {at, from: wanted[0], to: wanted[1]}}, {quiet: ["busy"]});
+  const said = await ask({sums: {at, from: wanted[0], to: wanted[1]}}, {quiet: ["Busy"]});
   if (!said || "refused" in said) return false;
-  if (road.version === version) road.minutes.take(wanted[0], said.sums);
+  if (road.version === version) road.minutes.put(wanted[0], said.sums);
   return true;
 }
 
@@ -281,30 +305,30 @@ async function askSums(whose, period) {
  */
 async function askExact(period) {
   const {figures} = store;
-  const key = keyNow(period);
-  if (key === figures.exactKey || figures.counting || store.before) return;
+  const key = keyOfPeriod(period);
+  if (key === figures.exactKey || figures.counting || store.preview) return;
   const [from, to] = period;
   figures.counting = true;
-  const said = await ask({figures: {at: known("me").at, of: "mine", from, to}}, {quiet: ["busy"]});
+  const said = await ask({figures: {at: need("me").at, of: "mine", from, to}}, {quiet: ["Busy"]});
   figures.counting = false;
-  if (said && "refused" in said && said.refused === "busy") setTimeout(reckon, BUSY);
+  if (said && "refused" in said && said.refused === "Busy") setTimeout(refreshFigures, BUSY);
   if (!said || "refused" in said) return;
-  if (keyNow(period) === key) assign(figures, {exactKey: key, exact: said});
-  reckon();
+  if (keyOfPeriod(period) === key) assign(figures, {exactKey: key, exact: said});
+  refreshFigures();
 }
 
 /** Return what is counted car by car of a period; null if it is not known yet, or of other edits.
  * @param {Span} period
  */
 export const exactOf = (period) =>
-  (store.figures.exactKey === keyNow(period) ? store.figures.exact : null);
+  (store.figures.exactKey === keyOfPeriod(period) ? store.figures.exact : null);
 
-/** Let a road run to a step. Return whether it has; if not, figures are reckoned again later.
+/** Let a road run to a step. Return whether it has; if not, refresh the figures later.
  * @param {Road} road
  * @param {number} to
  */
 async function computed(road, to) {
   if (road.horizon < to) await advance(road, to);
-  if (road.horizon < to) setTimeout(reckon, IDLE);
+  if (road.horizon < to) setTimeout(refreshFigures, IDLE);
   return road.horizon >= to;
 }

@@ -5,12 +5,13 @@
 
 import {boxSums} from "../../viewer/drawing.mjs";
 import {$, element, headCell, on, row, showList} from "./elements.mjs";
-import {exactOf, reckon} from "./fetching.mjs";
-import {caughtIn} from "./layers.mjs";
+import {exactOf, refreshFigures} from "./fetching.mjs";
+import {countTrapped} from "./layers.mjs";
+import {setOpen} from "./looking.mjs";
+import * as messages from "./messages.mjs";
 import {placesText} from "./sentences.mjs";
-import {known, layersOf, roadOf, store, when, whoseShown} from "./store.mjs";
-import {HOUR, KMH_A_CELL, durationText, kmText, plural, signedText, timeText, whole}
-  from "./units.mjs";
+import {need, layersOf, roadOf, store, watch, whoseShown} from "./store.mjs";
+import {HOUR, KMH_A_CELL, durationText, kmText, signedText, sum, whole} from "./units.mjs";
 import {everyShown} from "./view.mjs";
 
 /** @typedef {import("./store.mjs").RoadName} RoadName */
@@ -21,6 +22,8 @@ import {everyShown} from "./view.mjs";
 /** @typedef {ReturnType<typeof boxSums>} BoxSums */
 
 const AWAITED = "\u2026";
+/** Write what is counted car by car, and is not known: nothing while the clock runs. */
+const unknownText = () => (store.clock.rate ? "" : AWAITED);
 const AS_WIDE = "0,000/h, 000 km/h";    // as what is awaited, and not seen
 const NO_CAR = "\u2013";         // of a travel time that no car has
 const LOST = 0.05;              // of the demand of an inlet: more that is lost is warned of
@@ -70,10 +73,10 @@ function laterText(exact, place) {
  * @param {Figures | null} exact
  */
 function travelRow(exact) {
-  const place = known("plan").detectors.length;
+  const place = need("plan").detectors.length;
   const text = (/** @type {number | null} */ value) =>
     (value === null ? NO_CAR : `${whole(value)} s`);
-  const cells = !exact ? [AWAITED, AWAITED, AWAITED]
+  const cells = !exact ? Array(3).fill(unknownText())
     : [text(exact.after.travel[place].seconds), text(exact.before.travel[place].seconds),
        laterText(exact, place) || NO_CAR];
   return row(headCell("Time to the road's end", "row"), ...cells.map((cell) => element("td", cell)));
@@ -89,7 +92,7 @@ function detectorRows(period, exact) {
   const seconds = period[1] - period[0];
   const awaited = () => element("td", AWAITED, {},
     element("small", AS_WIDE, {className: "awaited"}));
-  return known("plan").detectors.map((cell, index) => {
+  return need("plan").detectors.map((cell, index) => {
     const head = headCell(`Cars at ${kmText(cell)} km`, "row");
     if (!counts) return row(head, awaited(), awaited(), element("td", AWAITED));
     const [mine, shared] = counts.map((one) => one[index]);
@@ -100,27 +103,26 @@ function detectorRows(period, exact) {
   });
 }
 
-/** @param {number[]} numbers */
-const sum = (numbers) => numbers.reduce((one, other) => one + other, 0);
 
 /** Return the vehicle hours of the minutes of a period; null if one is missing.
  * @param {RoadName} whose
  * @param {Span} period
  */
 function hoursOf(whose, period) {
-  const minutes = roadOf(whose).minutes.within(period);
+  const minutes = roadOf(whose).minutes.find(period);
   return minutes && sum(minutes) / HOUR;
 }
 
-/** Make a row of two values and their difference; a value that is null is awaited.
+/** Make a row of two values and their difference.
  * @param {string} name
- * @param {(number | null)[]} values     mine and shared
+ * @param {(number | null)[]} values     mine and shared; null: not known
  * @param {number} digits
+ * @param {string} unknown
  */
-function sumRow(name, [one, other], digits) {
-  const text = (/** @type {number | null} */ value) => (value === null ? AWAITED
+function sumRow(name, [one, other], digits, unknown) {
+  const text = (/** @type {number | null} */ value) => (value === null ? unknown
     : value.toLocaleString("en", {minimumFractionDigits: digits, maximumFractionDigits: digits}));
-  const difference = one === null || other === null ? AWAITED : signedText(one - other, digits);
+  const difference = one === null || other === null ? unknown : signedText(one - other, digits);
   return row(headCell(name, "row"), element("td", text(one)), element("td", text(other)),
     element("td", difference));
 }
@@ -129,9 +131,20 @@ function sumRow(name, [one, other], digits) {
  * @param {Figures | null} exact
  */
 function delayRow(exact) {
-  const text = exact ? signedText(exact.delay_hours, 1) : AWAITED;
+  const text = exact ? signedText(exact.delay_hours, 1) : unknownText();
   return row(headCell("Delay, vehicle hours", "row"), element("td", ""), element("td", ""),
     element("td", text));
+}
+
+/** Say how the figures are to be read, or why some are not there.
+ * @param {Figures | null} exact
+ */
+function noteText(exact) {
+  if (!exact && store.clock.rate) return messages.PAUSE_FOR_FIGURES;
+  const scatter = exact ? Math.hypot(...exact.after.scatter) : 0;
+  return "Lost demand: cars asked for minus cars admitted"
+    + (scatter >= 1 ? ` (\u00b1 ${whole(scatter)} by chance)` : "")
+    + ". Seconds count from the inlet; in the last column they are delay.";
 }
 
 /** Show the figures that are wanted, as far as they are there; while the clock runs only all. */
@@ -141,61 +154,54 @@ function showFigures() {
   if (store.clock.rate && hours.includes(null)) return;
   const exact = exactOf(period);
   const lost = exact ? [exact.after, exact.before].map((one) => sum(one.lost)) : [null, null];
-  const [from, to] = period.map(timeText);
+  const [from, to] = period.map((step) => store.day.timeText(step));
   $("period").textContent = period[1] > period[0] ? `${from} to ${to}` : "";
   const heads = ["mine", "shared", "mine \u2212\u00a0shared"].map((name) => headCell(name));
   $("figures").replaceChildren(
     element("thead", "", {}, row(element("td"), ...heads)),
-    element("tbody", "", {}, sumRow("Vehicle hours", hours, 1),
-      sumRow("Lost demand, cars", lost, 0), delayRow(exact),
+    element("tbody", "", {}, sumRow("Vehicle hours", hours, 1, AWAITED),
+      sumRow("Lost demand, cars", lost, 0, unknownText()), delayRow(exact),
       ...detectorRows(period, exact), travelRow(exact)));
-  const scatter = exact ? Math.hypot(...exact.after.scatter) : 0;
-  $("figuresNote").textContent = "Lost: cars asked for, less those let in"
-    + (scatter >= 1 ? ` (\u00b1 ${whole(scatter)} by chance)` : "")
-    + ". Seconds: from the inlet; on the right, delay.";
+  $("figuresNote").textContent = noteText(exact);
   showWarnings(exact);
-  if ($("asTable").open) showSpeeds(period);
+  if (store.isOpen.asTable) showSpeeds(period);
 }
 
 // Warnings.
 
-/** Return warnings of inlets that let in clearly less than they were asked for, and than on the
+/** Return warnings of inlets that admit clearly less than they were asked for, and than on the
  * shared road. Arrivals are random: what may be so by chance is not warned of.
  * @param {Figures} exact
  */
 function lostWarnings({after, before}) {
-  return known("plan").inlets.flatMap(([cell], inlet) => {
+  return need("plan").inlets.flatMap(([cell], inlet) => {
     const [lost, asked] = [after.lost[inlet], after.asked[inlet]];
     const isByChance = lost <= Math.max(LOST * asked, after.scatter[inlet]);
     if (isByChance || lost <= before.lost[inlet]) return [];
-    return [`The inlet at ${kmText(cell)} km lets in ${whole(asked - lost)} of the `
-      + `${plural(asked, "car")} that it is asked for, and ${whole(lost)} are lost: counts and `
-      + "vehicle hours look too good."];
+    return [messages.demandLost(kmText(cell), asked, lost)];
   });
 }
 
 /** Return how many cars stand in a closure near its end, as far as it is computed.
  * @param {Frame} frame
  */
-function caught(frame) {
+function countTrappedIn(frame) {
   const {from, to} = frame;
   const mine = roadOf("mine");
   const level = mine.level(everyShown());
   const end = Math.min(to ?? Infinity, mine.horizon, from + CAUGHT);
   const at = Math.floor((end - 1) / level.every);
   const text = at * level.every > from && level.fresh[at] ? level.rows[at] : undefined;
-  return caughtIn(layersOf("mine"), frame, text ?? "");
+  return countTrapped(layersOf("mine"), frame, text ?? "");
 }
 
 /** Return warnings of cars that stand in closures. */
 function closureWarnings() {
   return layersOf("mine").frames.flatMap((frame) => {
-    const cars = frame.kind === "block" && frame.value ? caught(frame) : 0;
+    const cars = frame.kind === "block" && frame.value ? countTrappedIn(frame) : 0;
     if (!cars) return [];
-    const until = frame.to === null ? "and it does not open"
-      : `until it opens at ${timeText(frame.to)}`;
-    return [`${plural(cars, "car stands", "cars stand")} in the closure `
-      + `${placesText(known("plan"), "block", frame.first, frame.last)}, ${until}.`];
+    return [messages.carsTrapped(cars, placesText(need("plan"), "block", frame.first, frame.last),
+      frame.to === null ? null : store.day.timeText(frame.to))];
   });
 }
 
@@ -235,7 +241,7 @@ function speedText(sums, other, box) {
  */
 function showSpeeds([from, to]) {
   const [picture, other] = whoseShown().map((whose) => roadOf(whose).level(everyShown()));
-  const {length} = known("plan");
+  const {length} = need("plan");
   const wide = Math.ceil(length / TABLE_COLUMNS);
   const high = Math.max(picture.every, Math.ceil((to - from) / TABLE_ROWS / 60) * 60);
   const heads = Array.from({length: Math.ceil(length / wide)}, (_, index) => {
@@ -246,7 +252,7 @@ function showSpeeds([from, to]) {
   for (let start = Math.floor(from / high) * high; start < to; start += high) {
     const sums = boxSums(picture, start, start + high, wide);
     const beside = other ? boxSums(other, start, start + high, wide) : null;
-    body.push(row(headCell(`from ${timeText(start)}`, "row"),
+    body.push(row(headCell(`from ${store.day.timeText(start)}`, "row"),
       ...heads.map((_, box) => element("td", speedText(sums, beside, box)))));
   }
   const caption = other ? `Mean speeds in km/h, ${whoseShown()[0] === "after" ? "then less now"
@@ -257,9 +263,12 @@ function showSpeeds([from, to]) {
 
 /** Listen to the store and to the page. */
 export function begin() {
-  on("asTable", "toggle", () => { if (store.plan) reckon(); });
-  when(["plan", "figures"], showFigures);
-  when(["before"], () => {
-    $("figuresPart").hidden = $("warnings").hidden = Boolean(store.before);
+  on("asTable", "toggle", () => {
+    setOpen("asTable", $("asTable").open);
+    if (store.plan) refreshFigures();
+  });
+  watch(["plan", "figures"], showFigures);
+  watch(["preview"], () => {
+    $("figuresPart").hidden = $("warnings").hidden = Boolean(store.preview);
   });
 }

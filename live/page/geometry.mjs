@@ -17,7 +17,7 @@ export const MOST_OBJECTS = 600; // of a shape
 /** @type {unknown[]} */
 export const OF_ZONES = ["limit", "slow", "start"];
 /** @type {unknown[]} */
-export const OF_ONE = ["inflow", "watch"];   // kinds of which a shape has one object
+export const OF_ONE = ["inflow", "watch"];   // a shape of these kinds has one object
 
 /** Return how many objects of a kind a road has; 0 of an unknown kind.
  * @param {Plan} plan
@@ -89,7 +89,7 @@ export function objectsIn(plan, kind, [from, to], begun = from) {
   return [index, index];
 }
 
-/** Return the first and last zone of which a stretch of cells covers at least half, or with `all`
+/** Return the first and last zone that a stretch of cells covers at least by half, or with `all`
  * those that it touches; null if there are none.
  * @param {Plan} plan
  * @param {Span} cells
@@ -146,8 +146,8 @@ export function snapped([cell, step], {span, scale, exact}) {
   return [Math.round(Math.round(cell / across) * across), Math.round(step / apart) * apart];
 }
 
-/** Return the objects and steps of a rectangle between two places: of zones those of which at
- * least half is covered, or with `all` those that it touches. `few`: there are none, and the ones
+/** Return the objects and steps of a rectangle between two places: of zones those that it
+ * covers at least by half, or with `all` those that it touches. `few`: there are none, and the ones
  * that it touches are returned. `open`: a click, without an end.
  * @param {Plan} plan
  * @param {Kind} kind
@@ -202,7 +202,7 @@ export function nearestIn({zone}, {kind, first, last, from, to}, [cell, step]) {
           within(Math.floor(step), from, (to ?? Infinity) - 1)];
 }
 
-/** Return the edge of a box that is nearer to a point than so many pixels; undefined if none is.
+/** Return the edge of a box that is nearer to a point than `near` pixels; undefined if none is.
  * An open box has no lower edge.
  * @param {Box} box
  * @param {[x: number, y: number]} point

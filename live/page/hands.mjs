@@ -6,18 +6,18 @@ import {redoNewest, undoNewest} from "./acting.mjs";
 import {areaOfShape} from "./area.mjs";
 import {curveSoon} from "./demand.mjs";
 import {applyArea, beginCorner, beginDrag, chooseTool, dropArea, endDrag, hasMoved, moveCursor,
-        showArea, showDrawn} from "./drafting.mjs";
+        noteClick, readPlace, showArea, showDrawn, useLetters} from "./drafting.mjs";
 import {$, closest, on} from "./elements.mjs";
-import {valueOfTool} from "./form.mjs";
+import {valueOfTool} from "./formvalues.mjs";
 import {OF_ONE, edgeNear, nearestIn, rectangleBetween, sameShape, shapeWithEdge, snapped}
   from "./geometry.mjs";
 import {isInForce} from "./layers.mjs";
-import {followIt, moveBy, moveTo, showRoad, zoomBy} from "./looking.mjs";
+import {moveBy, moveTo, setFollowing, showRoad, zoomBy} from "./looking.mjs";
+import * as messages from "./messages.mjs";
 import {cornersOf} from "./picture.mjs";
-import {isOwn, known, layersOf, layersShown, roadOf, store, tell, when, whoseShown}
+import {isOwn, layersOf, layersShown, need, roadOf, store, tell, watch, whoseShown}
   from "./store.mjs";
-import {KMH_A_CELL, durationText, kmOf, limitText, metresText, roundedKm, timeText}
-  from "./units.mjs";
+import {KMH_A_CELL, durationText, kmOf, limitText, metresText, roundedKm} from "./units.mjs";
 import {everyShown, strideNow, viewNow} from "./view.mjs";
 
 /** @typedef {import("./geometry.mjs").Edge} Edge */
@@ -29,15 +29,14 @@ import {everyShown, strideNow, viewNow} from "./view.mjs";
 /** @typedef {import("./types.mjs").Place} Place */
 /** @typedef {import("./types.mjs").Shape} Shape */
 
-const NAMES = {mine: "mine", shared: "shared", before: "now", after: "then"};
+const ROAD_NAMES = {mine: "mine", shared: "shared", before: "now", after: "then"};
 const AT_EDGE = 6;              // pixels from an edge at which it is taken
-const TWICE = 500;              // milliseconds within which a click at one place is the second one
 
 // Drags.
 
 /** @type {(place: Place, exact: boolean) => Place} */
 const snappedHere = (place, exact) =>
-  snapped(place, {span: store.look.span, scale: viewNow().scale, exact});
+  snapped(place, {span: store.extent.span, scale: viewNow().scale, exact});
 
 /** Return what a rectangle between two places would do by a tool.
  * @param {Kind} kind
@@ -46,7 +45,7 @@ const snappedHere = (place, exact) =>
  * @param {{open?: boolean, all?: boolean}} how
  */
 function areaBetween(kind, one, other, how) {
-  const {first, last, from, to, few} = rectangleBetween(known("plan"), kind, one, other, how);
+  const {first, last, from, to, few} = rectangleBetween(need("plan"), kind, one, other, how);
   const value = valueOfTool(kind, first, from);
   return areaOfShape({kind, first, last, from, to, value}, null, few);
 }
@@ -62,11 +61,11 @@ const placeOf = ({offsetX, offsetY}) => {
 
 /** Ask whether a change of the own road is the same on the road that is seen, and in force on an
  * object at a step there.
- * @param {Change} line
+ * @param {Change} change
  * @param {[index: number, step: number]} place
  */
 function isSeen({name, shape}, place) {
-  const there = layersShown().line(name);
+  const there = layersShown().find(name);
   return there !== undefined && shape !== null && sameShape(there.shape, shape)
     && isInForce(there, ...place);
 }
@@ -86,16 +85,16 @@ const canBeDrawn = ({kind}, edge) => !OF_ONE.includes(kind) || ["top", "bottom"]
  * what lies above it is in force there.
  * @param {number} x
  * @param {number} y
- * @returns {{line: Change, edge: Edge} | null}
+ * @returns {{change: Change, edge: Edge} | null}
  */
 function edgeAt(x, y) {
   const view = viewNow();
-  for (const line of layersOf("mine").lines.values()) {
-    const {shape} = line;
-    if (!shape || !line.standing || !isOwn(line) || !drawsEdges(shape)) continue;
+  for (const change of layersOf("mine").changes.values()) {
+    const {shape} = change;
+    if (!shape || !change.standing || !isOwn(change) || !drawsEdges(shape)) continue;
     const edge = edgeNear(cornersOf(view, shape), [x, y], AT_EDGE, shape.to === null);
-    const inside = nearestIn(known("plan"), shape, [cellAt(view, x), stepAt(view, y)]);
-    if (edge && canBeDrawn(shape, edge) && isSeen(line, inside)) return {line, edge};
+    const inside = nearestIn(need("plan"), shape, [cellAt(view, x), stepAt(view, y)]);
+    if (edge && canBeDrawn(shape, edge) && isSeen(change, inside)) return {change, edge};
   }
   return null;
 }
@@ -110,8 +109,7 @@ function onDown(event) {
 
 /** @param {PointerEvent} event */
 function onMove(event) {
-  const here = placeOf(event);
-  readOut(here, false);
+  readPlace(placeOf(event), false);
   const {drag} = store;
   if (!drag) {
     showPointer(event);
@@ -124,7 +122,6 @@ function onMove(event) {
     return;
   }
   showDrawn(area);
-  sayArea(area, false);
 }
 
 /** Return what a drag would do: it draws an edge of an own frame, or a rectangle; null if it moves
@@ -134,10 +131,10 @@ function onMove(event) {
  */
 function areaOfDrag(event, drag) {
   const ends = snappedHere(placeOf(event), event.altKey);
-  const {line, edge} = drag.edge ?? {};
-  if (line?.shape && edge) {
-    const shape = shapeWithEdge(known("plan"), line.shape, edge, ends, event.shiftKey);
-    return areaOfShape(shape, line);
+  const {change, edge} = drag.edge ?? {};
+  if (change?.shape && edge) {
+    const shape = shapeWithEdge(need("plan"), change.shape, edge, ends, event.shiftKey);
+    return areaOfShape(shape, change);
   }
   if (store.tool === "look") return null;
   const begun = snappedHere(drag.at, event.altKey);
@@ -153,23 +150,12 @@ function dragDiagram(event, drag) {
   moveTo(drag.cell - (event.offsetX - drag.x) / scale, drag.step - (event.offsetY - drag.y) / tall);
 }
 
-let clicked = {when: -Infinity, x: 0, y: 0};  // the last click
-
-/** Ask whether a click is the second one of two: both together put one shape.
- * @param {PointerEvent} event
- */
-function isSecond({timeStamp: when, offsetX: x, offsetY: y}) {
-  const before = clicked;
-  clicked = {when, x, y};
-  return when - before.when < TWICE && Math.hypot(x - before.x, y - before.y) < AT_EDGE;
-}
-
 /** Put what a click says, from there on; a demand once what its inlet admits is measured.
  * @param {Kind} kind
  * @param {Place} place
  */
 async function putAt(kind, place) {
-  const {first, from} = rectangleBetween(known("plan"), kind, place, place, {open: true});
+  const {first, from} = rectangleBetween(need("plan"), kind, place, place, {open: true});
   if (kind === "inflow") await curveSoon(layersOf("mine"), first, from);
   applyArea(areaBetween(kind, place, place, {open: true}));
 }
@@ -178,10 +164,11 @@ async function putAt(kind, place) {
 function onUp(event) {
   const [drag, kind] = [endDrag(), store.tool];
   if (drag?.area) applyArea(drag.area);
-  else if (drag && !drag.moved && kind !== "look" && kind !== "block" && !isSecond(event)) {
-    putAt(kind, snappedHere(drag.at, event.altKey));
+  else if (drag && !drag.moved && kind !== "look" && kind !== "block") {
+    const click = {when: event.timeStamp, x: event.offsetX, y: event.offsetY};
+    if (!noteClick(click)) putAt(kind, snappedHere(drag.at, event.altKey));
   }
-  readOut(placeOf(event), false);
+  readPlace(placeOf(event), false);
 }
 
 /** @type {Record<Edge, string>} */
@@ -209,59 +196,42 @@ function onWheel(event) {
   }
 }
 
-// What is read out of a place.
+// What is read out: a place, or what the rectangle that is drawn would do.
 
-/** @type {Place | null} */
-let read = null;                // the place that was read out last
-
-/** Read a place out.
- * @param {Place} place
- * @param {boolean} byKey
+/** Return what is read out; null if it is as it was, as long as a road is not there.
+ * @returns {string | null}
  */
-function readOut(place, byKey) {
-  read = place;
-  say(textAt(place), byKey);
+function readoutText() {
+  const {area, reading} = store;
+  if (area) return [...area.lines, area.fault].filter(Boolean).join(", ");
+  const isThere = whoseShown().every((whose) => store.roads[whose]);
+  return reading && isThere ? textAt(reading.place) : null;
 }
 
-/** Read the same place again if the road there may have changed. It is not announced. */
-function readAgain() {
-  if (!read || store.drag || store.corner || store.area) return;
-  if (!whoseShown().every((whose) => store.roads[whose])) return;
-  const text = textAt(read);
-  if ($("readout").textContent !== text) say(text, false);
+/** Show what is read out. It is announced if keys led there, and not if only the road has changed.
+ * @param {boolean} [isAnnounced]
+ */
+function showReadout(isAnnounced = false) {
+  const text = readoutText();
+  if (text === null || $("readout").textContent === text) return;
+  $("readout").setAttribute("aria-live", isAnnounced ? "polite" : "off");
+  $("readout").textContent = text;
 }
 
 /** Return what is read out of a place.
  * @param {Place} place
  */
 function textAt([cell, step]) {
-  const {length, zone} = known("plan");
+  const {length, zone} = need("plan");
   const [at, moment] = [Math.max(0, Math.min(length - 1, Math.floor(cell))), Math.round(step)];
   const roads = whoseShown();
   const texts = roads.map((whose) =>
     signText(rowAt(roadOf(whose).level(everyShown()), moment)?.[at]));
   const limit = layersShown().valueAt("limit", Math.floor(at / zone), moment);
   const said = texts.length === 2
-    ? roads.map((whose, which) => `${NAMES[whose]}: ${texts[which]}`).join("; ") : texts[0];
-  const place = `${roundedKm(kmOf(at), 2).toFixed(2)} km, ${timeText(moment)}`;
+    ? roads.map((whose, which) => `${ROAD_NAMES[whose]}: ${texts[which]}`).join("; ") : texts[0];
+  const place = `${roundedKm(kmOf(at), 2).toFixed(2)} km, ${store.day.timeText(moment)}`;
   return `${place}: ${said}; limit ${limitText(limit ?? 0)}`;
-}
-
-/** Write a text below the diagram. It is announced if keys made it.
- * @param {string} text
- * @param {boolean} byKey
- */
-function say(text, byKey) {
-  $("readout").setAttribute("aria-live", byKey ? "polite" : "off");
-  $("readout").textContent = text;
-}
-
-/** Say what the rectangle that is drawn would do, before it is let go.
- * @param {Area} area
- * @param {boolean} byKey
- */
-function sayArea(area, byKey) {
-  say([...area.lines, area.fault].filter(Boolean).join(", "), byKey);
 }
 
 /** Return what a character of a row says.
@@ -293,8 +263,8 @@ function showStride() {
  */
 function onArrow(direction, far) {
   moveCursor(direction, far);
+  readPlace(need("cursor"), true);
   if (store.corner) stretchArea();
-  else readOut(known("cursor"), true);
 }
 
 /** Draw the rectangle to the cursor. Return what it would do; null with the tool that looks.
@@ -302,26 +272,26 @@ function onArrow(direction, far) {
  */
 function stretchArea(all = false) {
   if (store.tool === "look") return null;
-  const area = areaBetween(store.tool, known("corner"), known("cursor"), {all});
+  const area = areaBetween(store.tool, need("corner"), need("cursor"), {all});
   showArea(area);
-  sayArea(area, true);
   return area;
 }
 
 /** Begin a rectangle at the cursor. */
 function onSpace() {
   if (store.tool === "look") {
-    tell("Choose a tool first: C closes, L limits, and so on.", true);
+    tell(messages.CHOOSE_TOOL, true);
     return;
   }
   beginCorner();
+  readPlace(need("cursor"), true);
   stretchArea();
 }
 
 /** Drop what is drawn. */
 function drop() {
   dropArea();
-  if (store.cursor) readOut(store.cursor, true);
+  if (store.cursor) readPlace(store.cursor, true);
 }
 
 /** Do what the rectangle says that keys draw.
@@ -336,12 +306,12 @@ function onEnter(all) {
 function onDiagramKey(event) {
   if (event.ctrlKey || event.metaKey || event.altKey) return;
   const far = event.shiftKey ? 10 : 1;
-  const {look} = store;
+  const {extent} = store;
   /** @type {Record<string, () => void>} */
   const acts = {
     " ": onSpace, Enter: () => onEnter(event.shiftKey), Escape: drop,
-    PageUp: () => moveBy(0, -look.span / 2), PageDown: () => moveBy(0, look.span / 2),
-    Home: () => moveBy(0, -look.step || -1), End: () => followIt(true),
+    PageUp: () => moveBy(0, -extent.span / 2), PageDown: () => moveBy(0, extent.span / 2),
+    Home: () => moveBy(0, -extent.step || -1), End: () => setFollowing(true),
     "+": () => zoomBy(true, {}, {times: far === 1}), "=": () => zoomBy(true, {}, {places: false}),
     "-": () => zoomBy(false, {}, {places: false}), _: () => zoomBy(false, {}, {times: false}),
   };
@@ -353,9 +323,9 @@ function onDiagramKey(event) {
 
 /** @param {KeyboardEvent} event */
 function onLetter(event) {
-  if (!$("letters").checked || event.ctrlKey || event.metaKey || event.altKey || !store.me) return;
+  if (!store.hasLetters || event.ctrlKey || event.metaKey || event.altKey || !store.me) return;
   if (closest(event, "input:not([type=radio], [type=checkbox]), select, textarea")) return;
-  if ($("hello").open) return;
+  if (store.hello) return;
   const letter = event.key.toLowerCase();
   if (LETTERS[letter]) chooseTool(LETTERS[letter]);
   else if (letter === "d") showRoad(store.whose === "both" ? "mine" : "both");
@@ -372,9 +342,14 @@ export function begin() {
   on("diagram", "wheel", onWheel, {passive: false});
   on("diagram", "keydown", onDiagramKey);
   document.addEventListener("keydown", onLetter);
+  on("letters", "change", () => useLetters($("letters").checked));
   const showCursor = () => { $("diagram").style.cursor = cursorOfTool(); };
-  when(["tool"], showCursor);
-  when(["look"], showStride);
-  when(["look", "repainted", "lines"], readAgain);
+  watch(["tool"], showCursor);
+  watch(["extent"], showStride);
+  const showLetters = () => { $("letters").checked = store.hasLetters; };
+  watch(["hasLetters"], showLetters);
+  watch(["reading", "area"], () => showReadout(store.reading?.byKey));
+  watch(["extent", "changedRows", "changes"], () => showReadout());
+  showLetters();
   showCursor();
 }

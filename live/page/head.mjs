@@ -1,30 +1,31 @@
-// View: who is here, the line, the clock, what is said; and the question who this is.
+// View: who is here, the connection, the clock, messages and faults; and the question for a name.
 
 import {$, button, childrenOf, closest, element, on, showList} from "./elements.mjs";
-import {leaveOut} from "./acting.mjs";
-import {chooseSeat, join} from "./joining.mjs";
-import {backToClock, followIt, lookAhead, runAnHour, setRate} from "./looking.mjs";
-import {hold, known, letGo, now, store, when} from "./store.mjs";
-import {dayText, plural, runningClockText, timeText} from "./units.mjs";
+import {excludeSite} from "./acting.mjs";
+import {chooseSeat, closeNote, join} from "./joining.mjs";
+import {backToClock, setFollowing, lookAhead, runAnHour, setRate} from "./looking.mjs";
+import * as messages from "./messages.mjs";
+import {holdButton, need, now, releaseButton, store, watch} from "./store.mjs";
+import {plural} from "./units.mjs";
 
 const RATES = [0, 1, 10, 60, 600];
 
 /** Show the sentence that was said last. */
-function showSaid() {
-  const [text, bad] = store.said;
+function showMessage() {
+  const [text, bad] = store.message;
   $("said").textContent = text;
   $("said").className = bad ? "bad" : "";
 }
 
 /** Show how the connection is. */
-function showLine() {
-  const [text, away] = store.lineText;
+function showConnection() {
+  const [text, isAway] = store.connectionText;
   $("line").textContent = text;
-  $("line").className = away ? "away" : "";
+  $("line").className = isAway ? "away" : "";
   $("line").title = text;
 }
 
-/** Make what is to be known of the program: a calm line that is closed for this tab.
+/** Make the note on the program: a calm line, which can be closed for this tab.
  * @param {string} text
  * @returns {import("./elements.mjs").Item}
  */
@@ -32,33 +33,30 @@ function calmItem(text) {
   const means = text.includes("not proved") ? "Results are tested, not proved"
     : "Results are of an earlier text of the program";
   const said = `${means}: ${text}`;
-  const close = () => {
-    sessionStorage.setItem("closed", text);
-    showStays();
-  };
   return {key: text, sign: text, make: () => element("li", "", {className: "calm", title: said},
-    element("span", said), button("Close", close, "this note"))};
+    element("span", said), button("Close", closeNote, "this note"))};
 }
 
 /** Show what is wrong, as long as it is, or for a while. */
-function showStays() {
-  const texts = [store.trouble, store.replaced, ...store.stays].filter(Boolean);
-  const isClosed = !store.standing || sessionStorage.getItem("closed") === store.standing;
-  showList($("stays"), [...(isClosed ? [] : [calmItem(store.standing)]), ...texts.map((text) =>
+function showFaults() {
+  const {trouble, replaced, siteFaults, programNote, closedNote} = store;
+  const texts = [trouble, replaced.why, ...siteFaults].filter(Boolean);
+  const isClosed = !programNote || closedNote === programNote;
+  showList($("stays"), [...(isClosed ? [] : [calmItem(programNote)]), ...texts.map((text) =>
     ({key: text, sign: text, make: () => element("li", text)}))]);
 }
 
-/** Show other sites, each of which can be excluded. */
+/** Show other sites, each with a button that excludes it. */
 function showSites() {
   $("sites").hidden = !store.sites.length;
   showList($("siteList"), store.sites.map(({site, when: at}) => ({key: String(site),
-    sign: String(at), make: () => element("li", `Site ${site}, heard ${dayText(at)} `, {},
-      button("Leave out", () => leaveOut(site), `site ${site}`))})));
+    sign: String(at), make: () => element("li", `Site ${site}, heard ${store.day.dateText(at)} `, {},
+      button("Exclude", () => excludeSite(site), `site ${site}`))})));
 }
 
 /** Show who this is. */
 function showMe() {
-  const {name, seat} = known("me");
+  const {name, seat} = need("me");
   $("me").replaceChildren(name, element("span", ` (seat ${seat})`, {className: "seat"}));
   document.title = `${name}: a road, live`;
 }
@@ -72,18 +70,18 @@ function showOthers() {
 
 /** Show the clock. */
 function showClock() {
-  $("clock").textContent = runningClockText(now());
+  $("clock").textContent = store.day.runningText(now());
   for (const one of childrenOf($("rates"))) {
     one.setAttribute("aria-pressed", String(Number(one.dataset.rate) === store.clock.rate));
   }
   const {stop} = store.clock;
-  $("stop").textContent = stop ? `stops at ${timeText(stop)}` : "";
+  $("stop").textContent = stop ? `stops at ${store.day.timeText(stop)}` : "";
   $("back").hidden = store.ahead <= now();
 }
 
 /** Show whether the diagram follows the clock. */
 function showFollow() {
-  $("follow").checked = store.follow;
+  $("follow").checked = store.follows;
 }
 
 /** Show the question for a name, or close it. */
@@ -101,7 +99,7 @@ function showHello() {
     const label = `${of}, seat ${seat}${unshared}`;
     const ask = () => chooseSeat(seat);
     return store.hello?.takes !== seat ? element("li", "", {}, button(label, ask))
-      : element("li", `Who had it, or a script that uses it, loses the seat of ${of}. `, {},
+      : element("li", messages.takeOver(of), {},
                 button(`Take over ${label}`, () => join({take: seat})));
   }));
   if (!$("name").value) $("name").value = name ?? "";
@@ -113,10 +111,10 @@ function showHello() {
 /** Let what is pressed stay where it is, and what it is, until it is let go. */
 function holdPressed() {
   addEventListener("pointerdown", (event) => {
-    if (event.button === 0 && closest(event, "button, summary")) hold();
+    if (event.button === 0 && closest(event, "button, summary")) holdButton();
   });
   for (const kind of ["pointerup", "pointercancel", "blur"]) {
-    addEventListener(kind, () => setTimeout(letGo));    // behind the click
+    addEventListener(kind, () => setTimeout(releaseButton));    // behind the click
   }
 }
 
@@ -142,7 +140,7 @@ export function begin() {
     one.dataset.rate = String(rate);
     $("rates").append(one);
   }
-  on("follow", "change", () => followIt($("follow").checked));
+  on("follow", "change", () => setFollowing($("follow").checked));
   on("ahead", "click", lookAhead);
   on("back", "click", () => { backToClock(); $("ahead").focus(); });
   on("hour", "click", runAnHour);
@@ -151,13 +149,13 @@ export function begin() {
     event.preventDefault();
     join({name: $("name").value.trim()});
   });
-  when(["said"], showSaid);
-  when(["lineText"], showLine);
-  when(["me", "stays"], showStays);
-  when(["sites"], showSites);
-  when(["me"], showMe);
-  when(["others"], showOthers);
-  when(["clock"], showClock);
-  when(["look"], showFollow);
-  when(["hello"], showHello);
+  watch(["message"], showMessage);
+  watch(["connectionText"], showConnection);
+  watch(["me", "siteFaults"], showFaults);
+  watch(["sites"], showSites);
+  watch(["me"], showMe);
+  watch(["others"], showOthers);
+  watch(["clock"], showClock);
+  watch(["extent"], showFollow);
+  watch(["hello"], showHello);
 }

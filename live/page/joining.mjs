@@ -1,17 +1,18 @@
-// Actions: the line to the server, who this tab is, and what it is told without asking.
+// Actions: the connection to the server, who this tab is, and the server's messages.
 
 import {assign} from "./assign.mjs";
-import {look} from "./looking.mjs";
-import {askPreview, fetchKept, keepPending, refresh, send} from "./acting.mjs";
+import {refreshDiagram} from "./looking.mjs";
+import {askPreview, restorePending, persistPending, refreshChanges, send} from "./acting.mjs";
 import {untaken} from "./changes.mjs";
 import {hearDays} from "./days.mjs";
 import {curveAt} from "./demand.mjs";
-import {Layers, findCurvesBy} from "./layers.mjs";
-import {Line, TAKEN_OVER} from "./line.mjs";
+import {Connection, TAKEN_OVER} from "./connection.mjs";
+import {DayClock} from "./dayclock.mjs";
+import {Layers} from "./layers.mjs";
+import * as messages from "./messages.mjs";
 import {Road} from "./rows.mjs";
-import {changed, known, layersOf, roadOf, store, tell} from "./store.mjs";
+import {BOTH, notify, need, layersOf, roadOf, store, tell} from "./store.mjs";
 import {titlesOf} from "./listing.mjs";
-import {beginClock, dayIn, plural} from "./units.mjs";
 
 /** @typedef {import("./types.mjs").Broker} Broker */
 /** @typedef {import("./types.mjs").News} News */
@@ -23,10 +24,8 @@ import {beginClock, dayIn, plural} from "./units.mjs";
 /** @typedef {import("./types.mjs").Told} Told */
 /** @typedef {{welcome: Welcome} | (Refusal & {seats?: Seat[]})} HelloAnswer */
 
-/** @type {("mine" | "shared")[]} */
-const BOTH = ["mine", "shared"];
-const FORM = 3;                 // of what is spoken with the server
-const STANDS = 60_000;          // milliseconds that it is said that the program was replaced
+const FORM = 4;                 // of what is spoken with the server
+const REPLACED_SHOWN = 60_000;  // milliseconds for which the page shows that the program was restarted
 /** @type {(name: string) => string} */
 const stored = (name) => sessionStorage.getItem(name) ?? "";
 
@@ -40,9 +39,8 @@ export function takeToken() {
 /** Connect to the server. */
 export function connect() {
   const open = () => new WebSocket(location.origin.replace(/^http/, "ws") + "/live");
-  const line = new Line({open, greet, hear, lost});
-  store.line = line;
-  line.connect();
+  store.connection = new Connection({open, onOpen: greet, onTold: hear, onLost: noteLost});
+  store.connection.connect();
 }
 
 /** Join as was wished, or as the seat that this tab had, or ask who this is. */
@@ -57,7 +55,7 @@ function greet() {
  */
 async function hello(fields) {
   const asked = {hello: {token: stored("token"), form: FORM, ...fields}};
-  const said = /** @type {HelloAnswer | null} */ (await known("line").ask(asked).catch(() => null));
+  const said = /** @type {HelloAnswer | null} */ (await need("connection").ask(asked).catch(() => null));
   if (!said) return;
   store.wishes = null;
   if ("welcome" in said) welcome(said.welcome);
@@ -72,7 +70,7 @@ async function hello(fields) {
  */
 export function join(fields) {
   store.wishes = fields;
-  known("line").connect();
+  need("connection").connect();
 }
 
 /** Ask who this is: a new name, or a seat that nobody has open.
@@ -82,76 +80,75 @@ export function join(fields) {
 async function askName(why = "", seats) {
   const question = {why, free: []};
   store.hello = question;
-  changed("hello");
-  const line = known("line");
+  notify("hello");
+  const connection = need("connection");
   const asked = seats ? {seats}
     : /** @type {{seats?: Seat[]}} */ (
-      await line.ask({seats: {token: stored("token")}}).catch(() => ({})));
-  line.rest();
+      await connection.ask({seats: {token: stored("token")}}).catch(() => ({})));
+  connection.disconnect();
   const free = (asked.seats ?? []).filter(({here, name}) => !here && name);
   assign(store.hello ?? question, {free, name: stored("name"), asks: true});
-  changed("hello");
+  notify("hello");
 }
 
 /** Choose a seat to take over; it is taken over when that is confirmed.
  * @param {number} seat
  */
 export function chooseSeat(seat) {
-  known("hello").takes = seat;
-  changed("hello");
+  need("hello").takes = seat;
+  notify("hello");
 }
 
-/** Take a seat: ask for all anew, and send what is pending again.
+/** Take a seat: ask for everything again, and send again what is pending.
  * @param {Welcome} said
  */
 async function welcome(said) {
   store.hello = null;
-  changed("hello");
+  notify("hello");
   sessionStorage.setItem("key", said.key);
   sessionStorage.setItem("name", said.name);
-  assign(store, {me: said, most: said.most ?? store.most, standing: said.standing ?? ""});
+  assign(store, {me: said, limits: said.most ?? store.limits, programNote: said.standing ?? "",
+                 closedNote: stored("closed"), day: new DayClock(said.day ?? {})});
   assign(store.clock, {now: said.now, rate: said.rate});
-  beginClock(said.day?.begin ?? null);
-  dayIn(said.day?.zone ?? null);
-  if (!store.plan) layRoad(said.plan);
+  if (!store.plan) makeRoads(said.plan);
+  for (const whose of BOTH) layersOf(whose).day = store.day;
   assign(roadOf("mine"), {at: said.at, horizon: 0});
   roadOf("shared").horizon = 0;
-  known("line").stands();
-  showLine("connected", false);
-  if (store.away) tell("The connection is back.");
-  HEARD.broker(said.broker);
-  store.away = false;
-  changed("me");
+  need("connection").admit();
+  setConnectionText(messages.CONNECTED, false);
+  if (store.isAway) tell(messages.CONNECTION_BACK);
+  HANDLERS.broker(said.broker);
+  store.isAway = false;
+  notify("me");
   for (const whose of BOTH) {
-    roadOf(whose).stale(0);
+    roadOf(whose).invalidate(0);
     layersOf(whose).next = 0;
   }
-  fetchKept();
+  restorePending();
   const sent = [...store.pending.keys()].map(send);
-  await Promise.all([...sent, refresh("mine"), refresh("shared"), askPreview()]);
-  HEARD.clock(store.clock);
+  await Promise.all([...sent, refreshChanges("mine"), refreshChanges("shared"), askPreview()]);
+  HANDLERS.clock(store.clock);
 }
 
 /** Make roads by the plan, once.
  * @param {Plan} plan
  */
-function layRoad(plan) {
+function makeRoads(plan) {
   const {length} = plan;
-  assign(store, {plan,
-                        roads: {mine: new Road("", length), shared: new Road("shared", length)},
-                        layers: {mine: new Layers(plan), shared: new Layers(plan)}});
-  store.look.cells = length;
-  findCurvesBy(curveAt);
-  changed("plan");
+  const how = {day: store.day, findCurve: curveAt};
+  assign(store, {plan, roads: {mine: new Road("", length), shared: new Road("shared", length)},
+                 layers: {mine: new Layers(plan, how), shared: new Layers(plan, how)}});
+  store.extent.cells = length;
+  notify("plan");
 }
 
-/** Say how the connection is.
+/** Set what is said of the connection.
  * @param {string} text
- * @param {boolean} away
+ * @param {boolean} isAway
  */
-function showLine(text, away) {
-  store.lineText = [text, away];
-  changed("lineText");
+function setConnectionText(text, isAway) {
+  store.connectionText = [text, isAway];
+  notify("connectionText");
 }
 
 /** Note that the connection broke.
@@ -159,124 +156,119 @@ function showLine(text, away) {
  * @param {string} reason     of the server
  * @param {number} code       of the WebSocket
  */
-function lost(again, reason, code) {
-  store.asking = 0;
+function noteLost(again, reason, code) {
+  store.openRowQuestions = 0;
   if (code === TAKEN_OVER) sessionStorage.removeItem("key");
   for (const road of Object.values(store.roads)) road.isAdvancing = false;
-  const text = again ? "connection lost, trying again" : reason || "connection closed";
-  showLine(text, true);
-  if (store.me) keepPending();
-  const kept = store.isKept ? "is kept in this tab, also when it is loaded anew, and sent then."
-    : "is sent then, as long as this tab is not closed or loaded anew.";
-  const told = again ? `Connection lost, trying again. What you do meanwhile ${kept}`
-    : `The connection was closed: ${reason}.`;
+  setConnectionText(again ? messages.RECONNECTING : reason || messages.CONNECTION_CLOSED, true);
+  if (store.me) persistPending();
+  const told = again ? messages.connectionLost(store.isPersisted) : messages.connectionClosed(reason, code === TAKEN_OVER);
   if (!store.me) {
     store.hello = {free: [], ...store.hello, why: told};
-    changed("hello");
+    notify("hello");
   }
-  if (!again || !store.away) tell(told, true);
-  store.away = true;
+  if (!again || !store.isAway) tell(told, true);
+  store.isAway = true;
 }
 
-/** What is done with what is told without asking. */
-const HEARD = {
+/** Handlers of the server's messages, by their kinds. */
+const HANDLERS = {
   /** @param {{now: number, rate: number, stop?: number | null}} told */
   clock({now, rate, stop = null}) {
     const {rate: ran, stop: wanted} = store.clock;
     assign(store.clock, {now, rate, stop});
     const hasStopped = ran && !rate && wanted && now >= wanted;
-    if (hasStopped) tell("The clock stopped: so fast it runs for an hour.");
-    changed("clock");
+    if (hasStopped) tell(messages.CLOCK_STOPPED);
+    notify("clock");
     if (ran && !rate) roadOf("shared").version++;
-    look();
+    refreshDiagram();
   },
   /** @param {News} news */
   async news(news) {
-    if (typeof news.touched === "number") roadOf("shared").stale(news.touched);
-    else if (news.touched === undefined) roadOf("shared").stale(0);
-    await refresh("shared");
+    if (typeof news.touched === "number") roadOf("shared").invalidate(news.touched);
+    else if (news.touched === undefined) roadOf("shared").invalidate(0);
+    await refreshChanges("shared");
     hearNews(news);
-    look();
+    refreshDiagram();
     askPreview();
   },
   /** @param {Seat[]} seats */
   seats(seats) {
     store.others = seats.filter(({here, seat}) => here && seat !== store.me?.seat)
       .map(({name}) => name);
-    changed("others");
+    notify("others");
   },
   /** @param {Broker | null} said */
   broker(said) {
     if (!said) return;
     const {state, unsent, sites, told, stays = [], sealed} = said;
-    const others = sites?.length ? `, with ${plural(sites.length, "other site")}`
-      + (sealed === false ? ", trusted wholly" : "") : "";
-    const text = state !== "away" ? `connected${others}`
-      : `connected, but the broker is away; ${plural(unsent ?? 0, "change")} to be sent`;
-    showLine(text, state === "away");
+    const others = sites?.length ? messages.otherSites(sites.length, sealed !== false) : "";
+    const text = state === "away" ? messages.brokerAway(unsent ?? 0) : messages.CONNECTED + others;
+    setConnectionText(text, state === "away");
     const newest = told?.at(-1) ?? "";
-    if (newest && newest !== store.toldByBroker) tell(newest, true);
-    assign(store, {toldByBroker: newest, stays, sites: sites ?? []});
-    changed("stays", "sites");
+    if (newest && newest !== store.brokerText) tell(newest, true);
+    assign(store, {brokerText: newest, siteFaults: stays, sites: sites ?? []});
+    notify("siteFaults", "sites");
   },
   days: hearDays,
   /** @param {string | null} text */
   trouble(text) {
     if (text) tell(text, true);
-    else if (store.trouble) tell("The server's trouble is over.");
+    else if (store.trouble) tell(messages.TROUBLE_OVER);
     store.trouble = text ?? "";
-    changed("stays");
+    notify("siteFaults");
   },
   /** @param {{why?: string}} told */
   async program({why}) {
-    if (why) tellReplaced(`The program was replaced: ${why}`);
-    await refresh("mine");  // what was pending, and the disk refused, may have been in the list
-    look();
+    if (why) tellReplaced(messages.programReplaced(why));
+    await refreshChanges("mine");  // what was pending, and the disk refused, may have been in the list
+    refreshDiagram();
   },
 };
 
-/** @type {ReturnType<typeof setTimeout> | undefined} */
-let replacedGoes;
-
 /** Say for a while that the program was replaced.
- * @param {string} text
+ * @param {string} why
  */
-function tellReplaced(text) {
-  const says = (/** @type {string} */ replaced) => {
-    store.replaced = replaced;
-    changed("stays");
+function tellReplaced(why) {
+  tell(why, true);
+  clearTimeout(store.replaced.timer);
+  const clear = () => {
+    store.replaced = {why: "", timer: undefined};
+    notify("siteFaults");
   };
-  tell(text, true);
-  says(text);
-  clearTimeout(replacedGoes);
-  replacedGoes = setTimeout(says, STANDS, "");
+  store.replaced = {why, timer: setTimeout(clear, REPLACED_SHOWN)};
+  notify("siteFaults");
 }
 
-/** Note what others shared and this tab has not taken, with a sentence that is told once.
+/** Close the note on the program, for this tab. */
+export function closeNote() {
+  sessionStorage.setItem("closed", store.programNote);
+  store.closedNote = store.programNote;
+  notify("siteFaults");
+}
+
+/** Note what others shared and this tab has not taken. Tell it once.
  * @param {News} news
  */
 function hearNews(news) {
   const {size, from} = news;
-  const titles = titlesOf(news);
-  const count = plural(untaken().length || size, "change");
-  const text = size ? `${from.join(", ") || "Somebody"} shared ${count}${titles && ": " + titles}.`
-    : "";
+  const text = size ? messages.newlyShared(from, untaken().length || size, titlesOf(news)) : "";
   const isNew = text && text !== store.news.text;
   store.news = {...news, text};
   if (isNew) tell(text);
-  changed("news");
+  notify("news");
 }
 
-/** Take what is told without asking. Kinds that this page does not know are passed over.
+/** Handle a message of the server. Ignore kinds that this page does not know.
  * @param {Told} value
  */
 function hear(value) {
   if (!store.plan) return;
-  if (value.clock !== undefined) HEARD.clock(value.clock);
-  if (value.news !== undefined) HEARD.news(value.news);
-  if (value.seats !== undefined) HEARD.seats(value.seats);
-  if (value.broker !== undefined) HEARD.broker(value.broker);
-  if (value.days !== undefined) HEARD.days(value.days);
-  if (value.trouble !== undefined) HEARD.trouble(value.trouble);
-  if (value.program !== undefined) HEARD.program(value.program);
+  if (value.clock !== undefined) HANDLERS.clock(value.clock);
+  if (value.news !== undefined) HANDLERS.news(value.news);
+  if (value.seats !== undefined) HANDLERS.seats(value.seats);
+  if (value.broker !== undefined) HANDLERS.broker(value.broker);
+  if (value.days !== undefined) HANDLERS.days(value.days);
+  if (value.trouble !== undefined) HANDLERS.trouble(value.trouble);
+  if (value.program !== undefined) HANDLERS.program(value.program);
 }

@@ -19,12 +19,15 @@ export function keep(storage, at, pending) {
   }
 }
 
-/** Return an act without a shape that an older page kept, which was an array.
+/** Return an act that an older page kept as this page has it: its shape was an array, and what is
+ * neither undone nor redone was called otherwise.
  * @param {Pending} act
+ * @returns {Pending}
  */
-const withShape = (act) => (Array.isArray(act.shape) ? {...act, shape: null} : act);
+const modernize = (act) => ({...act, ...(Array.isArray(act.shape) ? {shape: null} : {}),
+                             does: act.does === "undo" || act.does === "redo" ? act.does : "apply"});
 
-/** Return what is kept, and of which seat; of none ("") if nothing is kept.
+/** Return what is kept, and its seat; "" if nothing is kept.
  * @param {Storage} storage
  * @returns {{at: string, acts: [string, Pending][]}}
  */
@@ -33,7 +36,7 @@ export function kept(storage) {
     /** @type {{at?: string, acts?: [string, Pending][]}} */
     const found = JSON.parse(storage.getItem(NAME) ?? "{}");
     const acts = Array.isArray(found.acts) ? found.acts : [];
-    return {at: found.at ?? "", acts: acts.map(([key, act]) => [key, withShape(act)])};
+    return {at: found.at ?? "", acts: acts.map(([key, act]) => [key, modernize(act)])};
   } catch {
     return {at: "", acts: []};
   }

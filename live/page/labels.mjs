@@ -1,12 +1,14 @@
 // Where the labels of frames stand: not on a closure, not on each other, not on steps that are not
 // computed, and whole within the plot.
 
+import {within} from "./geometry.mjs";
+
 /** @typedef {import("./types.mjs").Box} Box */
 /** @typedef {[wide: number, high: number]} Size     pixels */
 /** @typedef {[x: number, y: number]} Point          pixels */
 /**
  * A text for a frame: its box on the canvas, and the change that it belongs to.
- * @typedef {{text: string, box: Box, line: unknown, colour?: string}} Label
+ * @typedef {{text: string, box: Box, change: unknown, colour?: string}} Label
  */
 
 const APART = 4;                // pixels between a label and what it stands beside
@@ -16,9 +18,6 @@ const TOUCH = 2;                // pixels between frames that touch
 /** @type {(box: Box, other: Box) => boolean} */
 const meet = ([left, top, right, bottom], other) =>
   left < other[2] && other[0] < right && top < other[3] && other[1] < bottom;
-
-/** @type {(value: number, least: number, most: number) => number} */
-const within = (value, least, most) => Math.max(least, Math.min(most, value));
 
 /** Return places at which a label of a size may stand, the best first: in the frame's upper left
  * corner, beside it, above it, below it; then farther and farther from there.
@@ -58,18 +57,18 @@ const touch = ([left, top, right, bottom], other) =>
  * @returns {Kept[]}
  */
 export function onceEach(labels) {
-  /** @type {Map<string, {label: Kept, lines: Set<unknown>, boxes: Box[]}[]>} */
+  /** @type {Map<string, {label: Kept, changes: Set<unknown>, boxes: Box[]}[]>} */
   const groups = new Map();     // by text
   for (const label of [...labels].sort((one, other) => sizeOf(other) - sizeOf(one))) {
     const alike = groups.get(label.text) ?? [];
-    const group = alike.find(({lines, boxes}) =>
-      lines.has(label.line) || boxes.some((box) => touch(label.box, box)));
+    const group = alike.find(({changes, boxes}) =>
+      changes.has(label.change) || boxes.some((box) => touch(label.box, box)));
     if (group) {
-      group.lines.add(label.line);
+      group.changes.add(label.change);
       group.boxes.push(label.box);
     } else {
       groups.set(label.text, [...alike,
-        {label, lines: new Set([label.line]), boxes: [label.box]}]);
+        {label, changes: new Set([label.change]), boxes: [label.box]}]);
     }
   }
   return [...groups.values()].flat().map(({label}) => label);

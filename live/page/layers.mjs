@@ -1,6 +1,7 @@
 // The changes of a road, as the server tells them, and where each is in force. A change is named by
 // the stamp of the operation that put it.
 
+import {DayClock} from "./dayclock.mjs";
 import {OF_ONE, fits} from "./geometry.mjs";
 import {keyOf} from "./stamps.mjs";
 
@@ -22,7 +23,7 @@ const MOST_SHOWN = 1000;        // rectangles of a change
  * @param {number} index
  * @returns {number | null}
  */
-export function planned(plan, kind, index) {
+export function plannedValue(plan, kind, index) {
   if (kind === "limit") return plan.zones[index][0];
   if (kind === "slow") return plan.zones[index][1];
   if (kind === "inflow") return plan.inlets[index][1];
@@ -36,12 +37,12 @@ export function planned(plan, kind, index) {
  * @param {TaggedChange} told
  * @returns {Change}
  */
-function tamed(plan, told) {
+function keepValid(plan, told) {
   const shown = told.shown.slice(0, MOST_SHOWN).filter((part) => fits(plan, part));
   const edits = told.edits.filter(({kind, index, step}) =>
     fits(plan, {kind, first: index, last: index, from: step, to: null}));
   const isRaw = !told.shape || !fits(plan, told.shape);
-  const put = shown.filter(({kind, first, value}) => value !== planned(plan, kind, first));
+  const put = shown.filter(({kind, first, value}) => value !== plannedValue(plan, kind, first));
   const [{by, ...only}] = put.length === 1 ? put : [{by: null}];
   const isOne = "kind" in only && (only.first === only.last || !OF_ONE.includes(only.kind));
   return {...told, shape: !isRaw ? told.shape : isOne ? only : null, shown, edits, isRaw};
@@ -49,37 +50,33 @@ function tamed(plan, told) {
 
 /** Return where changes are in force. An edit that sets what the plan has anyway needs no frame.
  * @param {Plan} plan
- * @param {Iterable<Change>} lines
+ * @param {Iterable<Change>} changes
  * @returns {Frame[]}
  */
-function framesOf(plan, lines) {
-  const frames = [...lines].filter(({standing}) => standing).flatMap((line) =>
-    line.shown.filter(({by}) => by === null).map((part) => ({...part, by: line})));
+function framesOf(plan, changes) {
+  const frames = [...changes].filter(({standing}) => standing).flatMap((change) =>
+    change.shown.filter(({by}) => by === null).map((part) => ({...part, by: change})));
   return frames.filter(({kind, first, value, by}) =>
-    !by.isRaw || value !== planned(plan, kind, first));
+    !by.isRaw || value !== plannedValue(plan, kind, first));
 }
 
-/** @typedef {(road: Layers, inlet: number, step: number) => import("./types.mjs").Curve | null} FindCurve */
-
-/** @type {FindCurve} */
-let curveOf = () => null;
-
-/** Let curves of inlets be found so, by the road, the inlet and the step; null: there is none yet.
- * @param {FindCurve} find
+/** How the curve of an inlet is found, by the road, the inlet and the step; null: there is none yet.
+ * @typedef {(road: Layers, inlet: number, step: number) => Curve | null} FindCurve
  */
-export function findCurvesBy(find) {
-  curveOf = find;
-}
 
 /** The changes of a road, by name. */
 export class Layers {
   /**
    * @param {Plan} plan
-   * @param {Map<string, Change>} [lines]
+   * @param {{day?: DayClock, findCurve?: FindCurve}} how    how times are written; how the curves
+   *   of inlets are found
+   * @param {Map<string, Change>} [changes]
    */
-  constructor(plan, lines = new Map()) {
+  constructor(plan, {day = new DayClock(), findCurve = () => null} = {}, changes = new Map()) {
     this.plan = plan;
-    this.lines = lines;
+    this.day = day;
+    this.findCurve = findCurve;
+    this.changes = changes;
     this.next = 0;              // the version of the list that is held
     /** @type {Stamp | null} */
     this.undo = null;           // what Z would take back
@@ -87,44 +84,44 @@ export class Layers {
     this.redo = null;           // what Redo would put again
     /** @type {{stamp: Stamp, by: string[]}[]} */
     this.blocked = [];          // what Z passes over, and who changed it
-    this.frames = framesOf(plan, lines.values());
+    this.frames = framesOf(plan, changes.values());
   }
 
-  /** Take changes that differ from before, each in the place of the one of its name.
+  /** Put changes that differ from before, each in the place of the one of its name.
    * @param {Pick<ListNews, "layers" | "next"> & Partial<ListNews>} told
    */
-  take({layers, next, undo = null, redo = null, blocked = []}) {
-    for (const line of layers) {
-      if ("gone" in line) this.lines.delete(keyOf(line.name));
-      else this.lines.set(keyOf(line.name), tamed(this.plan, line));
+  update({layers, next, undo = null, redo = null, blocked = []}) {
+    for (const change of layers) {
+      if ("gone" in change) this.changes.delete(keyOf(change.name));
+      else this.changes.set(keyOf(change.name), keepValid(this.plan, change));
     }
     [this.next, this.undo, this.redo, this.blocked] = [next, undo, redo, blocked];
-    this.frames = framesOf(this.plan, this.lines.values());
+    this.frames = framesOf(this.plan, this.changes.values());
   }
 
   /** Return another road: with these changes, and others in the place of some.
-   * @param {ListNews["layers"]} lines
+   * @param {ListNews["layers"]} changes
    */
-  with(lines) {
-    const road = new Layers(this.plan, new Map(this.lines));
-    road.take({layers: lines, next: this.next});
+  with(changes) {
+    const road = new Layers(this.plan, this, new Map(this.changes));
+    road.update({layers: changes, next: this.next});
     return road;
   }
 
   /** Return the change of a name; undefined if there is none.
    * @param {Stamp} name
    */
-  line(name) {
-    return this.lines.get(keyOf(name));
+  find(name) {
+    return this.changes.get(keyOf(name));
   }
 
   /** Return the change on which an operation was made; undefined if there is none.
    * @param {Stamp} stamp
    */
-  changeWith(stamp) {
+  findByOperation(stamp) {
     const isOn = (/** @type {Change} */ {operations}) =>
       operations.some((one) => keyOf(one.stamp) === keyOf(stamp));
-    return [...this.lines.values()].find(isOn);
+    return [...this.changes.values()].find(isOn);
   }
 
   /** Return the value of an object at a step; null if nobody says.
@@ -136,7 +133,7 @@ export class Layers {
   valueAt(kind, index, step) {
     const there = this.frames.find((one) => one.kind === kind && one.first <= index
       && index <= one.last && one.from <= step && (one.to === null || step < one.to));
-    return there ? there.value : planned(this.plan, kind, index);
+    return there ? there.value : plannedValue(this.plan, kind, index);
   }
 
   /** Return what an inlet admits by each chance at a step; null: that is measured just now.
@@ -144,7 +141,7 @@ export class Layers {
    * @param {number} step
    */
   curveAt(inlet, step) {
-    return curveOf(this, inlet, step);
+    return this.findCurve(this, inlet, step);
   }
 }
 
@@ -154,14 +151,14 @@ export class Layers {
  * @param {Pick<Frame, "first" | "last" | "to">} part
  * @param {string} row
  */
-export const caughtIn = (layers, {first, last, to}, row) =>
+export const countTrapped = (layers, {first, last, to}, row) =>
   [...row.slice(first, last + 1)].filter((sign, at) => sign !== "#" && sign !== "."
     && (to === null || !layers.valueAt("block", first + at, to))).length;
 
 // A change's operations.
 
 /** Return the last operation on a change.
- * @param {Change} line
+ * @param {Change} change
  * @returns {Pick<Operation, "stamp" | "when" | "note"> & Partial<Operation>}
  */
 export const lastOf = ({operations, name: stamp, when, note}) =>
@@ -169,13 +166,13 @@ export const lastOf = ({operations, name: stamp, when, note}) =>
 
 /** Return the operations on a change that are to be shared: not those that were taken back before
  * anybody else had them.
- * @param {Pick<Change, "operations">} line
+ * @param {Pick<Change, "operations">} change
  */
 export const privateOf = ({operations}) => operations.filter(({shared, idle}) => !shared && !idle);
 
 /** Return a seat's last operation on a change and the one that was made at the same time and won;
  * null if there is none.
- * @param {Pick<Change, "operations">} line
+ * @param {Pick<Change, "operations">} change
  * @param {number} number    the seat's, in stamps
  */
 export function lostOf({operations}, number) {
@@ -187,7 +184,7 @@ export function lostOf({operations}, number) {
 }
 
 /** Ask whether a change is in force on an object at a step.
- * @param {Change} line
+ * @param {Change} change
  * @param {number} index
  * @param {number} step
  */
@@ -195,7 +192,7 @@ export const isInForce = ({shown}, index, step) => shown.some(({first, last, fro
   by === null && first <= index && index <= last && from <= step && (to === null || step < to));
 
 /** Ask whether another change covers a part of a change.
- * @param {Change} line
+ * @param {Change} change
  */
 export const isCovered = ({standing, shown}) =>
   standing && shown.some(({by}) => by !== null);

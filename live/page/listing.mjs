@@ -2,9 +2,8 @@
 // `layers` are those of the road that is shown; `number` is that of the seat that reads it.
 
 import {isCovered, lastOf, lostOf, privateOf} from "./layers.mjs";
-import {THINGS, editsText, placesText, shapeText, spanText, thingText} from "./sentences.mjs";
+import {THINGS, editsText, placesText, shapeText, thingText} from "./sentences.mjs";
 import {byStamp, keyOf} from "./stamps.mjs";
-import {dayText} from "./units.mjs";
 
 /** @typedef {import("./layers.mjs").Layers} Layers */
 /** @typedef {import("./types.mjs").Change} Change */
@@ -15,28 +14,28 @@ import {dayText} from "./units.mjs";
 /**
  * A change with its texts: whether it is shared, what covers it, who won over it, what it is, who
  * made it and when, and in which list it stands.
- * @typedef {{line: Change, state: "private" | "shared", cover: string, lost: string, text: string,
+ * @typedef {{change: Change, state: "private" | "shared", cover: string, lost: string, text: string,
  *            meta: string, where: "own" | "held"}} Listed
  */
 
-const MOST_PARTS = 4;           // of a change, that are told
+const MOST_PARTS = 4;           // of a change, that the list shows
 /** @type {Record<Deed, string>} */
 const DONE = {put: "put", change: "changed", withdraw: "withdrawn", top: "put on top",
-              undo: "undone", redo: "redone", edits: "edited", exclude: "left out",
-              include: "let in again"};
+              undo: "undone", redo: "redone", edits: "edited", exclude: "excluded",
+              include: "included again"};
 /** @type {Record<Deed, string>} */
-const LAID = {put: "put it", change: "changed it", withdraw: "withdrew it", top: "put it on top",
+const DID = {put: "put it", change: "changed it", withdraw: "withdrew it", top: "put it on top",
               undo: "undid a change of it", redo: "redid a change of it", edits: "edited there",
-              exclude: "left it out", include: "let it in again"};
+              exclude: "excluded it", include: "included it again"};
 
 /** Write what a withdrawn change was.
- * @param {Change} line
+ * @param {Change} change
  */
-function goneText(line) {
-  const {does, note} = lastOf(line);
+function goneText(change) {
+  const {does, note} = lastOf(change);
   if (does === "withdraw" && note) return note;
-  if (line.note) return `Taken back: ${line.note}`;
-  return `${line.kind && line.kind !== "site" ? THINGS[line.kind] : "Change"} withdrawn`;
+  if (change.note) return `Undone: ${change.note}`;
+  return `${change.kind && change.kind !== "site" ? THINGS[change.kind] : "Change"} withdrawn`;
 }
 
 /** Words for changes, as a seat sees them. */
@@ -51,73 +50,74 @@ export class Words {
   }
 
   /** Ask whether the seat made a change.
-   * @param {Pick<Change, "name">} line
+   * @param {Pick<Change, "name">} change
    */
   isOwn({name}) {
     return name.number === this.number;
   }
 
   /** Write who made a change.
-   * @param {Pick<Change, "name" | "who">} line
+   * @param {Pick<Change, "name" | "who">} change
    */
-  name(line) {
-    return this.isOwn(line) ? "you" : line.who || "somebody";
+  name(change) {
+    return this.isOwn(change) ? "you" : change.who || "somebody";
   }
 
   /** Write whose a change is.
-   * @param {Change} line
+   * @param {Change} change
    */
-  whose(line) {
-    return this.isOwn(line) ? "your" : `${line.who || "somebody"}'s`;
+  whose(change) {
+    return this.isOwn(change) ? "your" : `${change.who || "somebody"}'s`;
   }
 
   /** Write what a change is.
-   * @param {Change} line
+   * @param {Change} change
    */
-  text(line) {
-    const {shape, edits, standing, note, isRaw} = line;
-    if (!standing) return goneText(line);
-    if (line.site !== null) return `Site ${line.site} is left out`;
+  text(change) {
+    const {shape, edits, standing, note, isRaw} = change;
+    if (!standing) return goneText(change);
+    if (change.site !== null) return `Site ${change.site} is excluded`;
     if (shape && !(isRaw && note)) return shapeText(this.layers, shape);
     return note || (edits.length ? editsText(this.layers, edits) : "Edits");
   }
 
   /** Write who made the last operation on a change.
-   * @param {Change} line
+   * @param {Change} change
    */
-  by(line) {
-    const {stamp, who} = lastOf(line);
+  by(change) {
+    const {stamp, who} = lastOf(change);
     return stamp.number === this.number ? "you" : who || "somebody";
   }
 
-  /** Write who made a change, when its last operation was made, and by whom if somebody else did.
-   * @param {Change} line
+  /** Write who made a change, when its last operation was made, and who made that if it was somebody
+   * else.
+   * @param {Change} change
    */
-  meta(line) {
-    const {stamp, does, when} = lastOf(line);
-    const isOwn = stamp.number === line.name.number;
-    const done = isOwn || !does ? "" : `; ${DONE[does] ?? does} by ${this.by(line)}`;
-    return [this.name(line) + done, dayText(when)].filter(Boolean).join(", ");
+  meta(change) {
+    const {stamp, does, when} = lastOf(change);
+    const isOwn = stamp.number === change.name.number;
+    const done = isOwn || !does ? "" : `; ${DONE[does] ?? does} by ${this.by(change)}`;
+    return [this.name(change) + done, this.layers.day.dateText(when)].filter(Boolean).join(", ");
   }
 
   /** Write a change in a few words: "Ben's limit of 54 km/h".
-   * @param {Change} line
+   * @param {Change} change
    */
-  short(line) {
-    const value = line.shape ? thingText(this.layers, line.shape) : "edit";
-    return `${this.whose(line)} ${value}`;
+  short(change) {
+    const value = change.shape ? thingText(this.layers, change.shape) : "edit";
+    return `${this.whose(change)} ${value}`;
   }
 
   /** Write where a change is in force, and what covers it elsewhere; "" if nothing covers it.
-   * @param {Change} line
+   * @param {Change} change
    */
-  cover(line) {
-    if (!isCovered(line)) return "";
-    const over = [...new Set(line.shown.map((part) => this.coverer(part)).filter(Boolean))];
-    if (line.shown.every(({by}) => by !== null)) {
+  cover(change) {
+    if (!isCovered(change)) return "";
+    const over = [...new Set(change.shown.map((part) => this.coverer(part)).filter(Boolean))];
+    if (change.shown.every(({by}) => by !== null)) {
       return `Wholly covered by ${over.join(" and ")}.`;
     }
-    const parts = [...line.shown].sort((one, other) =>
+    const parts = [...change.shown].sort((one, other) =>
       one.from - other.from || one.first - other.first);
     const places = new Set(parts.map(({first, last}) => `${first} ${last}`)).size > 1;
     const texts = parts.slice(0, MOST_PARTS).map((part) => this.part(part, places));
@@ -134,7 +134,7 @@ export class Words {
     if (!standing) return "";
     return shown.filter(({by}) => (by === null) === inForce).map((part) => {
       const {kind, first, last, from, to} = part;
-      const where = `${placesText(this.layers.plan, kind, first, last)}, ${spanText(from, to)}`;
+      const where = `${placesText(this.layers.plan, kind, first, last)}, ${this.layers.day.spanText(from, to)}`;
       return inForce ? where : `${where} by ${this.coverer(part)}`;
     }).join("; ");
   }
@@ -144,8 +144,8 @@ export class Words {
    */
   coverer({by}) {
     if (by === null) return "";
-    const line = this.layers.line(by);
-    return line ? this.short(line) : "another change";
+    const change = this.layers.find(by);
+    return change ? this.short(change) : "another change";
   }
 
   /** Write when a part of a change is in force, or what covers it.
@@ -155,77 +155,77 @@ export class Words {
   part(part, places) {
     const {kind, first, last, from, to, by} = part;
     const where = places ? ` ${placesText(this.layers.plan, kind, first, last)},` : "";
-    const time = spanText(from, to);
+    const time = this.layers.day.spanText(from, to);
     return by === null ? `in force${where} ${time}`
       : `covered${where} ${time} by ${this.coverer(part)}`;
   }
 
   /** Write in a sentence who changed the same at the same time and won; "" if nobody did.
-   * @param {Change} line
+   * @param {Change} change
    */
-  lost(line) {
-    const found = this.number === null ? null : lostOf(line, this.number);
+  lost(change) {
+    const found = this.number === null ? null : lostOf(change, this.number);
     if (!found) return "";
     const {stamp, who, does} = found.theirs;
     const name = stamp.number === this.number ? "You" : who || "Somebody";
-    return `${name} ${LAID[does] ?? "changed it"} at the same time, a moment later.`;
+    return `${name} ${DID[does] ?? "changed it"} at the same time, and that counts.`;
   }
 
   /** Write what others would have made of a change that is lost when it is taken, and who won; null
    * if nothing of theirs is lost.
-   * @param {Change} line  as it would be
+   * @param {Change} change  as it would be
    * @param {Operation[]} fresh  what would be taken of it
    * @returns {[text: string, hint: string] | null}
    */
-  losing(line, fresh) {
+  losing(change, fresh) {
     const keys = new Set(fresh.map(({stamp}) => keyOf(stamp)));
-    const last = line.operations.findLast(({stamp}) => keys.has(keyOf(stamp)));
+    const last = change.operations.findLast(({stamp}) => keys.has(keyOf(stamp)));
     const won = last?.lost;
     if (!last || !won) return null;
-    const winner = line.operations.find(({stamp}) => keyOf(stamp) === keyOf(won));
+    const winner = change.operations.find(({stamp}) => keyOf(stamp) === keyOf(won));
     const name = won.number === this.number ? "you" : winner?.who || "somebody";
     const text = last.shape ? shapeText(this.layers, last.shape) : last.note || DONE[last.does];
     return [text, `${last.who || "somebody"}: no effect, ${name} `
-      + `${LAID[winner?.does ?? "change"]} at the same time, a moment later`];
+      + `${DID[winner?.does ?? "change"]} at the same time, and that counts`];
   }
 
   /** Write what becomes of a change by a preview: "then ..".
-   * @param {Change} line
+   * @param {Change} change
    */
-  effect(line) {
-    const then = line.standing ? this.cover(line) || "In force whole."
-      : `Withdrawn by ${this.by(line)}.`;
-    return `${this.name(line)}: ${this.text(line).replace(/^Withdrew: /, "")} \u2013 then: `
+  effect(change) {
+    const then = change.standing ? this.cover(change) || "In force whole."
+      : `Withdrawn by ${this.by(change)}.`;
+    return `${this.name(change)}: ${this.text(change).replace(/^Withdrew: /, "")} \u2013 then: `
       + `${then[0].toLowerCase()}${then.slice(1)}`;
   }
 
   /** Return whether all of a change is shared.
-   * @param {Change} line
+   * @param {Change} change
    * @returns {"private" | "shared"}
    */
-  state(line) {
-    return privateOf(line).length ? "private" : "shared";
+  state(change) {
+    return privateOf(change).length ? "private" : "shared";
   }
 }
 
 /** Ask whether the lists have a change. Of withdrawn ones they have those that are not shared yet,
  * and those that others withdrew while the seat changed them; but none of raw edits that a shape
  * has replaced.
- * @param {Change} line
+ * @param {Change} change
  * @param {Layers} layers
  * @param {number} number
  */
-function isListed(line, layers, number) {
-  if (line.standing) return true;
-  if (layers.line(lastOf(line).stamp)?.standing) return false;
-  return privateOf(line).length > 0 || lostOf(line, number) !== null;
+function isListed(change, layers, number) {
+  if (change.standing) return true;
+  if (layers.find(lastOf(change).stamp)?.standing) return false;
+  return privateOf(change).length > 0 || lostOf(change, number) !== null;
 }
 
 /** Return changes in the order of the lists: the last that was made is looked for most, and comes
  * first.
- * @param {Change[]} lines
+ * @param {Change[]} changes
  */
-export const newestFirst = (lines) => [...lines].sort((one, other) =>
+export const newestFirst = (changes) => [...changes].sort((one, other) =>
   byStamp(lastOf(other).stamp, lastOf(one).stamp));
 
 /** Return the changes of the lists, each with its texts.
@@ -233,13 +233,13 @@ export const newestFirst = (lines) => [...lines].sort((one, other) =>
  * @param {number} number
  * @returns {Listed[]}
  */
-export function linesOf(layers, number) {
+export function listChanges(layers, number) {
   const words = new Words(layers, number);
-  const listed = [...layers.lines.values()].filter((line) => isListed(line, layers, number));
-  return newestFirst(listed).map((line) => ({
-    line, state: words.state(line), cover: words.cover(line), lost: words.lost(line),
-    text: words.text(line), meta: words.meta(line),
-    where: privateOf(line).length ? "own" : "held"}));
+  const listed = [...layers.changes.values()].filter((change) => isListed(change, layers, number));
+  return newestFirst(listed).map((change) => ({
+    change, state: words.state(change), cover: words.cover(change), lost: words.lost(change),
+    text: words.text(change), meta: words.meta(change),
+    where: privateOf(change).length ? "own" : "held"}));
 }
 
 /** Return all operations, newest first: who did what and when, and what covers it since.
@@ -248,20 +248,20 @@ export function linesOf(layers, number) {
  */
 export function historyOf(layers, number) {
   const words = new Words(layers, number);
-  return [...layers.lines.values()].flatMap((line) => line.operations.map((done) => {
+  return [...layers.changes.values()].flatMap((change) => change.operations.map((done) => {
     const {stamp, who, note, does, when, shared} = done;
     const name = stamp.number === number ? "you" : who || "somebody";
-    const meta = [name, DONE[does] ?? does, dayText(when), shared ? "" : "private"]
+    const meta = [name, DONE[does] ?? does, layers.day.dateText(when), shared ? "" : "private"]
       .filter(Boolean).join(", ");
-    return {stamp, text: note || line.note, meta,
-            cover: done === lastOf(line) ? words.cover(line) : ""};
+    return {stamp, text: note || change.note, meta,
+            cover: done === lastOf(change) ? words.cover(change) : ""};
   })).sort((one, other) => byStamp(other.stamp, one.stamp));
 }
 
 /** Return the changes whose parts differ in a preview, without new ones.
- * @param {Change[]} lines
+ * @param {Change[]} changes
  */
-export const affectedBy = (lines) => lines.filter(({was, shown, standing}) =>
+export const affectedBy = (changes) => changes.filter(({was, shown, standing}) =>
   was && (!standing || JSON.stringify(was) !== JSON.stringify(shown)));
 
 /** Write the titles under which others shared what is not taken; "" if there are none.

@@ -1,15 +1,15 @@
 // View: the lists of changes (not shared yet, shared), and the news of what others shared.
 
-import {openBefore, putAgain, putOnTop, redoNewest, relist, shareAll, take, undoNewest, withdraw}
+import {openPreview, putAgain, putOnTop, redoNewest, refreshLists, shareAll, take, undoNewest, withdraw}
   from "./acting.mjs";
 import {next} from "./changes.mjs";
-import {change} from "./drafting.mjs";
+import {editInForm} from "./drafting.mjs";
 import {$, activeIn, button, element, on, showList} from "./elements.mjs";
 import {isCovered, lostOf, privateOf} from "./layers.mjs";
 import {historyOf} from "./listing.mjs";
-import {showLine} from "./looking.mjs";
+import {setOpen, showChange} from "./looking.mjs";
 import {keyOf} from "./stamps.mjs";
-import {known, layersOf, now, store, when} from "./store.mjs";
+import {need, layersOf, now, store, watch} from "./store.mjs";
 import {plural} from "./units.mjs";
 
 /** @typedef {import("./elements.mjs").Item} Item */
@@ -21,17 +21,17 @@ const MOST_PAST = 100;          // operations that the page lists
 /** Make the buttons of a change.
  * @param {Listed} listed
  */
-function lineButtons({line, text}) {
-  const lost = lostOf(line, known("me").number);
+function changeButtons({change, text}) {
+  const lost = lostOf(change, need("me").number);
   /** @type {[offered: boolean, name: string, does: () => void][]} */
   const buttons = [
-    [true, "Show", () => showLine(line)],
-    [line.standing && line.shape !== null, "Change", () => change(line)],
-    [line.standing, "Withdraw", () => withdraw(line)],
-    [isCovered(line), "Put on top", () => putOnTop(line)],
-    [privateOf(line).length > 0, "Share…", () => openBefore("share", [line])]];
+    [true, "Show", () => showChange(change)],
+    [change.standing && change.shape !== null, "Change", () => editInForm(change)],
+    [change.standing, "Withdraw", () => withdraw(change)],
+    [isCovered(change), "Put on top", () => putOnTop(change)],
+    [privateOf(change).length > 0, "Share…", () => openPreview("share", [change])]];
   if (lost && !lost.mine.undoes) {
-    buttons.splice(4, 0, [true, "Put mine again", () => putAgain(line, lost.mine)]);
+    buttons.splice(4, 0, [true, "Put mine again", () => putAgain(change, lost.mine)]);
   }
   return buttons.filter(([offered]) => offered).map(([, name, does]) => button(name, does, text));
 }
@@ -39,25 +39,25 @@ function lineButtons({line, text}) {
 /** Make the element of a change.
  * @param {Listed} shown
  */
-function lineElement(shown) {
+function changeElement(shown) {
   const {text, state, cover, lost, meta} = shown;
   const tag = element("span", state, {className: `state ${state}`});
   const notes = [cover, lost].filter(Boolean)
     .map((said) => element("p", said, {className: "loss"}));
   return element("li", "", {}, element("p", text + " ", {className: "note"}, tag),
     element("p", meta, {className: "hint"}), ...notes,
-    element("p", "", {className: "buttons"}, ...lineButtons(shown)));
+    element("p", "", {className: "buttons"}, ...changeButtons(shown)));
 }
 
 /** Return what shows of a change, and which operations it has.
  * @param {Listed} listed
  */
-const signOf = ({line, text, state, cover, lost, meta}) =>
-  JSON.stringify([text, state, cover, lost, meta, line.operations.map(({stamp}) => stamp)]);
+const signOf = ({change, text, state, cover, lost, meta}) =>
+  JSON.stringify([text, state, cover, lost, meta, change.operations.map(({stamp}) => stamp)]);
 
 /** @type {(shown: Listed) => Item} */
-const itemOf = (shown) => ({key: keyOf(shown.line.name), sign: signOf(shown),
-                            make: () => lineElement(shown)});
+const listedItem = (shown) => ({key: keyOf(shown.change.name), sign: signOf(shown),
+                            make: () => changeElement(shown)});
 
 /** @type {(pending: [key: string, act: Pending]) => Item} */
 const pendingItem = ([key, {note}]) => ({key, sign: note, make: () => element("li", "", {},
@@ -71,7 +71,7 @@ export const focusOnLists = () =>
 /** Show the lists of changes. */
 function showLists() {
   /** @type {(where: Listed["where"]) => Item[]} */
-  const of = (where) => store.lines.filter((one) => one.where === where).map(itemOf);
+  const of = (where) => store.changes.filter((one) => one.where === where).map(listedItem);
   showList($("own"), [...[...store.pending].reverse().map(pendingItem), ...of("own")]);
   showList($("held"), of("held"));
   const hadLast = [$("own"), $("held")].some((list) =>
@@ -93,8 +93,8 @@ const pastItem = ({stamp, text, meta, cover}) => ({key: keyOf(stamp),
 
 /** Show all that was done, if that is open. */
 function showHistory() {
-  $("past").hidden = !store.lines.length && !store.layers.mine?.lines.size;
-  if (!$("past").open || !store.me) return;
+  $("past").hidden = !store.changes.length && !store.layers.mine?.changes.size;
+  if (!store.isOpen.past || !store.me) return;
   const all = historyOf(layersOf("mine"), store.me.number);
   showList($("history"), all.slice(0, MOST_PAST).map(pastItem));
   const rest = all.length - MOST_PAST;
@@ -102,9 +102,9 @@ function showHistory() {
 }
 
 /** Say how to begin, until there are changes; that the road is empty only if it is. */
-function showHint() {
+function showFirstSteps() {
   $("emptyHint").hidden = now() > 0;
-  $("hint").hidden = store.lines.length > 0 || store.pending.size > 0;
+  $("hint").hidden = store.changes.length > 0 || store.pending.size > 0;
 }
 
 /** Show what others shared and this tab has not taken. */
@@ -112,7 +112,7 @@ function showNews() {
   const {size, text} = store.news;
   const section = $("news");
   const had = activeIn(section);
-  section.hidden = !size || Boolean(store.before?.takes);
+  section.hidden = !size || Boolean(store.preview?.takes);
   if (!size) {
     section.replaceChildren();
     if (had) $("held").focus();
@@ -122,7 +122,7 @@ function showNews() {
   if (said) said.textContent = text;
   else {
     section.append(element("p", text), element("p", "", {className: "buttons"},
-      button("Take", take), button("Look first", () => openBefore("take"))));
+      button("Take", take), button("Look first", () => openPreview("take"))));
   }
 }
 
@@ -131,10 +131,10 @@ export function begin() {
   on("undo", "click", undoNewest);
   on("redo", "click", redoNewest);
   on("shareAll", "click", shareAll);
-  on("past", "toggle", showHistory);
-  when(["lines"], showLists);
-  when(["lines"], showHistory);
-  when(["curves"], relist);
-  when(["lines", "clock"], showHint);
-  when(["news", "before"], showNews);
+  on("past", "toggle", () => setOpen("past", $("past").open));
+  watch(["changes"], showLists);
+  watch(["changes", "isOpen"], showHistory);
+  watch(["curves"], refreshLists);
+  watch(["changes", "clock"], showFirstSteps);
+  watch(["news", "preview"], showNews);
 }

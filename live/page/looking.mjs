@@ -1,12 +1,15 @@
-// Actions: what part of which road is looked at, moved and zoomed; the clock that it follows.
+// Actions: the road and the part of it that the diagram shows, moved and zoomed; its clock.
 
 import {ask} from "./asking.mjs";
 import {assign} from "./assign.mjs";
 import {fetchRows} from "./fetching.mjs";
 import {cellsOf} from "./geometry.mjs";
-import {changed, known, last, now, store, tell} from "./store.mjs";
+import * as messages from "./messages.mjs";
+import {notify, need, last, now, store, tell} from "./store.mjs";
 import {HOUR, LAST_STEP} from "./units.mjs";
 
+/** @typedef {import("./store.mjs").Extent} Extent */
+/** @typedef {import("./store.mjs").Fold} Fold */
 /** @typedef {import("./store.mjs").Store} Store */
 /** @typedef {import("./types.mjs").Change} Change */
 /** @typedef {import("./types.mjs").Rectangle} Rectangle */
@@ -15,21 +18,21 @@ export const SPANS = [60, 150, 300, 900, 1800, 3600, 7200, 14400, 36000];   // s
 const LEAST_CELLS = 20;
 const AHEAD = 1800;             // steps of a look ahead
 
-/** Show what is looked at: follow the clock, ask for rows, draw. */
-export function look() {
+/** Refresh the diagram: follow the clock, ask for rows, draw. */
+export function refreshDiagram() {
   if (!store.plan) return;
-  if (store.follow) followClock();
+  if (store.follows) followClock();
   fetchRows();
-  changed("look");
+  notify("extent");
 }
 
 /** Note how many pixels the diagram's plot has.
  * @param {number} wide
  * @param {number} high
  */
-export function resized(wide, high) {
+export function setPlotSize(wide, high) {
   store.plot = [Math.max(50, wide), Math.max(50, high)];
-  look();
+  refreshDiagram();
 }
 
 /** Show the own road, the shared one, or both: their difference.
@@ -37,7 +40,7 @@ export function resized(wide, high) {
  */
 export function showRoad(whose) {
   store.whose = whose;
-  look();
+  refreshDiagram();
 }
 
 /** Paint each car, or mean speeds, or choose by the zoom.
@@ -45,38 +48,38 @@ export function showRoad(whose) {
  */
 export function paintBy(how) {
   store.paint = how;
-  look();
+  refreshDiagram();
 }
 
 /** Follow the clock, or stay.
  * @param {boolean} follows
  */
-export function followIt(follows) {
-  store.follow = follows;
-  look();
+export function setFollowing(follows) {
+  store.follows = follows;
+  refreshDiagram();
 }
 
-/** Keep what is looked at on the road. */
-function settle() {
-  const {length} = known("plan");
-  const part = store.look;
+/** Keep the extent on the road. */
+function keepOnRoad() {
+  const {length} = need("plan");
+  const part = store.extent;
   part.cells = Math.max(Math.min(LEAST_CELLS, length), Math.min(length, part.cells || length));
   part.cell = Math.max(0, Math.min(part.cell, length - part.cells));
   part.step = Math.max(0, Math.min(part.step, LAST_STEP));
 }
 
-/** Look at another part.
- * @param {Partial<Store["look"]>} part
+/** Show another part.
+ * @param {Partial<Extent>} part
  */
-function lookAt(part) {
-  assign(store.look, part);
-  settle();
-  look();
+function setExtent(part) {
+  assign(store.extent, part);
+  keepOnRoad();
+  refreshDiagram();
 }
 
 /** Keep the clock at the lower edge; by quarters if motion is to be reduced. */
 function followClock() {
-  const part = store.look;
+  const part = store.extent;
   const wanted = Math.max(0, last() - part.span);
   const isBehind = wanted > part.step || wanted < part.step - part.span / 2;
   if (!matchMedia("(prefers-reduced-motion: reduce)").matches) part.step = wanted;
@@ -85,7 +88,7 @@ function followClock() {
 
 /** Follow the clock no longer. */
 export function stopFollowing() {
-  store.follow = false;
+  store.follows = false;
 }
 
 /** Show the road from a cell and a step on, and follow the clock no longer.
@@ -94,16 +97,16 @@ export function stopFollowing() {
  */
 export function moveTo(cell, step) {
   stopFollowing();
-  lookAt({cell, step});
+  setExtent({cell, step});
 }
 
-/** Move what is looked at by cells and steps.
+/** Move the diagram by cells and steps.
  * @param {number} cells
  * @param {number} steps
  */
 export function moveBy(cells, steps) {
   if (steps) stopFollowing();
-  lookAt({cell: store.look.cell + cells, step: store.look.step + steps});
+  setExtent({cell: store.extent.cell + cells, step: store.extent.step + steps});
 }
 
 /** Zoom about a place of the diagram, else about its middle; times, places, or both.
@@ -112,7 +115,7 @@ export function moveBy(cells, steps) {
  * @param {{places?: boolean, times?: boolean}} what
  */
 export function zoomBy(closer, {cell, step} = {}, {places = true, times = true} = {}) {
-  const part = store.look;
+  const part = store.extent;
   const [middle, moment] = [cell ?? part.cell + part.cells / 2, step ?? part.step + part.span / 2];
   if (times) {
     const next = closer ? SPANS.findLast((one) => one < part.span)
@@ -123,47 +126,56 @@ export function zoomBy(closer, {cell, step} = {}, {places = true, times = true} 
   }
   if (places) {
     const wanted = part.cells * (closer ? 0.5 : 2);
-    const cells = Math.max(LEAST_CELLS, Math.min(known("plan").length, wanted));
+    const cells = Math.max(LEAST_CELLS, Math.min(need("plan").length, wanted));
     assign(part, {cell: middle - (middle - part.cell) * cells / part.cells, cells});
   }
-  lookAt({});
+  setExtent({});
 }
 
 /** Show so long a time, up to what is the end now.
  * @param {number} span      steps
  */
 export function chooseSpan(span) {
-  const end = Math.min(store.look.step + store.look.span, last());
-  lookAt({span, step: Math.max(0, end - span)});
+  const end = Math.min(store.extent.step + store.extent.span, last());
+  setExtent({span, step: Math.max(0, end - span)});
 }
 
 /** Show all cells of the road. */
 export function showWholeRoad() {
-  lookAt({cell: 0, cells: known("plan").length});
+  setExtent({cell: 0, cells: need("plan").length});
 }
 
 /** Move the diagram to a change.
- * @param {Change} line
+ * @param {Change} change
  */
-export function showLine({shape, shown, edits}) {
+export function showChange({shape, shown, edits}) {
   stopFollowing();
-  const {look: seen} = store;
+  const {extent: seen} = store;
   const boxes = shape ? [shape] : shown;
   const starts = boxes.length ? boxes.map(({from}) => from) : edits.map(({step}) => step);
   if (!starts.length) return;
   const [part] = boxes.length ? boxes
     : edits.map(({kind, index}) => ({kind, first: index, last: index}));
-  const [from, to] = cellsOf(known("plan"), part.kind, part.first, part.last);
+  const [from, to] = cellsOf(need("plan"), part.kind, part.first, part.last);
   const step = Math.max(0, Math.min(...starts) - seen.span / 4);
   const isSeen = from >= seen.cell && to <= seen.cell + seen.cells;
-  lookAt({step, cell: isSeen ? seen.cell : (from + to - seen.cells) / 2});
+  setExtent({step, cell: isSeen ? seen.cell : (from + to - seen.cells) / 2});
+}
+
+/** Note that a part of the page was folded or opened.
+ * @param {Fold} fold
+ * @param {boolean} isOpen
+ */
+export function setOpen(fold, isOpen) {
+  store.isOpen[fold] = isOpen;
+  notify("isOpen");
 }
 
 // The clock.
 
-const away = "The clock was not set, since the connection is lost.";
+const away = messages.CLOCK_NOT_SET;
 
-/** Let the clock run at so many steps a second; 0: it stands.
+/** Let the clock run at a number of steps a second; 0: it stands.
  * @param {number} rate
  */
 export const setRate = (rate) => ask({clock: {rate}}, {away});
@@ -172,20 +184,20 @@ export const runAnHour = () => ask({clock: {to: now() + HOUR}}, {away});
 
 /** Let the own road run half an hour further than it does now, as far as it may. */
 export function lookAhead() {
-  const {ahead} = known("me");
+  const {ahead} = need("me");
   const most = Math.min(LAST_STEP, now() + ahead);
   if (last() >= most) {
-    tell(`A road runs at most ${ahead / HOUR} hours ahead of the clock.`, true);
+    tell(messages.farthestAhead(ahead / HOUR), true);
     return;
   }
   store.ahead = Math.min(most, last() + AHEAD);
-  changed("clock");
-  look();
+  notify("clock");
+  refreshDiagram();
 }
 
 /** Let the own road run no further than the clock. */
 export function backToClock() {
   store.ahead = 0;
-  changed("clock");
-  look();
+  notify("clock");
+  refreshDiagram();
 }

@@ -1,6 +1,6 @@
 // The start: each view listens and shows, then the line is made.
 
-import * as before from "./before.mjs";
+import * as preview from "./preview.mjs";
 import * as chance from "./chance.mjs";
 import * as figures from "./figures.mjs";
 import * as form from "./form.mjs";
@@ -14,6 +14,6 @@ import * as series from "./series.mjs";
 
 takeToken();
 addEventListener("hashchange", () => { takeToken(); location.reload(); });
-for (const view of [head, form, picture, hands, lists, before, figures, series, chance,
+for (const view of [head, form, picture, hands, lists, preview, figures, series, chance,
                     save]) view.begin();
 connect();

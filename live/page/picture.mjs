@@ -9,13 +9,13 @@ import {BLOCKED, EMPTY, FASTER, FASTEST_COLOUR, INK, MARGIN, NO_ROW, OF_PLAN, SL
 import {assign} from "./assign.mjs";
 import {waitingShapes, wordsShown} from "./changes.mjs";
 import {$, choose, chosen, element, on, oneOf} from "./elements.mjs";
-import {drawsSoon, hasDrawn} from "./fetching.mjs";
+import {finishDrawing, requestDrawing} from "./fetching.mjs";
 import {cellsOf} from "./geometry.mjs";
 import {onceEach, placeOfLabel} from "./labels.mjs";
-import {SPANS, chooseSpan, paintBy, resized, showRoad, showWholeRoad, zoomBy} from "./looking.mjs";
+import {SPANS, chooseSpan, paintBy, setPlotSize, showRoad, showWholeRoad, zoomBy} from "./looking.mjs";
 import {valueText} from "./sentences.mjs";
 import {keyOf} from "./stamps.mjs";
-import {isOwn, known, last, layersShown, now, roadOf, store, when, whoseShown} from "./store.mjs";
+import {isOwn, last, layersShown, need, now, roadOf, store, watch, whoseShown} from "./store.mjs";
 import {HOUR, KMH_A_CELL, LAST_STEP, METRES_A_CELL} from "./units.mjs";
 import {byMeans, everyShown, partShown, viewNow} from "./view.mjs";
 
@@ -33,7 +33,6 @@ import {byMeans, everyShown, partShown, viewNow} from "./view.mjs";
  * @typedef {Omit<Frame, "by"> & {by: Pick<Change, "name" | "who">, pending?: boolean}} Drawn
  */
 
-let unit = unitOf(METRES_A_CELL, 1, true);
 const GREATEST = FASTEST_COLOUR;        // cells a step at the end of the colours, 135 km/h
 /** @type {Record<Kind, string>} */
 const FRAME = {block: "#8f3a00", limit: "#004a9f", slow: "#5b2a86", start: "#5b2a86",
@@ -43,14 +42,15 @@ const LABEL_HIGH = 17;          // pixels
 const HALO_FROM = 16;           // pixels of a frame that has a white line around it
 const LEAST = 6;                // pixels of a frame that is drawn
 
+// A cache of what is painted, and nothing that the page knows: it may be cleared at any time.
 const tilesKept = new Tiles();
 
 /** Draw at the next frame of the screen, once. */
 export function draw() {
-  if (!store.plan || !drawsSoon()) return;
+  if (!store.plan || !requestDrawing()) return;
   requestAnimationFrame(() => {
     drawDiagram();
-    hasDrawn();
+    finishDrawing();
   });
 }
 
@@ -71,10 +71,17 @@ export function drawDiagram() {
   else drawLabels(context, view, frames, onceEach(labels.flatMap((one) => one ?? [])));
   if (store.cursor) drawFrame(context, view, store.cursor[1], store.cursor[0]);
   context.restore();
-  const plan = known("plan");
-  drawAxes(context, view, partShown(), unit, plan.length);
+  const plan = need("plan");
+  drawAxes(context, view, partShown(), unitNow(), plan.length);
   drawPlan(context, view, plan, width);
   drawWedge(context, view, now(), INK, height);
+}
+
+/** Return what a cell and a step are, with times as the road's clock writes them. */
+function unitNow() {
+  const {day} = store;
+  return {...unitOf(METRES_A_CELL, 1, true, day.begin),
+          textOf: (/** @type {number} */ step) => day.axisText(step)};
 }
 
 /** Draw the rows that are seen.
@@ -105,7 +112,7 @@ function drawRows(context, view, width, height) {
 
 /** Forget the tiles in which rows of a road have changed. */
 function repaint() {
-  const {whose, every, steps: [from, to]} = known("repainted");
+  const {whose, every, steps: [from, to]} = need("changedRows");
   for (const shown of [whose, "mine-shared", "after-before"]) {
     tilesKept.forget(`${shown} ${every}`, from, to);
   }
@@ -155,7 +162,7 @@ export function write(context, text, left, top, align = "left", colour = "#00000
  * @returns {Drawn[]}
  */
 export function framesShown() {
-  const {number, name} = known("me");
+  const {number, name} = need("me");
   /** @type {Drawn["by"]} */
   const own = {name: {count: 0, number}, who: name};
   const shapes = whoseShown()[0] === "mine" ? waitingShapes() : [];
@@ -169,7 +176,7 @@ export function framesShown() {
  * @returns {Box}
  */
 export function cornersOf(view, {kind, first, last, from, to}) {
-  const [start, end] = cellsOf(known("plan"), kind, first, last);
+  const [start, end] = cellsOf(need("plan"), kind, first, last);
   const [left, right] = [leftOf(view, start), leftOf(view, end)];
   const [top, bottom] = [topOf(view, from), topOf(view, to ?? LAST_STEP + 1)];
   const thin = Math.max(0, LEAST - (right - left)) / 2;
@@ -231,7 +238,7 @@ function drawEdges(context, view, frame, named) {
   context.strokeRect(...rectangle);
   context.setLineDash([]);
   return {text: labelOf(frame, named), box: [left, top, right, bottom],
-          colour: FRAME[frame.kind], line: frame.pending ? frame : keyOf(frame.by.name)};
+          colour: FRAME[frame.kind], change: frame.pending ? frame : keyOf(frame.by.name)};
 }
 
 /** Write what frames are, clear of closures and of each other, on what is computed.
@@ -324,7 +331,7 @@ function showLegend() {
 /** Show which road and how long a time are shown. */
 function showChoices() {
   choose("whose", store.whose);
-  $("span").value = String(store.look.span);
+  $("span").value = String(store.extent.span);
 }
 
 /** @type {import("./store.mjs").Store["whose"][]} */
@@ -344,19 +351,15 @@ export function begin() {
   on("closer", "click", () => zoomBy(true));
   on("farther", "click", () => zoomBy(false));
   on("wholeRoad", "click", showWholeRoad);
-  when(["repainted"], repaint);
-  when(["before", "preview"], () => {
+  watch(["changedRows"], repaint);
+  watch(["preview", "outcome"], () => {
     tilesKept.clear();          // the roads of a preview are others each time
     draw();
   });
-  when(["look", "timings", "lines", "area", "cursor", "curves"], draw);
-  when(["me"], () => {
-    unit = unitOf(METRES_A_CELL, 1, true, known("me").day?.begin ?? null);
-    draw();
-  });
-  when(["look"], showLegend);
-  when(["look"], showChoices);
-  const measure = () => resized($("diagram").clientWidth - MARGIN.left - MARGIN.right,
+  watch(["me", "extent", "timings", "changes", "area", "cursor", "curves"], draw);
+  watch(["extent"], showLegend);
+  watch(["extent"], showChoices);
+  const measure = () => setPlotSize($("diagram").clientWidth - MARGIN.left - MARGIN.right,
     $("diagram").clientHeight - MARGIN.top - MARGIN.bottom);
   measure();
   new ResizeObserver(measure).observe($("diagram"));

@@ -1,4 +1,4 @@
-// The rows that the page has of a road, every n-th one, and which of them it still wants.
+// The rows that the page has of a road, every n-th one, and which of them are missing.
 
 import {MINUTE} from "./units.mjs";
 
@@ -6,7 +6,7 @@ import {MINUTE} from "./units.mjs";
 
 const MOST_LEVELS = 3;
 
-/** The rows of every n-th step: a picture, as drawing.js takes it, and which of them are fresh. */
+/** The rows of every n-th step: a picture, and which of them are fresh. */
 class Level {
   /**
    * @param {number} every    steps between rows
@@ -21,7 +21,7 @@ class Level {
     this.fresh = new Uint8Array(64);  // 1: of the present edits, or asked for
   }
 
-  /** Make room for so many rows.
+  /** Make room for a number of rows.
    * @param {number} size
    */
   grow(size) {
@@ -34,7 +34,7 @@ class Level {
   /** Let the rows from a step on be asked for again. They stay in the picture until then.
    * @param {number} step
    */
-  stale(step) {
+  invalidate(step) {
     this.fresh.fill(0, Math.ceil(step / this.every));
   }
 
@@ -49,12 +49,12 @@ class Level {
     this.fresh.fill(value, first, first + count);
   }
 
-  /** Return the first rows in steps `from` to `to` that are not fresh, at most so many; null: none.
+  /** Return the first rows in steps `from` to `to` that are not fresh, at most `most`; null: none.
    * @param {number} from
    * @param {number} to
    * @param {number} most     rows
    */
-  wanted(from, to, most) {
+  findMissing(from, to, most) {
     const end = Math.floor(to / this.every) + 1;
     this.grow(end);
     let first = Math.max(0, Math.floor(from / this.every));
@@ -65,12 +65,12 @@ class Level {
     return {from: first * this.every, to: last * this.every, count: last + 1 - first};
   }
 
-  /** Take rows from a step on. Return the steps of those that changed, or null.
+  /** Put rows from a step on. Return the steps of those that changed, or null.
    * @param {number} from
    * @param {string[]} rows
    * @returns {Span | null}
    */
-  take(from, rows) {
+  put(from, rows) {
     const first = from / this.every;
     let [least, most] = [Infinity, -1];
     rows.forEach((row, index) => {
@@ -83,7 +83,7 @@ class Level {
   }
 }
 
-/** The steps that cars spend on the road in each minute, as far as they are known. */
+/** The car seconds of each minute, as far as they are known. */
 class Minutes {
   constructor() {
     /** @type {(number | undefined)[]} */
@@ -93,35 +93,35 @@ class Minutes {
   /** Forget the minutes from a step on.
    * @param {number} step
    */
-  stale(step) {
+  invalidate(step) {
     this.sums.length = Math.min(this.sums.length, Math.floor(step / MINUTE));
   }
 
   /** Return those of a period; null if one is missing.
    * @param {Span} period     steps
    */
-  within([from, to]) {
+  find([from, to]) {
     const found = this.sums.slice(from / MINUTE, to / MINUTE).flatMap((one) => one ?? []);
     return found.length === (to - from) / MINUTE ? found : null;
   }
 
-  /** Return the first part of a period that is missing, at most so many minutes; null: none.
+  /** Return the first missing part of a period, at most `most` minutes; null: none.
    * @param {Span} period     steps
    * @param {number} most     minutes
    * @returns {Span | null}
    */
-  wanted([from, to], most) {
+  findMissing([from, to], most) {
     let first = from / MINUTE;
     while (first < to / MINUTE && this.sums[first]) first++;
     const end = Math.min(to / MINUTE, first + most);
     return first < end ? [first * MINUTE, end * MINUTE] : null;
   }
 
-  /** Take the sums of minutes from a step on.
+  /** Put the sums of minutes from a step on.
    * @param {number} from
    * @param {number[]} sums
    */
-  take(from, sums) {
+  put(from, sums) {
     const first = from / MINUTE;
     while (this.sums.length < first) this.sums.push(undefined);
     sums.forEach((one, index) => { this.sums[first + index] = one; });
@@ -145,11 +145,20 @@ export class Road {
     this.minutes = new Minutes();
   }
 
-  /** Return the rows of every n-th step. Those that were used longest ago make room.
+  /** Return the rows of every n-th step that are there: none if that level is not loaded.
    * @param {number} every    steps between rows
+   * @returns {Level}
    */
   level(every) {
-    const level = this.levels.get(every) ?? new Level(every, this.length);
+    return this.levels.get(every) ?? new Level(every, this.length);
+  }
+
+  /** Load the level of every n-th step, for its rows to be asked for. Those that were loaded longest
+   * ago make room. Only fetching.mjs does this.
+   * @param {number} every    steps between rows
+   */
+  load(every) {
+    const level = this.level(every);
     this.levels.delete(every);
     this.levels.set(every, level);
     const [oldest] = this.levels.keys();
@@ -160,9 +169,9 @@ export class Road {
   /** Let what the page has from a step on be asked for again.
    * @param {number} step
    */
-  stale(step) {
+  invalidate(step) {
     this.version++;
-    this.minutes.stale(step);
-    for (const level of this.levels.values()) level.stale(step);
+    this.minutes.invalidate(step);
+    for (const level of this.levels.values()) level.invalidate(step);
   }
 }

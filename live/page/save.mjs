@@ -7,10 +7,12 @@ import {comparedNow, daysShown} from "./days.mjs";
 import {withoutCursor} from "./drafting.mjs";
 import {$, activeIn, closest, download, on} from "./elements.mjs";
 import {Words, newestFirst} from "./listing.mjs";
+import * as messages from "./messages.mjs";
 import {drawDiagram, legendEntries} from "./picture.mjs";
-import {known, layersOf, now, store, tell} from "./store.mjs";
-import {csvOf, tableOfChanges, tableOfDays, tableOfFigures} from "./tables.mjs";
-import {METRES_A_CELL, fileTime, kmText, plural, timeText} from "./units.mjs";
+import {claimFileName} from "./saving.mjs";
+import {need, layersOf, now, store, tell} from "./store.mjs";
+import {csvOf, tableOfChanges, tableOfDays, tableOfFigures, tableOfTravel} from "./tables.mjs";
+import {METRES_A_CELL, kmText, plural} from "./units.mjs";
 import {partShown, periodShown} from "./view.mjs";
 
 /** @typedef {import("./layers.mjs").Layers} Layers */
@@ -23,29 +25,22 @@ const LEGEND_HIGH = 28;
 const LEGEND_WIDE = 900;
 
 /** Return the road that is shown; of a difference the own one. */
-const roadShown = () => (store.whose === "shared" ? "shared" : known("me").at);
-
-/** @type {Set<string>} */
-const named = new Set();        // the files that were saved
+const roadShown = () => (store.whose === "shared" ? "shared" : need("me").at);
 
 /** Return what a road is called in the name of a file. */
-const fileRoad = (at = roadShown()) => (at === "shared" ? "shared" : known("me").name);
+const fileRoad = (at = roadShown()) => (at === "shared" ? "shared" : need("me").name);
 
 /** Return a name that no other save has: what it is, whose road, and from when to when.
  * @param {string} what      with an ending
  * @param {string} whose
  * @param {Span} period      steps
  */
-function nameOf(what, whose, period) {
+function nameFile(what, whose, period) {
   const dot = what.lastIndexOf(".");
   const [stem, ending] = [what.slice(0, dot), what.slice(dot)];
-  const times = period.map((step) => fileTime(Math.round(step)));
+  const times = period.map((step) => store.day.fileText(Math.round(step)));
   const parts = [stem, whose, ...times].map((part) => part.replace(/[^\p{L}\p{M}\p{N}_]+/gu, "-"));
-  const first = parts.join("-");
-  let found = first;
-  for (let count = 2; named.has(found + ending); count++) found = `${first}-${count}`;
-  named.add(found + ending);
-  return found + ending;
+  return claimFileName(parts.join("-"), ending);
 }
 
 /** Save a file under a name of its own. Return that name.
@@ -56,20 +51,20 @@ function nameOf(what, whose, period) {
  * @param {Span} [period]    steps
  */
 function saveAs(what, lines, type, whose = fileRoad(), period = periodShown()) {
-  const own = nameOf(what, whose, period);
+  const own = nameFile(what, whose, period);
   download(lines, own, type);
   return own;
 }
 
 /** Return what the diagram shows, for those who have the picture alone. */
 export function captionText() {
-  const {name} = known("me");
+  const {name} = need("me");
   const whose = {mine: `The road of ${name}`, shared: "The shared road",
                  both: `The road of ${name} less the shared one`}[store.whose];
   const {cells, steps} = partShown();
-  const [places, times] = [cells.map(Math.round).map(kmText), steps.map(timeText)];
+  const [places, times] = [cells.map(Math.round).map(kmText), steps.map((step) => store.day.timeText(step))];
   return `${whose}, ${places.join("\u2013")} km, ${times.join("\u2013")}`
-    + (now() < steps[1] ? `; the clock is at ${timeText(now())}` : "");
+    + (now() < steps[1] ? `; the clock is at ${store.day.timeText(now())}` : "");
 }
 
 /** Return the diagram as it is seen, without the cursor, between what it shows and its colours. */
@@ -97,12 +92,12 @@ function diagramWithLegend() {
 function savePicture() {
   diagramWithLegend().toBlob((blob) => {
     if (!blob) {
-      tell("The browser made no picture of the diagram. Make its window smaller, and try again.", true);
+      tell(messages.NO_PICTURE, true);
       return;
     }
-    const whose = store.whose === "both" ? `${known("me").name}-less-shared` : fileRoad();
+    const whose = store.whose === "both" ? `${need("me").name}-less-shared` : fileRoad();
     const name = saveAs("diagram.png", [blob], "image/png", whose);
-    tell(`Saved ${name}: the diagram as it is seen.`);
+    tell(messages.savedPicture(name));
   });
 }
 
@@ -110,7 +105,7 @@ function savePicture() {
  * null if something was refused.
  */
 async function transcriptLines() {
-  tell("Saving …");
+  tell(messages.SAVING);
   const [at, [from, to]] = [roadShown(), periodShown()];
   /** @type {string[]} */
   const pieces = [];
@@ -131,19 +126,18 @@ async function saveTranscript() {
   const lines = await transcriptLines();
   if (!lines) return;
   const name = saveAs("transcript.jsonl", lines, "application/jsonl");
-  tell(`Saved ${name}: choose it in the viewer, with ${METRES_A_CELL} metres a cell and `
-    + "1 second a step.");
+  tell(messages.savedTranscript(name, METRES_A_CELL));
 }
 
 /** Save the commands of both roads, up to the clock, a file each. */
 async function saveScripts() {
   const saved = [];
-  for (const at of [known("me").at, "shared"]) {
+  for (const at of [need("me").at, "shared"]) {
     const said = await askUntilFree({script: {at}});
     if (!said || "refused" in said) return;
     saved.push(saveAs("script.jsonl", [said.lines], "application/jsonl", fileRoad(at), [0, said.to]));
   }
-  tell(`Saved ${saved.join(" and ")}: road_lab runs each, and recipes/delay compares them.`);
+  tell(messages.savedScripts(saved));
 }
 
 /** Return what a table of the two roads is of.
@@ -152,19 +146,19 @@ async function saveScripts() {
  */
 function comparedText(from, to) {
   const of = comparedNow() === "preview" ? "the road now, and then"
-    : `the road of ${known("me").name} and the shared one`;
-  return `${of}, ${timeText(from)} to ${timeText(to)}`;
+    : `the road of ${need("me").name} and the shared one`;
+  return `${of}, ${store.day.timeText(from)} to ${store.day.timeText(to)}`;
 }
 
 /** Save the figures of the roads that are compared: those of many days if these are shown. */
 async function saveFigures() {
-  const [plan, {at, name}] = [known("plan"), known("me")];
+  const [plan, {at, name}] = [need("plan"), need("me")];
   const of = comparedNow();
   const whose = of === "preview" ? "now-then" : `${name}-shared`;
   const days = daysShown()?.said;
   const [from, to] = days ? [days.from, days.to] : periodShown();
   if (to <= from) {
-    tell("Nothing is computed yet.", true);
+    tell(messages.NOTHING_COMPUTED, true);
     return;
   }
   if (days) {
@@ -178,6 +172,20 @@ async function saveFigures() {
   }
 }
 
+/** Save travel times by the minute of entry, of the roads that are compared. */
+async function saveTravel() {
+  const {at, name} = need("me");
+  const [of, [from, to]] = [comparedNow(), periodShown()];
+  if (to <= from) {
+    tell(messages.NOTHING_COMPUTED, true);
+    return;
+  }
+  const said = await askUntilFree({figures: {at, of, from, to}});
+  if (!said || "refused" in said) return;
+  saveLines(`travel times of ${comparedText(from, to)}`, tableOfTravel(need("plan"), of, said, store.day),
+    "travel-times.csv", of === "preview" ? "now-then" : `${name}-shared`, [from, to]);
+}
+
 /** Save a table.
  * @param {string} title
  * @param {(string | number)[][]} lines
@@ -186,7 +194,7 @@ async function saveFigures() {
  * @param {Span} period      steps
  */
 function saveLines(title, lines, what, whose, period) {
-  tell(`Saved ${saveAs(what, [csvOf(title, lines)], "text/csv", whose, period)}.`);
+  tell(messages.savedFile(saveAs(what, [csvOf(title, lines)], "text/csv", whose, period)));
 }
 
 const MOST_WORKS = 200;         // lines of a report
@@ -195,16 +203,16 @@ const MOST_SIGNS = 200;         // of a line
 /** Return the changes of a road that stand, in sentences, the oldest first.
  * @param {Layers} layers
  */
-const textsOf = (layers) => newestFirst([...layers.lines.values()]
-  .filter((line) => line.standing && line.site === null)).reverse()
-  .map((line) => new Words(layers, -1).text(line));
+const textsOf = (layers) => newestFirst([...layers.changes.values()]
+  .filter(({standing, site}) => standing && site === null)).reverse()
+  .map((change) => new Words(layers, -1).text(change));
 
 /** Return what is in force on the roads that are compared, in sentences: on the later one, then
  * what the other one has alone.
  */
 function worksText() {
   const isPreview = comparedNow() === "preview";
-  const [one, other] = isPreview ? [layersOf("after"), layersOf(known("before").takes ? "mine" : "shared")]
+  const [one, other] = isPreview ? [layersOf("after"), layersOf(need("preview").takes ? "mine" : "shared")]
     : [layersOf("mine"), layersOf("shared")];
   const [after, before] = [one, other].map(textsOf);
   const gone = before.filter((text) => !after.includes(text));
@@ -215,31 +223,31 @@ function worksText() {
 
 /** Save the report of the roads that are compared: a page that prints. */
 async function saveReport() {
-  const {at, name, day} = known("me");
+  const {at, name, day} = need("me");
   const [from, to] = periodShown();
   const of = comparedNow();
   if (to <= from || (of === "preview" && !store.layers.after)) {
-    tell("Nothing is computed yet.", true);
+    tell(messages.NOTHING_COMPUTED, true);
     return;
   }
   const date = day?.date ? `, ${day.date}` : "";
   const title = `${of === "preview" ? "A road, now and then" : `The road of ${name}, and the shared one`}: `
-    + `${timeText(from)} to ${timeText(to)}${date}`;
-  tell("Making the report: both roads are simulated on five days \u2026");
+    + `${store.day.timeText(from)} to ${store.day.timeText(to)}${date}`;
+  tell(messages.MAKING_REPORT);
   const said = await askUntilFree({report: {at, of, from, to, title, works: worksText()}});
   if (!said || "refused" in said) return;
   const whose = of === "preview" ? "now-then" : `${name}-shared`;
   const saved = saveAs("report.html", [said.html], "text/html", whose, [from, to]);
-  tell(`Saved ${saved}: any browser shows it, and prints it on A4.`);
+  tell(messages.savedReport(saved));
 }
 
 /** Return what a table of the road that is shown is of. */
-const roadText = () => (roadShown() === "shared" ? "the shared road" : `the road of ${known("me").name}`);
+const roadText = () => (roadShown() === "shared" ? "the shared road" : `the road of ${need("me").name}`);
 
 /** Save all that was done: who did what and when, where it is in force, and what covers it. */
 function saveChanges() {
   const layers = layersOf(roadShown() === "shared" ? "shared" : "mine");
-  saveLines(`changes of ${roadText()}, up to ${timeText(now())}`, tableOfChanges(layers), "changes.csv",
+  saveLines(`changes of ${roadText()}, up to ${store.day.timeText(now())}`, tableOfChanges(layers), "changes.csv",
     fileRoad(), [0, now()]);
 }
 
@@ -247,11 +255,11 @@ function saveChanges() {
 async function saveCounts() {
   const [from, to] = periodShown();
   if (to <= from) {
-    tell("Nothing is computed yet.", true);
+    tell(messages.NOTHING_COMPUTED, true);
     return;
   }
   const said = await ask({csv: {at: roadShown(), what: "counts", from, to, each: SPAN_OF_COUNTS}});
-  if (said && !("refused" in said)) tell(`Saved ${saveAs("counts.csv", [said.csv], "text/csv")}.`);
+  if (said && !("refused" in said)) tell(messages.savedFile(saveAs("counts.csv", [said.csv], "text/csv")));
 }
 
 /** Close the menu, which would lie over what is said. A focus in it goes to its name. */
@@ -268,6 +276,7 @@ export function begin() {
   on("saveScript", "click", saveScripts);
   on("saveReport", "click", saveReport);
   on("saveFigures", "click", saveFigures);
+  on("saveTravel", "click", saveTravel);
   on("saveCounts", "click", saveCounts);
   on("saveChanges", "click", saveChanges);
   on("save", "click", (event) => { if (closest(event, "button")) closeMenu(); });

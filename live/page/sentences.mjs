@@ -1,9 +1,8 @@
-// Sentences about changes. A road here is {plan, curveAt(inlet, step)}: by the curve of an inlet a
-// chance is cars per hour, once that is measured.
+// Sentences about changes. A road here is {plan, day, curveAt(inlet, step)}: `day` writes times, and
+// by the curve of an inlet a chance is cars per hour, once that is measured.
 
 import {OF_ZONES, cellsOf} from "./geometry.mjs";
-import {chanceText, demandOfChance, kmText, limitText, metresText, plural, timeText, whole}
-  from "./units.mjs";
+import {chanceText, demandOfChance, kmText, limitText, metresText, plural, whole} from "./units.mjs";
 
 /** @typedef {import("./types.mjs").Edit} Edit */
 /** @typedef {import("./types.mjs").Kind} Kind */
@@ -22,13 +21,6 @@ export function placesText(plan, kind, first, last) {
   if (kind === "inflow" || kind === "watch") return `at ${kmText(from)} km`;
   return `${kmText(from)}\u2013${kmText(to)} km`;
 }
-
-/** Write when something holds.
- * @param {number} from      step
- * @param {number | null} to
- */
-export const spanText = (from, to) => (to === null ? `from ${timeText(from)} on`
-  : `${timeText(from)}\u2013${timeText(to)}`);
 
 /** Write a value that an object of a kind has from a step on, in a few words.
  * @param {MeasuredRoad} road
@@ -54,7 +46,7 @@ export function valueText(road, kind, value, index, step) {
 export function shapeText(road, {kind, first, last, from, to, value}) {
   const what = valueText(road, kind, value, first, from);
   const where = placesText(road.plan, kind, first, last);
-  return `${what}${kind === "block" ? "" : ","} ${where}, ${spanText(from, to)}`;
+  return `${what}${kind === "block" ? "" : ","} ${where}, ${road.day.spanText(from, to)}`;
 }
 
 /** @type {Record<Kind, string>} */
@@ -79,7 +71,7 @@ export function thingText(road, {kind, first, from, value}) {
 export function editText(road, {kind, first, last, step, value}) {
   if (value !== null) return shapeText(road, {kind, first, last, from: step, to: null, value});
   const where = placesText(road.plan, kind, first, last);
-  return `${THINGS[kind]} withdrawn, ${where}, ${spanText(step, null)}`;
+  return `${THINGS[kind]} withdrawn, ${where}, ${road.day.spanText(step, null)}`;
 }
 
 /** Write in a sentence what edits do: the first ones, and how many more there are.

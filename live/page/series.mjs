@@ -1,35 +1,77 @@
-// View: flow and speed by time at a detector, of mine beside shared, or before and after what is
-// looked at; the pointer, or an arrow, reads them.
+// View: flow and speed by time at a detector, and travel times by the minute of entry: of mine beside
+// shared, or of the road now and then in a preview. The pointer, or an arrow, reads them.
 
 import {assign} from "./assign.mjs";
 import {$, element, on} from "./elements.mjs";
-import {askSeries} from "./fetching.mjs";
-import {known, store, when} from "./store.mjs";
-import {kmText, timeText, whole} from "./units.mjs";
+import {askSeries, chooseEnd, chooseSite, exactOf, readPoint} from "./fetching.mjs";
+import {setOpen} from "./looking.mjs";
+import {need, store, watch} from "./store.mjs";
+import {MINUTE, kmText, whole} from "./units.mjs";
 
 /** @typedef {import("./types.mjs").DetectorFigures} DetectorFigures */
+/** @typedef {import("./types.mjs").Figures} Figures */
+/** @typedef {"flowChart" | "speedChart" | "travelChart"} ChartId */
 /** @typedef {[x: number, y: number]} Point          pixels */
 /**
- * A chart: its canvas, its unit, what it shows, and the least end of its axis.
- * @typedef {{id: "flowChart" | "speedChart", unit: string, least: number,
- *            of: (one: DetectorFigures) => number | null}} Chart
+ * A chart: its canvas, its unit, the least end of its axis, the steps that it shows, how many steps a
+ * point is of, and for each of two roads the value of each point; null: there is none.
+ * @typedef {{id: ChartId, unit: string, least: number, from: number, to: number, each: number,
+ *            sides: (number | null)[][]}} Chart
  */
 
 const COLOURS = ["#0072b2", "#c24e00"];        // as the report has them: the road before, and after
 const LEFT = 44, RIGHT = 6, TOP = 4, BOTTOM = 16;       // pixels around a plot
-/** @type {Chart[]} */
-const CHARTS = [{id: "flowChart", unit: "cars/h", of: ({flow}) => flow, least: 500},
-                {id: "speedChart", unit: "km/h", of: ({speed}) => speed, least: 135}];
 const TALL_ENOUGH = 880;        // pixels of a window in which it is open from the first on
+const MOST_POINTS = 720;        // minutes of entry that are drawn
 
-/** @type {number | null} */
-let seen = null;                // the point that is read
+/** Return the names of the two roads, the one before first. */
+const namesNow = () => (store.outcome?.layers ? ["now", "then"] : ["shared", "mine"]);
 
-/** Return the values of a side at the detector, one for each span; null if nothing was counted.
- * @param {DetectorFigures[][]} flows
- * @param {Chart["of"]} of
+/** Return the charts of flow and speed at the detector that is chosen; none if they are not known.
+ * @returns {Chart[]}
  */
-const pointsOf = (flows, of) => flows.map((span) => of(span[Number($("seriesSite").value)]));
+function detectorCharts() {
+  const {series: {flows, from, to, each, site}} = store;
+  if (!flows) return [];
+  const sidesOf = (/** @type {(one: DetectorFigures) => number | null} */ of) =>
+    flows.map((spans) => spans.map((span) => of(span[site])));
+  return [
+    {id: "flowChart", unit: "cars/h", least: 500, from, to, each, sides: sidesOf(({flow}) => flow)},
+    {id: "speedChart", unit: "km/h", least: 135, from, to, each, sides: sidesOf(({speed}) => speed)}];
+}
+
+/** Return the figures that are counted car by car of the two roads; null if they are not known.
+ * @returns {Figures | null}
+ */
+function figuresNow() {
+  if (!store.preview) return store.plan ? exactOf(store.figures.wanted) : null;
+  const figures = store.outcome?.figures;
+  return figures && !("why" in figures) ? figures : null;
+}
+
+/** Return the chart of travel times by the minute of entry; null if they are not known, or are of too
+ * many minutes.
+ * @returns {Chart | null}
+ */
+function travelChart() {
+  const figures = figuresNow();
+  if (!figures) return null;
+  const {from, to, before, after} = figures;
+  const minutes = Math.ceil((to - from) / MINUTE);
+  if (minutes > MOST_POINTS) return null;
+  const place = store.series.end ?? need("plan").detectors.length;
+  const sides = [before, after].map(({entries}) => {
+    const byMinute = new Map(entries.map(({step, trips}) => [(step - from) / MINUTE, trips[place].seconds]));
+    return Array.from({length: minutes}, (_, minute) => byMinute.get(minute) ?? null);
+  });
+  return {id: "travelChart", unit: "s", least: 60, from, to, each: MINUTE, sides};
+}
+
+/** Return the chart of a canvas; null if it is not known.
+ * @param {ChartId} id
+ */
+const chartOf = (id) =>
+  (id === "travelChart" ? travelChart() : detectorCharts().find((chart) => chart.id === id) ?? null);
 
 /** Return the next greater round figure.
  * @param {number} value     above 0
@@ -53,20 +95,18 @@ function clearedCanvas(canvas) {
   return [context, width, height];
 }
 
-/** Draw a chart.
+/** Draw a chart, with a mark at the point that is read.
  * @param {Chart} chart
- * @param {DetectorFigures[][][]} flows      of each road, in each span
+ * @param {number | null} read
  */
-function drawChart({id, unit, of, least}, flows) {
-  const {series: {from, to, each}} = store;
+function drawChart({id, unit, least, from, to, each, sides}, read) {
   const [context, width, height] = clearedCanvas($(id));
-  const sides = flows.map((one) => pointsOf(one, of));
   const top = niceAbove(Math.max(least, ...sides.flat().map((value) => value ?? 0)));
   const [wide, high] = [width - LEFT - RIGHT, height - TOP - BOTTOM];
   const across = (/** @type {number} */ step) => LEFT + wide * (step - from) / (to - from);
   const up = (/** @type {number} */ value) => TOP + high * (1 - value / top);
   assign(context, {font: "11px system-ui, sans-serif", textBaseline: "middle",
-                          lineWidth: 1, strokeStyle: "#d5dbe1", fillStyle: "#1a1a1a"});
+                   lineWidth: 1, strokeStyle: "#d5dbe1", fillStyle: "#1a1a1a"});
   for (const part of [0, 0.5, 1]) {
     const y = Math.round(up(part * top)) + 0.5;
     context.strokeRect(LEFT, y, wide, 0);
@@ -79,13 +119,13 @@ function drawChart({id, unit, of, least}, flows) {
   const times = [[from, "left"], [(from + to) / 2, "center"], [to, "right"]];
   for (const [step, align] of times) {
     context.textAlign = align;
-    context.fillText(timeText(step), across(step), height - 7);
+    context.fillText(store.day.timeText(step), across(step), height - 7);
   }
-  sides.forEach((points, side) => drawLine(context, points.map((value, index) =>
+  sides.forEach((values, side) => drawLine(context, values.map((value, index) =>
     value === null ? null : [across(from + (index + 0.5) * each), up(value)]), side));
-  if (seen === null) return;
+  if (read === null) return;
   assign(context, {strokeStyle: "#1a1a1a", lineWidth: 1});
-  context.strokeRect(across(from + (seen + 0.5) * each), TOP, 0, high);
+  context.strokeRect(across(from + (read + 0.5) * each), TOP, 0, high);
 }
 
 /** Draw a line through points, with a gap where there is none.
@@ -106,87 +146,133 @@ function drawLine(context, points, side) {
 }
 
 /** Write what a detector counted in a span.
- * @param {DetectorFigures} one
+ * @param {number | null} flow       cars per hour; null: it was off
+ * @param {number | null} speed      km/h; null: no car passed
  */
-function valueText({flow, speed}) {
+function countText(flow, speed) {
   if (flow === null) return "detector off";
   return `${whole(flow)} cars/h${speed === null ? "" : `, ${Math.round(speed)} km/h`}`;
 }
 
-/** Show what is read of the charts. */
-function showSeen() {
-  const {series: {flows, names, from, to, each}} = store;
-  if (seen === null || !flows?.[0][seen]) {
-    $("seriesRead").textContent = "Point at a chart, or use the arrow keys there, to read it.";
-    return;
+/** Write the span of a point of a chart.
+ * @param {Chart} chart
+ * @param {number} point
+ */
+const spanOf = ({from, to, each}, point) =>
+  store.day.spanText(from + point * each, Math.min(to, from + (point + 1) * each));
+
+/** Write what is read of flow and speed. The later road comes first, as in the table.
+ * @param {Chart[]} charts   of flow and speed
+ */
+function readingText([flows, speeds]) {
+  const {point, names} = store.series;
+  if (point === null) return "Point at a chart, or use the arrow keys there, to read it.";
+  return `${spanOf(flows, point)}: ` + [1, 0].map((side) =>
+    `${names[side]} ${countText(flows.sides[side][point], speeds.sides[side][point])}`).join("; ");
+}
+
+/** Write what is read of travel times.
+ * @param {Chart} chart
+ */
+function travelText(chart) {
+  const {minute} = store.series;
+  if (minute === null || minute >= chart.sides[0].length) {
+    return "Mean travel time of the cars that entered in each minute.";
   }
-  const site = Number($("seriesSite").value);
-  const [point, start] = [seen, from + seen * each];
-  const texts = [1, 0].map((side) => `${names[side]} ${valueText(flows[side][point][site])}`);
-  $("seriesRead").textContent = `${timeText(start)}\u2013${timeText(Math.min(to, start + each))}: `
-    + texts.join("; ");
+  const names = namesNow();
+  const text = (/** @type {number | null} */ value) => (value === null ? "no car" : `${whole(value)} s`);
+  return `Entered ${spanOf(chart, minute)}: `
+    + [1, 0].map((side) => `${names[side]} ${text(chart.sides[side][minute])}`).join("; ");
 }
 
 /** Show the charts, if they are open. */
 function show() {
-  const {series: {flows, names}} = store;
-  $("series").hidden = !flows;
-  if (!flows || !$("series").open) return;
-  if (seen !== null && seen >= flows[0].length) seen = null;
+  const {isOpen, series: {point, minute, site, end}} = store;
+  const charts = detectorCharts();
+  $("series").hidden = !charts.length;
+  if (!charts.length || !isOpen.series) return;
+  $("seriesSite").value = String(site);
+  $("seriesEnd").value = end === null ? "" : String(end);
+  showRoadColours();
+  for (const chart of charts) drawChart(chart, point);
+  $("seriesRead").textContent = readingText(charts);
+  const travel = travelChart();
+  $("travelPart").hidden = !travel;
+  if (!travel) return;
+  drawChart(travel, minute);
+  $("travelRead").textContent = travelText(travel);
+}
+
+/** Show which colour is which road. */
+function showRoadColours() {
+  const {names} = store.series;
   $("seriesLegend").replaceChildren(...[1, 0].map((side) => {
     const line = element("span", "", {className: "swatch"});
     line.style.background = COLOURS[side];
     return element("li", "", {}, line, names[side]);
   }));
-  for (const chart of CHARTS) drawChart(chart, flows);
-  showSeen();
 }
 
-/** Read a point of the charts; null: none.
- * @param {number | null} point
- */
-function read(point) {
-  const {flows} = store.series;
-  if (!flows) return;
-  seen = point === null ? null : Math.max(0, Math.min(flows[0].length - 1, point));
-  show();
-}
-
-/** Return the point of a chart at which the pointer is.
+/** Read the point of a chart at which the pointer is.
+ * @param {ChartId} id
  * @param {PointerEvent} event
- * @param {HTMLCanvasElement} chart
  */
-function pointAt({offsetX}, chart) {
-  const {series: {from, to, each}} = store;
-  const part = (offsetX - LEFT) / (chart.clientWidth - LEFT - RIGHT);
-  return Math.floor(part * (to - from) / each);
+function onPoint(id, {offsetX}) {
+  const chart = chartOf(id);
+  if (!chart) return;
+  const part = (offsetX - LEFT) / ($(id).clientWidth - LEFT - RIGHT);
+  readAt(id, chart, Math.floor(part * (chart.to - chart.from) / chart.each));
 }
 
-/** @param {KeyboardEvent} event */
-function onKey(event) {
+/** Read the next point of a chart, or the one before.
+ * @param {ChartId} id
+ * @param {KeyboardEvent} event
+ */
+function onKey(id, event) {
   const way = event.key === "ArrowLeft" ? -1 : event.key === "ArrowRight" ? 1 : 0;
-  if (!way || !store.series.flows) return;
+  const chart = chartOf(id);
+  if (!way || !chart) return;
   event.preventDefault();
-  read((seen ?? (way > 0 ? -1 : store.series.flows[0].length)) + way);
+  const read = id === "travelChart" ? store.series.minute : store.series.point;
+  readAt(id, chart, (read ?? (way > 0 ? -1 : chart.sides[0].length)) + way);
 }
 
-/** Fill the choice of a detector by the plan. */
-function showPlan() {
-  $("seriesSite").replaceChildren(...known("plan").detectors.map((cell, index) =>
-    new Option(`${kmText(cell)} km`, String(index))));
+/** Read a point of a chart, or the nearest that it has.
+ * @param {ChartId} id
+ * @param {Chart} chart
+ * @param {number} point
+ */
+const readAt = (id, {sides: [one]}, point) =>
+  readPoint(id === "travelChart" ? "minute" : "point", Math.max(0, Math.min(one.length - 1, point)));
+
+/** Fill the choices of places by the plan. */
+function showPlaces() {
+  const options = () => need("plan").detectors.map((cell, index) =>
+    new Option(`${kmText(cell)} km`, String(index)));
+  $("seriesSite").replaceChildren(...options());
+  $("seriesEnd").replaceChildren(...options(), new Option("the road's end", ""));
 }
 
 /** Listen to the store and to the page. */
 export function begin() {
   $("series").open = window.innerHeight >= TALL_ENOUGH;
-  for (const {id} of CHARTS) {
-    on(id, "pointermove", (event) => read(pointAt(event, $(id))));
-    on(id, "pointerleave", () => read(null));
-    on(id, "keydown", onKey);
+  setOpen("series", $("series").open);
+  /** @type {ChartId[]} */
+  const ids = ["flowChart", "speedChart", "travelChart"];
+  for (const id of ids) {
+    on(id, "pointermove", (event) => onPoint(id, event));
+    on(id, "pointerleave", () => readPoint(id === "travelChart" ? "minute" : "point", null));
+    on(id, "keydown", (event) => onKey(id, event));
   }
-  on("seriesSite", "change", show);
-  on("series", "toggle", () => { if (store.plan) askSeries(); show(); });
+  on("seriesSite", "change", () => chooseSite(Number($("seriesSite").value)));
+  on("seriesEnd", "change", () =>
+    chooseEnd($("seriesEnd").value === "" ? null : Number($("seriesEnd").value)));
+  on("series", "toggle", () => {
+    setOpen("series", $("series").open);
+    if (store.plan) askSeries();
+  });
   new ResizeObserver(show).observe($("flowChart"));
-  when(["plan"], showPlan);
-  when(["series"], show);
+  watch(["plan"], showPlaces);
+  watch(["series", "isOpen", "figures", "outcome"], show);
+  show();
 }

@@ -1,11 +1,12 @@
-// What the page knows. Every view reads it; only the actions (joining, acting, looking, fetching,
-// drafting) change it, and tell by `changed` of what they did. Nothing here touches the page.
+// What the page knows. Every view reads it; only actions change it, and tell by `notify` which parts
+// they have changed. Nothing here touches the page.
 
+import {DayClock} from "./dayclock.mjs";
 import {HOUR} from "./units.mjs";
 
 /** @typedef {import("./geometry.mjs").Edge} Edge */
 /** @typedef {import("./layers.mjs").Layers} Layers */
-/** @typedef {import("./line.mjs").Line} Line */
+/** @typedef {import("./connection.mjs").Connection} Connection */
 /** @typedef {import("./listing.mjs").Listed} Listed */
 /** @typedef {import("./rows.mjs").Road} Road */
 /** @typedef {import("./types.mjs").Area} Area */
@@ -20,7 +21,7 @@ import {HOUR} from "./units.mjs";
 /** @typedef {import("./types.mjs").Place} Place */
 /** @typedef {import("./types.mjs").Plan} Plan */
 /** @typedef {import("./types.mjs").Preview} Preview */
-/** @typedef {import("./types.mjs").Previewed} Previewed */
+/** @typedef {import("./types.mjs").Outcome} Outcome */
 /** @typedef {import("./types.mjs").Seat} Seat */
 /** @typedef {import("./types.mjs").Span} Span */
 /** @typedef {import("./types.mjs").Stamp} Stamp */
@@ -29,80 +30,113 @@ import {HOUR} from "./units.mjs";
 /** @typedef {import("./types.mjs").Wishes} Wishes */
 /** @typedef {"mine" | "shared" | "before" | "after"} RoadName     of a preview `before`, `after` */
 /** @typedef {ReturnType<typeof setTimeout>} Timer */
+/** @typedef {"undo" | "redo"} Press */
+/** @typedef {"asTable" | "past" | "series"} Fold     a part of the page that can be folded, by its id */
+/** @typedef {"limit" | "watch" | "demand" | "inlet" | "site" | "slow" | "start" | "kmFrom" | "kmTo"
+ *           | "timeFrom" | "timeTo"} Field     of the form, by its id */
+/** @typedef {Record<Field, string>} FormValues   as they are written */
 /**
- * What is asked before joining: a sentence, the seats that nobody has open, the name that was used
- * last, whether the question is shown, and the seat that is to be taken over.
+ * The question for a name, before joining: a sentence, the seats that nobody has open, the name that
+ * was used last, whether the question is shown, and the seat that is to be taken over.
  * @typedef {{why: string, free: Seat[], name?: string, asks?: boolean, takes?: number}} Hello
  *
  * A drag: the place and the pixel where it began, the edge of a change that it draws, what was in
  * the plot's corner, whether the pointer has moved, and the rectangle that it draws.
- * @typedef {{at: Place, x: number, y: number, edge: {line: Change, edge: Edge} | null, cell: number,
- *            step: number, moved: boolean, area?: Area}} Drag
+ * @typedef {{at: Place, x: number, y: number, edge: {change: Change, edge: Edge} | null,
+ *            cell: number, step: number, moved: boolean, area?: Area}} Drag
+ *
+ * The part of the road and of time that the diagram shows, in cells and steps.
+ * @typedef {{cell: number, cells: number, step: number, span: number}} Extent
+ *
+ * A question for the changes of a road: whether it is to be asked again, and when all is there.
+ * @typedef {{again: boolean, done: Promise<void>}} Refresh
  */
 /**
  * @typedef {object} Store
  *
  * The connection, and who is there.
- * @property {Line | null} line
- * @property {[text: string, isAway: boolean]} lineText     what is said of the connection
+ * @property {Connection | null} connection
+ * @property {[text: string, isAway: boolean]} connectionText
+ * @property {boolean} isAway          the connection is lost
  * @property {Welcome | null} me       this tab's seat
- * @property {{rows: number, bytes: number, days: number}} most      of an answer
+ * @property {{rows: number, bytes: number, days: number}} limits      of an answer
  * @property {string[]} others         names of who else is here
  * @property {Wishes | null} wishes    as whom to join
- * @property {Hello | null} hello      what is asked before joining
- * @property {boolean} away            the connection is lost
- * @property {string} toldByBroker     the last sentence of the broker
+ * @property {Hello | null} hello
+ * @property {string} brokerText       the last sentence of the broker
  * @property {{site: number, when: number}[]} sites     other sites, and when each was heard last
- * @property {string} standing         a warning that the program is unproved
- * @property {string} trouble          what is wrong with the disk, as long as it is
- * @property {string[]} stays          what is wrong with sites, as long as it is
- * @property {string} replaced         why the program was replaced, for a while
- * @property {[text: string, isBad: boolean]} said      the sentence of the page's live region
+ * @property {string[]} siteFaults     what is wrong with sites
+ * @property {string} programNote      a warning that the program is not proved
+ * @property {string} closedNote       the note that this tab has closed
+ * @property {string} trouble          what is wrong with the disk
+ * @property {{why: string, timer: Timer | undefined}} replaced     why the program was replaced; ""
+ *   after a while
+ * @property {[text: string, isBad: boolean]} message   the sentence of the page's live region
  *
  * The road.
  * @property {Plan | null} plan
+ * @property {DayClock} day            how its times are written
  * @property {{now: number, rate: number, stop: number | null}} clock   step, steps a second, and
  *   the step at which a fast clock stops
  * @property {number} ahead            the step to which the own road is computed ahead of the clock
  * @property {Partial<Record<RoadName, Road>>} roads     rows and sums
  * @property {Partial<Record<RoadName, Layers>>} layers  changes; a preview has those of `after`
- * @property {Listed[]} lines          what the lists show
+ * @property {Map<"mine" | "shared", Refresh>} refreshes    questions for changes that are under way
  * @property {Map<string, Curve | Promise<Curve | null>>} curves     what inlets admit, by what it
  *   depends on; a promise until it is known
+ *
+ * Changes.
+ * @property {Listed[]} changes        what the lists show
  * @property {News & {text: string}} news    what others shared and is not taken
  * @property {Map<string, Pending>} pending  by key: sent again after a break
- * @property {boolean} isKept          the tab's storage has what is pending
- * @property {("undo" | "redo")[]} presses   until it is known what they take back
- * @property {Change | null} changing  the change whose figures are in the form
- * @property {Preview | null} before   what is looked at before sharing or taking
- * @property {Previewed | null} preview    what that would change
- * @property {Days | null} days        what is asked over many days
+ * @property {boolean} isPersisted     the tab's storage has what is pending
+ * @property {Press[]} undoPresses     of Undo and Redo, until it is known what they take back
+ * @property {Map<string, string>} notes     of what this tab did, by stamps
+ * @property {string} passedOver       the newest own change that Undo has refused to take back
+ * @property {Preview | null} preview
+ * @property {Outcome | null} outcome    what the preview would change
+ * @property {Days | null} days
  * @property {Timing[]} timings        of the last gestures
  *
- * What is looked at.
- * @property {{cell: number, cells: number, step: number, span: number}} look    the part of the
- *   road and of time, in cells and steps
+ * The tool and the form.
+ * @property {Kind | "look"} tool
+ * @property {FormValues} form
+ * @property {Change | null} changeInForm     the change that the form alters
+ * @property {Partial<FormValues>} formOfChange   what it wrote into the form
+ * @property {boolean} hasLetters      single letters choose tools
+ *
+ * What is seen of the road.
+ * @property {Extent} extent
  * @property {[wide: number, high: number]} plot     pixels of the diagram's plot
  * @property {"mine" | "shared" | "both"} whose
  * @property {"zoom" | "cars" | "means"} paint
- * @property {boolean} follow          the diagram follows the clock
- * @property {Kind | "look"} tool
+ * @property {boolean} follows         the diagram follows the clock
+ * @property {Record<Fold, boolean>} isOpen
  * @property {Area | null} area        the rectangle that is drawn
  * @property {Place | null} corner     where keys began it
  * @property {Place | null} cursor
  * @property {Drag | null} drag
- * @property {number} asking           questions for rows that have no answer yet
- * @property {Timer | null} idle       until missing rows and figures are asked for
- * @property {boolean} drawing         the picture is drawn at the next frame of the screen
- * @property {{whose: RoadName, every: number, steps: Span} | null} repainted    rows that changed
+ * @property {{when: number, x: number, y: number}} lastClick    on the diagram: milliseconds, pixels
+ * @property {{place: Place, byKey: boolean} | null} reading     the place that is read out
  * @property {FiguresKnown} figures
  * @property {Series} series
+ * @property {Set<string>} savedFiles     names of the files that were saved
+ *
+ * What is under way.
+ * @property {number} openRowQuestions    questions for rows that have no answer yet
+ * @property {Timer | null} idleTimer     until missing rows and figures are asked for
+ * @property {boolean} isDrawing       the picture is drawn at the next frame of the screen
+ * @property {{whose: RoadName, every: number, steps: Span} | null} changedRows
+ * @property {Set<keyof Store> | null} held     while a button is held down, the parts that have
+ *   changed and would move it
  */
 /**
  * Flow and speed by time of two roads: what each is called, steps, steps of a point, and for each road
- * what its detectors counted in each span.
+ * what its detectors counted in each span; the detector that is shown, and the one to which travel
+ * times are (null: the road's end); the point and the minute of entry that are read.
  * @typedef {{key: string, names: string[], from: number, to: number, each: number,
- *            flows: DetectorFigures[][][] | null, asking: boolean}} Series
+ *            flows: DetectorFigures[][][] | null, asking: boolean, site: number, end: number | null,
+ *            point: number | null, minute: number | null}} Series
  */
 /**
  * The figures of a period, mine first.
@@ -120,28 +154,45 @@ import {HOUR} from "./units.mjs";
 
 /** @type {Store} */
 export const store = {
-  line: null, lineText: ["connecting", false], me: null,
-  most: {rows: 1024, bytes: 1e6, days: 20}, others: [], wishes: null, hello: null, away: false,
-  toldByBroker: "", sites: [], standing: "", trouble: "", stays: [], replaced: "",
-  said: ["", false],
-  plan: null, clock: {now: 0, rate: 0, stop: null}, ahead: 0, roads: {}, layers: {}, lines: [],
-  curves: new Map(), news: {size: 0, shares: [], from: [], text: ""}, pending: new Map(),
-  isKept: true, presses: [],
-  changing: null, before: null, preview: null, days: null, timings: [],
-  look: {cell: 0, cells: 0, step: 0, span: HOUR}, plot: [800, 400], whose: "mine", paint: "zoom",
-  follow: true, tool: "look", area: null, corner: null, cursor: null, drag: null, asking: 0,
-  idle: null, drawing: false, repainted: null,
+  connection: null, connectionText: ["connecting", false], isAway: false, me: null,
+  limits: {rows: 1024, bytes: 1e6, days: 20}, others: [], wishes: null, hello: null,
+  brokerText: "", sites: [], siteFaults: [], programNote: "", closedNote: "", trouble: "",
+  replaced: {why: "", timer: undefined}, message: ["", false],
+
+  plan: null, day: new DayClock(), clock: {now: 0, rate: 0, stop: null}, ahead: 0, roads: {},
+  layers: {}, refreshes: new Map(), curves: new Map(),
+
+  changes: [], news: {size: 0, shares: [], from: [], text: ""}, pending: new Map(),
+  isPersisted: true, undoPresses: [], notes: new Map(), passedOver: "", preview: null,
+  outcome: null, days: null, timings: [],
+
+  tool: "look", changeInForm: null, formOfChange: {}, hasLetters: true,
+  form: {limit: "2", watch: "0", demand: "1000", inlet: "0", site: "0", slow: "25", start: "50",
+         kmFrom: "", kmTo: "", timeFrom: "", timeTo: ""},
+
+  extent: {cell: 0, cells: 0, step: 0, span: HOUR}, plot: [800, 400], whose: "mine", paint: "zoom",
+  follows: true, isOpen: {asTable: false, past: false, series: false}, area: null, corner: null,
+  cursor: null, drag: null, lastClick: {when: -Infinity, x: 0, y: 0}, reading: null,
   figures: {counts: null, period: null, wanted: [0, 0], key: "", exact: null, exactKey: "",
             asking: false, counting: false, soon: undefined},
-  series: {key: "", names: [], from: 0, to: 0, each: 60, flows: null, asking: false},
+  series: {key: "", names: [], from: 0, to: 0, each: 60, flows: null, asking: false, site: 0,
+           end: null, point: null, minute: null},
+  savedFiles: new Set(),
+
+  openRowQuestions: 0, idleTimer: null, isDrawing: false, changedRows: null, held: null,
 };
+
+/** The roads that are always there.
+ * @type {("mine" | "shared")[]}
+ */
+export const BOTH = ["mine", "shared"];
 
 /** Return a part of the store that is there once the page has joined. Throw if it is not.
  * @template {keyof Store} Part
  * @param {Part} part
  * @returns {NonNullable<Store[Part]>}
  */
-export function known(part) {
+export function need(part) {
   const value = store[part];
   if (value === null || value === undefined) {
     throw new Error(`The page does not know its ${part} yet.`);
@@ -174,23 +225,22 @@ const watchers = new Map();
  * @param {(keyof Store)[]} parts
  * @param {() => void} show
  */
-export function when(parts, show) {
+export function watch(parts, show) {
   for (const part of parts) watchers.set(part, [...(watchers.get(part) ?? []), show]);
 }
 
-/** What moves buttons, or makes them anew.
+/** What moves buttons, or replaces them.
  * @type {(keyof Store)[]}
  */
-const MOVES = ["clock", "days", "figures", "lineText", "lines", "news", "others", "preview", "said",
-               "sites", "stays"];
-/** @type {Set<keyof Store> | null} */
-let held = null;                // of these what has changed while a button is held down
+const MOVES = ["clock", "days", "figures", "connectionText", "changes", "news", "others", "outcome",
+               "message", "sites", "siteFaults"];
 
-/** Tell the views that these parts have changed. Those that move buttons are told once no button is
- * held down, so that what is pressed stays where it is.
+/** Show these parts in the views, since they have changed. Those that move buttons wait until no
+ * button is held down, so that what is pressed stays where it is.
  * @param {(keyof Store)[]} parts
  */
-export function changed(...parts) {
+export function notify(...parts) {
+  const {held} = store;
   const waits = held ? parts.filter((part) => MOVES.includes(part)) : [];
   for (const part of waits) held?.add(part);
   const told = parts.filter((part) => !waits.includes(part));
@@ -198,15 +248,15 @@ export function changed(...parts) {
 }
 
 /** Note that a button is held down. */
-export function hold() {
-  held ??= new Set();
+export function holdButton() {
+  store.held ??= new Set();
 }
 
-/** Note that it was let go, and tell what has waited. */
-export function letGo() {
-  const parts = held ?? [];
-  held = null;
-  changed(...parts);
+/** Note that the button was released, and notify of what has waited. */
+export function releaseButton() {
+  const parts = store.held ?? [];
+  store.held = null;
+  notify(...parts);
 }
 
 /** Say something in the page's one live region.
@@ -214,8 +264,8 @@ export function letGo() {
  * @param {boolean} [bad]
  */
 export function tell(text, bad = false) {
-  store.said = [text, bad];
-  changed("said");
+  store.message = [text, bad];
+  notify("message");
 }
 
 /** Return the step of the clock. */
@@ -225,16 +275,16 @@ export const now = () => store.clock.now;
 export const last = () => Math.max(store.clock.now, store.ahead);
 
 /** Ask whether this tab's seat made a change.
- * @param {Pick<Change, "name">} line
+ * @param {Pick<Change, "name">} change
  */
-export const isOwn = ({name}) => name.number === known("me").number;
+export const isOwn = ({name}) => name.number === need("me").number;
 
 /** Return the roads that are seen: of two the difference is drawn, the first less the second.
  * @returns {RoadName[]}
  */
 export function whoseShown() {
   if (store.whose !== "both") return [store.whose];
-  return store.preview?.layers ? ["after", "before"] : ["mine", "shared"];
+  return store.outcome?.layers ? ["after", "before"] : ["mine", "shared"];
 }
 
 /** Return the changes of the road that is seen, the first of two. */

@@ -3,8 +3,9 @@
 
 import {Words} from "./listing.mjs";
 import {byStamp} from "./stamps.mjs";
-import {dayText, kmText, plural} from "./units.mjs";
+import {MINUTE, kmText, plural, sum} from "./units.mjs";
 
+/** @typedef {import("./dayclock.mjs").DayClock} DayClock */
 /** @typedef {import("./types.mjs").DaysFigures} DaysFigures */
 /** @typedef {import("./types.mjs").DetectorFigures} DetectorFigures */
 /** @typedef {import("./types.mjs").Figures} Figures */
@@ -16,8 +17,6 @@ import {dayText, kmText, plural} from "./units.mjs";
 /** @typedef {"mine" | "preview"} Comparison */
 /** @typedef {number | null | undefined} Figure     null: it is not known */
 
-/** @param {number[]} numbers */
-const sum = (numbers) => numbers.reduce((one, other) => one + other, 0);
 /** @param {Figure} value */
 const plain = (value) => (typeof value === "number" ? String(Number(value.toFixed(4))) : "");
 /** @type {(one: Figure, other: Figure) => Figure} */
@@ -88,7 +87,34 @@ export function tableOfFigures({inlets, detectors}, of, said) {
   return [["figure", "unit", first, second, changeOf(of)],
           lineOf("vehicle hours", "h", (side) => side.vehicle_hours),
           ["delay of cars on both roads", "vehicle hours", "", "", plain(said.delay_hours)],
-          ...OF_INLETS.map(([name, cars]) => lineOf(name, "cars", (side) => sum(cars(side)))), ...atInlets, ...atDetectors, ...times];
+          ...OF_INLETS.map(([name, cars]) => lineOf(name, "cars", (side) => sum(cars(side)))),
+          ...atInlets, ...atDetectors, ...times];
+}
+
+/** Return the table of travel times by the minute of entry: a line for each minute and place.
+ * @param {Plan} plan
+ * @param {Comparison} of
+ * @param {Figures} said
+ * @param {DayClock} day
+ */
+export function tableOfTravel({detectors}, of, said, day) {
+  const [[one, first], [other, second]] = ORDER[of];
+  /** @type {(side: Side, step: number, place: number) => Figure[]} */
+  const cellsOf = (side, step, place) => {
+    const trip = said[side].entries.find((entry) => entry.step === step)?.trips[place];
+    return [trip?.cars ?? 0, trip?.seconds];
+  };
+  const places = [...detectors.map((cell) => `${kmText(cell)} km`), "the road's end"];
+  const steps = Array.from({length: Math.ceil((said.to - said.from) / MINUTE)}, (_, minute) =>
+    said.from + minute * MINUTE);
+  return [["entered from", "to", `cars, ${first}`, `travel time (s), ${first}`, `cars, ${second}`,
+           `travel time (s), ${second}`, `${changeOf(of)} (s)`],
+          ...steps.flatMap((step) => places.map((place, index) => {
+            const [cars, seconds] = cellsOf(one, step, index);
+            const [others, theirs] = cellsOf(other, step, index);
+            const change = of === "mine" ? less(seconds, theirs) : less(theirs, seconds);
+            return [day.timeText(step), place, plain(cars), plain(seconds), plain(others), plain(theirs), plain(change)];
+          }))];
 }
 
 /** Return the name of a figure of many days, and its unit.
@@ -126,9 +152,9 @@ export function tableOfDays(plan, of, {figures, days}) {
  */
 export function tableOfChanges(layers) {
   const words = new Words(layers, NOBODY);
-  const lines = [...layers.lines.values()].sort((one, other) => byStamp(one.name, other.name));
+  const changes = [...layers.changes.values()].sort((one, other) => byStamp(one.name, other.name));
   return [["change", "who", "what", "when", "does", "shared", "in force", "covered"],
-          ...lines.flatMap((line, index) => line.operations.map((done) =>
-            [index + 1, done.who, done.note || words.text(line), dayText(done.when), done.does,
-             done.shared ? "yes" : "no", words.parts(line, true), words.parts(line, false)]))];
+          ...changes.flatMap((change, index) => change.operations.map((done) =>
+            [index + 1, done.who, done.note || words.text(change), layers.day.dateText(done.when), done.does,
+             done.shared ? "yes" : "no", words.parts(change, true), words.parts(change, false)]))];
 }

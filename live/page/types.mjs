@@ -61,7 +61,7 @@
  */
 
 /**
- * A change as it was told, before it is known which parts are of this road.
+ * A change as the server tells it, before parts of other roads are removed.
  * @typedef {Omit<Change, "isRaw">} TaggedChange
  *
  * A change that leaves the list.
@@ -105,29 +105,31 @@
  */
 
 /**
- * What an inlet admits by each inflow chance (1/65,536), in cars per hour; `points` by rising chances.
+ * What an inlet admits at each inflow chance (1/65,536), in cars per hour; `points` by rising chances.
  * @typedef {object} Curve
  * @property {[chance: number, cars: number][]} points
  * @property {number} capacity
  */
 
 /**
- * A road by which the curves of its inlets are known at each step; null: it is measured just now.
+ * A road that has the curves of its inlets at each step; null: the server is measuring it.
  * @typedef {object} MeasuredRoad
  * @property {Plan} plan
+ * @property {import("./dayclock.mjs").DayClock} day
  * @property {(inlet: number, step: number) => Curve | null} curveAt
  */
 
 /**
- * What one road is counted to have, in a period.
+ * What is counted of one road, in a period.
  * @typedef {object} RoadFigures
  * @property {number} vehicle_hours
  * @property {number[]} asked         cars that each inlet is asked for
  * @property {number[]} entered       cars that each inlet lets in
  * @property {number[]} lost          cars of lost demand of each inlet
- * @property {number[]} scatter       cars by which the demand of each inlet scatters by chance
+ * @property {number[]} scatter       how many cars the demand of each inlet scatters by chance
  * @property {DetectorFigures[]} flows
  * @property {Trip[]} travel          to each detector, and last to the road's end
+ * @property {Entry[]} entries        the same by the minute of entry, in their order
  */
 
 /**
@@ -138,10 +140,13 @@
  *
  * Cars, and the mean of their seconds; null: there was none.
  * @typedef {{cars: number, seconds: number | null}} Trip
+ *
+ * Travel times of the cars that entered in the minute from a step on.
+ * @typedef {{step: number, trips: Trip[]}} Entry
  */
 
 /**
- * What two roads are counted to have, car by car.
+ * What is counted of two roads, car by car.
  * @typedef {object} Figures
  * @property {number} from            step
  * @property {number} to
@@ -161,13 +166,13 @@
  */
 
 /**
- * This tab's seat, and what the server says of itself when the tab joins.
+ * This tab's seat, and what the server describes when the tab joins.
  * @typedef {object} Welcome
  * @property {string} at              how the seat's road is named
  * @property {number} seat
  * @property {number} number          the seat's, in stamps
  * @property {string} name
- * @property {string} key             by which the tab has the seat again when it is reloaded
+ * @property {string} key             the tab has its seat again with this when it is reloaded
  * @property {Plan} plan
  * @property {number} now             step of the clock
  * @property {number} rate            steps a second
@@ -176,8 +181,12 @@
  * @property {{rows: number, bytes: number, days: number}} [most]
  * @property {Broker | null} broker
  * @property {string} [standing]
- * @property {{begin: number | null, zone: string | null, date?: string | null} | null} [day]  the
- *   time of day of step 0, in seconds after midnight, the time zone, and the date
+ * @property {ToldDay | null} [day]
+ */
+
+/**
+ * The time of day of step 0 in seconds after midnight, the time zone, and the date.
+ * @typedef {{begin: number | null, zone: string | null, date?: string | null}} ToldDay
  */
 
 /**
@@ -220,19 +229,19 @@
  */
 
 /**
- * What is looked at before sharing or taking.
+ * What is asked before sharing or taking.
  * @typedef {object} Preview
  * @property {"mine" | "shared" | "both"} whose   the road that was seen before
  * @property {boolean} takes
  * @property {string[] | undefined} names         of the changes to share; undefined: all
- * @property {Change[]} lines         what is shared
+ * @property {Change[]} changes       what is shared
  * @property {Stamp[]} stamps
  * @property {ReturnType<typeof setTimeout>} [soon]   until figures are asked for
  */
 
 /**
  * What sharing or taking would change. What is not known yet is null.
- * @typedef {object} Previewed
+ * @typedef {object} Outcome
  * @property {string} why             why it cannot be said; "": it can
  * @property {import("./layers.mjs").Layers | null} layers    of the road that it would be
  * @property {Stamp[]} names          of the changes that would be shown otherwise
@@ -240,8 +249,7 @@
  */
 
 /**
- * What is asked over many days: of which roads, of which versions, how many days are done, and the
- * answer.
+ * A comparison over many days: its roads, their versions, how many days are done, and the answer.
  * @typedef {{of: "mine" | "preview", key: string, done: number, said: DaysFigures | null}} Days
  *
  * When a gesture was made, had its rows, was painted, and was confirmed: milliseconds.
@@ -256,7 +264,7 @@
  * @property {string} note
  * @property {Shape | null} [shape]   what it puts
  * @property {number} [first]         the first step that it changes, if that is known
- * @property {"lay" | "undo" | "redo"} does
+ * @property {"apply" | "undo" | "redo"} does
  * @property {Stamp | string} [undoes]    the stamp, or the key, of what it takes back
  * @property {string} taken           a sentence of the stretch that it takes
  */
@@ -294,7 +302,7 @@
  */
 
 /**
- * What is told without asking: one of these.
+ * A message that nobody asked for: one of these.
  * @typedef {object} Told
  * @property {{now: number, rate: number, stop?: number | null}} [clock]
  * @property {News} [news]
@@ -339,7 +347,8 @@
  * @property {ToldStamp | null} [redo]
  * @property {{stamp: ToldStamp, by: string[]}[]} [blocked]
  *
- * @typedef {Omit<RoadFigures, "travel"> & {travel: ToldTrip[]}} ToldRoadFigures
+ * @typedef {Omit<RoadFigures, "travel" | "entries">
+ *   & {travel: ToldTrip[], travel_by_entry?: Record<string, ToldTrip[]>}} ToldRoadFigures
  * @typedef {Omit<Figures, "before" | "after" | "later">
  *   & {before: ToldRoadFigures, after: ToldRoadFigures, later: ToldTrip[]}} ToldFigures
  * @typedef {{name: string, before: ToldMean, after: ToldMean, difference: ToldMean}} ToldDaysFigure

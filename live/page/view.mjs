@@ -1,8 +1,8 @@
-// What follows from what is looked at: the view of drawing.js, which rows are wanted, which minutes
-// have figures. It reads the store.
+// What follows from the extent of the diagram: its view, which rows are wanted, which minutes have
+// figures. It reads the store.
 
 import {BOX, meansAreSeen} from "../../viewer/drawing.mjs";
-import {known, last, store} from "./store.mjs";
+import {need, last, store} from "./store.mjs";
 import {MINUTE} from "./units.mjs";
 
 /** @typedef {import("../../viewer/drawing.mjs").View} View */
@@ -10,15 +10,15 @@ import {MINUTE} from "./units.mjs";
 
 /** Return what stands in the plot's corner, and the pixels of a cell and of a step. */
 export function viewNow() {
-  const {look, plot: [wide, high]} = store;
-  return {cell: look.cell, step: look.step, scale: wide / look.cells, tall: high / look.span};
+  const {extent, plot: [wide, high]} = store;
+  return {cell: extent.cell, step: extent.step, scale: wide / extent.cells, tall: high / extent.span};
 }
 
 /** Return the part of the road and of time that is shown.
  * @returns {{cells: Span, steps: Span}}
  */
 export function partShown() {
-  const {cell, cells, step, span} = store.look;
+  const {cell, cells, step, span} = store.extent;
   return {cells: [cell, cell + cells], steps: [step, step + span]};
 }
 
@@ -29,18 +29,18 @@ export function byMeans(view) {
   return store.paint === "zoom" ? meansAreSeen(view) : store.paint === "means";
 }
 
-/** Return the greatest power of two that is at most so many steps; at least 1.
+/** Return the greatest power of two up to a number of steps; at least 1.
  * @param {number} steps
  */
 const powerOfTwo = (steps) => 2 ** Math.max(0, Math.floor(Math.log2(steps)));
 
-/** Return how many steps the rows that are asked for lie apart: some eight rows for a box of mean
- * speeds (four if the road is long), else one for a pixel. */
+/** Return how many steps apart the page asks for rows: some eight rows for a box of mean speeds (four
+ * if the road is long), else one for a pixel. */
 export function everyShown() {
   const view = viewNow();
   if (!byMeans(view) && store.whose !== "both") return powerOfTwo(1 / view.tall);
   const every = powerOfTwo(BOX / 8 / view.tall);
-  return every * (store.look.span / every * known("plan").length > store.most.bytes ? 2 : 1);
+  return every * (store.extent.span / every * need("plan").length > store.limits.bytes ? 2 : 1);
 }
 
 /** Return the steps whose figures are shown: the minutes that are seen, at least in part. In a
@@ -48,10 +48,10 @@ export function everyShown() {
  * @returns {Span}
  */
 export function periodShown() {
-  const {look, before} = store;
+  const {extent, preview} = store;
   const most = Math.floor(last() / MINUTE) * MINUTE;
-  const end = before ? most : Math.ceil((look.step + look.span) / MINUTE) * MINUTE;
-  const from = before ? 0 : Math.floor(look.step / MINUTE) * MINUTE;
+  const end = preview ? most : Math.ceil((extent.step + extent.span) / MINUTE) * MINUTE;
+  const from = preview ? 0 : Math.floor(extent.step / MINUTE) * MINUTE;
   return [from, Math.max(from, Math.min(end, most))];
 }
 

@@ -4,14 +4,14 @@ import assert from "node:assert/strict";
 import {test} from "node:test";
 
 import {ask, askUntilFree} from "../page/asking.mjs";
-import {Away} from "../page/line.mjs";
+import {Disconnected} from "../page/connection.mjs";
 import {store} from "../page/store.mjs";
 
 /** A line that gives these answers, one after the other, and what it was asked. */
 function answering(...answers) {
   const asked = [];
-  store.said = ["", false];
-  store.line = {ask: async (command) => {
+  store.message = ["", false];
+  store.connection = {ask: async (command) => {
     asked.push(command);
     const answer = answers.shift();
     if (answer instanceof Error) throw answer;
@@ -20,21 +20,21 @@ function answering(...answers) {
   return asked;
 }
 
-const BUSY = {refused: "busy", why: "another road is run"};
+const BUSY = {refused: "Busy", why: "another road is run"};
 const settled = () => new Promise((done) => { setImmediate(done); });
 
 test("a refusal is told", async () => {
   answering(BUSY);
   assert.deepEqual(await ask({figures: {}}), BUSY);
-  assert.deepEqual(store.said, ["another road is run", true]);
+  assert.deepEqual(store.message, ["another road is run", true]);
 });
 
 test("what was asked about what is looked at no more is not told", async () => {
-  answering({refused: "no preview", why: "ask again"}, {refused: "no preview", why: "ask again"});
+  answering({refused: "NoPreview", why: "ask again"}, {refused: "NoPreview", why: "ask again"});
   await ask({diagram: {}}, {stands: () => false});
-  assert.deepEqual(store.said, ["", false]);
+  assert.deepEqual(store.message, ["", false]);
   await ask({diagram: {}}, {stands: () => true});
-  assert.deepEqual(store.said, ["ask again", true]);
+  assert.deepEqual(store.message, ["ask again", true]);
 });
 
 test("one who is busy is asked again until there is an answer, and nothing is told", async (t) => {
@@ -49,13 +49,13 @@ test("one who is busy is asked again until there is an answer, and nothing is to
     if (count < 3) calls[count - 1][0]();
   }
   assert.deepEqual(await said, {lines: "a"});
-  assert.deepEqual(store.said, ["", false]);
+  assert.deepEqual(store.message, ["", false]);
 });
 
 test("other refusals, and a line that breaks, end it", async () => {
   answering({refused: "Range", why: "too long"});
   assert.equal((await askUntilFree({transcript: {}})).refused, "Range");
-  assert.deepEqual(store.said, ["too long", true]);
-  answering(new Away("the line broke"));
+  assert.deepEqual(store.message, ["too long", true]);
+  answering(new Disconnected("the line broke"));
   assert.equal(await askUntilFree({transcript: {}}), null);
 });

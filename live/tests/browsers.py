@@ -60,9 +60,9 @@ PRESS = FOUND + "one.click(); return true;"
 SETTLED = """
     const [done] = arguments;
     import("/page/store.mjs").then(({store}) => {
-      const isQuiet = () => store.pending.size === 0 && store.asking === 0 && !store.line.waits()
-        && [...store.line.open.values()].every(({command}) => command.figures ?? command.days)
-        && !store.drawing && !store.idle && !store.figures.asking;
+      const isQuiet = () => store.pending.size === 0 && store.openRowQuestions === 0 && !store.connection.countWaiting()
+        && [...store.connection.questions.values()].every(({command}) => command.figures ?? command.days)
+        && !store.isDrawing && !store.idleTimer && !store.figures.asking;
       const end = performance.now() + 1000;
       let since = null;
       const look = () => {
@@ -112,19 +112,20 @@ TRUTH = """
       const one = document.getElementById(id);
       return `${id}${one?.checkVisibility() ? "" : " (hidden)"}: ${one?.textContent.trim().replace(/\\s+/g, " ")}`;
     };
-    const {line, pending, asking, drawing, idle, figures} = store ?? {};
-    return [document.title, ...["said", "line", "clock", "news", "own", "held", "before"].map(shown),
+    const {connection, pending, openRowQuestions, isDrawing, idleTimer, figures} = store ?? {};
+    return [document.title, ...["said", "line", "clock", "news", "own", "held", "preview"].map(shown),
             `save is open: ${document.getElementById("save")?.open}`,
             `is hidden: ${document.hidden}, has the focus: ${document.hasFocus()}`,
-            JSON.stringify({open: line && [...line.open.values()].map(({command}) => command), waits: line?.waits(),
-                            pending: pending?.size, asking, drawing, idle, figures: figures?.asking}),
+            JSON.stringify({open: connection && [...connection.questions.values()].map(({command}) => command), waits: connection?.countWaiting(),
+                            pending: pending?.size, openRowQuestions, isDrawing, idleTimer, figures: figures?.asking}),
             window.over ?? "", "what befell it:", ...(window.befell ?? [])];"""
 
 
 def example_rows(which: int) -> list[str]:
     """The rows of a diagram of the example: 0 closed from step 12 on, 1 from 12 to 24; both begin at step 12, or 24."""
     with open(TOP / "examples" / "closed_cell.out", encoding="utf-8") as replies:
-        return [reply["rows"] for reply in map(json.loads, replies) if "rows" in reply][which]
+        rows: list[list[str]] = [reply["rows"] for reply in map(json.loads, replies) if "rows" in reply]
+    return rows[which]
 
 
 def free_server(plan: dict[str, Any], *more: str, **environment: str) -> Server:
@@ -212,13 +213,16 @@ class Tab:
 
     def covers(self, ident: str) -> list[str]:
         """What the lines of a list say of what covers them."""
-        return self.script("return [...document.querySelectorAll(`#${arguments[0]} > li > .loss`)].map((one) => "
-                           "one.textContent)", ident)
+        found = self.script("return [...document.querySelectorAll(`#${arguments[0]} > li > .loss`)].map((one) => "
+                            "one.textContent)", ident)
+        return list(map(str, found))
 
     def value_at(self, kind: str, index: int, *steps: int) -> list[int]:
         """What holds on the own road, as the page says it."""
-        return self.script("const [kind, index, steps] = arguments;"
-                           "return steps.map((step) => store.layers.mine.valueAt(kind, index, step))", kind, index, steps)
+        found: list[int] = self.script(
+            "const [kind, index, steps] = arguments;"
+            "return steps.map((step) => store.layers.mine.valueAt(kind, index, step))", kind, index, steps)
+        return found
 
     def faults(self) -> list[str]:
         return [entry["message"] for entry in self.driver.get_log("browser")
@@ -255,9 +259,9 @@ class Tab:
         """Saves two files by one press: that of the own road, and that of the shared one."""
         self.open_part("save")
         self.press(name, "#save")
-        shared = lambda: [path for path in self.saved(file) if "-shared-" in path.name]
-        self.until(lambda: shared() and len(self.saved(file)) == 2, f"two of {file}")
-        return sorted(self.saved(file), key=lambda path: path in shared())
+        is_shared = lambda path: "-shared-" in path.name
+        self.until(lambda: any(map(is_shared, self.saved(file))) and len(self.saved(file)) == 2, f"two of {file}")
+        return sorted(self.saved(file), key=is_shared)
 
     def saved(self, file: str) -> list[Path]:
         """The files that were saved whose names begin and end as this one's."""
@@ -353,14 +357,15 @@ class Tab:
               Math.round(topOf(view, step + 0.5)), 1, 1).data].slice(0, 3);
             return Array.from({length: count}, (_, step) =>
               Array.from({length}, (_, cell) => pixel(cell, first + step)));""", first, count, length)
-        by_colour = {colour: sign for sign, colour in COLOURS.items()}
+        by_colour: dict[tuple[int, ...], str] = {colour: sign for sign, colour in COLOURS.items()}
         return ["".join(by_colour.get(tuple(pixel), "?") for pixel in row) for row in found]
 
     def pixel(self, cell: float, step: float) -> tuple[int, int, int]:
-        return tuple(self.script("""
+        red, green, blue = self.script("""
             const [cell, step] = arguments, view = viewNow();
             return [...$("diagram").getContext("2d").getImageData(Math.round(leftOf(view, cell)),
-              Math.round(topOf(view, step)), 1, 1).data].slice(0, 3);""", cell, step))
+              Math.round(topOf(view, step)), 1, 1).data].slice(0, 3);""", cell, step)
+        return red, green, blue
 
     def point(self, cell: float, step: float) -> str:
         """Moves the pointer to a place, and gives what the page says of it."""
@@ -372,8 +377,8 @@ class Tab:
 
 def before_rows(tab: Tab) -> dict[str, tuple[float, ...]]:
     """The table of what sharing or taking would change: now, then, the change."""
-    tab.until(lambda: tab.script("return document.querySelector('#before table') !== null"), "the figures")
-    rows = tab.script("return [...document.querySelectorAll('#before tbody tr')].map((line) => "
+    tab.until(lambda: tab.script("return document.querySelector('#preview table') !== null"), "the figures")
+    rows = tab.script("return [...document.querySelectorAll('#preview tbody tr')].map((line) => "
                       "[...line.children].map((one) => one.textContent))")
     number = lambda text: float(text.replace(",", "").replace("−", "-").replace("+", "") or "nan")
     return {name: tuple(map(number, values)) for name, *values in rows}

@@ -15,7 +15,7 @@ test("without anything pending it is what the server says", () => {
 });
 
 test("what is pending is taken back first, once for each press", () => {
-  const laid = acts(["a", "lay"], ["b", "lay"]);
+  const laid = acts(["a", "apply"], ["b", "apply"]);
   assert.deepEqual(nextOf({undo: [3, 65], redo: [2, 65]}, laid), {undo: "b", redo: null});
   const once = [...laid, ...acts(["c", "undo"])];
   assert.deepEqual(nextOf(NONE, once), {undo: "a", redo: "c"});
@@ -34,7 +34,7 @@ test("what only the server knows is waited for", () => {
 
 test("what is pending and taken back is known, and what is put again is not", () => {
   const undo = (key, undoes) => ({key, does: "undo", undoes});
-  const pending = [...acts(["a", "lay"], ["b", "lay"]), undo("c", "b"), undo("d", "a")];
+  const pending = [...acts(["a", "apply"], ["b", "apply"]), undo("c", "b"), undo("d", "a")];
   const gone = (list) => ["a", "b", "c", "d", "e"].filter((key) => takenBack(list).has(key));
   assert.deepEqual(gone(pending.slice(0, 2)), []);
   assert.deepEqual(gone(pending), ["a", "b"]);
@@ -53,18 +53,18 @@ function storage(isFull = false) {
 
 test("what is pending is kept in its order until nothing is", () => {
   const there = storage();
-  const pending = new Map([["k2", {note: "two"}], ["k1", {note: "one"}]]);
+  const pending = new Map([["k2", {note: "two", does: "apply"}], ["k1", {note: "one", does: "undo"}]]);
   assert.ok(keep(there, "seat1", pending));
   assert.deepEqual(kept(there), {at: "seat1", acts: [...pending]});
   keep(there, "seat1", new Map());
   assert.deepEqual(kept(there), {at: "seat1", acts: []});
 });
 
-test("a shape that an older page kept is not drawn", () => {
+test("what an older page kept is read: its shape is not drawn, and what it did is called as now", () => {
   const there = storage();
   const shape = {kind: "block", first: 1, last: 1, from: 0, to: null, value: 1};
-  keep(there, "seat1", new Map([["k1", {shape: ["block", 1, 1, 0, null, 1]}], ["k2", {shape}]]));
-  assert.deepEqual(kept(there).acts, [["k1", {shape: null}], ["k2", {shape}]]);
+  keep(there, "seat1", new Map([["k1", {shape: ["block", 1, 1, 0, null, 1], does: "lay"}], ["k2", {shape, does: "redo"}]]));
+  assert.deepEqual(kept(there).acts, [["k1", {shape: null, does: "apply"}], ["k2", {shape, does: "redo"}]]);
 });
 
 test("it is known where nothing is kept", () => {

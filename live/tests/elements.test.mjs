@@ -9,8 +9,8 @@ const KINDS = {button: "Button", canvas: "Canvas", details: "Details", dialog: "
                fieldset: "FieldSet", form: "Form", h2: "Heading", input: "Input", label: "Label",
                ol: "OList", p: "Paragraph", select: "Select", span: "Span", table: "Table",
                ul: "UList"};
-const MADE = {beforeTitles: "p", beforeList: "ul", beforeDays: "span", beforeCovers: "div",
-              beforeOver: "div", beforeFigures: "div"};      // by before.mjs
+const MADE = {previewTitles: "p", previewList: "ul", previewDays: "span", previewCovers: "div",
+              previewOver: "div", previewFigures: "div"};      // by preview.mjs
 
 /** The tags of the elements that have an id. */
 function tagsOf(html) {
@@ -31,7 +31,7 @@ test("each element that has a type is on the page, and is of that kind", () => {
 });
 
 test("a preview makes the elements that have types", () => {
-  const text = read("../page/before.mjs");
+  const text = read("../page/preview.mjs");
   for (const [id, tag] of Object.entries(MADE)) {
     assert.match(text, new RegExp(`element\\("${tag}", "", \\{id: "${id}"`), id);
   }

@@ -3,24 +3,24 @@
 import assert from "node:assert/strict";
 import {test} from "node:test";
 
-import {changed, hold, letGo, tell, when} from "../page/store.mjs";
+import {notify, holdButton, releaseButton, tell, watch} from "../page/store.mjs";
 
 test("what moves buttons waits until none is held down, and is shown once", () => {
   const shown = [];
-  when(["lines"], () => shown.push("lines"));
-  when(["news", "before"], () => shown.push("news"));
-  when(["repainted"], () => shown.push("repainted"));
-  when(["said"], () => shown.push("said"));
-  hold();
-  changed("lines");
-  changed("news", "lines", "repainted");
+  watch(["changes"], () => shown.push("lines"));
+  watch(["news", "preview"], () => shown.push("news"));
+  watch(["changedRows"], () => shown.push("repainted"));
+  watch(["message"], () => shown.push("said"));
+  holdButton();
+  notify("changes");
+  notify("news", "changes", "changedRows");
   tell("Took 1 change.");
   assert.deepEqual(shown, ["repainted"]);
-  changed("before");                    // what the press itself opens
+  notify("preview");                    // what the press itself opens
   assert.deepEqual(shown, ["repainted", "news"]);
-  letGo();
+  releaseButton();
   assert.deepEqual(shown.slice(2).sort(), ["lines", "news", "said"]);
-  letGo();
-  changed("lines");
+  releaseButton();
+  notify("changes");
   assert.deepEqual(shown.slice(5), ["lines"]);
 });

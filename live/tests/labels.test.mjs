@@ -50,9 +50,9 @@ test("labels of frames at one place stand under or beside each other", () => {
   }
 });
 
-test("three pieces of one line have one label, at the largest of them", () => {
-  const piece = (top, bottom) => ({text: "54 km/h", box: [100, top, 300, bottom], line: "7,65"});
-  const other = {text: "27 km/h", box: [100, 140, 300, 160], line: "8,65"};
+test("three pieces of one change have one label, at the largest of them", () => {
+  const piece = (top, bottom) => ({text: "54 km/h", box: [100, top, 300, bottom], change: "7,65"});
+  const other = {text: "27 km/h", box: [100, 140, 300, 160], change: "8,65"};
   const labels = [piece(100, 140), piece(160, 220), piece(260, 280)];
   assert.deepEqual(onceEach([labels[0], other, labels[1], labels[2]]).map(({box}) => box),
                    [labels[1].box, other.box]);
@@ -60,7 +60,7 @@ test("three pieces of one line have one label, at the largest of them", () => {
 
 test("three changes side by side that say the same have one label, others their own", () => {
   const zone = (number, text = "54 km/h") =>
-    ({text, box: [100 + 50 * number, 100, 150 + 50 * number, 200], line: String(number)});
+    ({text, box: [100 + 50 * number, 100, 150 + 50 * number, 200], change: String(number)});
   assert.equal(onceEach([zone(0), zone(1), zone(2)]).length, 1);
   assert.equal(onceEach([zone(0), zone(2)]).length, 2);
   assert.equal(onceEach([zone(0), zone(1, "27 km/h"), zone(2)]).length, 3);

@@ -7,8 +7,8 @@ import {test} from "node:test";
 
 import {untaken, unshared} from "../page/changes.mjs";
 import {decodeChange, decodeList} from "../page/decoding.mjs";
-import {Layers, caughtIn, isInForce, lostOf, privateOf} from "../page/layers.mjs";
-import {Words, affectedBy, historyOf, linesOf} from "../page/listing.mjs";
+import {Layers, countTrapped, isInForce, lostOf, privateOf} from "../page/layers.mjs";
+import {Words, affectedBy, historyOf, listChanges} from "../page/listing.mjs";
 import {store} from "../page/store.mjs";
 
 const PLAN = JSON.parse(readFileSync(new URL("../plan.json", import.meta.url), "utf8"));
@@ -32,7 +32,7 @@ const nameOf = (count, number) => ({count, number});
 
 function road(...lines) {
   const layers = new Layers(PLAN);
-  layers.take(decodeList({layers: lines, next: 7, undo: [2, BEN], redo: null}));
+  layers.update(decodeList({layers: lines, next: 7, undo: [2, BEN], redo: null}));
   return layers;
 }
 
@@ -50,24 +50,24 @@ test("what is in force has frames and values; what is covered has none", () => {
 });
 
 test("a line is in force where nothing lies above it", () => {
-  const found = road(ada(COVERED)).line(nameOf(1, ADA));
+  const found = road(ada(COVERED)).find(nameOf(1, ADA));
   assert.deepEqual([1199, 1200, 1499, 1500, 1799, 1800, 2399, 2400].map((step) =>
     isInForce(found, 5, step)), [false, true, true, false, false, true, true, false]);
   assert.deepEqual([3, 4, 5, 6].map((zone) => isInForce(found, zone, 1300)),
                    [false, true, true, false]);
-  assert.ok(isInForce(road(ada([[1200, null, null]])).line(nameOf(1, ADA)), 4, 99999));
+  assert.ok(isInForce(road(ada([[1200, null, null]])).find(nameOf(1, ADA)), 4, 99999));
 });
 
 test("a line replaces the one of its name; one that is gone leaves the list", () => {
   const layers = road(ada([[1200, 2400, null]]));
-  layers.take(decodeList({layers: [ada(COVERED), ben([[1500, 1800, null]])], next: 9, undo: null,
+  layers.update(decodeList({layers: [ada(COVERED), ben([[1500, 1800, null]])], next: 9, undo: null,
                           redo: null}));
-  assert.deepEqual([layers.next, layers.undo, layers.lines.size], [9, null, 2]);
-  layers.take(decodeList({layers: [{name: [2, BEN], gone: true}], next: 10}));
-  assert.deepEqual([...layers.lines.keys()], ["1,65"]);
+  assert.deepEqual([layers.next, layers.undo, layers.changes.size], [9, null, 2]);
+  layers.update(decodeList({layers: [{name: [2, BEN], gone: true}], next: 10}));
+  assert.deepEqual([...layers.changes.keys()], ["1,65"]);
   const other = layers.with([decodeChange(ben([[1500, 1800, null]]))]);
-  assert.equal(other.lines.size, 2);
-  assert.equal(layers.lines.size, 1);
+  assert.equal(other.changes.size, 2);
+  assert.equal(layers.changes.size, 1);
 });
 
 test("what is not of this road is left out, whatever it is", () => {
@@ -77,7 +77,7 @@ test("what is not of this road is left out, whatever it is", () => {
                  ["limit", 4, 5, 0, 60, "2", null], ["inflow", 2, 2, 0, null, 9, null], "limit", null];
   const layers = road({...ada([]), shape: ["watch", 9, 9, 0, null, 1], shown: parts,
                        edits: [["block", 800, 0, 1], ["block", 799, 0, 1]]});
-  const found = layers.line(nameOf(1, ADA));
+  const found = layers.find(nameOf(1, ADA));
   const limit = {kind: "limit", first: 4, last: 5, from: 0, to: 60, value: 2, by: null};
   assert.deepEqual(found.shown, [limit]);
   assert.ok(found.isRaw);
@@ -86,17 +86,17 @@ test("what is not of this road is left out, whatever it is", () => {
   assert.deepEqual(road({...ada([]), shown: "all"}).frames, []);
 });
 
-test("a site that is left out has a line, and nothing of it is drawn", () => {
+test("a site that is excluded has a line, and nothing of it is drawn", () => {
   const out = {...ada([]), kind: "site", shape: ["site", 3, 3, 0, null, 1],
                shown: [["site", 3, 3, 0, null, 1, null]], isRaw: false};
   const layers = road(out);
-  assert.deepEqual([layers.frames, layers.line(nameOf(1, ADA)).site], [[], 3]);
-  assert.equal(new Words(layers, ADA).text(layers.line(nameOf(1, ADA))), "Site 3 is left out");
+  assert.deepEqual([layers.frames, layers.find(nameOf(1, ADA)).site], [[], 3]);
+  assert.equal(new Words(layers, ADA).text(layers.find(nameOf(1, ADA))), "Site 3 is excluded");
 });
 
 test("edits that are one rectangle have its shape, so that they can be changed", () => {
   const of = (...shown) => road({...ada([]), shape: null, note: "", shown,
-                                 edits: [["block", 100, 600, 1]]}).line(nameOf(1, ADA));
+                                 edits: [["block", 100, 600, 1]]}).find(nameOf(1, ADA));
   const closure = ["block", 100, 101, 600, 700, 1];
   const [one, two] = [of([...closure, null], ["block", 100, 101, 700, null, 0, null]),
                       of([...closure, null], ["block", 100, 100, 800, null, 1, null])];
@@ -117,7 +117,7 @@ test("an edit that sets what the plan has needs no frame, a shape that does has 
 
 test("a line says where it is in force, and what covers it", () => {
   const layers = road(ada(COVERED), ben([[1500, 1800, null]]));
-  const said = (number, name) => new Words(layers, number).cover(layers.line(name));
+  const said = (number, name) => new Words(layers, number).cover(layers.find(name));
   assert.equal(said(ADA, nameOf(1, ADA)), "In force 0:20:00\u20130:25:00; covered 0:25:00\u20130:30:00 by "
     + "Ben's limit of 81 km/h; in force 0:30:00\u20130:40:00.");
   assert.match(said(BEN, nameOf(1, ADA)), /by your limit of 81 km\/h/);
@@ -127,14 +127,14 @@ test("a line says where it is in force, and what covers it", () => {
 test("a line that is wholly covered says so", () => {
   const over = line([3, BEN], "Ben", ["limit", 0, 15, 0, null, 1], [[0, null, null]]);
   const layers = road(ada([[1200, 2400, [3, BEN]]]), over);
-  assert.equal(new Words(layers, ADA).cover(layers.line(nameOf(1, ADA))),
+  assert.equal(new Words(layers, ADA).cover(layers.find(nameOf(1, ADA))),
                "Wholly covered by Ben's limit of 27 km/h.");
 });
 
 test("places are said where parts of the road differ", () => {
   const shown = [["limit", 4, 4, 1200, 2400, 2, null], ["limit", 5, 5, 1200, 2400, 2, [2, BEN]]];
   const layers = road({...ada([]), shown}, ben([[1500, 1800, null]]));
-  assert.equal(new Words(layers, ADA).cover(layers.line(nameOf(1, ADA))),
+  assert.equal(new Words(layers, ADA).cover(layers.find(nameOf(1, ADA))),
     "In force 1.5\u20131.875 km, 0:20:00\u20130:40:00; covered 1.875\u20132.25 km, "
     + "0:20:00\u20130:40:00 by Ben's limit of 81 km/h.");
 });
@@ -143,7 +143,7 @@ test("of many parts four are told", () => {
   const parts = Array.from({length: 9}, (_, turn) =>
     [1200 + 60 * turn, 1260 + 60 * turn, turn % 2 ? [2, BEN] : null]);
   const layers = road(ada(parts), ben([[1500, 1800, null]]));
-  assert.match(new Words(layers, ADA).cover(layers.line(nameOf(1, ADA))), /; and 5 more\.$/);
+  assert.match(new Words(layers, ADA).cover(layers.find(nameOf(1, ADA))), /; and 5 more\.$/);
 });
 
 test("the lists have what stands and what is not shared, newest first", () => {
@@ -152,15 +152,15 @@ test("the lists have what stands and what is not shared, newest first", () => {
   const mine = ada([[1200, 2400, null]]);
   mine.operations.push(change);
   const withdrawn = {...ben([]), standing: false, shape: null};
-  const lines = linesOf(road(mine, ben([[1500, 1800, null]])), ADA);
+  const lines = listChanges(road(mine, ben([[1500, 1800, null]])), ADA);
   assert.deepEqual(lines.map(({text, state, where}) => [text, state, where]),
     [["54 km/h, 1.5\u20132.25 km, 0:20:00\u20130:40:00", "private", "own"],
      ["81 km/h, 1.5\u20132.25 km, 0:25:00\u20130:30:00", "shared", "held"]]);
   assert.deepEqual(privateOf(mine), [change]);
-  assert.deepEqual(linesOf(road(withdrawn), ADA), []);
+  assert.deepEqual(listChanges(road(withdrawn), ADA), []);
   withdrawn.operations.push({stamp: [6, ADA], who: "Ada", note: "Withdrew: it", when: 0,
                              does: "withdraw", shared: false, lost: null});
-  assert.deepEqual(linesOf(road(withdrawn), ADA).map(({text, where}) => [text, where]),
+  assert.deepEqual(listChanges(road(withdrawn), ADA).map(({text, where}) => [text, where]),
                    [["Withdrew: it", "own"]]);
 });
 
@@ -172,7 +172,7 @@ test("who stands in two closures is told of once, where the road opens", () => {
   const layers = road(lower, upper);
   const row = `${".".repeat(8)}0###0#####0####`.padEnd(PLAN.length, ".");    // 8, 12 and 18
   assert.deepEqual(layers.frames.map((frame) => [frame.first, frame.to,
-                                                 caughtIn(layers, frame, row)]),
+                                                 countTrapped(layers, frame, row)]),
                    [[10, 2400, 1], [15, 1800, 0], [15, null, 1]]);
 });
 
@@ -180,12 +180,29 @@ test("a line says who made it, and who else has laid it since", () => {
   const raised = {stamp: [5, BEN], who: "Ben", note: "", when: 0, does: "top", shared: true,
                   lost: null};
   const mine = ada([[1200, 2400, null]]);
-  const metas = () => [ADA, BEN].map((number) => linesOf(road(mine), number)[0].meta);
+  const metas = () => [ADA, BEN].map((number) => listChanges(road(mine), number)[0].meta);
   assert.deepEqual(metas(), ["you", "Ada"]);
   mine.operations.push(raised);
   assert.deepEqual(metas(), ["you; put on top by Ben", "Ada; put on top by you"]);
   mine.operations.push({...raised, stamp: [6, ADA], who: "Ada", does: "change"});
   assert.deepEqual(metas(), ["you", "Ada"]);
+});
+
+test("who undid or redid a change is told, each by its own word", () => {
+  const done = {stamp: [5, BEN], who: "Ben", note: "", when: 0, shared: true, lost: null,
+                undoes: [1, ADA]};
+  const metas = (does) => [ADA, BEN].map((number) => listChanges(road(ada(
+    [[1200, 2400, null]], {operations: [ada([]).operations[0], {...done, does}]})), number)[0].meta);
+  assert.deepEqual(metas("undo"), ["you; undone by Ben", "Ada; undone by you"]);
+  assert.deepEqual(metas("redo"), ["you; redone by Ben", "Ada; redone by you"]);
+});
+
+test("an operation has one time at all seats", () => {
+  const when = 1_767_225_600;
+  const late = ada([[1200, 2400, null]], {operations: [{...ada([]).operations[0], when}]});
+  const [own, others] = [ADA, BEN].map((number) => listChanges(road(late), number)[0].meta);
+  assert.equal(own.replace(/^you, /, ""), others.replace(/^Ada, /, ""));
+  assert.match(own, /\d:\d\d/);
 });
 
 test("edits that were changed have one line: that of the shape in their place", () => {
@@ -194,7 +211,7 @@ test("edits that were changed have one line: that of the shape in their place", 
                 lost: null};
   edits.operations = [...edits.operations, {...done, does: "edits"}];
   const shape = {...ada([[1200, 2400, null]]), name: [9, ADA], operations: [done]};
-  assert.deepEqual(linesOf(road(edits, shape), ADA).map(({line: {name}}) => name), [nameOf(9, ADA)]);
+  assert.deepEqual(listChanges(road(edits, shape), ADA).map(({change: {name}}) => name), [nameOf(9, ADA)]);
 });
 
 test("all that was done is listed, withdrawals too", () => {
@@ -214,8 +231,8 @@ test("who lost to another at the same time is told, until it is laid again", () 
     {stamp: [5, BEN], who: "Ben", note: "", when: 0, does: "change", shared: true, lost: [5, 67]},
     {stamp: [5, 67], who: "Cleo", note: "", when: 0, does: "withdraw", shared: true, lost: null}];
   Object.assign(mine, {standing: false, shape: null});
-  const [one] = linesOf(road(mine), BEN);
-  assert.equal(one.lost, "Cleo withdrew it at the same time, a moment later.");
+  const [one] = listChanges(road(mine), BEN);
+  assert.equal(one.lost, "Cleo withdrew it at the same time, and that counts.");
   assert.deepEqual(lostOf(decodeChange(mine), BEN).mine.stamp, nameOf(5, BEN));
   assert.equal(lostOf(decodeChange(mine), ADA), null);
   mine.operations.push({stamp: [6, BEN], who: "Ben", note: "", when: 0, does: "put", shared: true,
@@ -227,12 +244,12 @@ test("before it is done it is said what would be covered, and what would be in f
   const was = [["limit", 4, 5, 1200, 2400, 2, null]];
   const layers = road().with([{...ada(COVERED), was}, {...ben([[1500, 1800, null]]), was: null}]
     .map(decodeChange));
-  const [after, said] = [[...layers.lines.values()], new Words(layers, ADA)];
+  const [after, said] = [[...layers.changes.values()], new Words(layers, ADA)];
   assert.deepEqual(affectedBy(after).map((one) => said.effect(one)),
     ["you: 54 km/h, 1.5\u20132.25 km, 0:20:00\u20130:40:00 \u2013 then: in force "
      + "0:20:00\u20130:25:00; covered 0:25:00\u20130:30:00 by Ben's limit of 81 km/h; in force "
      + "0:30:00\u20130:40:00."]);
-  const effect = (line) => said.effect(road(line).line(nameOf(...line.name)));
+  const effect = (line) => said.effect(road(line).find(nameOf(...line.name)));
   assert.match(effect(ada([[1200, 2400, null]])), /then: in force whole\.$/);
   assert.match(effect({...ada([]), standing: false}), /then: withdrawn by you\.$/);
   assert.deepEqual(affectedBy([{...ada([]), shown: was, was}]), []);
@@ -243,7 +260,7 @@ test("what is to be shared and what is to be taken is listed newest first", () =
   const own = made.map((one) => ({...one, operations: [{...one.operations[0], shared: false}]}));
   const [mine, shared] = [road(...own), road(...made)];
   const counts = (lines) => lines.map(({name}) => name.count);
-  Object.assign(store, {layers: {mine, shared}, lines: linesOf(mine, BEN)});
+  Object.assign(store, {layers: {mine, shared}, changes: listChanges(mine, BEN)});
   assert.deepEqual([counts(unshared()), counts(untaken())], [[3, 2, 1], []]);
   Object.assign(store.layers, {mine: road()});
   assert.deepEqual(counts(untaken()), [3, 2, 1]);
@@ -254,11 +271,11 @@ test("what is lost when it is taken is told as it was, with who won", () => {
   const theirs = {...put, stamp: [5, BEN], who: "Ben", does: "change", lost: [6, ADA], shape: BS};
   const mine = {...put, stamp: [6, ADA], does: "change", shared: false};
   const layers = road(ada(COVERED, {operations: [put, theirs, mine]}));
-  const then = layers.line(nameOf(1, ADA));
+  const then = layers.find(nameOf(1, ADA));
   const [, ben, own] = then.operations;
   const said = (number, ...fresh) => new Words(layers, number).losing(then, fresh);
   assert.deepEqual(said(ADA, ben), ["81 km/h, 1.5\u20132.25 km, 0:25:00\u20130:30:00",
-    "Ben: no effect, you changed it at the same time, a moment later"]);
+    "Ben: no effect, you changed it at the same time, and that counts"]);
   assert.match(said(67, ben)[1], /no effect, Ada changed it/);
   assert.deepEqual([said(ADA, own), said(ADA)], [null, null]);
 });

@@ -17,7 +17,8 @@ SEEDED = {**FREE_ROAD, "length": 200, "zone": 200, "words": 1, "zones": [[3, 6_5
 
 def over_days(tab: Tab, within: str) -> dict[str, list[str]]:
     """The table over many days, once it is there: each cell with its small line."""
-    is_there = lambda: tab.script("return document.querySelector(`${arguments[0]} .over`) !== null", within)
+    def is_there() -> bool:
+        return bool(tab.script("return document.querySelector(`${arguments[0]} .over`) !== null", within))
     for _ in range(3):  # what is nice comes late where the machine has other work
         with contextlib.suppress(AssertionError):
             tab.until(is_there, "the days")
@@ -59,7 +60,7 @@ class TwoTabs(BrowserCase):
         found = over_days(ada, "#over")
         self.assertFalse(ada.part("oneDay").is_displayed())
         self.assertEqual(list(found), ["Vehicle hours", "Lost demand, cars", "Delay, vehicle hours", "Cars at 0.21 km",
-                                       "Seconds to the road's end"])
+                                       "Seconds to 0.21 km", "Seconds to the road's end"])
         self.assertIn("Over 3 days, 0:00:00 to 0:15:00", ada.text("over"))
         mine, shared, more = map(numbers, found["Vehicle hours"])
         self.assertAlmostEqual(more[0], mine[0] - shared[0], delta=0.11)
@@ -70,11 +71,11 @@ class TwoTabs(BrowserCase):
         self.assertLess(numbers(found["Cars at 0.21 km"][2])[1], numbers(found["Cars at 0.21 km"][1])[1])
         ada.press("Share…: Closed")
         before_rows(ada)
-        ada.press("Over 3 days", "#before")
-        before = over_days(ada, "#before")
+        ada.press("Over 3 days", "#preview")
+        before = over_days(ada, "#preview")
         self.assertEqual(before["Vehicle hours"], [found["Vehicle hours"][place] for place in (1, 0, 2)])
-        ada.press("One day", "#before")
-        self.assertTrue(ada.part("beforeFigures").is_displayed())
+        ada.press("One day", "#preview")
+        self.assertTrue(ada.part("previewFigures").is_displayed())
         ada.press("Not now")
         self.closed(ada)  # another road: the answer was of the one before
         ada.until(lambda: ada.part("oneDay").is_displayed(), "one day")
@@ -121,7 +122,8 @@ class TwoTabs(BrowserCase):
         saved = ada.save_both("Script", "script.jsonl")
         hours = ada.script("return [...document.querySelectorAll('#figures tbody tr')].find((line) => "
                            "line.firstChild.textContent === 'Vehicle hours').lastChild.textContent")
-        for words in ([], ["--days", "2"]):
+        choices: list[list[str]] = [[], ["--days", "2"]]
+        for words in choices:
             ran = subprocess.run([TOP / "recipes" / "delay" / "run", *words, "--out", new_folder(), *reversed(saved)],
                                  stdout=subprocess.PIPE, stderr=subprocess.PIPE, text=True, check=False)
             self.assertEqual(ran.returncode, 0, ran.stderr)

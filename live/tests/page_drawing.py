@@ -167,7 +167,7 @@ class OneFreeway(BrowserCase):
         self.assertIn("3–3.375 km, 1 whole zone of 375 m", tab.text("readout"))
         tab.drop()
         tab.begin_drag((402, 3400), (420, 3500))
-        self.assertIn("Less than half of a zone is covered", tab.text("readout"))
+        self.assertIn("This covers less than half of a zone", tab.text("readout"))
         tab.drop()
         self.assertEqual(len(operations_of(self.server)), 3)
         tab.tool("block")
@@ -185,7 +185,7 @@ class OneFreeway(BrowserCase):
         said = "Closed, 3–3.3 km, 0:20:00–0:25:00"
         self.assertEqual(tab.text("readout"), said)
         tab.script("runAnHour()")
-        tab.until(lambda: tab.script("return store.look.step") == 3600, "an hour later")
+        tab.until(lambda: tab.script("return store.extent.step") == 3600, "an hour later")
         self.assertEqual(tab.text("readout"), said)
         tab.drop()
         self.assertEqual(tab.lines("own"), ["Closed 3–3.3 km, 0:20:00–0:25:00 private"])
@@ -202,7 +202,7 @@ class OneFreeway(BrowserCase):
             tab.settled()
             size = tab.script("return store.plot")
             tab.begin_drag((350, 1200), (374, 1500))
-            self.assertIn("Less than half of a zone is covered", tab.text("readout"))
+            self.assertIn("This covers less than half of a zone", tab.text("readout"))
             self.assertEqual(tab.script("return store.plot"), size, width)
             tab.drop()
 
@@ -240,7 +240,7 @@ class OneFreeway(BrowserCase):
         tab.tool("block")
         tab.begin_drag((20, 900), (700, 1500))
         # 600 cells are 4.5 km.
-        self.assertIn("At most 4.5 km are closed at once.", tab.text("readout"))
+        self.assertIn("This is too long: one closure is at most 4.5 km.", tab.text("readout"))
         tab.drop()
         self.assertEqual(operations_of(self.server), [])
 
@@ -250,7 +250,7 @@ class OneFreeway(BrowserCase):
         tab.script("store.ahead = now() + 35_000; lookAhead()")
         self.assertEqual(tab.script("return store.ahead"), 39_600)  # by 36,000 steps
         tab.press("Look 30 min ahead")
-        self.assertEqual(tab.text("said"), "A road runs at most 10 hours ahead of the clock.")
+        self.assertEqual(tab.text("said"), "Your road is already 10 hours ahead of the clock, and may be no farther.")
         self.assertEqual(tab.script("return store.ahead"), 39_600)
 
     def test_a_look_ahead_is_private(self) -> None:

@@ -17,11 +17,11 @@ from selenium.webdriver.common.keys import Keys
 def demand_is(demand: float, chance: int, plan: dict[str, Any]) -> bool:
     """Whether a chance at the first inlet admits a demand, by 400,000 steps of another seed on a short road."""
     from zegdrut import RoadLab
-    road = {**plan, "length": 100, "zone": 100, "zones": [plan["zones"][0]], "inlets": [[0, chance]], "detectors": [50], "words": 77,
+    road: Any = {**plan, "length": 100, "zone": 100, "zones": [plan["zones"][0]], "inlets": [[0, chance]], "detectors": [50], "words": 77,
             "replicas": ["A"]}
     with RoadLab(road) as lab:
         lab.advance("A", 401_000)
-        cars = lab.count("A", 0, 1_000, 401_000).cars
+        cars = int(lab.count("A", 0, 1_000, 401_000).cars)
     wanted = demand * 400_000 / 3_600
     return abs(cars - wanted) <= max(0.005 * wanted, 2 * math.sqrt(wanted))
 
@@ -74,7 +74,8 @@ class OneFreeway(BrowserCase):
             tab.settled()
         tab.in_figures(kmFrom="3", kmTo="3.375")
         self.assertEqual(tab.text("said"), "54 km/h, 3–3.375 km, from 0:20:00 on: done.")
-        self.assertEqual((tab.tool("look"), tab.text("apply"))[1], "Close cells")  # what it does
+        tab.tool("look")
+        self.assertEqual(tab.text("apply"), "Close cells")  # what it does
         tab.tool("block")
         tab.in_figures(kmFrom="3.3", kmTo="3.32")
         self.assertEqual(tab.text("said"), "Closed 3.3–3.323 km, from 0:20:00 on: done. In whole cells of 7.5 m: about 3.3–3.323 km.")
@@ -94,8 +95,9 @@ class OneFreeway(BrowserCase):
             self.assertIn(said, tab.text("said"))
         tab.tool("inflow")
         tab.in_figures(demand="1710", timeFrom="0:05", timeTo="0:10")
-        said = re.fullmatch(r"This inlet admits 0 to (1,7\d\d) cars per hour \(limit 135 km/h, slowing 10 %\).", tab.text("said"))
-        self.assertTrue(said and demand_is(int(said[1].replace(",", "")), 65_536, FREEWAY), tab.text("said"))
+        found = re.fullmatch(r"The demand is out of range: this inlet admits 0 to (1,7\d\d) cars per hour "
+                             r"\(limit 135 km/h, slowing 10 %\).", tab.text("said"))
+        self.assertTrue(found and demand_is(int(found[1].replace(",", "")), 65_536, FREEWAY), tab.text("said"))
         self.assertEqual(operations_of(self.server), [])
 
     def figures(self, tab: Tab, name: str) -> list[float]:
@@ -121,7 +123,7 @@ class OneFreeway(BrowserCase):
         # Some 1,250 cars an hour come, for 30 minutes but those that fill 300 m.
         self.assertTrue(480 <= more <= 640, more)
         self.assertAlmostEqual(more, mine - shared, delta=1)
-        self.assertRegex(tab.text("warnings"), r"The inlet at 0 km lets in [\d,]+ of the [\d,]+ cars that it is asked for, and \d+ are lost")
+        self.assertRegex(tab.text("warnings"), r"The inlet at 0 km admits [\d,]+ of the [\d,]+ cars that it is asked for\. The other \d+ are lost")
 
     def test_figures_wait_for_the_picture(self) -> None:
         """Nothing else is asked for while rows that are seen are on their way, here for a second."""
@@ -134,7 +136,7 @@ class OneFreeway(BrowserCase):
             const take = line.take.bind(line), send = socket.send.bind(socket);
             line.take = (value) => (value.rows ? setTimeout(() => take(value), 1000) : take(value));
             socket.send = (text) => {
-              if (store.asking) beside.push(Object.keys(JSON.parse(text))[1]);
+              if (store.openRowQuestions) beside.push(Object.keys(JSON.parse(text))[1]);
               send(text);
             };""")
         tab.tool("block")
@@ -182,11 +184,11 @@ class OneFreeway(BrowserCase):
         rows = before_rows(tab)
         self.assertEqual(rows["Vehicle hours"], (hours[1], hours[0], hours[2]))
         self.assertEqual(rows["Lost demand, cars"], (lost[1], lost[0], lost[2]))
-        self.assertEqual(rows["Delay of cars in both, vehicle hours"][2], delay[2])
-        parts = [rows[name][2] for name in ("– of them at 0 km", "– of them at 1.5 km")]
+        self.assertEqual(rows["Delay of cars on both roads, vehicle hours"][2], delay[2])
+        parts = [rows[name][2] for name in ("– at 0 km", "– at 1.5 km")]
         self.assertEqual(sum(parts), lost[2])
         # On the free road no more is lost than by chance: two standard deviations of some 1,250 arrivals.
-        self.assertLess(abs(rows["– of them at 0 km"][0]), 2 * math.sqrt(1_250))
+        self.assertLess(abs(rows["– at 0 km"][0]), 2 * math.sqrt(1_250))
 
     def test_flow_and_speed_by_time_are_drawn_and_read(self) -> None:
         tab, = self.open(FREEWAY)
@@ -235,7 +237,7 @@ class OneFreeway(BrowserCase):
         tab, = self.open(FREEWAY)
         tab.script("sessionStorage.clear()")
         tab.driver.get(tab.driver.current_url)  # as it was copied from the address bar
-        said = "The connection was closed: the address lacks the right token: open it as live/serve printed it."
+        said = "The server closed the connection: the address lacks the right token: open it as live/serve printed it."
         tab.until(lambda: tab.part("helloSaid").text == said, "it is told where a name is asked for")
         tab.script("$('helloSaid').textContent = ''")
         tab.part("name").send_keys("Ben", Keys.ENTER)
@@ -335,11 +337,11 @@ class OneFreeway(BrowserCase):
             const done = arguments[0];
             const asked = {at: store.me.at, of: "mine", from: 0, to: 3600};
             ask({figures: asked});
-            ask({figures: asked}, {quiet: ["busy"]}).then(({refused}) => {
+            ask({figures: asked}, {quiet: ["Busy"]}).then(({refused}) => {
               $("saveTranscript").click();
               done(refused);
             });""")
-        self.assertEqual(refused, "busy")  # one at a time
+        self.assertEqual(refused, "Busy")  # one at a time
         tab.until(lambda: tab.saved("transcript.jsonl"), "the transcript")
 
     def test_the_viewer_opens_the_transcript(self) -> None:

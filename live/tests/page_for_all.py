@@ -1,6 +1,8 @@
 """The page for those who use no mouse, see little, or want less motion; names and tokens as they must be."""
 from __future__ import annotations
 
+from typing import Any
+
 from browsers import FREEWAY, BrowserCase
 from selenium.webdriver.common.action_chains import ActionChains
 from selenium.webdriver.common.by import By
@@ -9,7 +11,7 @@ from selenium.webdriver.common.keys import Keys
 
 LINE = 22  # pixels: one may break elsewhere by what stands in it
 SHARE_NOW = """
-    const {top, bottom} = [...document.querySelectorAll("#before button")]
+    const {top, bottom} = [...document.querySelectorAll("#preview button")]
       .find((one) => one.textContent === "Share now").getBoundingClientRect();
     return [top, bottom];"""
 
@@ -73,7 +75,7 @@ class ForAll(BrowserCase):
             tab.settled()
             tab.script("window.scrollTo(0, 0)")
             first, _ = tab.script("$('shareAll').click();" + SHARE_NOW)
-            tab.until(lambda: tab.script("return document.querySelector('#before table') !== null"), "the figures")
+            tab.until(lambda: tab.script("return document.querySelector('#preview table') !== null"), "the figures")
             tab.settled()
             top, bottom = tab.script(SHARE_NOW)
             self.assertTrue(0 <= top < bottom <= height, (width, top, bottom))
@@ -132,7 +134,7 @@ class ForAll(BrowserCase):
         tab.run_an_hour()
         tab.tool("block")
         tab.in_figures(kmFrom="3", kmTo="3.15", timeFrom="0:20", timeTo="0:30")
-        tab.script("store.standing = arguments[0]; changed('stays')", "road_lab_unproved is unproved, made without a proof, with "
+        tab.script("store.programNote = arguments[0]; notify('siteFaults')", "road_lab_unproved is unproved, made without a proof, with "
                    "the compiler's checks in it, which make it slower: `tools/prove-program` proves it")
         self.addCleanup(tab.driver.execute_cdp_cmd, "Emulation.clearDeviceMetricsOverride", {})
         tab.driver.execute_cdp_cmd("Emulation.setDeviceMetricsOverride",
@@ -145,14 +147,14 @@ class ForAll(BrowserCase):
 
     def test_the_program_that_is_not_proved_is_told_calmly_and_can_be_closed(self) -> None:
         tab, = self.open(FREEWAY)
-        tab.script("store.standing = 'road_lab is not proved: it is tested, and slower'; changed('stays')")
+        tab.script("store.programNote = 'road_lab is not proved: it is tested, and slower'; notify('siteFaults')")
         said = "Results are tested, not proved: road_lab is not proved: it is tested, and slower"
         self.assertEqual(tab.text("stays"), said + "Close")
         high = tab.script("return $('stays').getBoundingClientRect().height")
         self.assertLess(high, 2 * LINE)  # one line
         tab.press("Close: this note", "#stays")
         self.assertEqual(tab.text("stays"), "")
-        tab.script("store.trouble = 'the disk is full'; changed('stays')")
+        tab.script("store.trouble = 'the disk is full'; notify('siteFaults')")
         self.assertEqual(tab.text("stays"), "the disk is full")
 
     def test_a_long_status_leaves_the_name_of_who_is_here(self) -> None:
@@ -161,15 +163,16 @@ class ForAll(BrowserCase):
         for width in (1366, 1920):
             tab.driver.execute_cdp_cmd("Emulation.setDeviceMetricsOverride",
                                        {"width": width, "height": 768, "deviceScaleFactor": 1, "mobile": False})
-            tab.script("store.lineText = ['connected; ' + 'the broker is away since 10:15, what is shared waits '.repeat(4), true];"
-                       "changed('lineText')")
+            tab.script("store.connectionText = ['connected; ' + 'the broker is away since 10:15, what is shared waits '.repeat(4), true];"
+                       "notify('connectionText')")
             whole = tab.script("return $('me').getBoundingClientRect().right <= $('who').getBoundingClientRect().right + 1")
             self.assertTrue(whole, width)
             self.assertTrue(tab.part("line").get_attribute("title").startswith("connected; the broker"))
 
     def test_a_pressed_button_is_read_under_the_pointer_too(self) -> None:
         tab, = self.open(FREEWAY)
-        pressed = lambda: tab.driver.find_elements(By.CSS_SELECTOR, "#rates [aria-pressed=true]")
+        def pressed() -> list[Any]:
+            return list(tab.driver.find_elements(By.CSS_SELECTOR, "#rates [aria-pressed=true]"))
         tab.until(pressed, "the rate is there")
         ActionChains(tab.driver, duration=0).move_to_element(pressed()[0]).perform()
         colours = tab.script("const style = getComputedStyle(document.querySelector('#rates [aria-pressed=true]:hover'));"
@@ -271,7 +274,7 @@ class ForAll(BrowserCase):
         tab.press("60×")
         seen, now = set[int](), 0
         while now < 600:
-            now, step = tab.script("return [now(), Math.round(store.look.step)]")
+            now, step = tab.script("return [now(), Math.round(store.extent.step)]")
             seen.add(step)
         tab.press("Pause")
         # The diagram has stood still, or jumped by a quarter of its 300 seconds.

@@ -2,6 +2,7 @@
 from __future__ import annotations
 
 import csv
+import math
 import os
 import re
 from pathlib import Path
@@ -36,12 +37,12 @@ class OneTab(BrowserCase):
         self.assertNotEqual(self.pointer(tab, 300, 1200), "ns-resize")
         self.assertEqual(self.pointer(tab, 300, 2400), "ns-resize")
         tab.tool("look")
-        step = tab.script("return store.look.step")
+        step = tab.script("return store.extent.step")
         tab.drag((300, 1800), (300, 2000))  # (where only the covered one had an edge, at its side)
         self.assertEqual(len(tab.lines("own")), 2)
-        spans = "return [...store.layers.mine.lines.values()].map(({shape: {from, to}}) => [from, to])"
+        spans = "return [...store.layers.mine.changes.values()].map(({shape: {from, to}}) => [from, to])"
         self.assertEqual(tab.script(spans), [[1200, 1800], [600, 2400]])
-        self.assertEqual(tab.script("return store.look.step"), max(0, step - 200) if step else 0)
+        self.assertEqual(tab.script("return store.extent.step"), max(0, step - 200) if step else 0)
 
     def test_edges_that_are_not_seen_cannot_be_drawn(self) -> None:
         tab, = self.open(FREEWAY)
@@ -57,7 +58,7 @@ class OneTab(BrowserCase):
         self.assertEqual(tab.lines("own"), ["Closed 3–3.15 km, 0:20:00–0:30:00 private"])
         tab.keys("z")
         tab.settled()
-        said = "Taken back: Closed 3–3.15 km, 0:20:00–0:30:00: done"
+        said = "Undone: Closed 3–3.15 km, 0:20:00–0:30:00"
         self.assertEqual(tab.text("said"), f"{said}, on your own road.")  # of which nothing is seen
 
     def test_one_rectangle_after_the_other_is_drawn_at_one_place(self) -> None:
@@ -93,7 +94,7 @@ class OneTab(BrowserCase):
         tab.until(lambda: tab.script("return store.pending.size") == 0, "confirmed")
         tab.settled()
         shown = """
-            return [...store.layers.mine.lines.values()].sort((one, other) => byStamp(one.name, other.name))
+            return [...store.layers.mine.changes.values()].sort((one, other) => byStamp(one.name, other.name))
               .map(({shown}) => shown.map(({by}) => by === null));"""
         # Each is in force before and behind the next one, in which it is covered by all that follow; the last one is whole.
         wanted = [[True, *[False] * (2 * (119 - count) - 1), True] for count in range(119)] + [[True]]
@@ -181,7 +182,7 @@ class OneForm(BrowserCase):
             tab.fill(timeFrom=begin)
             tab.until(lambda: tab.text("toolHint").startswith("inflow chance"), "it is measured")
             said = re.fullmatch(r"inflow chance (0\.\d+); this inlet admits up to [\d,]+ cars/h here", tab.text("toolHint"))
-            found.append(float(said[1]) if said else None)
+            found.append(float(said[1]) if said else math.nan)
         beside, alone, now = found
         # Where nobody passes, a chance q lets in some q / (1 + q q) cars a step; beside the cars of the main road fewer.
         self.assertAlmostEqual(alone / (1 + alone ** 2), 300 / 3_600, delta=0.002)
@@ -196,7 +197,7 @@ class OneForm(BrowserCase):
         self.assertFalse(tab.part("dropChange").is_displayed())
         self.assertEqual(tab.text("apply"), "Close")
         tab.in_figures(kmFrom="1.5", kmTo="1.65", timeTo="0:35")
-        self.assertEqual([line["does"] for gesture in tab.script("return [...store.layers.mine.lines.values()]")
+        self.assertEqual([line["does"] for gesture in tab.script("return [...store.layers.mine.changes.values()]")
                           for line in gesture["operations"]], ["put"])
 
     def test_another_tool_leaves_the_line_as_it_is(self) -> None:
@@ -301,7 +302,8 @@ class TwoTabs(BrowserCase):
                            "[...line.children].map((one) => one.firstChild?.data ?? ''))")
         rows = {row["figure"]: [row["mine"], row["shared"], row["mine less shared"]]
                 for row in self.rows(ada.save("Figures as CSV", "figures.csv"))}
-        number = lambda text: float(text.replace(",", "").replace("−", "-").replace("+", "") or "nan")
+        def number(text: str) -> float:
+            return float(text.replace(",", "").replace("−", "-").replace("+", "") or "nan")
         for name, saved, digits in (("Vehicle hours", "vehicle hours", 1), ("Lost demand, cars", "lost demand", 0),
                                     ("Delay, vehicle hours", "delay of cars on both roads", 1),
                                     ("Cars at 2.25 km", "cars at 2.25 km", 0)):

@@ -4,6 +4,7 @@ from __future__ import annotations
 import csv
 import random
 import re
+from typing import Any
 
 from browsers import BrowserCase, Tab
 from raw_figures import Run, compare, random_plan, random_shapes
@@ -44,13 +45,13 @@ class Numbers(BrowserCase):
             tab.until(lambda: "…" not in tab.text("figures") and tab.text("period") == "0:00:00 to 0:07:00", "the figures")
             edits = tab.driver.execute_async_script("""
                 const [done] = arguments;
-                Promise.all(["shared", store.me.at].map((at) => store.line.ask({scenario: {at}}))).then((said) => done(said.map(({edits}) => edits)));""")
+                Promise.all(["shared", store.me.at].map((at) => store.connection.ask({scenario: {at}}))).then((said) => done(said.map(({edits}) => edits)));""")
             before, after = (Run(plan, one, STEPS) for one in edits)
             cost = compare(before, after, 0, STEPS)
             self.shown_is(tab, plan, before, after, cost)
             self.saved_is(tab, plan, before, after, cost)
 
-    def shown_is(self, tab: Tab, plan: object, before: Run, after: Run, cost: dict[str, object]) -> None:
+    def shown_is(self, tab: Tab, plan: object, before: Run, after: Run, cost: dict[str, Any]) -> None:
         """The table of the page, as far as its digits go."""
         rows = {cells[0]: cells[1:] for cells in tab.script(
             "return [...document.querySelectorAll('#figures tbody tr')].map((line) => [...line.children].map((one) =>"
@@ -71,7 +72,7 @@ class Numbers(BrowserCase):
                 self.assertEqual("on for" in small or small == "off", counted["on"] < STEPS, small)
                 self.assertEqual(trip.strip(), "" if seconds is None else f"{int(seconds + 0.5):,} s")
 
-    def saved_is(self, tab: Tab, plan: object, before: Run, after: Run, cost: dict[str, object]) -> None:
+    def saved_is(self, tab: Tab, plan: object, before: Run, after: Run, cost: dict[str, Any]) -> None:
         """figures.csv, to four digits."""
         with open(tab.save("Figures as CSV", "figures.csv"), encoding="utf-8", newline="") as file:
             self.assertEqual(next(file), "# the road of Ada and the shared one, 0:00:00 to 0:07:00\n")
@@ -87,7 +88,7 @@ class Numbers(BrowserCase):
         places = [*(f"{one} km" for one in self.places(rows)), "the road's end"]
         for index, place in enumerate(places):
             near(f"travel time to {place}", [run.travel(0, STEPS)[index][1] for run in (after, before)])
-            near(f"delay of cars on both roads to {place}", [cost["later"][index][1]], ("mine less shared",))  # type: ignore[index]
+            near(f"delay of cars on both roads to {place}", [cost["later"][index][1]], ("mine less shared",))
         for index, place in enumerate(places[:-1]):
             for name, field in (("cars", "cars"), ("flow", "flow"), ("time-mean speed", "speed"), ("time on", "on")):
                 near(f"{name} at {place}", [run.detector(index, 0, STEPS)[field] for run in (after, before)])

@@ -20,7 +20,7 @@ class Sharing(BrowserCase):
         self.assertFalse(ben.part("news").is_displayed())
         ada.press("Share all")
         ada.settled()
-        self.assertIn("Nothing would be covered.", ada.text("beforeBody"))
+        self.assertIn("Nothing would be covered.", ada.text("previewBody"))
         self.assertIn("then sloweras fastthen faster", ada.text("legend"))
         jam = ada.pixel(17.5, 22.5)
         ada.press("Share now")
@@ -28,7 +28,7 @@ class Sharing(BrowserCase):
         ben.press("Look first")
         ben.settled()
         self.assertFalse(ben.part("news").is_displayed())  # "Take now" is asked: there is one way to take
-        self.assertIn("Closed 0.18–0.188 km, 0:00:12–0:00:24 Ada, ", ben.text("beforeBody"))
+        self.assertIn("Closed 0.18–0.188 km, 0:00:12–0:00:24 Ada, ", ben.text("previewBody"))
         # In the cells 15 to 19 of the steps 20 to 24 Ada's cars have, by the example's rows, the speeds 3, 1, 3, 0, 3, 0, 0,
         # 2, 0, 0, 3, 0, 0, 0, and Ben's drive 3: hers are slower, by half of the scale, which is a middling red;
         # for both, as the legend says.
@@ -37,7 +37,7 @@ class Sharing(BrowserCase):
         self.assertEqual((red, green, blue), jam)
         self.assertIn("then sloweras fastthen faster", ben.text("legend"))
         ben.press("Take now")
-        ben.until(lambda: ben.text("said") == "Took 1 change of Ada. Nothing of yours is covered by them.", "taken")
+        ben.until(lambda: ben.text("said") == "Took 1 change of Ada. They cover nothing of yours.", "taken")
         ben.settled()
         ben.script("store.layers.mine.frames = []; draw()")
         ben.settled()
@@ -54,7 +54,7 @@ class Sharing(BrowserCase):
         ben.limit("2", "0:25", "0:30")
         ben.share_all()
         ada.take()
-        self.assertEqual(ada.text("said"), "Took 1 change of Ben. 1 change of yours is covered by them, whole or in part.")
+        self.assertEqual(ada.text("said"), "Took 1 change of Ben. 1 change of yours is covered by them, wholly or in part.")
         self.assertIn("27 km/h, 0–0.3 km, 0:20:00–0:40:00 shared", ada.lines("held"))
         self.assertEqual(ada.covers("held"), ["In force 0:20:00–0:25:00; covered 0:25:00–0:30:00 by Ben's limit of "
                                                     "54 km/h; in force 0:30:00–0:40:00."])
@@ -66,9 +66,9 @@ class Sharing(BrowserCase):
         self.assertEqual(ada.covers("held"), ["Wholly covered by your limit of 27 km/h."])
         self.assertEqual(ada.value_at("limit", 0, 1200, 1500, 1800, 2400), [1, 1, 1, 3])
         ada.press("Share all")
-        ada.until(lambda: "then: wholly covered by your limit" in ada.text("beforeBody"), "who is covered")
+        ada.until(lambda: "then: wholly covered by your limit" in ada.text("previewBody"), "who is covered")
         self.assertIn("Ben: 54 km/h, 0–0.3 km, 0:25:00–0:30:00 – then: wholly covered by your limit of 27 km/h.",
-                      ada.text("beforeBody"))
+                      ada.text("previewBody"))
         ada.press("Share now")
         ada.settled()
         ben.take()
@@ -108,7 +108,7 @@ class Sharing(BrowserCase):
         ada.until(lambda: ada.script("return store.news.text") == "Ben shared 2 changes.", "more news")
         self.assertTrue(ada.text("news").startswith("Ben shared 1 change."))
         ActionChains(ada.driver, duration=0).release().perform()
-        ada.until(lambda: ada.text("said") == "Took 2 changes of Ben. Nothing of yours is covered by them.", "taken")
+        ada.until(lambda: ada.text("said") == "Took 2 changes of Ben. They cover nothing of yours.", "taken")
 
     def test_a_double_click_presses_nothing_that_comes_there(self) -> None:
         ada, _ = self.open(FREE_ROAD)
@@ -116,15 +116,15 @@ class Sharing(BrowserCase):
         ada.press("Share all")
         ada.settled()
         ada.script("""
-            const {left, top} = document.querySelector("#before .buttons button").getBoundingClientRect();
+            const {left, top} = document.querySelector("#preview .buttons button").getBoundingClientRect();
             const beneath = Object.assign(document.createElement("button"), {textContent: "what comes there"});
             Object.assign(beneath.style, {position: "fixed", left: `${left}px`, top: `${top}px`, width: "8rem",
                                           height: "3rem"});
-            Object.assign($("before").style, {position: "relative", zIndex: 1});
+            Object.assign($("preview").style, {position: "relative", zIndex: 1});
             window.pressed = 0;
             beneath.addEventListener("click", () => { pressed++; });
             document.body.append(beneath);""")
-        first = ada.part("beforeBody").find_element(By.TAG_NAME, "button")
+        first = ada.part("previewBody").find_element(By.TAG_NAME, "button")
         ActionChains(ada.driver, duration=0).double_click(first).perform()
         ada.until(lambda: ada.text("said") == "Shared 1 change.", "shared")
         self.assertEqual(ada.script("return pressed"), 0)
@@ -146,7 +146,7 @@ class Sharing(BrowserCase):
         ada.take()
         # Ben's is the later one.
         self.assertEqual(ada.value_at("limit", 0, 1200, 2000), [3, 3])
-        self.assertEqual(ada.covers("held"), ["Ben withdrew it at the same time, a moment later."])
+        self.assertEqual(ada.covers("held"), ["Ben withdrew it at the same time, and that counts."])
         ada.press("Put mine again")
         ada.settled()
         self.assertEqual(ada.value_at("limit", 0, 1200, 2000, 2100), [1, 1, 3])
@@ -192,11 +192,13 @@ class Sharing(BrowserCase):
         ada.until(lambda: ada.part("news").is_displayed(), "news")
         # The jams before the closures, half way down: at cell 590 her own, at cell 390 Ben's, at cell 125 what she shares.
         own, his, shared = (590, 1700), (390, 1700), (125, 1700)
-        jam = lambda tab, place: (lambda red, green, blue: green < 130 and red > 150)(*tab.pixel(*place))
+        def is_jam(tab: Tab, place: tuple[float, float]) -> bool:
+            red, green, _ = tab.pixel(*place)
+            return green < 130 and red > 150
         for what, wanted in (("Share…: Closed 1.05", [False, False, True]), ("Look first", [False, True, False])):
             ada.press(what)
             ada.settled()
-            self.assertEqual([jam(ada, place) for place in (own, his, shared)], wanted, what)
+            self.assertEqual([is_jam(ada, place) for place in (own, his, shared)], wanted, what)
             rows = before_rows(ada)
             steps = ada.driver.execute_async_script("""
                 const done = arguments[0];
@@ -263,7 +265,7 @@ class Sharing(BrowserCase):
         ben.share_all()
         ada.take()
         self.assertEqual((ada.text("said"), ada.lines("held"), ben.lines("own")),
-                         ("Took 1 change of Ben. Nothing of yours is covered by them.", [], []))
+                         ("Took 1 change of Ben. They cover nothing of yours.", [], []))
 
     def test_a_part_is_looked_at_before_it_is_shared(self) -> None:
         ada, _ = self.open(FREE_ROAD)
@@ -272,8 +274,8 @@ class Sharing(BrowserCase):
         ada.limit("2", "0:40", "0:50")
         ada.press("Share…: 27 km/h")
         rows = before_rows(ada)
-        self.assertEqual(list(rows), ["Vehicle hours", "Cars let in", "Lost demand, cars",
-                                      "Delay of cars in both, vehicle hours", "Cars an hour at 0.21 km", "Seconds to 0.21 km",
+        self.assertEqual(list(rows), ["Vehicle hours", "Cars admitted", "Lost demand, cars",
+                                      "Delay of cars on both roads, vehicle hours", "Cars an hour at 0.21 km", "Seconds to 0.21 km",
                                       "Seconds to the road's end"])
         # A car every other step drives over the 39 cells at 3 cells a step, and in ten of sixty minutes at 1.
         self.assertAlmostEqual(rows["Vehicle hours"][0], 1_800 * 13 / 3_600, delta=0.5)
@@ -308,15 +310,15 @@ class Sharing(BrowserCase):
         self.assertEqual(self.looked_at(ada)[0], "Share 1 change?")
         ada.press("Withdraw: 54 km/h")
         ada.settled()
-        self.assertFalse(ada.part("before").is_displayed())
+        self.assertFalse(ada.part("preview").is_displayed())
         self.assertEqual(ada.script("return store.layers.shared.valueAt('limit', 0, 2400)"), 3)
         ben.take()
         self.assertEqual(ben.lines("held"), ["27 km/h, 0–0.3 km, 0:20:00–0:35:00 shared"])
 
     def looked_at(self, tab: Tab) -> list[str]:
         """What is looked at before it is shared or taken: how much, and what."""
-        return [tab.text("beforeTitle"), *tab.script(
-            "return [...document.querySelectorAll('#beforeBody > ul > li')].map((one) => one.firstChild.data)")]
+        return [tab.text("previewTitle"), *tab.script(
+            "return [...document.querySelectorAll('#previewBody > ul > li')].map((one) => one.firstChild.data)")]
 
     def test_what_comes_while_it_is_looked_at_is_looked_at_too(self) -> None:
         ada, ben = self.open(FREE_ROAD)

@@ -38,7 +38,7 @@ class TwoTabs(BrowserCase):
         ada.until(lambda: ada.text("news").startswith("Cron shared 3 changes: “night”, “works”."), "news")
         ada.press("Look first")
         ada.settled()
-        lines = ("return [...document.querySelectorAll('#beforeBody > p, #beforeBody > ul')].slice(0, 2).flatMap((one) => "
+        lines = ("return [...document.querySelectorAll('#previewBody > p, #previewBody > ul')].slice(0, 2).flatMap((one) => "
                  "one.children.length ? [...one.children].map((line) => line.firstChild.data) : [one.textContent])")
         ada.until(lambda: "cars/h" in str(ada.script(lines)), "what the inlet admits is measured")
         title, *said = ada.script(lines)
@@ -97,7 +97,7 @@ class TwoTabs(BrowserCase):
         for tab in (ada, ben):
             tab.until(lambda: not tab.part("emptyHint").is_displayed(), "the road is not empty")
             self.assertTrue(tab.part("hint").is_displayed())
-            self.assertTrue(tab.text("hint").endswith("Nobody else sees it before you share it."))
+            self.assertTrue(tab.text("hint").endswith("Nobody else sees it until you share it."))
         ben.driver.refresh()
         ben.until(lambda: ben.text("clock") == "1:00:00", "the same seat")
         self.assertFalse(ben.part("emptyHint").is_displayed())
@@ -141,11 +141,11 @@ class TwoTabs(BrowserCase):
         ben.until(lambda: len(ben.lines("held")) == 1, "taken")
         tab_to(ada, "Space-time diagram")
         type_in(ada, "z")
-        ada.until(lambda: "Taken back: Closed" in "".join(ada.lines("own")), "taken back, in private")
+        ada.until(lambda: "Undone: Closed" in "".join(ada.lines("own")), "taken back, in private")
         ada.settled()
         tab_to(ada, "Redo")
         type_in(ada, Keys.ENTER)
-        ada.until(lambda: "Taken back" not in "".join(ada.lines("own")), "put again")
+        ada.until(lambda: "Undone" not in "".join(ada.lines("own")), "put again")
         tab_to(ada, "Withdraw: Closed")
         type_in(ada, Keys.ENTER)
         ada.until(lambda: "Withdrew: Closed" in "".join(ada.lines("own")), "withdrawn")
@@ -190,7 +190,7 @@ class TwoTabs(BrowserCase):
         ada, _ = self.open(FREE_ROAD)
         ada.run_an_hour()
         self.server.kill()
-        ada.until(lambda: ada.text("line") == "connection lost, trying again", "it is told")
+        ada.until(lambda: ada.text("line") == "no connection, retrying", "it is told")
         ada.tool("limit")
         ada.part("timeFrom").send_keys("0:20")
         ada.part("kmFrom").send_keys("0")
@@ -215,24 +215,45 @@ class TwoTabs(BrowserCase):
         ada, _ = self.open(FREE_ROAD)
         ada.run_an_hour()
         ada.limit("1", "0:20", "0:30")
-        said = "27 km/h, 0–0.3 km, 0:20:00–0:30:00: done."
-        for name, wanted in (("Undo", f"Taken back: {said}"), ("Redo", f"Put again: {said}"), ("Undo", f"Taken back: {said}")):
+        said = "27 km/h, 0–0.3 km, 0:20:00–0:30:00."
+        for name, wanted in (("Undo", f"Undone: {said}"), ("Redo", f"Redone: {said}"), ("Undo", f"Undone: {said}")):
             ada.press(name)
             ada.settled()
             self.assertEqual(ada.text("said"), wanted)
         self.server.kill()
-        ada.until(lambda: ada.text("line") == "connection lost, trying again", "it is told")
+        ada.until(lambda: ada.text("line") == "no connection, retrying", "it is told")
         ada.fill(kmFrom="0", kmTo="0.3", timeFrom="0:40", timeTo="0:50")
         ada.press_in("#apply")
         shapes = "return framesShown().map(({from, to, pending}) => [from, to, pending])"
-        for name, wanted, last in (("", [[2400, 3000, True]], "27 km/h, 0–0.3 km, 0:40:00–0:50:00 pending"),
-                                   ("Undo", [], "Taken back: 27 km/h, 0–0.3 km, 0:40:00–0:50:00 pending"),
-                                   ("Redo", [[2400, 3000, True]], "Put again: 27 km/h, 0–0.3 km, 0:40:00–0:50:00 pending")):
+        for name, drawn, last in (("", True, "27 km/h, 0–0.3 km, 0:40:00–0:50:00 pending"),
+                                  ("Undo", False, "Undone: 27 km/h, 0–0.3 km, 0:40:00–0:50:00 pending"),
+                                  ("Redo", True, "Redone: 27 km/h, 0–0.3 km, 0:40:00–0:50:00 pending")):
             if name:
                 ada.press(name)
-            self.assertEqual((ada.script(shapes), ada.lines("own")[0]), (wanted, last))
+            self.assertEqual((ada.script(shapes), ada.lines("own")[0]), ([[2400, 3000, True]] if drawn else [], last))
         self.server.start()
         ada.until(lambda: ada.lines("own") == ["27 km/h, 0–0.3 km, 0:40:00–0:50:00 private"], "confirmed")
+
+    def test_what_is_taken_back_or_put_again_is_named_as_it_was_done(self) -> None:
+        """A place on top, and not the change that lay there; a change with the shape that comes back."""
+        ada, _ = self.open(FREE_ROAD)
+        ada.run_an_hour()
+        ada.limit("1", "0:20", "0:30")
+        ada.limit("2", "0:20", "0:30")
+        ada.press("Put on top: 27 km/h")
+        ada.settled()
+        first = "27 km/h, 0–0.3 km, 0:20:00–0:30:00"
+        said = [f"{done}: the place on top of {first}: done." for done in ("Undone", "Redone")]
+        for name, wanted in zip(("Undo", "Redo"), said):
+            ada.press(name)
+            ada.settled()
+            self.assertEqual(ada.text("said"), wanted)
+        ada.press("Change: 27 km/h")
+        ada.in_figures(timeTo="0:40")
+        for name, wanted in (("Undo", "Undone"), ("Redo", "Redone")):
+            ada.press(name)
+            ada.settled()
+            self.assertEqual(ada.text("said"), f"{wanted}: 27 km/h, 0–0.3 km, 0:20:00–0:40:00: done.")
 
     def test_what_needs_the_line_is_not_done_later(self) -> None:
         ada, ben = self.open(FREE_ROAD)
@@ -244,10 +265,10 @@ class TwoTabs(BrowserCase):
         ada.press("Share all")
         ada.settled()
         self.server.kill()
-        ada.until(lambda: ada.text("line") == "connection lost, trying again", "it is told")
-        for name, said in (("Share now", "Nothing was shared, since the connection is lost: share it once it is back."),
-                           ("Run an hour", "The clock was not set, since the connection is lost."),
-                           ("Take", "Nothing was taken, since the connection is lost: take it once it is back.")):
+        ada.until(lambda: ada.text("line") == "no connection, retrying", "it is told")
+        for name, said in (("Share now", "Nothing was shared: there is no connection. Share again once it is back."),
+                           ("Run an hour", "The clock was not set: there is no connection. Try again once it is back."),
+                           ("Take", "Nothing was taken: there is no connection. Take again once it is back.")):
             ada.press(name)
             ada.until(lambda: ada.text("said") == said, said)
         self.server.start()
@@ -259,9 +280,9 @@ class TwoTabs(BrowserCase):
     def test_what_is_pending_is_kept_in_the_tab(self) -> None:
         ada, _ = self.open(FREE_ROAD)
         ada.run_an_hour()
-        ada.script("store.line.connect = () => {}")  # so that it stays away until it is loaded anew
+        ada.script("store.connection.connect = () => {}")  # so that it stays away until it is loaded anew
         self.server.kill()
-        ada.until(lambda: "is kept in this tab, also when it is loaded anew" in ada.text("said"), "it is told")
+        ada.until(lambda: "are stored in this tab, and sent once it is back" in ada.text("said"), "it is told")
         ada.tool("limit")
         for limit in ("1", "2"):
             ada.choose("limit", limit)
@@ -275,14 +296,14 @@ class TwoTabs(BrowserCase):
         ada.until(lambda: ada.lines("own") == wanted, "what was pending")
         ada.settled()
         # Where nothing is kept, it is not said.
-        ada.script("Storage.prototype.setItem = () => { throw new Error('full') }; store.line.connect = () => {}")
+        ada.script("Storage.prototype.setItem = () => { throw new Error('full') }; store.connection.connect = () => {}")
         self.server.kill()
-        ada.until(lambda: "as long as this tab is not closed" in ada.text("said"), "it is told")
+        ada.until(lambda: "unless you close or reload this tab" in ada.text("said"), "it is told")
         ada.tool("limit")
         for ident, text in (("kmFrom", "0"), ("kmTo", "0.3"), ("timeFrom", "0:20")):
             ada.part(ident).send_keys(text)
         ada.press_in("#apply")
-        self.assertIn("what is pending is lost", ada.text("said"))
+        self.assertIn("Pending changes are not stored in this tab.", ada.text("said"))
         ada.driver.get("about:blank")
 
     def test_the_broker_is_told(self) -> None:
@@ -291,20 +312,20 @@ class TwoTabs(BrowserCase):
         ada, = self.open(FREE_ROAD, ("Ada",), "--broker", broker.address)
         there = Server(None, FREE_ROAD, "--broker", broker.address, "--site", "2")
         self.addCleanup(there.kill)
-        ada.until(lambda: ada.text("line") == "connected, with 1 other site, trusted wholly", "the other site")
+        ada.until(lambda: ada.text("line") == "connected, with 1 other site, trusted without a seal", "the other site")
         ada.open_part("sites")
-        ada.press("Leave out: site 2")
-        ada.until(lambda: ada.lines("own") == ["Site 2 is left out private"], "site 2 is left out")
+        ada.press("Exclude: site 2")
+        ada.until(lambda: ada.lines("own") == ["Site 2 is excluded private"], "site 2 is excluded")
         ada.press("Withdraw: Site 2")
         ada.until(lambda: ada.lines("own") == [], "and let in again")
         ada.settled()
         broker.kill()
         ada.limit("1", "0:20", "0:30")
         ada.share_all()
-        ada.until(lambda: ada.text("line") == "connected, but the broker is away; 1 change to be sent", "it is away")
+        ada.until(lambda: ada.text("line") == "connected; the broker is away, 1 change to be sent", "it is away")
         self.assertEqual(ada.part("line").get_attribute("class"), "away")
         broker.start()
-        ada.until(lambda: ada.text("line") == "connected, with 1 other site, trusted wholly", "it is back")
+        ada.until(lambda: ada.text("line") == "connected, with 1 other site, trusted without a seal", "it is back")
         broker.say(f"road/{reference(self.server)}/operations", "good morning")
         ada.until(lambda: ada.text("said") == "A message from the broker was left out: it is no message: good morning",
                   "rubbish is told")
@@ -320,7 +341,7 @@ class TwoTabs(BrowserCase):
         self.assertEqual([one.text for one in ada.part("seatList").find_elements(By.TAG_NAME, "button")],
                          ["Ada, seat 1, 1 change not shared"])
         ada.press("Ada, seat 1")
-        ada.until(lambda: "a script that uses it, loses the seat of Ada" in ada.text("seatList"), "it asks first")
+        ada.until(lambda: "uses the seat of Ada now, a person or a script, loses it" in ada.text("seatList"), "it asks first")
         self.assertEqual([entry["seat"]["seat"] for entry in self.server.journal() if "seat" in entry], [1, 2])
         ada.press("Take over Ada, seat 1")
         ada.until(lambda: ada.lines("own") == ["27 km/h, 0–0.3 km, 0:20:00–0:30:00 private"], "her changes")
@@ -347,7 +368,7 @@ class ThreeTabs(BrowserCase):
             tab.share_all()
         for tab in tabs:
             tab.take()
-        held = [tab.script("return [...store.layers.mine.lines.values()].map(({name, shape, shown}) => "
+        held = [tab.script("return [...store.layers.mine.changes.values()].map(({name, shape, shown}) => "
                            "JSON.stringify([name, shape, shown])).sort()") for tab in tabs]
         self.assertEqual(held[0], held[1])
         self.assertEqual(held[0], held[2])

@@ -34,7 +34,7 @@ class OneTab(BrowserCase):
         began = time.monotonic()
         os.kill(self.server.program, signal.SIGSTOP)
         self.begin_limit(ada, "1")
-        sentence = f"The program was replaced: the program owed an answer and used no processor for {HANGS} seconds"
+        sentence = f"The program was restarted: the program owed an answer and used no processor for {HANGS} seconds"
         ada.until(lambda: ada.text("said").endswith(": done."), "it is confirmed, whatever the program does")
         ada.until(lambda: sentence in ada.text("stays"), "it is told")
         self.assertGreater(time.monotonic() - began, HANGS * 0.8)
@@ -44,9 +44,9 @@ class OneTab(BrowserCase):
         ada.script(SOONER)
         os.kill(self.server.program, signal.SIGKILL)
         self.begin_limit(ada, "2")
-        ada.until(lambda: "The program was replaced: the program ended with status -9" in ada.text("stays"), "the next one, too")
+        ada.until(lambda: "The program was restarted: the program ended with status -9" in ada.text("stays"), "the next one, too")
         self.assertNotIn(sentence, ada.text("stays"))
-        ada.until(lambda: "replaced" not in ada.text("stays"), "it has been read")
+        ada.until(lambda: "restarted" not in ada.text("stays"), "it has been read")
 
     def test_a_disk_that_does_not_answer_is_told_until_it_does(self) -> None:
         with mock.patch.object(Server, "serve", LIVE / "tests" / "stalling.py"):

@@ -4,20 +4,18 @@ import assert from "node:assert/strict";
 import {readFileSync} from "node:fs";
 import {test} from "node:test";
 
+import {DayClock} from "../page/dayclock.mjs";
 import {decodeChange, decodeShape} from "../page/decoding.mjs";
-import {editsText, placesText, shapeText, spanText, takenZonesText, thingText, valueText}
-  from "../page/sentences.mjs";
+import {editsText, placesText, shapeText, takenZonesText, thingText, valueText} from "../page/sentences.mjs";
 
 const PLAN = JSON.parse(readFileSync(new URL("../plan.json", import.meta.url), "utf8"));
 // Inlet 0 admits 1,500 cars per hour by a chance of 0.588, and 1,250 from step 600 on; inlet 1 is measured just now.
-const ROAD = {plan: PLAN, curveAt: (inlet, step) => (inlet ? null
+const ROAD = {plan: PLAN, day: new DayClock(), curveAt: (inlet, step) => (inlet ? null
   : {points: [[0, 0], [38535, step < 600 ? 1500 : 1250], [65536, 1800]], capacity: 1800})};
 
-test("places and times", () => {
+test("places", () => {
   assert.equal(placesText(PLAN, "limit", 7, 8), "2.625\u20133.375 km");
   assert.equal(placesText(PLAN, "inflow", 1, 1), "at 1.5 km");
-  assert.equal(spanText(1200, 1800), "0:20:00\u20130:30:00");
-  assert.equal(spanText(1200, null), "from 0:20:00 on");
   assert.equal(takenZonesText(PLAN, "start", 7, 7), "1 whole zone of 375 m");
   assert.equal(takenZonesText(PLAN, "limit", 7, 8), "2 whole zones of 375 m");
   assert.equal(takenZonesText(PLAN, "block", 7, 8), "");

@@ -7,16 +7,18 @@ import {test} from "node:test";
 const PAGE = new URL("../page/", import.meta.url);
 const SOURCES = new Map(readdirSync(PAGE).filter((name) => name.endsWith(".mjs")).map((name) =>
   [name.replace(".mjs", ""), readFileSync(new URL(name, PAGE), "utf8")]));
-const ACTIONS = ["acting", "days", "demand", "drafting", "fetching", "joining", "looking", "store"];
-const PURE = ["assign", "chain", "decoding", "estimates", "geometry", "kept", "labels", "layers", "line", "listing",
-              "rows", "sentences", "stamps", "tables", "units"];
+const ACTIONS = ["acting", "days", "demand", "drafting", "fetching", "joining", "looking", "saving", "store"];
+const PURE = ["assign", "chain", "connection", "dayclock", "decoding", "estimates", "geometry", "kept", "labels",
+              "layers", "listing", "messages", "rows", "sentences", "stamps", "tables", "units"];
+// The store's own watchers, and a cache of what is painted.
+const KEPT_OUTSIDE = ["store watchers", "picture tilesKept"];
 const importsOf = (source) =>
   [...source.matchAll(/from "\.\/(\w+)\.mjs"/g)].map(([, name]) => name);
 
 test("only actions change the store", () => {
   const writes = new RegExp([
     /\bstore(?:\.\w+)*(?:\[\w+\])?\s*(?:[-+*|&?]{0,2}=[^=>]|\+\+|--)/, /\bassign\(store/,
-    /\bstore\.[\w.]+\.(?:push|pop|set|delete|splice)\(/].map(({source}) => source).join("|"));
+    /\bstore\.[\w.]+\.(?:push|pop|set|add|clear|delete|splice)\(/].map(({source}) => source).join("|"));
   for (const [name, source] of SOURCES) {
     if (!ACTIONS.includes(name)) assert.doesNotMatch(source, writes, name);
   }
@@ -38,6 +40,18 @@ test("pure modules import pure ones alone", () => {
     assert.deepEqual(others.filter((other) => !PURE.includes(other)), [], name);
     assert.doesNotMatch(SOURCES.get(name), /\bdocument\.|\bstore\./, name);
   }
+});
+
+test("what the page knows is in the store, and not in modules", () => {
+  const state = /^(?:export )?(?:let (\w+)|const (\w+) = (?:new (?!URL|RegExp)|\[\]|\{\}))/gm;
+  const found = [...SOURCES].flatMap(([name, source]) =>
+    [...source.matchAll(state)].map(([, one, other]) => `${name} ${one ?? other}`));
+  assert.deepEqual(found.sort(), KEPT_OUTSIDE.sort());
+});
+
+test("one module loads levels of detail", () => {
+  const loads = [...SOURCES].filter(([, source]) => /\.load\(/.test(source)).map(([name]) => name);
+  assert.deepEqual(loads, ["fetching"]);
 });
 
 test("no module opts out of its types", () => {

@@ -3,9 +3,10 @@
 import assert from "node:assert/strict";
 import {test} from "node:test";
 
+import {DayClock} from "../page/dayclock.mjs";
 import {decodeDays, decodeFigures, decodeList} from "../page/decoding.mjs";
 import {Layers} from "../page/layers.mjs";
-import {csvOf, tableOfChanges, tableOfDays, tableOfFigures} from "../page/tables.mjs";
+import {csvOf, tableOfChanges, tableOfDays, tableOfFigures, tableOfTravel} from "../page/tables.mjs";
 
 const PLAN = {length: 400, zone: 50, zones: Array(8).fill([5, 0]), inlets: [[0, 1], [200, 1]], detectors: [50]};
 const flows = (cars, flow, speed, on) => [{cars, speeds: 0, flow, speed, on}];
@@ -57,7 +58,7 @@ test("changes are named as on the page, with real names, and what covers them", 
     height: name, standing: true, shared: true, shown,
     operations: [{stamp: name, who, note: "", when: 0, does: "put", shared: true, undoes: null, lost: null}]});
   const layers = new Layers(PLAN);
-  layers.take(decodeList({next: 1, layers: [line([6, 66], "=Ben", 900, [["limit", 2, 3, 900, 1800, 2, null]]),
+  layers.update(decodeList({next: 1, layers: [line([6, 66], "=Ben", 900, [["limit", 2, 3, 900, 1800, 2, null]]),
     line(stamp, "Ada", 600, [["limit", 2, 3, 600, 900, 2, null], ["limit", 2, 3, 900, 1800, 2, [6, 66]]])]}));
   assert.deepEqual(csvOf("x", tableOfChanges(layers)).split("\n").slice(1), [
     "change,who,what,when,does,shared,in force,covered",
@@ -69,4 +70,19 @@ test("changes are named as on the page, with real names, and what covers them", 
 test("no cell of a saved table is run as a formula, and numbers stay numbers", () => {
   for (const text of ["=a", "+a", "-a", "@a", " =a", "\t=a"]) assert.ok(csvOf("", [[text]]).includes("'"), text);
   assert.equal(csvOf("", [["-12.5", "a=", '"']]), '# \n-12.5,a=,""""\n');
+});
+
+test("travel times are saved by the minute of entry and the place, with the cars", () => {
+  const travel = [[0, null], [0, null]];
+  const said = decodeFigures({from: 120, to: 240, later: [], delay_hours: 0,
+    before: {travel, travel_by_entry: {180: [[20, 14.5], [18, 210]], 120: [[10, 15], [0, null]]}},
+    after: {travel, travel_by_entry: {120: [[9, 17.25], [9, 230]]}}});
+  assert.deepEqual(said.before.entries.map(({step}) => step), [120, 180]);
+  const day = new DayClock({begin: 6.5 * 3600});
+  assert.deepEqual(tableOfTravel(PLAN, "mine", said, day), [
+    ["entered from", "to", "cars, mine", "travel time (s), mine", "cars, shared", "travel time (s), shared",
+     "mine less shared (s)"],
+    ["06:32", "0.375 km", "9", "17.25", "10", "15", "2.25"], ["06:32", "the road's end", "9", "230", "0", "", ""],
+    ["06:33", "0.375 km", "0", "", "20", "14.5", ""], ["06:33", "the road's end", "0", "", "18", "210", ""]]);
+  assert.deepEqual(tableOfTravel(PLAN, "preview", said, day)[1], ["06:32", "0.375 km", "10", "15", "9", "17.25", "2.25"]);
 });

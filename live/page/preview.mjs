@@ -1,13 +1,14 @@
 // View: what sharing or taking would change, before it is done. Picture, sentences and table are of
 // the same two roads: before, and after.
 
-import {NOTHING_KNOWN, closeBefore, doIt} from "./acting.mjs";
+import {EMPTY_OUTCOME, closePreview, confirmPreview} from "./acting.mjs";
 import {freshOf, untaken, words} from "./changes.mjs";
 import {$, activeIn, button, element, findElement, headCell, row} from "./elements.mjs";
 import {affectedBy, newestFirst, titlesOf} from "./listing.mjs";
 import {focusOnLists} from "./lists.mjs";
-import {known, layersOf, store, when} from "./store.mjs";
-import {kmText, plural, signedText, timeText} from "./units.mjs";
+import * as messages from "./messages.mjs";
+import {need, layersOf, store, watch} from "./store.mjs";
+import {kmText, plural, signedText, sum} from "./units.mjs";
 
 /** @typedef {import("./listing.mjs").Words} Words */
 /** @typedef {import("./types.mjs").Change} Change */
@@ -16,100 +17,97 @@ import {kmText, plural, signedText, timeText} from "./units.mjs";
 /** @typedef {import("./types.mjs").RoadFigures} RoadFigures */
 /** @typedef {import("./types.mjs").Span} Span */
 
-const IS_COMPUTED = "This is computed just now: both roads are driven once more, car by car.";
-const READ_BOTH = "Lost demand is what inlets were asked for, less the cars that they let in: such "
-  + "a car spends no vehicle hours. Seconds are from the inlet; their change is the delay of the "
-  + "cars on both roads.";
+const READ_BOTH = "Lost demand is the cars that inlets were asked for minus those that they "
+  + "admitted; a lost car spends no vehicle hours. Seconds count from the inlet; their change is the "
+  + "delay of the cars on both roads.";
 
 /** @param {[text: string, hint: string]} item */
-const itemOf = ([text, hint]) => element("li", text, {},
+const changeItem = ([text, hint]) => element("li", text, {},
   element("span", ` ${hint}`, {className: "hint"}));
 
 /** Return what would be shared or taken: what each change is, and who made it when. Of a change that
  * is lost when it is taken, what it was, and who won.
- * @param {Preview} before
+ * @param {Preview} preview
  * @param {import("./layers.mjs").Layers | null} layers  of the road that it would be
  * @returns {[text: string, hint: string][]}
  */
-function changesOf({takes, lines}, layers) {
+function changesOf({takes, changes}, layers) {
   const said = words(layersOf(takes ? "shared" : "mine"));
-  return (takes ? untaken() : lines).map((line) => {
-    const then = takes && layers ? layers.line(line.name) : undefined;
-    const lost = layers && then ? words(layers).losing(then, freshOf(line)) : null;
-    return lost ?? [said.text(line), said.meta(line)];
+  return (takes ? untaken() : changes).map((change) => {
+    const then = takes && layers ? layers.find(change.name) : undefined;
+    const lost = layers && then ? words(layers).losing(then, freshOf(change)) : null;
+    return lost ?? [said.text(change), said.meta(change)];
   });
 }
 
 /** Show the preview, or hide it. */
-function showBefore() {
-  const {before} = store;
-  if (!before) {
-    const had = activeIn($("before"));
-    $("before").hidden = true;
+function showPreview() {
+  const {preview} = store;
+  if (!preview) {
+    const had = activeIn($("preview"));
+    $("preview").hidden = true;
     if (had) focusOnLists();
     return;
   }
-  const {takes} = before;
-  $("beforeBody").replaceChildren(element("p", "", {id: "beforeTitles"}),
-    element("ul", "", {id: "beforeList"}), element("p", "", {className: "buttons"},
-      button(takes ? "Take now" : "Share now", doIt), button("Not now", closeBefore),
-      element("span", "", {id: "beforeDays", className: "days"})),
-    element("div", "", {id: "beforeCovers"}),
+  const {takes} = preview;
+  $("previewBody").replaceChildren(element("p", "", {id: "previewTitles"}),
+    element("ul", "", {id: "previewList"}), element("p", "", {className: "buttons"},
+      button(takes ? "Take now" : "Share now", confirmPreview), button("Not now", closePreview),
+      element("span", "", {id: "previewDays", className: "days"})),
+    element("div", "", {id: "previewCovers"}),
     element("h3", takes ? "What it would change on your road"
       : "What it would change on the shared road"),
-    element("div", "", {id: "beforeOver"}), element("div", "", {id: "beforeFigures"}));
-  $("before").hidden = false;
-  $("before").focus();
-  showPreview();
+    element("div", "", {id: "previewOver"}), element("div", "", {id: "previewFigures"}));
+  $("preview").hidden = false;
+  $("preview").focus();
+  showOutcome();
 }
 
 /** Show what would be shared or taken now, and what that would change. */
-function showPreview() {
-  const {before} = store;
-  if (!before || !findElement("beforeFigures")) return;
-  const {takes} = before;
-  const {why, names, layers, figures} = store.preview ?? NOTHING_KNOWN;
-  const changes = changesOf(before, layers);
-  $("beforeTitle").textContent = `${takes ? "Take" : "Share"} ${plural(changes.length, "change")}?`;
-  $("beforeTitles").textContent = takes ? titlesOf(store.news) : "";
-  $("beforeTitles").hidden = !$("beforeTitles").textContent;
-  $("beforeList").replaceChildren(...changes.map(itemOf));
+function showOutcome() {
+  const {preview} = store;
+  if (!preview || !findElement("previewFigures")) return;
+  const {takes} = preview;
+  const {why, names, layers, figures} = store.outcome ?? EMPTY_OUTCOME;
+  const changes = changesOf(preview, layers);
+  $("previewTitle").textContent = `${takes ? "Take" : "Share"} ${plural(changes.length, "change")}?`;
+  $("previewTitles").textContent = takes ? titlesOf(store.news) : "";
+  $("previewTitles").hidden = !$("previewTitles").textContent;
+  $("previewList").replaceChildren(...changes.map(changeItem));
   if (layers) {
-    const lines = newestFirst(names.flatMap((name) => layers.line(name) ?? []));
-    $("beforeCovers").replaceChildren(...coversOf(lines, words(layers)));
+    const affected = newestFirst(names.flatMap((name) => layers.find(name) ?? []));
+    $("previewCovers").replaceChildren(...coversOf(affected, words(layers)));
   }
-  const place = $("beforeFigures");
+  const place = $("previewFigures");
   if (figures && !("why" in figures)) place.replaceChildren(figuresOf(figures));
-  else place.replaceChildren(element("p", (figures?.why || why) || IS_COMPUTED));
+  else place.replaceChildren(element("p", (figures?.why || why) || messages.COMPUTING));
 }
 
 /** Make elements that say what would be covered, or in force again.
- * @param {Change[]} lines
+ * @param {Change[]} changes
  * @param {Words} said
  */
-function coversOf(lines, said) {
-  const affected = affectedBy(lines).map((line) => said.effect(line));
-  const below = lines.filter((line) => !line.was && said.cover(line))
-    .map((line) => said.effect(line));
+function coversOf(changes, said) {
+  const affected = affectedBy(changes).map((change) => said.effect(change));
+  const below = changes.filter((change) => !change.was && said.cover(change))
+    .map((change) => said.effect(change));
   const all = [...affected, ...below];
-  if (!all.length) return [element("p", "Nothing would be covered.")];
-  return [element("h3", "What covers what"),
+  if (!all.length) return [element("p", messages.NOTHING_COVERED)];
+  return [element("h3", "What would be covered"),
           element("ul", "", {}, ...all.map((text) => element("li", text)))];
 }
 
-/** @param {number[]} numbers */
-const sum = (numbers) => numbers.reduce((one, other) => one + other, 0);
 
 /** Make the table of figures.
  * @param {Figures} figures
  */
 function figuresOf({before, after, delay_hours: delay, later, from, to}) {
-  /** @type {Line[]} */
+  /** @type {FigureLine[]} */
   const lines = [["Vehicle hours", before.vehicle_hours, after.vehicle_hours, 1],
-                 ["Cars let in", sum(before.entered), sum(after.entered), 0],
+                 ["Cars admitted", sum(before.entered), sum(after.entered), 0],
                  ["Lost demand, cars", sum(before.lost), sum(after.lost), 0],
                  ...lostLines(before.lost, after.lost),
-                 ["Delay of cars in both, vehicle hours", null, delay, 1],
+                 ["Delay of cars on both roads, vehicle hours", null, delay, 1],
                  ...placeLines(before, after, later)];
   return element("div", "", {}, previewTable([from, to], lines),
     element("p", READ_BOTH, {className: "hint"}));
@@ -120,16 +118,16 @@ function figuresOf({before, after, delay_hours: delay, later, from, to}) {
  * @param {RoadFigures} before
  * @param {RoadFigures} after
  * @param {Figures["later"]} later
- * @returns {Line[]}
+ * @returns {FigureLine[]}
  */
 function placeLines(before, after, later) {
-  const {detectors} = known("plan");
-  /** @type {Line[]} */
+  const {detectors} = need("plan");
+  /** @type {FigureLine[]} */
   const flows = detectors.map((cell, index) =>
     [`Cars an hour at ${kmText(cell)} km`, before.flows[index].flow, after.flows[index].flow, 0]);
   const names = [...detectors.map((cell) => `Seconds to ${kmText(cell)} km`),
                  "Seconds to the road's end"];
-  /** @type {Line[]} */
+  /** @type {FigureLine[]} */
   const times = names.map((name, place) =>
     [name, before.travel[place].seconds, after.travel[place].seconds, 0, later[place].seconds]);
   return [...flows, ...times];
@@ -138,24 +136,24 @@ function placeLines(before, after, later) {
 /** Return what is lost at each inlet, if there are several.
  * @param {number[]} before
  * @param {number[]} after
- * @returns {Line[]}
+ * @returns {FigureLine[]}
  */
 function lostLines(before, after) {
-  const {inlets} = known("plan");
+  const {inlets} = need("plan");
   return inlets.length === 1 ? [] : inlets.map(([cell], inlet) =>
-    [`\u2013 of them at ${kmText(cell)} km`, before[inlet], after[inlet], 0]);
+    [`\u2013 at ${kmText(cell)} km`, before[inlet], after[inlet], 0]);
 }
 
 /**
  * A line of the table: without a change it is then less now; if `now` is null, it has the change
  * alone.
  * @typedef {[name: string, now: number | null, then: number | null, digits: number,
- *            change?: number | null]} Line
+ *            change?: number | null]} FigureLine
  */
 
 /** Make a table of now, then and the change.
  * @param {Span} period
- * @param {Line[]} lines
+ * @param {FigureLine[]} lines
  */
 function previewTable([from, to], lines) {
   /** @type {(value: number | null, digits: number) => string} */
@@ -163,11 +161,11 @@ function previewTable([from, to], lines) {
     {minimumFractionDigits: digits, maximumFractionDigits: digits}));
   /** @type {(value: number | null, digits: number) => string} */
   const change = (value, digits) => (value === null ? "" : signedText(value, digits));
-  /** @type {(line: Line) => HTMLElement} */
+  /** @type {(line: FigureLine) => HTMLElement} */
   const lineOf = ([name, one, other, digits, more = other === null ? null : other - (one ?? 0)]) =>
     row(headCell(name, "row"), element("td", number(one, digits)),
       element("td", one === null ? "" : number(other, digits)), element("td", change(more, digits)));
-  const table = element("table", "", {}, element("caption", `${timeText(from)} to ${timeText(to)}`),
+  const table = element("table", "", {}, element("caption", `${store.day.timeText(from)} to ${store.day.timeText(to)}`),
     element("thead", "", {}, row(element("td"),
       ...["now", "then", "change"].map((name) => headCell(name)))),
     element("tbody", "", {}, ...lines.map(lineOf)));
@@ -176,6 +174,6 @@ function previewTable([from, to], lines) {
 
 /** Listen to the store. */
 export function begin() {
-  when(["before"], showBefore);
-  when(["preview", "curves"], showPreview);
+  watch(["preview"], showPreview);
+  watch(["outcome", "curves"], showOutcome);
 }

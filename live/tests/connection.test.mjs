@@ -1,35 +1,35 @@
-// The line to the server, by sockets that a test opens, answers and breaks.
+// The connection to the server, by sockets that a test opens, answers and breaks.
 
 import assert from "node:assert/strict";
 import {test} from "node:test";
 
-import {Away, Line, TAKEN_OVER} from "../page/line.mjs";
+import {Connection, Disconnected, TAKEN_OVER} from "../page/connection.mjs";
 
-/** A line that stands, what it sent, what it was told, and waits that it made. */
+/** A connection that stands, what it sent, what it was told, and waits that it made. */
 function standing() {
   const found = {sockets: [], sent: [], heard: [], lost: [], waits: []};
-  const line = new Line({
+  const connection = new Connection({
     open: () => {
       const socket = {readyState: 1, send: (text) => found.sent.push(JSON.parse(text)),
                       close: () => { socket.isClosed = true; }};
       found.sockets.push(socket);
       return socket;
     },
-    greet: () => line.stands(),
-    hear: (value) => found.heard.push(value),
-    lost: (...words) => found.lost.push(words),
+    onOpen: () => connection.admit(),
+    onTold: (value) => found.heard.push(value),
+    onLost: (...words) => found.lost.push(words),
     later: (act, wait) => found.waits.push([act, wait]),
   });
-  line.connect();
+  connection.connect();
   found.sockets[0].onopen();
-  return {line, found};
+  return {connection, found};
 }
 
 const answer = (found, value) => found.sockets.at(-1).onmessage({data: JSON.stringify(value)});
 
 test("an answer goes to its question, and what has no number is heard", async () => {
-  const {line, found} = standing();
-  const [one, other] = [line.ask({cells: {step: 1}}), line.ask({cells: {step: 2}})];
+  const {connection, found} = standing();
+  const [one, other] = [connection.ask({cells: {step: 1}}), connection.ask({cells: {step: 2}})];
   assert.deepEqual(found.sent, [{id: 1, cells: {step: 1}}, {id: 2, cells: {step: 2}}]);
   answer(found, {clock: {now: 5}});
   answer(found, {id: 2, cells: "b"});
@@ -41,9 +41,9 @@ test("an answer goes to its question, and what has no number is heard", async ()
 });
 
 test("six questions are open, and what comes first goes before those that wait", async () => {
-  const {line, found} = standing();
-  for (let step = 1; step <= 7; step++) line.ask({cells: {step}});
-  line.ask({gesture: {key: "k"}}, true);
+  const {connection, found} = standing();
+  for (let step = 1; step <= 7; step++) connection.ask({cells: {step}});
+  connection.ask({gesture: {key: "k"}}, true);
   assert.equal(found.sent.length, 6);
   answer(found, {id: 3});
   assert.deepEqual(found.sent.at(-1), {id: 7, gesture: {key: "k"}});
@@ -52,21 +52,21 @@ test("six questions are open, and what comes first goes before those that wait",
 });
 
 test("of acts without an answer three are open, and looking goes on", () => {
-  const {line, found} = standing();
-  for (let key = 1; key <= 9; key++) line.ask({gesture: {key}}, true);
-  for (let step = 1; step <= 3; step++) line.ask({cells: {step}});
+  const {connection, found} = standing();
+  for (let key = 1; key <= 9; key++) connection.ask({gesture: {key}}, true);
+  for (let step = 1; step <= 3; step++) connection.ask({cells: {step}});
   assert.deepEqual(found.sent.map(({gesture}) => gesture?.key), [1, 2, 3, undefined, undefined, undefined]);
   answer(found, {id: 5});
-  line.ask({cells: {step: 4}});
+  connection.ask({cells: {step: 4}});
   assert.deepEqual(found.sent.at(-1), {id: 7, cells: {step: 4}});
   answer(found, {id: 1});
   assert.deepEqual(found.sent.at(-1), {id: 8, gesture: {key: 4}});
 });
 
 test("what comes first keeps its own order, whatever its number", () => {
-  const {line, found} = standing();
-  for (let step = 1; step <= 7; step++) line.ask({cells: {step}});
-  for (let key = 1; key <= 9; key++) line.ask({gesture: {key}}, true);
+  const {connection, found} = standing();
+  for (let step = 1; step <= 7; step++) connection.ask({cells: {step}});
+  for (let key = 1; key <= 9; key++) connection.ask({gesture: {key}}, true);
   for (let id = 1; id <= 16; id++) answer(found, {id});
   const keys = found.sent.filter(({gesture}) => gesture).map(({gesture}) => gesture.key);
   assert.deepEqual(keys, [1, 2, 3, 4, 5, 6, 7, 8, 9]);
@@ -75,11 +75,11 @@ test("what comes first keeps its own order, whatever its number", () => {
 });
 
 test("a break ends what was asked, and it is tried again after growing waits", async () => {
-  const {line, found} = standing();
-  const asked = Array.from({length: 8}, (_, step) => line.ask({cells: {step}}));
+  const {connection, found} = standing();
+  const asked = Array.from({length: 8}, (_, step) => connection.ask({cells: {step}}));
   found.sockets[0].onclose({code: 1006, reason: ""});
-  for (const one of asked) await assert.rejects(one, Away);
-  await assert.rejects(line.ask({cells: {step: 0}}), Away);
+  for (const one of asked) await assert.rejects(one, Disconnected);
+  await assert.rejects(connection.ask({cells: {step: 0}}), Disconnected);
   for (let turn = 0; turn < 6; turn++) {
     found.waits.at(-1)[0]();
     found.sockets.at(-1).onclose({code: 1006, reason: ""});
@@ -100,9 +100,9 @@ test("what was closed for good is not tried again", () => {
   }
 });
 
-test("a line that rests is not lost, and can be asked for a name alone", async () => {
-  const {line, found} = standing();
-  line.rest();
+test("a connection that rests is not lost, and can be asked for a name alone", async () => {
+  const {connection, found} = standing();
+  connection.disconnect();
   assert.ok(found.sockets[0].isClosed);
   assert.equal(found.sockets[0].onclose, null);
   assert.deepEqual(found.lost, []);

@@ -1,5 +1,5 @@
-// The connection to the server: questions with a number, their answers, and what is told without
-// asking.
+// The connection to the server: numbered questions, their answers, and messages that nobody asked
+// for.
 
 /** @typedef {import("./types.mjs").Answers} Answers */
 /** @typedef {Partial<Record<keyof Answers | "hello" | "seats", object>>} Command */
@@ -37,32 +37,33 @@ const CLOSED_FOR_GOOD = [1008, 4000, TAKEN_OVER];
  */
 const soon = (act, wait) => { setTimeout(act, wait); };
 
-/** There is no connection, or it broke before the answer came. */
-export class Away extends Error {}
+/** There is no connection, or it broke before the answer. */
+export class Disconnected extends Error {}
 
 /** The connection, and the questions on it. */
-export class Line {
+export class Connection {
   /**
    * @param {object} calls
    * @param {() => Socket} calls.open      makes a socket
-   * @param {() => void} calls.greet       is called when the socket is open
-   * @param {(value: Told) => void} calls.hear     is called with what is told without asking
-   * @param {(again: boolean, reason: string, code: number) => void} calls.lost    is called when
+   * @param {() => void} calls.onOpen    is called when the socket is open
+   * @param {(value: Told) => void} calls.onTold    is called with a message that nobody asked
+   *   for
+   * @param {(again: boolean, reason: string, code: number) => void} calls.onLost    is called when
    *   the connection breaks; `again`: it is tried again
    * @param {(act: () => void, wait: number) => void} [calls.later]    calls a function after some
    *   milliseconds
    */
-  constructor({open, greet, hear, lost, later = soon}) {
-    this.opens = open;
-    this.greet = greet;
-    this.hear = hear;
-    this.lost = lost;
+  constructor({open, onOpen, onTold, onLost, later = soon}) {
+    this.openSocket = open;
+    this.onOpen = onOpen;
+    this.onTold = onTold;
+    this.onLost = onLost;
     this.later = later;
     this.number = 0;            // of the last question that was sent
     this.tries = 0;
-    this.greeted = false;       // all may be asked
+    this.isAdmitted = false;    // all may be asked
     /** @type {Map<number, Question>} */
-    this.open = new Map();      // questions whose answer is awaited, by number
+    this.questions = new Map();      // questions whose answer is awaited, by number
     /** @type {Question[]} */
     this.queue = [];            // questions that are not sent yet
     /** @type {Question[]} */
@@ -73,90 +74,90 @@ export class Line {
 
   /** Open a socket. */
   connect() {
-    this.socket = this.opens();
-    this.socket.onopen = () => this.greet();
-    this.socket.onmessage = ({data}) => this.take(JSON.parse(data));
-    this.socket.onclose = ({code, reason}) => this.broke(code, reason);
+    this.socket = this.openSocket();
+    this.socket.onopen = () => this.onOpen();
+    this.socket.onmessage = ({data}) => this.receive(JSON.parse(data));
+    this.socket.onclose = ({code, reason}) => this.fail(code, reason);
   }
 
-  /** Ask a question. The promise fails with Away if the connection breaks before the answer.
+  /** Ask a question. The promise fails with Disconnected if the connection breaks before the answer.
    * @param {Command} command
    * @param {boolean} [first]     it goes before those that wait
    * @returns {Promise<Answer>}
    */
   ask(command, first = false) {
     return new Promise((done, fail) => {
-      if (!this.greeted && !command.hello && !command.seats) {
-        fail(new Away("no line"));
+      if (!this.isAdmitted && !command.hello && !command.seats) {
+        fail(new Disconnected("there is no connection"));
         return;
       }
       const question = {command, done, fail, first};
       (first ? this.first : this.queue).push(question);
-      this.send();
+      this.sendNext();
     });
   }
 
   /** Send what may be sent now. */
-  send() {
-    while (this.open.size < MOST_OPEN && this.socket?.readyState === OPEN) {
-      const acts = [...this.open.values()].filter(({first}) => first).length;
+  sendNext() {
+    while (this.questions.size < MOST_OPEN && this.socket?.readyState === OPEN) {
+      const acts = [...this.questions.values()].filter(({first}) => first).length;
       const question = (acts < MOST_FIRST && this.first.shift()) || this.queue.shift();
       if (!question) return;
       const id = ++this.number;
-      this.open.set(id, question);
+      this.questions.set(id, question);
       this.socket.send(JSON.stringify({id, ...question.command}));
     }
   }
 
   /** Return how many questions are not sent yet. */
-  waits() {
+  countWaiting() {
     return this.first.length + this.queue.length;
   }
 
   /** Take a message of the server.
    * @param {Answer | (Told & {id?: undefined})} value
    */
-  take(value) {
+  receive(value) {
     if (value.id === undefined) {
-      this.hear(value);
+      this.onTold(value);
       return;
     }
-    this.open.get(value.id)?.done(value);
-    this.open.delete(value.id);
-    this.send();
+    this.questions.get(value.id)?.done(value);
+    this.questions.delete(value.id);
+    this.sendNext();
   }
 
   /** Close the socket until it is connected again: the server soon closes one without a name. */
-  rest() {
+  disconnect() {
     if (this.socket) {
       this.socket.onclose = null;
       this.socket.close();
     }
-    this.forget();
+    this.takeQuestions();
   }
 
   /** Return the questions that have no answer, and forget them. */
-  forget() {
-    const asked = [...this.open.values(), ...this.first, ...this.queue];
-    this.open.clear();
+  takeQuestions() {
+    const asked = [...this.questions.values(), ...this.first, ...this.queue];
+    this.questions.clear();
     [this.first, this.queue] = [[], []];
     return asked;
   }
 
-  /** Let all be asked from now on. */
-  stands() {
-    [this.greeted, this.tries] = [true, 0];
+  /** Let everything be asked from now on: the server has admitted this tab. */
+  admit() {
+    [this.isAdmitted, this.tries] = [true, 0];
   }
 
   /** Fail all questions, and connect again unless the server closed for good.
    * @param {number} code
    * @param {string} reason
    */
-  broke(code, reason) {
-    this.greeted = false;
-    for (const {fail} of this.forget()) fail(new Away("the line broke"));
+  fail(code, reason) {
+    this.isAdmitted = false;
+    for (const {fail} of this.takeQuestions()) fail(new Disconnected("the connection broke"));
     const again = !CLOSED_FOR_GOOD.includes(code);
-    this.lost(again, reason, code);
+    this.onLost(again, reason, code);
     const wait = Math.min(LAST_WAIT, FIRST_WAIT * 2 ** this.tries++);
     if (again) this.later(() => this.connect(), wait);
   }

@@ -1,0 +1,198 @@
+// The road's clock: steps as times, and back. If the road's file says when it begins, these are
+// times of the day; with a date and a time zone the clock changes of summer time are known, too.
+
+import {HOUR, LAST_STEP, MINUTE} from "./units.mjs";
+
+/** @typedef {import("./types.mjs").ToldDay} ToldDay */
+/**
+ * A period between two clock changes: its first step, how many seconds the clock has been put
+ * forward since step 0, and the offset from UTC in seconds, if it is known.
+ * @typedef {{from: number, forward: number, offset: number | null}} Period
+ */
+
+const DAY = 86_400;             // steps
+const TIME = /^(\d+):([0-5]\d)(?::([0-5]\d))?([+-]\d\d:\d\d)?(?: \(day (\d+)\))?$/;
+
+/** @param {number} value */
+const two = (value) => String(value).padStart(2, "0");
+
+/** Write an offset from UTC: +02:00.
+ * @param {number} seconds
+ */
+const offsetText = (seconds) => `${seconds < 0 ? "-" : "+"}${two(Math.floor(Math.abs(seconds) / HOUR))}:`
+  + two(Math.floor(Math.abs(seconds) / MINUTE) % 60);
+
+/** Return a function from an instant, in seconds since 1970, to the offset of a time zone from UTC.
+ * @param {string} timeZone
+ */
+function makeOffsetAt(timeZone) {
+  const format = new Intl.DateTimeFormat("en", {timeZone, hourCycle: "h23", year: "numeric",
+    month: "numeric", day: "numeric", hour: "numeric", minute: "numeric", second: "numeric"});
+  return (/** @type {number} */ instant) => {
+    const parts = format.formatToParts(instant * 1000);
+    const of = (/** @type {string} */ name) => Number(parts.find(({type}) => type === name)?.value);
+    const local = Date.UTC(of("year"), of("month") - 1, of("day"), of("hour"), of("minute"), of("second"));
+    return local / 1000 - instant;
+  };
+}
+
+/** Return the instant of a local time, in seconds since 1970; of a time that comes twice the first.
+ * @param {number} local     seconds since 1970 by the local clock
+ * @param {(instant: number) => number} offsetAt
+ */
+function instantOf(local, offsetAt) {
+  const found = [-DAY, DAY].map((away) => local - offsetAt(local + away))
+    .filter((instant) => instant + offsetAt(instant) === local);
+  return found.length ? Math.min(...found) : local - offsetAt(local);
+}
+
+/** Return the periods between the clock changes of a run.
+ * @param {number} start     the instant of step 0
+ * @param {(instant: number) => number} offsetAt
+ * @returns {Period[]}
+ */
+function findPeriods(start, offsetAt) {
+  const first = offsetAt(start);
+  const periods = [{from: 0, forward: 0, offset: first}];
+  for (let step = HOUR; step <= LAST_STEP; step += HOUR) {
+    const offset = offsetAt(start + step);
+    if (offset === periods[periods.length - 1].offset) continue;
+    let [before, from] = [step - HOUR, step];
+    while (from - before > 1) {
+      const middle = Math.floor((before + from) / 2);
+      if (offsetAt(start + middle) === offset) from = middle;
+      else before = middle;
+    }
+    periods.push({from, forward: offset - first, offset});
+  }
+  return periods;
+}
+
+/** The clock of a road. */
+export class DayClock {
+  /** @param {Partial<ToldDay>} told     without a begin the clock counts from 0:00:00 */
+  constructor({begin = null, date = null, zone = null} = {}) {
+    this.begin = begin;         // seconds after midnight of step 0
+    /** @type {Period[]} */
+    this.periods = [{from: 0, forward: 0, offset: null}];
+    if (begin !== null && date && zone) {
+      const offsetAt = makeOffsetAt(zone);
+      this.periods = findPeriods(instantOf(Date.parse(`${date}T00:00Z`) / 1000 + begin, offsetAt), offsetAt);
+    }
+    const timeZone = zone ?? undefined;
+    // Formats are kept, since each takes long to make.
+    this.formats = {
+      time: new Intl.DateTimeFormat([], {hour: "2-digit", minute: "2-digit", timeZone}),
+      date: new Intl.DateTimeFormat([], {day: "numeric", month: "short", timeZone}),
+      day: new Intl.DateTimeFormat("en", {dateStyle: "short", timeZone})};
+  }
+
+  /** Return the steps at which the clock shows a number of seconds after the midnight before step 0,
+   * each with its period: none if a clock change skips that time, two if it comes twice.
+   * @param {number} seconds
+   */
+  findSteps(seconds) {
+    return this.periods.flatMap((period, index) => {
+      const step = seconds - (this.begin ?? 0) - period.forward;
+      const end = this.periods[index + 1]?.from ?? Infinity;
+      return step >= period.from && step < end ? [{step, period}] : [];
+    });
+  }
+
+  /** Return the seconds of the clock after the midnight before step 0, and the period.
+   * @param {number} step
+   */
+  secondsAt(step) {
+    const whole = Math.round(step);
+    const period = this.periods.findLast(({from}) => from <= whole) ?? this.periods[0];
+    return {seconds: whole + (this.begin ?? 0) + period.forward, period};
+  }
+
+  /** Write a step as a time: h:mm:ss from the beginning, or the time of the day, as 07:00 or
+   * 07:00:30. A time that comes twice has its offset from UTC, one of a later day its number.
+   * @param {number} step
+   */
+  timeText(step) {
+    const {seconds, period} = this.secondsAt(step);
+    if (this.begin === null) return this.axisText(step);
+    const isTwice = this.findSteps(seconds).length > 1 && period.offset !== null;
+    const day = seconds >= DAY ? ` (day ${Math.floor(seconds / DAY) + 1})` : "";
+    return this.axisText(step) + (isTwice ? offsetText(period.offset ?? 0) : "") + day;
+  }
+
+  /** Write a step as a time, without the number of the day and the offset.
+   * @param {number} step
+   */
+  axisText(step) {
+    const {seconds} = this.secondsAt(step);
+    const [minute, rest] = [two(Math.floor(seconds / 60) % 60), two(seconds % 60)];
+    if (this.begin === null) return `${Math.floor(seconds / HOUR)}:${minute}:${rest}`;
+    return `${two(Math.floor(seconds / HOUR) % 24)}:${minute}${seconds % 60 ? `:${rest}` : ""}`;
+  }
+
+  /** Write a step as `timeText` does, but always with its seconds: for a clock that runs.
+   * @param {number} step
+   */
+  runningText(step) {
+    const text = this.timeText(step);
+    return this.begin === null || this.secondsAt(step).seconds % 60 ? text
+      : text.replace(/^\d+:\d+/, "$&:00");
+  }
+
+  /** Write when something is in force.
+   * @param {number} from      step
+   * @param {number | null} to
+   */
+  spanText(from, to) {
+    return to === null ? `from ${this.timeText(from)} on`
+      : `${this.timeText(from)}\u2013${this.timeText(to)}`;
+  }
+
+  /** Write a step as it stands in the name of a file: 0700.
+   * @param {number} step
+   */
+  fileText(step) {
+    const text = this.timeText(step).replace(/ .*/, "").replaceAll(":", "");
+    return this.begin === null && text.endsWith("00") ? text.slice(0, -2).padStart(4, "0") : text;
+  }
+
+  /** Return the step of a written time: h:mm or h:mm:ss of this clock, or minutes from its
+   * beginning; NaN if it is not a time. A time of the day before the beginning is of the next day;
+   * of one that comes twice it is the first, unless its offset from UTC is written.
+   * @param {string} text
+   */
+  readStep(text) {
+    const trimmed = text.trim();
+    if (/^\d+([.,]\d+)?$/.test(trimmed)) return Math.round(Number(trimmed.replace(",", ".")) * 60);
+    const parts = TIME.exec(trimmed);
+    if (!parts) return NaN;
+    const [, hour, minute, second = 0, offset, day] = parts;
+    const seconds = Number(hour) * HOUR + Number(minute) * 60 + Number(second);
+    if (this.begin === null) return offset || day ? NaN : seconds;
+    if (seconds >= DAY) return NaN;
+    const days = day ? Number(day) - 1 : Number(seconds < this.begin);
+    const found = this.findSteps(seconds + days * DAY);
+    const wanted = offset ? found.find(({period}) => period.offset !== null && offsetText(period.offset) === offset)
+      : found[0];
+    return wanted?.step ?? NaN;
+  }
+
+  /** Ask whether a written time is one that a clock change skips.
+   * @param {string} text
+   */
+  isSkipped(text) {
+    const alone = new DayClock({begin: this.begin});
+    return Number.isNaN(this.readStep(text)) && !Number.isNaN(alone.readStep(text.replace(/[+-]\d\d:\d\d/, "")));
+  }
+
+  /** Write when a change was made: the time of day, and the date unless it is today.
+   * @param {number} seconds   since 1970; 0: not known
+   */
+  dateText(seconds) {
+    if (!seconds) return "";
+    const {time, date, day} = this.formats;
+    const at = new Date(seconds * 1000);
+    const isToday = day.format(at) === day.format(new Date());
+    return isToday ? time.format(at) : `${date.format(at)} ${time.format(at)}`;
+  }
+}

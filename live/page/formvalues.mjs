@@ -1,0 +1,136 @@
+// What is written in the form, as shapes and values of the program, and what a shape would write
+// there. It reads the store.
+
+import {faultOfValue} from "./area.mjs";
+import {OF_ONE, OF_ZONES, cellsOf, objectsNearest} from "./geometry.mjs";
+import * as messages from "./messages.mjs";
+import {layersOf, need, now, store} from "./store.mjs";
+import {ALWAYS, LAST_STEP, cellOfKm, chanceOfDemand, demandOfChance, kmOf, kmText, roundedKm, whole}
+  from "./units.mjs";
+
+/** @typedef {import("./store.mjs").FormValues} FormValues */
+/** @typedef {import("./types.mjs").Kind} Kind */
+/** @typedef {import("./types.mjs").Shape} Shape */
+
+/** Return a written number; NaN if it is not a number.
+ * @param {string} text
+ */
+const numberOf = (text) => (text.trim() === "" ? NaN : Number(text));
+
+/** Return the value that a tool puts, in the program's units; NaN if what is written is not valid.
+ * @param {Kind} kind
+ * @param {number} first     the object
+ * @param {number} from      the step
+ */
+export function valueOfTool(kind, first, from) {
+  const {form} = store;
+  if (kind === "block") return 1;
+  if (kind === "limit" || kind === "watch") return numberOf(form[kind]);
+  if (kind === "inflow") {
+    const curve = layersOf("mine").curveAt(first, from);
+    return curve ? chanceOfDemand(numberOf(form.demand), curve) : NaN;
+  }
+  const percent = numberOf(form[kind]);
+  return percent >= 0 && percent <= 100 ? Math.round(percent / 100 * ALWAYS) : NaN;
+}
+
+/** Return the chosen inlet and the written step; NaN if that is not a time. */
+export const demandInForm = () =>
+  ({inlet: Number(store.form.inlet), from: store.day.readStep(store.form.timeFrom)});
+
+/** Say which inflow chance the demand is, or why it is not valid. */
+export function demandText() {
+  if (!store.layers.mine || !need("plan").inlets.length) return "";
+  const {inlet, from: written} = demandInForm();
+  const from = Math.min(LAST_STEP, Number.isNaN(written) ? now() : written);
+  const value = valueOfTool("inflow", inlet, from);
+  if (Number.isNaN(value)) return faultOfValue("inflow", inlet, from);
+  const most = layersOf("mine").curveAt(inlet, from)?.capacity ?? NaN;
+  return `inflow chance ${(value / ALWAYS).toFixed(3)}; this inlet admits up to ${whole(most)} `
+    + "cars/h here";
+}
+
+/** Say what is wrong with a written time.
+ * @param {string} text
+ */
+const faultOfTime = (text) => (store.day.isSkipped(text) ? messages.skippedTime(text.trim())
+  : messages.timeHint(store.day.begin === null ? null : store.day.timeText(0)));
+
+/** Return the shape that the form has, or a sentence of what is wrong with it.
+ * @returns {Shape | string}
+ */
+export function readForm() {
+  const {form, day} = store;
+  const kind = store.tool === "look" ? "block" : store.tool;
+  const from = day.readStep(form.timeFrom);
+  const to = form.timeTo.trim() === "" ? null : day.readStep(form.timeTo);
+  if (Number.isNaN(from)) return faultOfTime(form.timeFrom);
+  if (to !== null && Number.isNaN(to)) return faultOfTime(form.timeTo);
+  if (to !== null && to <= from) return messages.END_BEFORE_BEGIN;
+  const range = readRange(kind);
+  if (typeof range === "string") return range;
+  const [first, last] = range;
+  return {kind, first, last, from, to, value: valueOfTool(kind, first, from)};
+}
+
+/** Return the first and the last object of the form, or a sentence of what is wrong.
+ * @param {Kind} kind
+ * @returns {[first: number, last: number] | string}
+ */
+function readRange(kind) {
+  const {form} = store;
+  if (kind === "inflow") return [Number(form.inlet), Number(form.inlet)];
+  if (kind === "watch") return [Number(form.site), Number(form.site)];
+  const [from, to] = readPlaces().map(cellOfKm);
+  const {length} = need("plan");
+  if (!(from >= 0 && from < length && to <= length && from <= to)) {
+    return messages.placesOutOfRange(kmText(length));
+  }
+  return objectsNearest(need("plan"), kind, [from, to]);
+}
+
+/** Return the two places that are written, in km; NaN if one is not a number. */
+const readPlaces = () =>
+  [store.form.kmFrom, store.form.kmTo].map((text) => numberOf(text.replace(",", ".")));
+
+/** Say which stretch is taken, if it is not the one that is written.
+ * @param {Shape} shape
+ */
+export function takenText({kind, first, last}) {
+  if (OF_ONE.includes(kind)) return "";
+  const cells = cellsOf(need("plan"), kind, first, last);
+  const taken = cells.map(kmText);
+  const written = readPlaces().map((km) => String(roundedKm(km)));
+  if (taken.join() === written.join()) return "";
+  const isRounded = cells.some((cell, index) => Math.abs(kmOf(cell) - Number(taken[index])) > 1e-9);
+  return ` In whole ${OF_ZONES.includes(kind) ? "zones" : "cells of 7.5 m"}: `
+    + `${isRounded ? "about " : ""}${taken.join("\u2013")} km.`;
+}
+
+/** Return what the form has of a shape, by fields.
+ * @param {Shape} shape
+ * @returns {Partial<FormValues>}
+ */
+export function fieldsOf({kind, first, last, from, to, value}) {
+  const [start, end] = cellsOf(need("plan"), kind, first, last);
+  return {kmFrom: kmText(start), kmTo: kmText(end), timeFrom: store.day.timeText(from),
+          timeTo: to === null ? "" : store.day.timeText(to), ...valuesOf(kind, first, from, value)};
+}
+
+/** Return what the form has of a value, by fields.
+ * @param {Kind} kind
+ * @param {number} first
+ * @param {number} from
+ * @param {number} value
+ * @returns {Partial<FormValues>}
+ */
+function valuesOf(kind, first, from, value) {
+  if (kind === "limit") return {limit: String(value)};
+  if (kind === "watch") return {watch: String(value), site: String(first)};
+  if (kind === "slow" || kind === "start") {
+    return {[kind]: String(Number((100 * value / ALWAYS).toFixed(2)))};
+  }
+  if (kind !== "inflow") return {};
+  const curve = layersOf("mine").curveAt(first, from);
+  return {inlet: String(first), demand: curve ? String(Math.round(demandOfChance(value, curve))) : ""};
+}

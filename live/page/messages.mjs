@@ -1,0 +1,216 @@
+// The sentences in which the page says that something is wrong, refused, done or under way: what it
+// is, where, and what to do. All of them stand here. What changes are called is in sentences.mjs.
+
+import {plural, whole} from "./units.mjs";
+
+/** Return one of two words, by a count.
+ * @param {number} count
+ * @param {string} one
+ * @param {string} more
+ */
+const byCount = (count, one, more) => (count === 1 ? one : more);
+
+/** Return a reason as the end of a sentence, with one full stop.
+ * @param {string} why
+ */
+const ended = (why) => `${why.replace(/\.$/, "")}.`;
+
+// The connection, seats and sites.
+
+export const CONNECTING = "connecting";
+export const CONNECTED = "connected";
+export const RECONNECTING = "no connection, retrying";
+export const CONNECTION_CLOSED = "connection closed";
+export const CONNECTION_BACK = "The connection is back.";
+export const NOT_PERSISTED = "Pending changes are not stored in this tab. Closing it loses them.";
+
+/** @param {boolean} isPersisted */
+export const connectionLost = (isPersisted) => "There is no connection; the page is retrying. "
+  + (isPersisted ? "Changes that you make now are stored in this tab, and sent once it is back."
+    : "Changes that you make now are sent once it is back, unless you close or reload this tab.");
+
+/**
+ * @param {string} reason    of the server
+ * @param {boolean} isTakenOver      somebody took the seat over
+ */
+export const connectionClosed = (reason, isTakenOver) =>
+  `The server closed the connection: ${ended(reason)}`
+  + (isTakenOver ? " Reload the page to join by another seat." : "");
+
+/** @param {number} count */
+export const otherSites = (count, isSealed = true) =>
+  `, with ${plural(count, "other site")}${isSealed ? "" : ", trusted without a seal"}`;
+
+/** @param {number} unsent */
+export const brokerAway = (unsent) =>
+  `${CONNECTED}; the broker is away, ${plural(unsent, "change")} to be sent`;
+
+/** @type {(seats: number) => string} */
+export const pendingOfOtherSeat = (count) => `${plural(count, "pending change")} of another seat `
+  + `${byCount(count, "is", "are")} lost: this tab has joined as somebody else.`;
+
+/** @param {string} owner */
+export const takeOver = (owner) =>
+  `Whoever uses the seat of ${owner} now, a person or a script, loses it. `;
+
+export const TROUBLE_OVER = "The server's trouble is over.";
+
+/** @param {string} why */
+export const programReplaced = (why) => `The program was restarted: ${why}`;
+
+/** @param {string} refused   the refusal's name */
+export const refusedWithoutReason = (refused) =>
+  `The server refused this (${refused}), and gave no reason.`;
+
+// The clock.
+
+export const CLOCK_NOT_SET = "The clock was not set: there is no connection. Try again once it is back.";
+export const CLOCK_STOPPED = "The clock stopped: above 60\u00d7 it runs for one hour at most.";
+
+/** @param {number} hours */
+export const farthestAhead = (hours) =>
+  `Your road is already ${hours} hours ahead of the clock, and may be no farther.`;
+
+/** @param {string} text */
+export const skippedTime = (text) => `${text} does not exist: a clock change skips it.`;
+
+/** @param {string | null} begin     the time of day of step 0 */
+export const timeHint = (begin) => (begin === null
+  ? "A time is written as 0:20, 0:20:30 or, in minutes, 20."
+  : `A time is written as 7:00, 07:00:30 or, in minutes after ${begin}, 20.`);
+
+// Drawing changes.
+
+export const CHOOSE_TOOL = "Choose a tool first: C closes, L limits, and so on.";
+export const TOO_FEW_ZONES =
+  "This covers less than half of a zone. Hold Shift to take each zone that it touches, whole.";
+export const END_BEFORE_BEGIN = "The end must be later than the beginning.";
+export const CHANCE_OUT_OF_RANGE = "The chance is out of range: 0 to 100 %.";
+export const MEASURING_INLET =
+  "What this inlet admits is being measured. Try again in a few seconds.";
+
+/** @param {string} length   of the road, in km */
+export const placesOutOfRange = (length) =>
+  `Give two places from 0 to ${length} km, the greater one second.`;
+
+/** @param {string} end      of the clock */
+export const tooLate = (end) => `This is too late: the road's clock ends at ${end}.`;
+
+/** @param {string} most     km */
+export const tooLong = (most) => `This is too long: one closure is at most ${most} km.`;
+
+/**
+ * @param {number} capacity  cars per hour
+ * @param {string} limit
+ * @param {string} slowing
+ * @param {boolean} isPassed
+ */
+export const demandOutOfRange = (capacity, limit, slowing, isPassed) =>
+  `The demand is out of range: this inlet admits 0 to ${whole(capacity)} cars per hour (limit `
+  + `${limit}, slowing ${slowing})${isPassed ? ", beside the cars that pass it" : ""}.`;
+
+/** @param {string} note     of the change */
+export const nothingChanged = (note) => `${note}: nothing is changed.`;
+
+/**
+ * @param {string} note      of the change, or "Undone: .."
+ * @param {boolean} isUndo   or a redo
+ * @param {boolean} isUnseen     the shared road is shown
+ */
+export const done = (note, isUndo, isUnseen) =>
+  `${note}${isUndo ? "" : ": done"}${isUnseen ? ", on your own road" : ""}.`;
+
+// Undo and redo.
+
+export const NOTHING_TO_UNDO = "There is nothing of yours to undo.";
+export const NOTHING_TO_REDO = "There is nothing of yours to redo.";
+
+/**
+ * @param {string[]} others  who
+ * @param {string} note      of the change
+ * @param {boolean} isLast   there is nothing to undo before it
+ */
+export const undoBlocked = (others, note, isLast) =>
+  `Your last change cannot be undone${note ? ` (${note})` : ""}: `
+  + `${others.join(" and ") || "somebody"} changed it since. ${isLast
+    ? "There is nothing else of yours to undo." : "Press Undo again to undo the one before it."}`;
+
+// Sharing and taking.
+
+export const NOT_SHARED = "Nothing was shared: there is no connection. Share again once it is back.";
+export const NOT_TAKEN = "Nothing was taken: there is no connection. Take again once it is back.";
+export const COMPUTING = "Computing: both roads are being simulated again.";
+export const NOTHING_COVERED = "Nothing would be covered.";
+
+/** @param {number} count */
+export const shared = (count) => `Shared ${plural(count, "change")}.`;
+
+/**
+ * @param {number} count
+ * @param {string[]} makers
+ * @param {number} covered   own changes
+ */
+export const taken = (count, makers, covered) =>
+  `Took ${plural(count, "change")}${makers.length ? ` of ${makers.join(", ")}` : ""}. ${covered
+    ? `${plural(covered, "change")} of yours ${byCount(covered, "is", "are")} covered by them, `
+      + "wholly or in part." : "They cover nothing of yours."}`;
+
+/**
+ * @param {string[]} from    who
+ * @param {number} count
+ * @param {string} titles
+ */
+export const newlyShared = (from, count, titles) => `${from.join(", ") || "Somebody"} shared `
+  + `${plural(count, "change")}${titles && ": " + titles}.`;
+
+// Figures, reports and files.
+
+export const NOTHING_COMPUTED =
+  "There are no figures yet: run the clock for at least a minute, or show an earlier time.";
+export const NO_PICTURE =
+  "The browser made no picture of the diagram. Make its window smaller, and try again.";
+export const SAVING = "Saving \u2026";
+export const MAKING_REPORT = "Making the report: both roads are simulated on five days \u2026";
+export const PAUSE_FOR_FIGURES =
+  "Lost demand, delay and times are counted car by car: pause the clock to see them.";
+
+/** @param {number} days */
+export const daysStopped = (days) =>
+  `A road has changed, so the comparison over ${days} days was stopped. Start it again if you want.`;
+
+/** @param {string} name */
+export const savedFile = (name) => `Saved ${name}.`;
+/** @param {string} name */
+export const savedPicture = (name) => `Saved ${name}: the diagram as it is seen.`;
+/** @param {string} name */
+export const savedReport = (name) => `Saved ${name}: any browser shows it, and prints it on A4.`;
+/**
+ * @param {string} name
+ * @param {number} metres    of a cell
+ */
+export const savedTranscript = (name, metres) =>
+  `Saved ${name}: open it in the viewer, with ${metres} metres a cell and 1 second a step.`;
+/** @param {string[]} names */
+export const savedScripts = (names) =>
+  `Saved ${names.join(" and ")}: road_lab runs each, and recipes/delay compares them.`;
+
+// Warnings.
+
+/**
+ * @param {string} place     of the inlet, in km
+ * @param {number} asked     cars
+ * @param {number} lost
+ */
+export const demandLost = (place, asked, lost) =>
+  `The inlet at ${place} km admits ${whole(asked - lost)} of the ${plural(asked, "car")} that it is `
+  + `asked for. The other ${whole(lost)} are lost and spend no time: counts and vehicle hours look `
+  + "too good.";
+
+/**
+ * @param {number} cars
+ * @param {string} places
+ * @param {string | null} end     null: it does not open
+ */
+export const carsTrapped = (cars, places, end) =>
+  `${plural(cars, "car stands", "cars stand")} in the closure ${places}, `
+  + `${end === null ? "and it does not open" : `until it opens at ${end}`}.`;

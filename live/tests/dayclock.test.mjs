@@ -1,0 +1,118 @@
+// The clock of a road: times of steps, written and read; the clock changes of summer time.
+
+import assert from "node:assert/strict";
+import {test} from "node:test";
+
+import {DayClock} from "../page/dayclock.mjs";
+
+const COUNTED = new DayClock();
+const MORNING = new DayClock({begin: 6.5 * 3600});
+
+test("times of a clock that counts are written and read alike", () => {
+  for (const [step, text] of [[0, "0:00:00"], [59, "0:00:59"], [3661, "1:01:01"],
+                              [360000, "100:00:00"]]) {
+    assert.equal(COUNTED.timeText(step), text);
+    assert.equal(COUNTED.readStep(text), step);
+  }
+  assert.equal(COUNTED.readStep("20"), 1200);
+  assert.equal(COUNTED.readStep("0,5"), 30);
+  assert.equal(COUNTED.readStep(" 0:20 "), 1200);
+  for (const text of ["", "soon", "1:60", "1:2", "-5", "0:20:61", "1:00:00:00", "1:00 (day 2)", "1:00+01:00"]) {
+    assert.ok(Number.isNaN(COUNTED.readStep(text)), text);
+  }
+  assert.equal(COUNTED.spanText(1200, 1800), "0:20:00\u20130:30:00");
+  assert.equal(COUNTED.spanText(1200, null), "from 0:20:00 on");
+});
+
+test("times are those of the day where the road's clock has one", () => {
+  for (const [step, text, file] of [[0, "06:30", "0630"], [1800, "07:00", "0700"], [1830, "07:00:30", "070030"],
+                                    [63_000, "00:00 (day 2)", "0000"]]) {
+    assert.equal(MORNING.timeText(step), text);
+    assert.equal(MORNING.readStep(text), step);
+    assert.equal(MORNING.fileText(step), file);
+  }
+  for (const [text, step] of [["7:00", 1800], ["07:00", 1800], ["20", 1200], ["6:29", 86_340]]) {
+    assert.equal(MORNING.readStep(text), step);
+  }
+  for (const text of ["24:00", "06:29 (day 1)", "07:00+01:00"]) assert.ok(Number.isNaN(MORNING.readStep(text)), text);
+  assert.equal(MORNING.runningText(1800), "07:00:00");
+  assert.equal(MORNING.runningText(1801), "07:00:01");
+  assert.equal(MORNING.axisText(63_000), "00:00");
+  assert.equal(COUNTED.runningText(1800), "0:30:00");
+  assert.equal(COUNTED.fileText(1800), "0030");
+  assert.equal(COUNTED.fileText(1830), "03030");
+});
+
+// In Berlin clocks go from 2:00 to 3:00 on 29 March 2026, and from 3:00 back to 2:00 on 25 October.
+const SPRING = new DayClock({begin: 1.5 * 3600, date: "2026-03-29", zone: "Europe/Berlin"});
+const AUTUMN = new DayClock({begin: 1.5 * 3600, date: "2026-10-25", zone: "Europe/Berlin"});
+
+test("an hour that a clock change skips is not written, and is no time", () => {
+  for (const [step, text] of [[0, "01:30"], [1799, "01:59:59"], [1800, "03:00"], [5400, "04:00"],
+                              [79_200, "00:30 (day 2)"]]) {
+    assert.equal(SPRING.timeText(step), text);
+    assert.equal(SPRING.readStep(text), step);
+  }
+  assert.ok(Number.isNaN(SPRING.readStep("02:30")));
+  assert.ok(SPRING.isSkipped("2:30"));
+  for (const text of ["soon", "03:00", "25:00", ""]) assert.ok(!SPRING.isSkipped(text), text);
+  assert.ok(!MORNING.isSkipped("02:30"));
+});
+
+test("an hour that comes twice is written with its offset, and is read as the first one without", () => {
+  for (const [step, text, axis] of [[0, "01:30", "01:30"], [1800, "02:00+02:00", "02:00"], [3600, "02:30+02:00", "02:30"],
+                                    [5400, "02:00+01:00", "02:00"], [7200, "02:30+01:00", "02:30"], [9000, "03:00", "03:00"],
+                                    [90_000, "01:30 (day 2)", "01:30"]]) {
+    assert.equal(AUTUMN.timeText(step), text);
+    assert.equal(AUTUMN.axisText(step), axis);
+    assert.equal(AUTUMN.readStep(text), step);
+  }
+  assert.equal(AUTUMN.readStep("02:30"), 3600);
+  assert.ok(Number.isNaN(AUTUMN.readStep("02:30+03:00")));
+});
+
+test("a clock change days after the beginning is met, too", () => {
+  const before = new DayClock({begin: 0, date: "2026-10-20", zone: "Europe/Berlin"});
+  const change = 5 * 86_400 + 3 * 3600;         // the step at which it is 3:00 for the first time
+  assert.equal(before.timeText(change - 1), "02:59:59+02:00 (day 6)");
+  assert.equal(before.timeText(change), "02:00+01:00 (day 6)");
+  assert.equal(before.timeText(change + 7200), "04:00 (day 6)");
+});
+
+test("without a date nobody knows of a clock change", () => {
+  const clock = new DayClock({begin: 1.5 * 3600, zone: "Europe/Berlin"});
+  assert.equal(clock.timeText(1800), "02:00");
+});
+
+test("a day is told where it is not today", () => {
+  assert.equal(COUNTED.dateText(0), "");
+  const now = Math.floor(Date.now() / 1000);
+  assert.ok(!COUNTED.dateText(now).includes(" ") || /[AP]M$/.test(COUNTED.dateText(now)));
+  assert.ok(COUNTED.dateText(now - 3 * 86400).length > COUNTED.dateText(now).length);
+});
+
+/** The seconds of a processor that something takes, the least of three times. */
+function taken(does) {
+  return Math.min(...[1, 2, 3].map(() => {
+    const before = process.cpuUsage();
+    does();
+    return process.cpuUsage(before).user;
+  }));
+}
+
+test("a time of day is written by formats that are kept: lists have hundreds, twice a gesture", () => {
+  const now = Math.floor(Date.now() / 1000);
+  const kept = new Intl.DateTimeFormat([], {hour: "2-digit", minute: "2-digit"});
+  const many = (write) => taken(() => { for (let each = 0; each < 500; each++) write(); });
+  const plain = many(() => [new Date().toDateString(), kept.format(new Date(now * 1000))]);
+  const made = many(() => new Date(now * 1000).toLocaleTimeString([], {hour: "2-digit"}));
+  const one = many(() => COUNTED.dateText(now - 60));
+  assert.ok(one - plain < 0.3 * (made - plain), `${one}, kept ${plain}, made anew ${made}`);
+});
+
+test("when something was done is told in the time zone of the road's file", () => {
+  const noon = Date.UTC(2020, 0, 1, 12) / 1000;
+  const told = (zone) => new DayClock({zone}).dateText(noon);
+  assert.match(told("Asia/Tokyo"), /09:00|21:00/);
+  assert.notEqual(told("Asia/Tokyo"), told("America/New_York"));
+});
