@@ -100,9 +100,18 @@ const UNDO_NOTES = {undo: "Undone", redo: "Redone"};
  */
 function noteOf(called) {
   const note = typeof called === "string" ? store.pending.get(called)?.note ?? ""
-    : layersOf("mine").findByOperation(called)?.note || store.notes.get(keyOf(called)) || "";
+    : findNote(called);
   return note.replace(/^(Undone|Redone)(: |$)/, "")
     .replace(/^On top: /, "the place on top of ");
+}
+
+/** Return the note of an operation; that of its change if nothing else is known.
+ * @param {Stamp} stamp
+ */
+function findNote(stamp) {
+  const change = layersOf("mine").findByOperation(stamp);
+  const operation = change?.operations.find((one) => keyOf(one.stamp) === keyOf(stamp));
+  return operation?.note || store.notes.get(keyOf(stamp)) || change?.note || "";
 }
 
 /** Queue a press of Undo or Redo.
@@ -398,9 +407,9 @@ async function askPreviewFigures() {
   if (!preview || !outcome || to <= from) return;
   const stands = () => store.outcome === outcome;
   const said = await ask({figures: {at: need("me").at, of: "preview", from, to}},
-    {quiet: ["busy"], stands});
+    {quiet: ["Busy"], stands});
   if (!said || !stands()) return;
-  if ("refused" in said && said.refused === "busy") {
+  if ("refused" in said && said.refused === "Busy") {
     preview.soon = setTimeout(askPreviewFigures, LOOKS);
     return;
   }

@@ -52,8 +52,8 @@ export async function ask(command, {first = false, quiet = [], stands = always, 
  */
 export async function askUntilFree(command) {
   for (;;) {
-    const said = await ask(command, {quiet: ["busy"]});
-    if (!said || !("refused" in said) || said.refused !== "busy") return said;
+    const said = await ask(command, {quiet: ["Busy"]});
+    if (!said || !("refused" in said) || said.refused !== "Busy") return said;
     await new Promise((done) => { setTimeout(done, BUSY); });
   }
 }

@@ -31,7 +31,7 @@ export async function askDays() {
   store.days = days;
   notify("days");
   const said = await ask({days: {at: need("me").at, of: days.of, from, to}},
-    {quiet: ["stopped"], stands: () => store.days === days});
+    {quiet: ["Stopped"], stands: () => store.days === days});
   if (store.days !== days) return;
   if (said && !("refused" in said)) days.said = said;
   else store.days = null;

@@ -212,7 +212,7 @@ export async function askSeries(period = periodShown()) {
     for (const side of sides) if (!await computed(roadOf(side), to)) return;
     const each = eachOf(to - from);
     const said = await Promise.all(sides.map((side) =>
-      ask({counts: {at: roadOf(side).at, from, to, each}}, {quiet: ["busy", "no preview"]})));
+      ask({counts: {at: roadOf(side).at, from, to, each}}, {quiet: ["Busy", "NoPreview"]})));
     const flows = said.flatMap((one) => (one && "flows" in one ? [one.flows.filter(isOfSpan)] : []));
     if (flows.length < said.length) return;
     const names = outcome?.layers ? ["now", "then"] : ["shared", "mine"];
@@ -277,7 +277,7 @@ async function askCounts(period) {
   if (key === figures.key) return false;
   for (const whose of BOTH) if (!await computed(roadOf(whose), to)) return false;
   const said = await Promise.all([need("me").at, "shared"].map((at) =>
-    ask({counts: {at, from, to}}, {quiet: ["busy"]})));
+    ask({counts: {at, from, to}}, {quiet: ["Busy"]})));
   const counts = said.flatMap((one) => (one && "flows" in one ? [one.flows.filter(isOfPeriod)] : []));
   if (counts.length < said.length) return false;
   assign(figures, {key, period, counts});
@@ -293,7 +293,7 @@ async function askSums(whose, period) {
   const wanted = road.minutes.findMissing(period, MINUTES_AT_ONCE);
   if (!wanted || !await computed(road, wanted[1])) return false;
   const {version, at} = road;
-  const said = await ask({sums: {at, from: wanted[0], to: wanted[1]}}, {quiet: ["busy"]});
+  const said = await ask({sums: {at, from: wanted[0], to: wanted[1]}}, {quiet: ["Busy"]});
   if (!said || "refused" in said) return false;
   if (road.version === version) road.minutes.put(wanted[0], said.sums);
   return true;
@@ -309,9 +309,9 @@ async function askExact(period) {
   if (key === figures.exactKey || figures.counting || store.preview) return;
   const [from, to] = period;
   figures.counting = true;
-  const said = await ask({figures: {at: need("me").at, of: "mine", from, to}}, {quiet: ["busy"]});
+  const said = await ask({figures: {at: need("me").at, of: "mine", from, to}}, {quiet: ["Busy"]});
   figures.counting = false;
-  if (said && "refused" in said && said.refused === "busy") setTimeout(refreshFigures, BUSY);
+  if (said && "refused" in said && said.refused === "Busy") setTimeout(refreshFigures, BUSY);
   if (!said || "refused" in said) return;
   if (keyOfPeriod(period) === key) assign(figures, {exactKey: key, exact: said});
   refreshFigures();

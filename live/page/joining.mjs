@@ -24,7 +24,7 @@ import {titlesOf} from "./listing.mjs";
 /** @typedef {import("./types.mjs").Told} Told */
 /** @typedef {{welcome: Welcome} | (Refusal & {seats?: Seat[]})} HelloAnswer */
 
-const FORM = 3;                 // of what is spoken with the server
+const FORM = 4;                 // of what is spoken with the server
 const REPLACED_SHOWN = 60_000;  // milliseconds for which the page shows that the program was restarted
 /** @type {(name: string) => string} */
 const stored = (name) => sessionStorage.getItem(name) ?? "";

@@ -1,4 +1,4 @@
-"""What a tab asks, taken apart field by field; and refusals, each with a sentence for people.
+"""Read what a tab asks, field by field.
 
     with Asked(verb, fields) as asked:
         step = asked.whole("step")
@@ -15,11 +15,11 @@ from zegdrut.refusals import Reasons
 
 from .journal import packed
 from .model.operations import Shape, same_int
+from .refusals import NOT_A_COMMAND, Refused, not_a_command
 
-NOT_A_COMMAND = "not a command"
 MOST_EDITS = 1_200  # of a gesture: its line is one import
 LONGEST_NAME, LONGEST_NOTE, LONGEST_KEY = 64, 200, 40
-TOLD = 3  # so many faults of a list are told
+TOLD = 3  # faults of a list that a refusal names
 LONG = 2_000  # bytes of a field from which on it takes long to look how its numbers were written
 
 
@@ -34,23 +34,8 @@ STAMP = row_of(("count", lambda value: whole(value, 1 << 48)), ("number", lambda
 PAIR = row_of(("index", whole), ("chance", whole))
 
 
-class Refused(Exception):
-    """A refusal: `text` names it, `why` is a sentence, `more` are further fields of the reply."""
-
-    def __init__(self, text: str, why: str, **more: Any) -> None:
-        super().__init__(text)
-        self.text, self.why, self.more = text, why, more
-
-    def reply(self) -> dict[str, Any]:
-        return {"refused": self.text, "why": self.why, **self.more}
-
-
-def not_a_command(why: str) -> Refused:
-    return Refused(NOT_A_COMMAND, why)
-
-
 def words(value: Any, most: int) -> str:
-    """A text that can be shown in a line: no control signs, none that turn its direction, no halves of pairs."""
+    """Return a text for one line: without control characters, marks that turn its direction, and halves of pairs."""
     begin = " ".join(str(value)[:8 * most].split())
     plain = "".join(sign for sign in begin if unicodedata.category(sign)[0] != "C")
     return plain.strip()[:most]
@@ -113,7 +98,7 @@ class Asked:
         return value
 
     def version(self, name: str) -> int:
-        """A number that the server gave; 0 where there is none."""
+        """Return a number that the server gave; 0 if there is none."""
         if not self.has(name):
             return 0
         value = self._fields[name]
@@ -143,7 +128,7 @@ class Asked:
         return [words(one, longest) for one in value]
 
     def key(self, name: str = "key") -> str:
-        """By which a gesture that is sent again is known."""
+        """Return the key of a gesture: one that is sent again has the same."""
         value = self.raw(name)
         is_key = type(value) is str and 1 <= len(value) <= LONGEST_KEY and value.isascii() and value.isprintable()
         if not is_key:
@@ -151,7 +136,7 @@ class Asked:
         return str(value)
 
     def called(self, name: str) -> tuple[int, int] | str:
-        """A stamp, or the key of a gesture that may not have one yet."""
+        """Return a stamp, or the key of a gesture that may not have one yet."""
         if type(self.raw(name)) is str:
             return self.key(name)
         count, number = self._checked(name, STAMP)
@@ -171,7 +156,7 @@ class Asked:
         if type(edits) is not list or 1 <= len(edits) <= MOST_EDITS:
             edits = self._checked("edits", EDITS)
         if not 1 <= len(edits) <= MOST_EDITS:
-            raise Refused("too many edits" if edits else NOT_A_COMMAND,
+            raise Refused("TooManyEdits" if edits else NOT_A_COMMAND,
                           f"a gesture has 1 to {MOST_EDITS} edits, not {len(edits)}")
         if len({tuple(edit[:3]) for edit in edits}) < len(edits):
             raise not_a_command("an object and step stands twice in a gesture")
@@ -179,34 +164,34 @@ class Asked:
         return found
 
     def shape(self) -> Shape:
-        kind, *numbers = self._checked("shape", SHAPE)
-        return Shape(kind, *(None if one is None else same_int(one) for one in numbers))
+        kind, first, last, begin, end, value = self._checked("shape", SHAPE)
+        return Shape(kind, same_int(first), same_int(last), same_int(begin), None if end is None else same_int(end), value)
 
     def is_null(self, name: str) -> bool:
         return self.has(name) and self._fields[name] is None
 
     def yes(self, name: str) -> bool:
-        """A field that is true, or not there."""
+        """Return whether a field is true; false if it is missing."""
         if self.has(name) and type(self._fields[name]) is not bool:
             raise not_a_command(f"`{name}` is true or false")
         return bool(self.has(name) and self._fields[name])
 
     def stretch(self) -> tuple[int, int] | None:
-        """The cells a to b of `cells`; None: all."""
+        """Return the cells a to b of `cells`; None: all."""
         if not self.has("cells"):
             return None
         first, last = self._checked("cells", row_of(("first cell", whole), ("last cell", whole)))
         return first, last
 
     def rest(self) -> dict[str, Any]:
-        """The fields that were not asked for, which now are."""
+        """Return the fields that were not asked for, and count them as asked for."""
         rest = {name: value for name, value in self._fields.items() if name not in self._known}
         self._known.update(rest)
         return rest
 
 
 def why_refused(plan: dict[str, Any], at: str, horizon: int, line: bytes, reply: dict[str, Any]) -> str:
-    """The sentence for a line that the program refused."""
+    """Return a sentence about a line that the program refused."""
     reasons = Reasons()
     reasons.hear(packed(plan).encode(), {"open": 1})
     reasons.hear(packed({"advance": {"at": at, "to": horizon}}).encode(), {"horizon": horizon})

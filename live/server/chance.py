@@ -19,8 +19,8 @@ from concurrent.futures import ProcessPoolExecutor, as_completed
 from typing import TYPE_CHECKING, Any, Callable, Iterator
 
 from . import LIVE, figures
-from .asked import Refused
 from .journal import packed
+from .refusals import Refused
 
 if TYPE_CHECKING:
     from zegdrut.days import Day
@@ -40,7 +40,7 @@ class Question:
         self.is_stopped = False
 
     async def answer(self, asked: dict[str, Any], progress: Callable[[], None]) -> dict[str, Any]:
-        """The figures, of the days that were done where it was stopped; `progress` is called after each day."""
+        """Return the figures; if it was stopped, those of the days that were done. `progress` is called after each day."""
         self._process = await asyncio.create_subprocess_exec(
             *figures.gently(__name__, NICE), stdin=asyncio.subprocess.PIPE, stdout=asyncio.subprocess.PIPE,
             env=figures.environment(asked["program"]), start_new_session=True, cwd=LIVE)
@@ -62,9 +62,9 @@ class Question:
             self.stop(done=True)
             await self._process.wait()
         if self.is_stopped and not self.done:
-            raise Refused("stopped", "the question was stopped before a day was done")
+            raise Refused("Stopped", "the question was stopped before a day was done")
         if "fault" in told or self.done < self.days and not self.is_stopped:
-            raise Refused("failed", told.get("fault", "the figures failed; the server's log says why"))
+            raise Refused("Failed", told.get("fault", "the figures failed; the server's log says why"))
         return {"days": self.done, "stopped": self.done < self.days, "figures": told["figures"]}
 
     def stop(self, done: bool = False) -> None:
@@ -74,17 +74,17 @@ class Question:
             figures.kill(self._process)
 
 
-class Questions:
+class DayQuestions:
     """One such question at a time."""
 
     def __init__(self) -> None:
         self.now: Question | None = None
 
     def begin(self, index: int, days: int, name: Callable[[int], str]) -> Question:
-        """A question of a seat, in the place of the one that it had; another seat's is not disturbed."""
+        """Begin a question of a seat, in the place of the one that it had. Another seat's goes on."""
         now = self.now
         if now is not None and now.index != index:
-            raise Refused("busy", f"{name(now.index)} asks about {now.days} days just now, of which {now.done} are done: one "
+            raise Refused("Busy", f"{name(now.index)} asks about {now.days} days just now, of which {now.done} are done: one "
                           "such question at a time")
         self.stop(index)
         self.now = Question(index, days)
@@ -121,7 +121,7 @@ def main() -> None:
 
 
 def days_of(asked: dict[str, Any]) -> Iterator[Day]:
-    """The days, as they are done."""
+    """Yield the days as they are done."""
     from zegdrut.days import SEEDS, run_day, unwrap_day
     from zegdrut.units import Units
     wanted = [demands(asked, side) for side in SIDES]
@@ -167,12 +167,12 @@ def of_day(asked: dict[str, Any], wanted: list[list[Rates]], _pairs: Any, _at: s
     from zegdrut.days import Day
     from zegdrut.trips import Window
     window = Window(asked["first"], asked["last"])
-    roads = [figures.Road({**asked["plan"], "words": seed}) for _ in SIDES]
+    roads = [figures.DrivenRoad({**asked["plan"], "words": seed}) for _ in SIDES]
     try:
         for road, side in zip(roads, SIDES):
             road.become(figures.edits_of(asked[side]))
             road.read(window.last, math.inf)
-        both = [of_road(figures.road_of(road, rates, window)) for road, rates in zip(roads, wanted)]
+        both = [named_figures(figures.road_of(road, rates, window)) for road, rates in zip(roads, wanted)]
         delay = figures.cost(roads[0].trips, roads[1].trips, window)["delay_hours"]
         return Day(seed, *({HOURS: one[HOURS], LOST: one[LOST], DELAY: less, **one}
                            for one, less in zip(both, (0.0, delay))))
@@ -181,7 +181,7 @@ def of_day(asked: dict[str, Any], wanted: list[list[Rates]], _pairs: Any, _at: s
             road.lab.close()
 
 
-def of_road(found: dict[str, Any]) -> dict[str, float]:
+def named_figures(found: dict[str, Any]) -> dict[str, float]:
     """Return the figures of a road by their names: hours, lost demand, then of each detector the cars and the seconds from the inlet."""
     times = [mean for _, mean in found["travel"]]
     return {HOURS: found["vehicle_hours"], LOST: sum(found["lost"]),

@@ -6,9 +6,9 @@ from __future__ import annotations
 
 from typing import Any
 
-from .asked import Refused
 from .model.operations import SEATS, Operation, RawName, Shape, Stamp, is_raw
 from .model.reading import MOST_OBJECTS, why_too_large
+from .refusals import Refused
 
 from zegdrut.grammar import KINDS, LAST_STEP
 from zegdrut.refusals import Reasons
@@ -25,10 +25,10 @@ class Checks:
         """Raise `Refused` if an operation is not of this plan, or has more than any may have."""
         objects = sum(shape.last - shape.first + 1 for name, shape in one.sets.items() if shape is not None and not is_raw(name))
         if objects > MOST_OBJECTS:
-            raise Refused("too many objects", f"the shapes of an operation have at most {MOST_OBJECTS} objects, not {objects}")
+            raise Refused("TooManyObjects", f"the shapes of an operation have at most {MOST_OBJECTS} objects, not {objects}")
         too_large = why_too_large(one)
         if too_large:
-            raise Refused("too many edits", too_large)
+            raise Refused("TooManyEdits", too_large)
         self._edit("limit", 0, 0, 0, one.stamp)
         for name, shape in one.sets.items():
             if is_raw(name):
@@ -47,7 +47,7 @@ class Checks:
             raise Refused("NoObject", f"a shape's last {kind}, {last}, is before its first, {first}")
         self._edit(kind, last, begin, value, (1, SEATS))
         if last - first >= MOST_OBJECTS:
-            raise Refused("too many objects", f"a shape has at most {MOST_OBJECTS} objects, not {last - first + 1}")
+            raise Refused("TooManyObjects", f"a shape has at most {MOST_OBJECTS} objects, not {last - first + 1}")
         if end is None:
             return
         if end > LAST_STEP:

@@ -17,7 +17,7 @@ LONGEST_REPLY = 1 << 26
 PATIENCE = 120.0
 
 
-class Refused(Exception):
+class RefusedReply(Exception):
     """The server refused; `reply` is what it said."""
 
     def __init__(self, reply: dict[str, Any]) -> None:
@@ -37,7 +37,7 @@ class Seat:
     """A socket, and the seat that it has."""
 
     def __init__(self, address: str, authority: str | None = None, **hello: Any) -> None:
-        """The address with its token; `hello` has name, key or take."""
+        """Take the address with its token; `hello` has name, key or take."""
         self._base, _, self._token = address.strip().partition("/#")
         self._ssl = ssl.create_default_context(cafile=authority) if authority else None
         self._hello = hello
@@ -87,7 +87,7 @@ class Seat:
         self._open.clear()
 
     async def reply(self, verb: str, **fields: Any) -> dict[str, Any]:
-        """The reply to a command with these fields, a refusal too."""
+        """Return the reply to a command with these fields, a refusal too."""
         if self._socket.closed or self._reader.done():
             raise Closed(self._socket.close_code)
         self._number += 1
@@ -102,12 +102,12 @@ class Seat:
             raise ConnectionError(f"the server has not answered `{verb}` for {PATIENCE:.0f} seconds") from None
 
     async def say(self, verb: str, **fields: Any) -> dict[str, Any]:
-        """The reply to a command, or `Refused`."""
+        """Return the reply to a command; raise `RefusedReply` if it is refused."""
         reply = await self.reply(verb, **fields)
         if "refused" in reply:
-            raise Refused(reply)
+            raise RefusedReply(reply)
         return reply
 
     async def ask(self, verb: str, **fields: Any) -> dict[str, Any]:
-        """The reply about the own replica, or of `at`."""
+        """Return the reply about the own replica, or about `at`."""
         return await self.say(verb, **{"at": self.at, **fields})

@@ -1,9 +1,11 @@
-"""The listening sockets: who comes is let in by turns of addresses, so that no address locks the others out.
+"""Let connections in: those of each address in turn, so that no address locks the others out.
 
     doors = Doors(sockets, protocol, certificate)
     doors.open()
     await doors.serve()             for ever
     doors.close()
+    strangers = Strangers(connections, known)
+    await strangers.watch()         cuts those on which nobody shows the token
 
 Many connections of one address wait for each other, and of too many the oldest are closed. Those that have said nothing, or
 are still about their keys, are few: by TLS each takes a third of a megabyte.
@@ -18,7 +20,7 @@ import logging
 import socket
 import ssl
 import time
-from typing import Any, Callable, Deque
+from typing import Any, Callable, Deque, Iterable
 
 MOST_WAITING = 64  # connections of an address that wait to be let in
 MOST_ADDRESSES = 256  # that have some
@@ -27,6 +29,9 @@ MOST_ENTERING = 64  # that have said nothing, or are about their keys
 HANDSHAKE = 10.0  # seconds for each of both
 FAREWELL = 5.0  # seconds in which the other end says that it goes, by TLS
 AT_A_TIME = 256  # that are accepted before others have their turn
+FEW, MANY = 64, 512  # connections on which nobody has shown the token, of an address, and of all
+SHORT = 60.0  # seconds
+EVERY = 0.2  # seconds between two looks at them
 TOO_MANY = 0.5  # seconds until it is tried again where the system has no more sockets
 
 
@@ -143,8 +148,38 @@ async def says_something(connection: socket.socket) -> None:
 
 
 def neighbourhood(address: str) -> str:
-    """Return what counts as one address: of IPv6 a network of 64 bits, all of which one host may have."""
+    """Return what counts as one address: for IPv6 a network of 64 bits, since one host may have all of it."""
     if ":" not in address:
         return address
     long = ipaddress.IPv6Address(address.partition("%")[0])
     return str(long.ipv4_mapped or ipaddress.ip_network((long, 64), strict=False))
+
+
+class Strangers:
+    """Looks after connections: of too many the oldest are cut, and those that last too long."""
+
+    def __init__(self, connections: Callable[[], Iterable[Any]], known: Callable[[], set[Any]]) -> None:
+        """Take the functions that give all connections, and those that have shown the token."""
+        self._connections, self._known = connections, known
+        self._since: dict[Any, float] = {}
+
+    async def watch(self) -> None:
+        """Look for ever."""
+        while True:
+            await asyncio.sleep(EVERY)
+            self.look(time.monotonic())
+
+    def look(self, now: float) -> None:
+        known = self._known()
+        there = [one for one in self._connections() if one not in known and one.transport is not None]
+        self._since = {one: self._since.get(one, now) for one in there}
+        there.sort(key=lambda one: self._since[one])
+        counts = collections.Counter(map(address_of, there))
+        for one in there:
+            if counts[address_of(one)] > FEW or counts.total() > MANY or now - self._since[one] > SHORT:
+                counts[address_of(one)] -= 1
+                one.transport.abort()
+
+
+def address_of(connection: Any) -> str:
+    return neighbourhood(str((connection.transport.get_extra_info("peername") or ("",))[0]))

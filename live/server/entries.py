@@ -1,7 +1,7 @@
 """The lines of a journal, read and written.
 
-A line ends with the checksum of its entry: as `crc` where a write began with it, as `and` where it went on. So a line
-that is none was never confirmed where no write began behind it. (Lines of older journals have no checksum.)
+A line ends with the checksum of its entry: as `crc` if a write began with it, as `and` if it went on. So a malformed line was
+never confirmed if no write began behind it. (Lines of older journals have no checksum.)
 """
 from __future__ import annotations
 
@@ -18,7 +18,7 @@ SUMMED = re.compile(rb',"(crc|and)":"([0-9a-f]{8})"\}')
 
 
 class Broken(Exception):
-    """The journal has a line that is none, or the folder cannot be used; the text says so in a sentence."""
+    """The journal has a malformed line, or the folder cannot be used. The text says so in a sentence."""
 
 
 def packed(value: Any) -> str:
@@ -26,8 +26,8 @@ def packed(value: Any) -> str:
     return json.dumps(value, separators=(",", ":"), ensure_ascii=False, allow_nan=False)
 
 
-def line_of(text: str, is_first: bool) -> bytes:
-    """The line of an entry, the first of a write or not."""
+def journal_line(text: str, is_first: bool) -> bytes:
+    """Return the line of an entry, the first of a write or not."""
     data = text.encode()
     return data[:-1] + b',"%s":"%08x"}\n' % (b"crc" if is_first else b"and", zlib.crc32(data))
 
@@ -36,12 +36,12 @@ class Entries:
     """The entries of a journal, read one by one. When all are read `size` is how many bytes they take."""
 
     def __init__(self, path: Path, most: int | None = None) -> None:
-        """`most`: only so many bytes are read."""
+        """Read only the first `most` bytes, if that is given."""
         self._path, self._most = path, most
         self.size = 0
 
     def __iter__(self) -> Iterator[Entry]:
-        """Yield each entry; `Broken` names a line that is no entry, unless it is of a write that never ended."""
+        """Yield each entry. `Broken` names a malformed line, unless it is of a write that never ended."""
         if not self._path.exists():
             return
         left = self._path.stat().st_size if self._most is None else self._most
@@ -67,15 +67,15 @@ class Entries:
         return bool(rest or b"\0" in line) and not any(begins_a_write(self._path, one) for one in could)
 
 
-def read(path: Path, size: int | None = None) -> tuple[list[Entry], int]:
-    """The entries of a journal (of its first bytes), and how many bytes they take; `Broken` names a line that is no
-    entry, unless it is of a write that never ended."""
+def read_entries(path: Path, size: int | None = None) -> tuple[list[Entry], int]:
+    """Return the entries of a journal (of its first bytes), and how many bytes they take. `Broken` names a malformed line,
+    unless it is of a write that never ended."""
     entries = Entries(path, size)
     return list(entries), entries.size
 
 
 def entry_of(path: Path, number: int, line: bytes) -> Entry:
-    """Read an entry; `Broken` if it is none, or its checksum differs."""
+    """Read an entry; raise `Broken` if it is malformed, or its checksum differs."""
     summed = SUMMED.fullmatch(line[-SUM:])
     text = line[:-SUM] + b"}" if summed else line
     try:
@@ -90,7 +90,7 @@ def entry_of(path: Path, number: int, line: bytes) -> Entry:
 
 
 def begins_a_write(path: Path, line: bytes) -> bool:
-    """Whether all lines before were confirmed: this one was written behind them."""
+    """Return whether all lines before were confirmed: this one was written behind them."""
     try:
         entry_of(path, 0, line)
     except Broken:

@@ -19,9 +19,9 @@ from collections import OrderedDict
 from typing import TYPE_CHECKING, Any, AsyncIterator, Sequence
 
 from . import LIVE
-from .asked import Refused
 from .journal import packed
 from .program import LONGEST_REPLY, dies_with_us, import_lines
+from .refusals import Refused
 
 if TYPE_CHECKING:
     from zegdrut import Edit, RoadLab
@@ -36,18 +36,18 @@ MOST_ROADS = 12  # that are kept
 RUNNING = asyncio.Semaphore(1)
 WAITING: list[int] = []  # seats for which a road is run beside, or will be
 MOST_WAITING = 8
-NICE = 5  # less than who edits, and more than what takes long
+NICE = 5  # between editing and what takes long
 GUARD = "ROAD_LAB_GUARD"  # by which a program of zegdrut ends with the process that started it
 SIDES = "before", "after"
-NUMBER = 64  # in the stamps of edits: of no replica
+NUMBER = 64  # in the stamps of edits; no replica has it
 ENTRY = 60  # steps of entry whose travel times are told together
 
 
 @contextlib.asynccontextmanager
 async def alone(index: int) -> AsyncIterator[None]:
-    """What runs a road beside the laboratory: one at a time, and one of each seat."""
+    """Run a road beside the laboratory: one at a time, and one of each seat."""
     if index in WAITING or len(WAITING) >= MOST_WAITING:
-        raise Refused("busy", "another road is run for this: ask again later")
+        raise Refused("Busy", "another road is run for this: ask again later")
     WAITING.append(index)
     try:
         async with RUNNING:
@@ -84,7 +84,7 @@ class Beside:
             if not line.endswith(b"\n"):
                 self.close()
         if not line.endswith(b"\n"):
-            raise Refused("failed", "the figures failed; the server's log says why")
+            raise Refused("Failed", "the figures failed; the server's log says why")
         said: dict[str, Any] = json.loads(line)
         return said
 
@@ -111,7 +111,7 @@ class Figures(Beside):
                 if "done" not in said:
                     return said
                 if time.monotonic() > until:
-                    raise Refused("busy", f"the figures are computed to step {said['done']} of {asked['last']} so far: ask again")
+                    raise Refused("Busy", f"the figures are computed to step {said['done']} of {asked['last']} so far: ask again")
 
 
 def environment(path: str) -> dict[str, str]:
@@ -137,7 +137,7 @@ Edits = dict[tuple[str, int, int], int]
 """The values of edits, by kind, index and step."""
 
 
-class Road:
+class DrivenRoad:
     """A road that is run and read on, and brought to other edits."""
 
     def __init__(self, plan: dict[str, Any]) -> None:
@@ -182,7 +182,7 @@ class Road:
 
 
 def detector_told(one: Any) -> dict[str, Any]:
-    """Return a detector's count as it is told: cars, the sum of speeds, flow in cars per hour, speed in km/h, seconds on."""
+    """Return a detector's count for a reply: cars, the sum of speeds, flow in cars per hour, speed in km/h, seconds on."""
     return {"cars": one.cars, "speeds": one.speeds, "flow": one.flow, "speed": one.time_mean_speed, "on": one.seconds_on}
 
 
@@ -202,7 +202,7 @@ def times_told(times: Sequence[Any]) -> list[list[float | None]]:
     return [[one.cars, one.mean] for one in times]
 
 
-def road_of(road: Road, wanted: list[Rates], window: Window) -> dict[str, Any]:
+def road_of(road: DrivenRoad, wanted: list[Rates], window: Window) -> dict[str, Any]:
     """Return the figures of a road."""
     from zegdrut.lost import compute_supplies
     from zegdrut.trips import compute_travel_times, compute_travel_times_by_entry, compute_vehicle_hours, count_admitted_cars
@@ -218,7 +218,7 @@ def road_of(road: Road, wanted: list[Rates], window: Window) -> dict[str, Any]:
 
 
 def cost(before: Trips, after: Trips, window: Window) -> dict[str, Any]:
-    """Return what the change costs: the delay in vehicle hours of so many cars, and how much later they are at each detector."""
+    """Return what the change costs: the delay in vehicle hours, the cars, and how much later they are at each detector."""
     from zegdrut.trips import compare_trips
     found: TripsCompared = compare_trips(before, after, window)
     return {"delay_hours": found.delay_hours, "delayed": found.cars, "later": times_told(found.at_sites)}
@@ -228,15 +228,15 @@ class Roads:
     """The roads that were asked about last, by the slots that the questions name."""
 
     def __init__(self) -> None:
-        self._roads: OrderedDict[str, Road] = OrderedDict()
+        self._roads: OrderedDict[str, DrivenRoad] = OrderedDict()
 
-    def road(self, slot: str, plan: dict[str, Any]) -> Road:
+    def road(self, slot: str, plan: dict[str, Any]) -> DrivenRoad:
         """Return the road of a slot."""
         road = self._roads.pop(slot, None)
         if road is not None and road.plan != plan:
             road.lab.close()
             road = None
-        self._roads[slot] = road = road or Road(plan)
+        self._roads[slot] = road = road or DrivenRoad(plan)
         while len(self._roads) > MOST_ROADS:
             self._roads.popitem(last=False)[1].lab.close()
         return road

@@ -1,4 +1,4 @@
-"""Who sends more messages than this site takes.
+"""Find out who sends more messages than this site takes.
 
     floods = Floods()
     if floods.are_too_many(sender): ..    one more message of a sender: leave it out
@@ -17,7 +17,7 @@ FLOOD = 30.0  # seconds for which a site that sends more is not heard
 
 
 class Floods:
-    """Who sends more than is taken: so many messages at once, and so many each second; or what makes as much work."""
+    """Counts the messages of each sender. Too many are `BURST` at once and `A_SECOND` each second, or what makes as much work."""
 
     def __init__(self, clock: Callable[[], float] = time.monotonic) -> None:
         self._clock = clock

@@ -1,27 +1,27 @@
 """A journal of form 1 or 2, read into a state: the same roads, by the rules of its time.
 
-There the shared road also had repairs. They say nothing any more, so places in it are counted anew.
+There the shared road also had repairs. They say nothing any more, so places in it are counted again.
 """
 from __future__ import annotations
 
 from dataclasses import replace
 from typing import TYPE_CHECKING
 
-from .model.former import read_gesture, read_list
+from .model.former import read_former_gesture, read_list
 from .model.operations import Json, Operation
 from .model.reading import read_time, whole
-from .records import MOST_SEATS, AllNews, Came, Fields, Made, Share, Take, read_text
+from .records import MOST_SEATS, AllNews, Came, Fields, Made, Share, Take, read_string
 
 if TYPE_CHECKING:
     from .state import State
 
 
 class Former:
-    """What must be known of a journal while it is read."""
+    """The state that is needed while such a journal is read."""
 
     def __init__(self, state: State) -> None:
         self._state = state
-        self._places = [0]  # of the first so many shared gestures, how many operations they are
+        self._places = [0]  # how many operations the first N shared gestures are, by N
 
     def apply(self, kind: str, value: Fields) -> bool:
         """Apply an entry that differs from one of form 3; return whether it does."""
@@ -45,10 +45,10 @@ class Former:
         self._places += [self._state.shared.size] * len(gestures)
 
     def _gesture(self, value: Fields) -> None:
-        one = read_gesture(dict(value))
+        one = read_former_gesture(dict(value))
         is_shared = value.get("shared") is True
         if one is not None:
-            key = None if value.get("key") is None else read_text(value["key"])
+            key = None if value.get("key") is None else read_string(value["key"])
             Made(whole(value["seat"], MOST_SEATS - 1, "seat"), one, key, is_shared, value.get("unsent") is True).apply(self._state)
         if is_shared:
             self._count([None])
@@ -60,16 +60,16 @@ class Former:
 
     def _came(self, value: Fields) -> None:
         gestures = read_list(value["gestures"])
-        operations = [one for one in map(read_gesture, gestures) if one is not None]
+        operations = [one for one in map(read_former_gesture, gestures) if one is not None]
         titles = [one.get("title", "") for one in [value, *gestures] if isinstance(one, dict) and "known" not in one]
-        title = next((read_text(one) for one in titles if one), "")
+        title = next((read_string(one) for one in titles if one), "")
         self._hold(operations, value, title)
         self._count(gestures)
 
     def _hold(self, operations: list[Operation], value: Fields, title: str) -> None:
         if operations:
-            Came(operations, read_text(value.get("who", "")), title, read_time(value.get("when")),
+            Came(operations, read_string(value.get("who", "")), title, read_time(value.get("when")),
                  value.get("unsent") is True).apply(self._state)
 
     def _answer(self, value: Fields) -> None:
-        """A repair alone."""
+        """Ignore a repair alone."""

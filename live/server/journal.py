@@ -1,6 +1,6 @@
-"""The journal of a folder: what a server has confirmed, a JSON object a line, on the disk before anybody is told.
+"""Keep the journal of a folder: what a server has confirmed, a JSON object a line, on the disk before anybody hears of it.
 
-    entries, size = read(path)         what stands there, without what was never confirmed; `Entries` one by one
+    entries, size = read_entries(path)         what stands there, without what was never confirmed; `Entries` one by one
     with lock(folder): ..              one server a folder; its journal is locked, too
     journal = Journal(path, size)      cuts that off, and appends
     await journal.write({"clock": ..}) returns once the entry is on the disk; one sync serves all that wait
@@ -25,7 +25,7 @@ from pathlib import Path
 from typing import Any, Callable, Iterable, Iterator
 
 from .entries import Broken as Broken, Entries as Entries, Entry as Entry
-from .entries import line_of as line_of, packed as packed, read as read
+from .entries import journal_line as journal_line, packed as packed, read_entries as read_entries
 
 JOURNAL = "journal.jsonl"
 LINES_AT_ONCE = 1_000
@@ -90,12 +90,12 @@ def sync_folder(folder: Path) -> None:
 
 
 def appended(path: Path) -> int:
-    """A file that is appended to, of its owner alone."""
+    """Open a file to append to, for its owner alone."""
     return os.open(path, os.O_WRONLY | os.O_CREAT | os.O_APPEND, 0o600)
 
 
 def write(file: int, pieces: Iterable[bytes]) -> None:
-    """Writes all of it, and returns when it is on the disk."""
+    """Write all of it, and return when it is on the disk."""
     for piece in pieces:
         while piece:
             piece = piece[os.write(file, piece):]
@@ -103,7 +103,7 @@ def write(file: int, pieces: Iterable[bytes]) -> None:
 
 
 def put_in_place(path: Path, pieces: Iterable[bytes]) -> int:
-    """Makes a file, or puts another in its place, whole or not at all; it stays open, to append to."""
+    """Make a file, or put another in its place, whole or not at all; it stays open, to append to."""
     file = put_beside(path, pieces)
     try:
         os.rename(beside(path), path)
@@ -149,17 +149,17 @@ def fork_writing(path: Path, entries: Callable[[], Iterable[Entry]]) -> int:
         os.closerange(3, os.sysconf("SC_OPEN_MAX"))  # a connection lasts as long as anybody has it open
         os.nice(NICE)
         gc.disable()
-        put_beside(path, lines_of(entries()))
+        put_beside(path, journal_lines(entries()))
         status = 0
     finally:
         os._exit(status)
 
 
-def lines_of(entries: Iterable[Entry]) -> Iterator[bytes]:
+def journal_lines(entries: Iterable[Entry]) -> Iterator[bytes]:
     """Yield the lines of entries, many at once."""
     several = iter(entries)
     while part := list(itertools.islice(several, LINES_AT_ONCE)):
-        yield b"".join(line_of(packed(entry), True) for entry in part)
+        yield b"".join(journal_line(packed(entry), True) for entry in part)
 
 
 class Journal:
@@ -206,7 +206,7 @@ class Journal:
             return os.open(self.path, os.O_RDONLY)
 
     def write(self, entry: Entry, then: Then = lambda: None) -> asyncio.Future[None]:
-        """A future that is done once the entry is on the disk, and `then` was called; or fails with `NotWritten`."""
+        """Return a future that is done once the entry is on the disk, and `then` was called; or fails with `NotWritten`."""
         done: asyncio.Future[None] = asyncio.get_running_loop().create_future()
         done.add_done_callback(lambda one: one.cancelled() or one.exception())  # whoever asks is told
         if self.fault is not None:
@@ -219,7 +219,7 @@ class Journal:
         return done
 
     def waits(self, seconds: float) -> bool:
-        """Whether the disk has owed an answer for so long."""
+        """Return whether the disk has owed an answer for some seconds."""
         return self._began is not None and time.monotonic() - self._began > seconds
 
     async def settled(self) -> None:
@@ -231,7 +231,7 @@ class Journal:
         try:
             while self._waiting and self.fault is None:
                 batch, self._waiting = self._waiting, []
-                data = b"".join(line_of(text, place == 0) for place, (text, _, _) in enumerate(batch))
+                data = b"".join(journal_line(text, place == 0) for place, (text, _, _) in enumerate(batch))
                 try:
                     await self._asks(self._append, data)
                 except OSError as fault:
@@ -278,8 +278,8 @@ class Journal:
         os.fsync(self._file)
 
     def confirmed(self) -> list[Entry]:
-        """What was confirmed, from the disk, whether that can be written or not."""
-        return read(self.path, self.size)[0]
+        """Return what was confirmed, from the disk, whether that can be written or not."""
+        return read_entries(self.path, self.size)[0]
 
     async def mend(self, entry: Entry) -> None:
         """Tries the disk by an entry, and as much more as a gesture may be: once that is there, and cut off again, all
@@ -294,7 +294,7 @@ class Journal:
             os.close(old)
         self._cut()
         sync_folder(self.path.parent)
-        self._append(line_of(packed(entry), True), bytes(ROOM))
+        self._append(journal_line(packed(entry), True), bytes(ROOM))
         self._cut()
 
     async def compact(self, entries: Callable[[], Iterable[Entry]]) -> None:
@@ -357,7 +357,7 @@ class Journal:
         await self._write_all()
 
     def _rename(self, file: int, copied: int) -> None:
-        """A new file that is renamed over the old one: whoever reads sees the one or the other, and it is locked first."""
+        """Rename a new file over the old one: whoever reads sees the one or the other, and it is locked first."""
         self._copy(file, copied)
         lock_of_new = held(beside(self.path))
         try:
@@ -381,7 +381,7 @@ class Journal:
 
 
 def close_all(*files: int) -> None:
-    """Close files of which nothing is needed any more."""
+    """Close files that nobody needs any more."""
     for file in files:
         with contextlib.suppress(OSError):
             os.close(file)

@@ -16,13 +16,16 @@ import time
 from pathlib import Path
 from typing import Any, Awaitable, Callable, Dict, Iterable
 
-from .asked import Refused, why_refused
+from zegdrut.grammar import LAST_HORIZON
+
+from .asked import why_refused
 from .records import JOURNAL_FORM, AnyEntry, Clock, Folder, Made, Upgraded
 from .journal import Broken, Entries, Entry, Journal, NotWritten, packed, put_in_place, sync_folder
 from .listeners import Listeners
 from .model.operations import Operation
 from .model.road import Road
-from .program import Gone, Program, command_of, start
+from .program import ProgramExited, Program, command_of, start
+from .refusals import Refused
 from .screen import Differences, Screen
 from .settings import Settings
 from .stamps import StampClock
@@ -30,25 +33,24 @@ from .state import State
 from .supervised import supervised
 from .turns import MORE, Job, Turns
 
-KEPT = 20  # of a seat's private operations the newest, which are never forgotten
+KEPT = 20  # newest private operations of a seat, which are never forgotten
 LONGEST_PAUSE = 60.0  # seconds between two tries of a disk that took nothing
-STALLS = 5.0  # seconds without an answer of the disk, of which people are told
+STALLS = 5.0  # seconds without an answer of the disk, until the page says so
 A_MOMENT = 1.0  # seconds that a try of the disk may keep others waiting
-LAST_STEP = 1_048_576
 SHARED = 0
 Times = Dict[str, float]
 """Seconds that an answer took, by what took them."""
 
 
 class NotKept(Refused):
-    """What is not on the disk."""
+    """The refusal of what is not on the disk."""
 
     def __init__(self, fault: object) -> None:
-        super().__init__("not written", f"it could not be kept, and was not done: {fault}. Try again later")
+        super().__init__("NotWritten", f"it could not be kept, and was not done: {fault}. Try again later")
 
 
 async def nothing() -> None:
-    """A job that does nothing."""
+    """Do nothing, as a job."""
 
 
 class Keeper:
@@ -56,7 +58,7 @@ class Keeper:
 
     def __init__(self, folder: Path, program: str, settings: Settings) -> None:
         self.folder, self.path, self.settings = folder, program, settings
-        self.stamps = StampClock()
+        self.stamps = StampClock(settings.milliseconds)
         self.state = State(self.stamps, time.time_ns() // 1_000)
         self.wanted: dict[int, int] = {}  # how far each replica shall have run
         self.here: set[int] = set()  # seats with a tab
@@ -67,10 +69,10 @@ class Keeper:
         self._trouble: str | None = None
         self._is_stalled = False
         self._try: asyncio.Future[str | None] | None = None  # of a disk that took nothing
-        self.confirmed = 0  # so many of the shared operations are on the disk: of no others anybody is told
+        self.confirmed = 0  # how many of the shared operations are on the disk: nobody hears of others
         self._forgotten = 0  # failures of the journal after which what was not written was forgotten
         self.since = time.monotonic()
-        self._former: int | None = None  # the form of a journal that is still to be written anew
+        self._former: int | None = None  # the form of a journal that is still to be written again
         self.differences = Differences()
         self._screen: Screen | None = None
         self._next: asyncio.Future[Screen] | None = None
@@ -82,8 +84,8 @@ class Keeper:
     # Start
 
     async def open(self, plan: Callable[[], dict[str, Any]], site: int | None) -> bool:
-        """Reads the journal, or begins one of this plan, and starts the program; whether the journal is new. `Broken`
-        says why it cannot be; a program that refuses the plan leaves the folder as it was."""
+        """Read the journal, or begin one of this plan, and start the program. Return whether the journal is new. Raise `Broken`
+        if it cannot be read; a program that refuses the plan leaves the folder as it was."""
         path = self.folder / "journal.jsonl"
         entries = Entries(path)
         self.state, count, form = self._read(entries)
@@ -119,14 +121,14 @@ class Keeper:
         form, self._former = self._former, None
         await self.journal.write(Upgraded().written())
         await self.compact()
-        logging.warning("the journal was of form %d: it is written anew, and the old one is kept as %s", form, kept)
+        logging.warning("the journal was of form %d: it is written again, and the old one is kept as %s", form, kept)
 
     async def compact(self) -> None:
         """Shorten the journal: each operation once."""
         await self.journal.compact(lambda: (entry.written() for entry in self.state.entries()))
 
     def _read(self, entries: Iterable[Entry]) -> tuple[State, int, int]:
-        """Return the state that entries say, how many they are, and of which form."""
+        """Return the state that entries say, how many they are, and their form."""
         number = 0
         state = State(self.stamps, time.time_ns() // 1_000)
         for number, entry in enumerate(entries, 1):
@@ -146,7 +148,7 @@ class Keeper:
         self.listeners.tell("ended", sentence)
 
     async def close(self) -> None:
-        """Ends the program; what was confirmed is on the disk."""
+        """End the program. What was confirmed is on the disk."""
         for task in self.tasks:
             task.cancel()
         if self._screen is not None:
@@ -156,7 +158,7 @@ class Keeper:
             await self.journal.close()
 
     def record(self, entry: AnyEntry) -> asyncio.Future[None]:
-        """Makes it so, here at once; the future is done when it is on the disk."""
+        """Apply an entry here at once. The future is done when it is on the disk."""
         self._check_disk()
         entry.apply(self.state)
         if isinstance(entry, Made):
@@ -171,7 +173,7 @@ class Keeper:
         return done
 
     def record_late(self, entry: AnyEntry, then: Callable[[], None]) -> asyncio.Future[None]:
-        """Makes it so here once it is on the disk, when the future is done."""
+        """Apply an entry once it is on the disk, when the future is done."""
         def so() -> None:
             entry.apply(self.state)
             then()
@@ -182,20 +184,20 @@ class Keeper:
 
     def _is_written(self, done: asyncio.Future[None]) -> None:
         if not done.cancelled() and done.exception() is not None:
-            self.turns.ask(SHARED, nothing)  # by which what is not written is forgotten
+            self.turns.ask(SHARED, nothing)  # before it what is not written is forgotten
 
     # The disk
 
     @property
     def trouble(self) -> str | None:
-        """What is wrong with it, for people."""
+        """Return what is wrong with the disk, in a sentence; None if nothing is."""
         if self._trouble is None and self._is_stalled:
             return (f"the disk has not answered for {STALLS:g} seconds: what is put is pending until it does, and what was "
                     f"confirmed can be looked at")
         return self._trouble
 
     async def _watch_disk(self) -> None:
-        """Tells when it takes very long, and when that is over; it may take for ever."""
+        """Say when the disk takes very long, and when that is over; it may take for ever."""
         while True:
             await asyncio.sleep(STALLS / 10)
             if self.journal.waits(STALLS) != self._is_stalled:
@@ -208,7 +210,7 @@ class Keeper:
             raise NotKept(self.journal.fault)
 
     async def writable(self) -> None:
-        """In a job that will write: where the disk took nothing, whether it does now; else `Refused`."""
+        """Try the disk, in a job that will write, if it took nothing before. Raise `Refused` if it still takes nothing."""
         if self.journal.fault is None:
             return
         if self.journal.failures != self._forgotten:
@@ -245,12 +247,12 @@ class Keeper:
             pause = min(LONGEST_PAUSE, 2 * pause)
 
     def clock(self) -> Clock:
-        """How late it is, how many steps pass in a second, and where a fast clock stops."""
+        """Return how late it is, how many steps pass in a second, and where a fast clock stops."""
         return Clock(self.state.rate, self.now(), self.state.stop)
 
     async def _start_over(self) -> None:
-        """After a failed write: what was not confirmed is forgotten, by the program too. It is done once, and what is
-        confirmed can be looked at from then on, whether the disk takes more or not."""
+        """Forget, after a failed write, what was not confirmed, in the program too. It is done once, and what is confirmed can be
+        looked at from then on, whether the disk takes more or not."""
         failures = self.journal.failures
         logging.error("%s: back to what is written", self.journal.fault)
         self._trouble = self.journal.fault
@@ -269,13 +271,13 @@ class Keeper:
 
     @property
     def reference(self) -> str:
-        """By which sites know that they have the same road: plan and seed, whatever its replicas are called."""
+        """Return a hash of plan and seed, whatever the replicas are called: sites know by it that they have the same road."""
         return hashlib.sha256(json.dumps({**self.state.plan, "replicas": 0}, sort_keys=True).encode()).hexdigest()[:16]
 
     # The program
 
     async def _start(self) -> Screen:
-        """A program that shows the empty road everywhere."""
+        """Return a program that shows the empty road everywhere."""
         program = await start(command_of(self.path, self.state.plan), packed(self.state.plan).encode())
         return Screen(program, self.state.empty)
 
@@ -289,7 +291,7 @@ class Keeper:
         return self.screen.program
 
     async def _around(self, job: Job) -> Any:
-        """Does a job by a program that lives and holds nothing that is not written."""
+        """Do a job with a program that lives and holds nothing that is not written."""
         try:
             for _ in range(2):
                 if self.journal.failures != self._forgotten:
@@ -297,12 +299,12 @@ class Keeper:
                 self._change_in_time()
                 try:
                     return await job()
-                except Gone as fault:
+                except ProgramExited as fault:
                     logging.warning("%s: another is started", fault)
                     await self.replace(str(fault))
-        except Gone as fault:
+        except ProgramExited as fault:
             logging.error("%s", fault)
-        raise Refused("no program", "the program ended over this, twice; the server's log says why")
+        raise Refused("NoProgram", "the program ended over this, twice; the server's log says why")
 
     async def replace(self, why: str | None = None) -> None:
         """Start another program in the place of this one. Its replicas are shown their roads when they are next asked."""
@@ -355,11 +357,11 @@ class Keeper:
         return screen
 
     def road(self, index: int) -> Road:
-        """The road that a replica of the program shall show: of what was shared what is on the disk."""
+        """Return the road that a replica of the program shall show. The shared one has what is on the disk."""
         return self.state.shared.upto(self.confirmed) if index == SHARED else self.state.seats[index].road
 
     async def _bring(self, screen: Screen, index: int) -> bool:
-        """One piece of what a replica lacks: the difference to its road, or some steps. Return whether it lacks nothing."""
+        """Bring a replica one piece of what it lacks: edits of its road, or some steps. Return whether it lacks nothing."""
         at, road, shown = self.state.replica(index).at, self.road(index), screen.shown(index)
         if shown is not road:
             await screen.show(index, at, road, await self.differences.between(shown, road))
@@ -369,8 +371,8 @@ class Keeper:
 
     def ask(self, turn: int, replicas: tuple[int, ...], body: Job, at_leisure: bool = False,
             takes_long: bool | None = None) -> asyncio.Future[Any]:
-        """Does something in the turn of a seat, when these replicas hold and have run what they shall. Where a write
-        fails before it has ended it is `NotKept`: what it has seen so far may not be so."""
+        """Do something in the turn of a seat, when these replicas hold and have run what they shall. If a write fails before it
+        has ended it is `NotKept`: what it has seen so far may not be so."""
         async def job() -> Any:
             failures.add(self.journal.failures)
             if len(failures) > 1:
@@ -383,12 +385,12 @@ class Keeper:
         return self.turns.ask(turn, job, at_leisure, takes_long)
 
     def is_confirmed(self, one: Operation) -> bool:
-        """Whether a shared operation is on the disk."""
+        """Return whether a shared operation is on the disk."""
         return self.state.shared.places.get(one, self.confirmed) < self.confirmed
 
     async def truly(self, look: Callable[[], Awaitable[Any]], may_see: str = "all") -> Any:
-        """What `look` gives, once what it may have seen of others is on the disk: nothing, what was `shared`, or `all`; it
-        looks anew where that was not taken."""
+        """Return what `look` gives, once what it may have seen of others is on the disk: nothing, what was `shared`, or `all`.
+        Look again if that was not taken."""
         while True:
             failures = self._forgotten  # not those of the journal: what is forgotten just now may still be looked at
             try:
@@ -404,11 +406,11 @@ class Keeper:
             await self.turns.ask(SHARED, nothing)
 
     async def say(self, line: bytes, times: Times) -> bytes:
-        """The program's reply to a line, in a job; a refusal is raised."""
+        """Return the program's reply to a line, in a job; raise its refusal."""
         return (await self.say_all([line], times))[0]
 
     async def say_all(self, lines: list[bytes], times: Times) -> list[bytes]:
-        """The program's replies to lines that are sent at once; the first refusal is raised."""
+        """Return the program's replies to lines that are sent at once; raise the first refusal."""
         began = time.perf_counter()
         replies = await self.program.ask_all(lines)
         times["program"] = times.get("program", 0) + time.perf_counter() - began
@@ -418,13 +420,13 @@ class Keeper:
         return replies
 
     def refuse(self, line: bytes, reply: dict[str, Any], program: Program) -> None:
-        """Raises what a program has refused, with a sentence."""
+        """Raise what a program has refused, with a sentence."""
         (_, fields), = json.loads(line).items()
         at = str(fields.get("at"))
         why = why_refused(self.state.plan, at, program.horizons.get(at, 0), line, reply)
         raise Refused(reply["refused"], why)
 
     def now(self) -> int:
-        """The step of the clock."""
-        last = LAST_STEP if self.state.stop is None else self.state.stop
+        """Return the step of the clock."""
+        last = LAST_HORIZON if self.state.stop is None else self.state.stop
         return min(last, self.state.now + int(self.state.rate * (time.monotonic() - self.since)))

@@ -10,18 +10,18 @@ import contextlib
 import time
 from typing import Any, Awaitable, Callable, TypeVar, Union
 
-from .asked import Refused
 from .checks import Checks
 from .keeper import SHARED, Keeper, Times
 from .lines import Lister
 from .model.choices import overruling, sendable, undoable, would_change
-from .model.operations import About, Operation, RawName, Shape, Stamp, edit, exclude, in_order, lift, put, undo
+from .model.operations import (About, Operation, RawName, Shape, Stamp, edit, exclude, in_order, lift, put, stamped_anew,
+                               undo)
 from .model.road import Road, change, repeat, stands
-from .model.stamping import stamped_anew
 from .records import Bound, Came, CameBack, Made, Share, StampedAnew, Take, Works
+from .refusals import Refused
 from .screen import first_step
 from .seating import Seating
-from .state import Replica, Seat, State
+from .state import Replica, SeatReplica, State
 from .supervised import supervised
 from .timing import Timing
 from .writing import Write, confirmed
@@ -33,11 +33,11 @@ MOST_BLOCKED = 5
 
 Reply = dict[str, Any]
 Called = Union[Stamp, str]  # a stamp, or the key of an operation of the seat
-Makes = Callable[[Seat, Stamp, About], Operation]  # makes an operation of this stamp
+Makes = Callable[[SeatReplica, Stamp, About], Operation]  # makes an operation of this stamp
 T = TypeVar("T")
 
 
-class Early(Refused):
+class FutureStamp(Refused):
     """An operation of another site that is taken later."""
 
     def __init__(self, one: Operation) -> None:
@@ -66,7 +66,7 @@ class Lab:
         return self.keeper.state
 
     async def _look_after(self) -> None:
-        """What is done now and then: the clock is kept, unused seats are freed, a long journal is shortened."""
+        """Keep the clock, free unused seats, and shorten a long journal, now and then."""
         settings = self.keeper.settings
         size, rounds = settings.most_journal, 0
         while True:
@@ -104,7 +104,7 @@ class Lab:
 
     async def put_edits(self, index: int, times: Times, *, key: str, note: str, edits: list[Any],
                         shape: Shape | None = None) -> Reply:
-        """Put raw edits. A shape that is told of them is for the eye alone."""
+        """Put raw edits. Their shape is for the eye alone."""
         values: dict[RawName, int | None] = {(kind, thing, step): value for kind, thing, step, value in edits}
         for name, value in values.items():
             self._checks.edit(name, value)
@@ -113,50 +113,50 @@ class Lab:
 
     async def undo(self, index: int, times: Times, *, key: str, note: str, stamp: Called) -> Reply:
         """Undo an operation."""
-        def makes(seat: Seat, new: Stamp, about: About) -> Operation:
+        def makes(seat: SeatReplica, new: Stamp, about: About) -> Operation:
             undone = self._held_by(seat, stamp)
             if not would_change(seat.road, undone):
-                raise Refused("nothing to take back", self._why_nothing(seat, undone))
+                raise Refused("NothingToUndo", self._why_nothing(seat, undone))
             return undo(new, undone, about)
         return await self._make(index, key, note, times, makes)
 
     async def put_again(self, index: int, times: Times, *, key: str, stamp: Called) -> Reply:
         """Do once more what an operation did to its lines, on top."""
-        def makes(seat: Seat, new: Stamp, about: About) -> Operation:
+        def makes(seat: SeatReplica, new: Stamp, about: About) -> Operation:
             old = self._held_by(seat, stamp)
             if not old.names:
-                raise Refused("nothing to put", "an undo cannot be put again: change the line itself")
+                raise Refused("NothingToPut", "an undo cannot be put again: change the line itself")
             return repeat(seat.road, new, old, About(about.who, old.about.note, about.when, old.about.shape))
         return await self._make(index, key, "", times, makes)
 
     async def exclude_site(self, index: int, times: Times, *, key: str, note: str, site: int, out: bool) -> Reply:
         """Let nothing count that a site made and will make; or let it count again."""
         if site == self.state.site:
-            raise Refused("own site", f"{site} is this site: who leaves it out must be of another")
+            raise Refused("OwnSite", f"{site} is this site: who leaves it out must be of another")
         return await self._make(index, key, note, times, lambda seat, stamp, about: exclude(stamp, site, out, about))
 
-    def _called(self, seat: Seat, called: Called) -> Stamp:
+    def _called(self, seat: SeatReplica, called: Called) -> Stamp:
         stamp = seat.done.get(called) if isinstance(called, str) else seat.renamed.get(called, called)
         if stamp is None:
-            raise Refused("no such change", f"you made no change of the key {called}")
+            raise Refused("NoSuchChange", f"you made no change of the key {called}")
         return stamp
 
-    def _line(self, seat: Seat, called: Called) -> Stamp:
+    def _line(self, seat: SeatReplica, called: Called) -> Stamp:
         """Return a line of the seat's list; an operation that changed one is called for that."""
         stamp = self._called(seat, called)
         held = self.state.held_by(seat, stamp)
         if not held and not stands(seat.road, stamp) and not seat.road.setters_of(stamp):
-            raise Refused("no such change", f"you hold no change of the name {list(stamp)}")
+            raise Refused("NoSuchChange", f"you hold no change of the name {list(stamp)}")
         return stamp
 
-    def _held_by(self, seat: Seat, called: Called) -> Operation:
+    def _held_by(self, seat: SeatReplica, called: Called) -> Operation:
         stamp = self._called(seat, called)
         held = self.state.held_by(seat, stamp)
         if not held:
-            raise Refused("no such change", f"you hold no change of the stamp {list(stamp)}")
+            raise Refused("NoSuchChange", f"you hold no change of the stamp {list(stamp)}")
         return held[0]
 
-    def _why_nothing(self, seat: Seat, one: Operation) -> str:
+    def _why_nothing(self, seat: SeatReplica, one: Operation) -> str:
         """Return why the undo of an operation changes nothing."""
         record = seat.road.record
         if one.site in record.excluded:
@@ -185,13 +185,13 @@ class Lab:
             return {"stamp": one.stamp, "touched": await self._touched(before, seat.road), **self.list_of(seat, version)}
         return await self._write(index, make, times, takes_long=False)
 
-    def _early(self, seat: Seat) -> list[Operation]:
+    def _early(self, seat: SeatReplica) -> list[Operation]:
         """Return the private operations that are stamped more than a day ahead of the clock."""
         latest = self.keeper.stamps.latest_count()
         return [one for one in self.state.private(seat) if one.stamp[0] > latest]
 
-    def _stamp_anew(self, seat: Seat, write: Write) -> None:
-        """Stamp private operations anew that a wrong clock has put too far ahead: no other site would take them."""
+    def _stamp_anew(self, seat: SeatReplica, write: Write) -> None:
+        """Give new stamps to private operations that a wrong clock has put too far ahead: no other site would take them."""
         early = in_order(self._early(seat))
         if not early:
             return
@@ -201,7 +201,7 @@ class Lab:
             stamped_anew(early, stamps)
             write.record(StampedAnew(seat.index, stamps))
 
-    def _made(self, seat: Seat, note: str, makes: Makes) -> Operation:
+    def _made(self, seat: SeatReplica, note: str, makes: Makes) -> Operation:
         """Return a new operation that any site takes and that changes something; raise `Refused` if there is none."""
         stamp = self.state.stamp(seat)
         try:
@@ -240,7 +240,7 @@ class Lab:
 
     # Lists
 
-    def _version(self, seat: Seat) -> int:
+    def _version(self, seat: SeatReplica) -> int:
         """Return the version of a seat's list, which begins where it did not yet."""
         seat.begin_list()
         return seat.version
@@ -299,7 +299,7 @@ class Lab:
         return await self._write(index, make, times, takes_long=True)
 
     def news(self, index: int, most: int) -> Reply:
-        """What was shared by others and this seat has not taken."""
+        """Return what was shared by others and this seat has not taken."""
         seat, shared, upto = self.state.seats[index], self.state.shared, self.keeper.confirmed
         begin = max(seat.upto, upto - LOOKED_AT)  # of one who never takes not all is gone through for each news
         fresh = [one for one in shared.order(begin, upto) if one not in seat.own]
@@ -310,13 +310,13 @@ class Lab:
                 "changes": [lister.operation(one, None) for one in fresh[-most:]]}
 
     async def works_are_shared(self) -> None:
-        """What is shared so far every new seat has from the start."""
+        """Give every new seat from the start what is shared so far."""
         await confirmed(self.keeper.record(Works(self.keeper.confirmed)), {})
 
     # What comes from other sites
 
     async def came(self, operations: list[Operation], title: str, times: Times) -> bool:
-        """Take operations of another site, all of which passed `check`. Return whether there was anything new. `times` gets the
+        """Take operations of another site; all passed `check`. Return whether there was anything new. `times` gets the
         `work`."""
         async def make(write: Write) -> int | None:
             shared = self.state.shared
@@ -348,5 +348,5 @@ class Lab:
         await confirmed(self.keeper.record(Bound(number, folder)), {})
 
     async def back(self, stamps: list[Stamp]) -> None:
-        """These came back from the broker: they need not be sent again."""
+        """Note that these came back from the broker: they need not be sent again."""
         await confirmed(self.keeper.record(CameBack(stamps)), {})

@@ -1,15 +1,15 @@
-"""What a page shows of the changes that a replica holds: a line for each, with where it is in force, who covers the rest, and
-all that was done to it."""
+"""List the changes that a replica holds, for a page: a line for each, with where it is in force, who covers the rest, and all
+that was done to it."""
 from __future__ import annotations
 
 import time
-from typing import AbstractSet, Any, Iterator
+from typing import AbstractSet, Any
 
-from .model.changes import all_lines, operations_on
+from .model.changes import operations_on
 from .model.operations import Operation, Stamp, is_line, is_raw
 from .model.road import Road, parts_of, stands
 from .model.seen import Rectangle, lost, shown
-from .state import Replica, Seat, State
+from .state import Replica, SeatReplica, State
 
 SITE = "site"  # the kind of a line that excludes one
 NONE: frozenset[Operation] = frozenset()
@@ -20,7 +20,7 @@ class Lister:
 
     def __init__(self, state: State, replica: Replica, road: Road | None = None) -> None:
         self._places, self._road = state.shared.places, road or replica.road
-        self._idle: AbstractSet[Operation] = replica.idle if isinstance(replica, Seat) else NONE
+        self._idle: AbstractSet[Operation] = replica.idle if isinstance(replica, SeatReplica) else NONE
 
     def line(self, line: Stamp) -> dict[str, Any]:
         """Return a line of the list. One that was put in private and withdrawn again is gone."""
@@ -78,7 +78,7 @@ class Lister:
         return None if shape is None else shape.end
 
     def operation(self, one: Operation, line: Stamp | None, won: Operation | None = None) -> dict[str, Any]:
-        """Return what was done to a line, or to what lines, and by whom; `won` is the operation to which it lost."""
+        """Return what an operation did to a line, or to its lines, and who made it; `won` is the operation that beat it."""
         about = one.about
         more: dict[str, Any] = {"idle": True} if one in self._idle else {}
         if not self._road.record.counts(one):
@@ -118,34 +118,3 @@ class Lister:
             found.append(self.line(line))
             after = mark
         return found, None
-
-    # The table that is saved
-
-    def table(self) -> Iterator[list[Any]]:
-        """Yield each operation, with where its line is in force, and who covers it from when to when."""
-        for number, line in enumerate(sorted(all_lines(self._road)), 1):
-            done = operations_on(self._road, line)
-            parts = self.shown(line)
-            force = "; ".join(span(one) for one in parts if one.by is None)
-            over = "; ".join(f"{span(one)} by {self.name(one.by)}" for one in parts if one.by is not None)
-            note = next((one.about.note for one in done if one.about.note), "")
-            for one in done:
-                when = time.strftime("%Y-%m-%d %H:%M:%S", time.gmtime(one.about.when))
-                yield [number, one.about.who, one.about.note or note, when, self.does(one, line), *one.stamp,
-                       one in self._places, force, over]
-
-    def name(self, line: Stamp) -> str:
-        first = next(iter(self._road.record.held.get(line, ())), None)
-        return f"{first.about.who}: {first.about.note}" if first else f"number {line[1]}"
-
-
-HEAD = ["change", "who", "what", "when (UTC)", "does", "count", "number", "shared", "in force", "covered"]
-
-
-def span(one: Rectangle) -> str:
-    until = "the end" if one.end is None else clock(one.end)
-    return f"{one.kind} {one.first}-{one.last} = {one.value}, {clock(one.begin)} to {until}"
-
-
-def clock(step: int) -> str:
-    return f"{step // 3600}:{step // 60 % 60:02}:{step % 60:02}"

@@ -1,4 +1,4 @@
-"""Who is told when something has changed.
+"""Tell listeners when something has changed.
 
     listeners.on("shared", tell_tabs)
     listeners.tell("shared", step)

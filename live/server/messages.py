@@ -1,4 +1,4 @@
-"""Messages of other sites, taken apart; `Bad` says what is wrong with one."""
+"""Messages of other sites, taken apart; `InvalidMessage` says what is wrong with one."""
 from __future__ import annotations
 
 import json
@@ -11,16 +11,16 @@ LONGEST_HASH = 40
 NUMBERS = range(1, 1_024)
 
 
-class Bad(Exception):
+class InvalidMessage(Exception):
     """A malformed message; the text says why."""
 
 
-def read(body: bytes) -> Any:
+def read_message(body: bytes) -> Any:
     try:
         value = json.loads(body.decode())
         packed(value).encode()
     except (ValueError, RecursionError):
-        raise Bad(f"it is no message: {words(body[:60].decode(errors='replace'), 60)}") from None
+        raise InvalidMessage(f"it is no message: {words(body[:60].decode(errors='replace'), 60)}") from None
     return value
 
 
@@ -32,7 +32,7 @@ def site_of(folder: str, value: Any) -> tuple[str, str, int, str]:
     """Return folder, run, number and road of a site, from a message of this folder or one that names its folder."""
     said, run, number, road = fields_of(value, "folder", "run", "site", "road")
     if type(said) is not str or type(number) is not int or number not in NUMBERS or type(road) is not str:
-        raise Bad("it says of no site who it is")
+        raise InvalidMessage("it says of no site who it is")
     return token_of(folder or said), words(run or "", 40), number, words(road, 40)
 
 
@@ -40,7 +40,7 @@ def sum_of(folder: str, value: Any) -> tuple[str, str, dict[str, str]]:
     said, theirs, numbers = fields_of(value, "folder", "sum", "numbers")
     if type(said) is not str or type(theirs) is not str or type(numbers) is not dict or not all(
             type(one) is str and len(one) <= LONGEST_HASH for one in numbers.values()):
-        raise Bad("it is no hash of what a site holds")
+        raise InvalidMessage("it is no hash of what a site holds")
     return token_of(folder or said), words(theirs, LONGEST_HASH), numbers
 
 

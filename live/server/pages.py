@@ -56,7 +56,7 @@ class Page:
 
 
 def file_of(name: str = "", part: str = "", drawing: str = "") -> Path | None:
-    """Return the file of a path: one beside the page, one of its modules, or one that draws. None: it is no other file."""
+    """Return the file of a path: one beside the page, one of its modules, or one that draws. None: there are no other files."""
     if part:
         return LIVE / "page" / part if re.fullmatch(r"[a-z_]+\.mjs", part) else None
     if drawing:

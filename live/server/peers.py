@@ -2,16 +2,17 @@
 
 A site's number is bound to its folder, by a token in its journal. Each site writes down which folder had which number
 first. A folder that hears that its number is another folder's sends nothing any more, until a person revokes that: then
-the number is its own, and what others say of it is told and not obeyed.
+the number is its own. It reports what others say then, and does not obey.
 """
 from __future__ import annotations
 
 import time
 from typing import Any, Callable, Iterator, NamedTuple
 
-from .asked import Refused, words
+from .asked import words
 from .floods import only_newest
 from .lab import Lab
+from .refusals import Refused
 from .state import SITE_FORM, State
 
 EVERY = 3.0  # seconds between two announcements
@@ -45,8 +46,8 @@ class Peers:
         self._clocks: dict[str, tuple[float, float]] = {}  # of a folder: when it was heard, how far this clock is ahead
 
     def hear_clock(self, folder: str, when: float) -> None:
-        """Take what another folder's clock was when it sent a message, in seconds since 1970. Of a minute that counts by which
-        this clock is least ahead: what is played again says an old time."""
+        """Take what another folder's clock was when it sent a message, in seconds since 1970. The one that
+        this clock is least ahead of counts for a minute: what is played again has an old time."""
         if folder == self._id:
             return
         now, ahead = time.monotonic(), time.time() - when

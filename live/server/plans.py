@@ -1,4 +1,4 @@
-"""The road of a new folder: a plan line, or a freeway in km, of which recipes/freeway makes a plan line and shapes."""
+"""Read the road of a new folder: a plan line, or a freeway in km. recipes/freeway turns that into a plan line and shapes."""
 from __future__ import annotations
 
 import json
@@ -11,10 +11,11 @@ from typing import Any
 
 from zegdrut.clock import Clock
 
-from .asked import LONGEST_NAME, Asked, Refused, words
+from .asked import LONGEST_NAME, Asked, words
 from .journal import Broken, packed
 from .lab import Lab
 from .model.operations import Shape
+from .refusals import Refused
 
 KEPT = "freeway.json"  # in a folder: the freeway in km that it began with
 FREEWAY = Path(__file__).resolve().parents[2] / "recipes" / "freeway" / "run"
@@ -40,14 +41,14 @@ def clock_of(folder: Path) -> Clock | None:
         return None
 
 
-def read(path: Path) -> Any:
+def read_plan(path: Path) -> Any:
     try:
         text = path.read_bytes()
     except OSError as fault:
         raise Broken(f"no plan at {path}: {fault.strerror}") from None
     try:
         value = json.loads(text)
-        packed(value).encode()  # halves of signs, and what is no number, can be read and not written
+        packed(value).encode()  # halves of signs, and NaN, can be read and not written
     except (ValueError, RecursionError) as fault:
         raise Broken(f"{path} is no plan line, and no freeway in km: {fault}") from None
     if type(value) is not dict:
@@ -59,10 +60,10 @@ def is_freeway(value: dict[str, Any]) -> bool:
     return not OF_A_PLAN & value.keys()
 
 
-def planned(path: Path, program: str) -> Planned:
-    """What a file has; `Broken` says why it cannot be read. For a freeway it is measured, for some seconds, by which chances
-    its demand comes in."""
-    value = read(path)
+def read_road(path: Path, program: str) -> Planned:
+    """Return what a file has; raise `Broken` if it cannot be read. For a freeway the chances that admit its demand are measured,
+    for some seconds."""
+    value = read_plan(path)
     if not is_freeway(value):
         return Planned(value)
     said = by_recipe(path, program)
@@ -73,7 +74,7 @@ def planned(path: Path, program: str) -> Planned:
 
 
 def by_recipe(path: Path, program: str) -> Any:
-    """The plan and the shapes of a freeway in km; what has to be other than it says is told."""
+    """Return the plan and the shapes of a freeway in km, and print what has to differ from what it says."""
     said: list[str] = []
     command = [sys.executable, str(FREEWAY), "--plan", str(path.resolve())]
     with subprocess.Popen(command, stdout=subprocess.PIPE, stderr=subprocess.PIPE, text=True,
@@ -93,16 +94,16 @@ def by_recipe(path: Path, program: str) -> Any:
 
 
 def shape_of(value: Any) -> Shape:
-    """A shape, checked as that of a tab."""
+    """Return a shape, checked as that of a tab."""
     shape: Shape = Asked("gesture", {"shape": value}).shape()
     return shape
 
 
 def is_another(path: Path, plan: dict[str, Any], kept: Path) -> bool:
-    """Whether a file is of another road than a folder, which keeps a freeway in km beside its plan."""
-    value = read(path)
+    """Return whether a file and a folder have different roads. A folder keeps a freeway in km beside its plan."""
+    value = read_plan(path)
     if is_freeway(value):
-        return not kept.exists() or bool(read(kept) != value)
+        return not kept.exists() or bool(read_plan(kept) != value)
     return bool({**value, "replicas": 0} != {**plan, "replicas": 0})
 
 

@@ -25,7 +25,7 @@ LOOKS = 8  # in that time
 LONG_ROAD = 4_096  # cells from which on threads pay; where others work, too, more than two do not
 
 
-class Gone(Exception):
+class ProgramExited(Exception):
     """The program ended, or does not answer."""
 
 
@@ -34,7 +34,7 @@ class BadPlan(Exception):
 
 
 def command_of(path: str, plan: dict[str, Any]) -> list[str]:
-    """How the program is started: with threads where they pay, for one long road."""
+    """Return the command that starts the program: with threads if they pay, for one long road."""
     pays = plan["length"] >= LONG_ROAD and (os.cpu_count() or 1) > 2
     return [path, "--workers", "2"] if pays else [path]
 
@@ -45,7 +45,7 @@ def dies_with_us(command: list[str]) -> list[str]:
 
 
 def import_lines(at: str, edits: Sequence[Any]) -> list[dict[str, Any]]:
-    """The lines that give a replica these edits."""
+    """Return the lines that give a replica these edits."""
     return [{"import": {"at": at, "edits": edits[begin:begin + PIECE], "form": 2}}
             for begin in range(0, len(edits), PIECE)]
 
@@ -61,11 +61,11 @@ class Program:
         self.horizons: dict[str, int] = {}
 
     async def ask(self, line: bytes) -> bytes:
-        """The reply to a line; `Gone` where none comes."""
+        """Return the reply to a line; raise `ProgramExited` if none comes."""
         return (await self.ask_all([line]))[0]
 
     async def ask_all(self, lines: Sequence[bytes]) -> list[bytes]:
-        """The replies to lines that are sent at once."""
+        """Return the replies to lines that are sent at once."""
         self.lines += len(lines)
         stdin, stdout = self._process.stdin, self._process.stdout
         assert stdin is not None and stdout is not None
@@ -81,17 +81,17 @@ class Program:
             raise
         except (OSError, ValueError) as fault:
             self.kill()
-            raise Gone(f"the program does not answer: {fault!r}") from None
+            raise ProgramExited(f"the program does not answer: {fault!r}") from None
         finally:
             if self._watch is not None:
                 self._watch.cancel()
         if not replies[-1].endswith(b"\n"):
             status = await self._process.wait()
-            raise Gone(self._fault or f"the program ended with status {status}")
+            raise ProgramExited(self._fault or f"the program ended with status {status}")
         return [reply[:-1] for reply in replies]
 
     def _look(self, before: object, idle: int) -> None:
-        """Looks now and then whether the program, which owes an answer, does anything; one that hangs is ended."""
+        """Look now and then whether the program, which owes an answer, does anything; end one that hangs."""
         now = self._done()
         idle = idle + 1 if now == before else 0
         if idle >= LOOKS:
@@ -101,7 +101,7 @@ class Program:
             self._watch = asyncio.get_running_loop().call_later(HANGS / LOOKS, self._look, now, idle)
 
     def _done(self) -> object:
-        """What differs when the program has done something."""
+        """Return a value that differs when the program has done something."""
         try:
             said = Path(f"/proc/{self._process.pid}/stat").read_text(encoding="ascii", errors="replace")
         except OSError:
@@ -110,7 +110,7 @@ class Program:
         return object() if state == "R" else (self._read, *numbers[10:12])  # the time it used, also by threads
 
     async def advance(self, at: str, to: int) -> int:
-        """One piece of an advance; how far the replica has run then."""
+        """Do one piece of an advance. Return how far the replica has run then."""
         here = self.horizons.get(at, 0)
         if here < to:
             reply = await self.ask(packed({"advance": {"at": at, "to": min(to, here + STEPS)}}).encode())
@@ -122,7 +122,7 @@ class Program:
             self._process.kill()
 
     async def close(self) -> None:
-        """Ends the program."""
+        """End the program."""
         assert self._process.stdin is not None
         self._process.stdin.close()
         try:
@@ -134,7 +134,7 @@ class Program:
 
 
 async def start(command: list[str], plan: bytes) -> Program:
-    """A program that has read the plan line, or `Gone`, or `BadPlan` with its refusal."""
+    """Start a program, and let it read the plan line. Raise `ProgramExited`, or `BadPlan` with its refusal."""
     try:
         if not os.access(command[0], os.X_OK):
             raise PermissionError(f"{command[0]} is no program")
@@ -142,7 +142,7 @@ async def start(command: list[str], plan: bytes) -> Program:
             *dies_with_us(command), stdin=asyncio.subprocess.PIPE, stdout=asyncio.subprocess.PIPE, limit=LONGEST_REPLY,
             start_new_session=True)
     except OSError as fault:
-        raise Gone(f"the program cannot be started: {fault}") from None
+        raise ProgramExited(f"the program cannot be started: {fault}") from None
     program = Program(process)
     reply = json.loads(await program.ask(plan))
     program.lines = 0

@@ -1,4 +1,4 @@
-"""What a tab may ask of the roads that it sees; nothing changes by it."""
+"""Answer what a tab asks about the roads that it sees. Nothing changes by it."""
 from __future__ import annotations
 
 import asyncio
@@ -7,24 +7,25 @@ import time
 from typing import Any, Union
 
 from zegdrut import Edit
+from zegdrut.grammar import LAST_HORIZON
 from zegdrut.lost import find_entry
 from zegdrut.rows import count_cars
 from zegdrut.trips import DetectorCount, Window, count_seconds_on
 
 from . import admissions, chance, figures, reports, rows, saving
-from .asked import Refused
 from .journal import packed
-from .keeper import LAST_STEP, SHARED, Times
-from .lab import LIST_AT_ONCE, Lab
-from .lines import Lister, clock
+from .keeper import SHARED, Times
+from .lab import Lab
+from .lines import Lister
 from .model.changes import all_lines, altered
 from .model.choices import sendable
 from .model.operations import Operation, Stamp
 from .model.projection import Edits
-from .model.road import Road as RoadValue
+from .model.road import Road
 from .plans import clock_of
 from .program import LONG_ROAD
-from .roads import SIDES, KeptRoad, Preview, Previews, Road, Side
+from .refusals import Refused
+from .roads import SIDES, KeptRoad, Preview, Previews, AskedRoad, Side
 from .screen import first_step, rows_of
 from .state import Replica
 from .timing import AHEAD
@@ -35,7 +36,7 @@ MOST_COUNTS = 4_096
 MINUTE = 60  # steps
 MOST_MINUTES = 120  # of a question for sums
 LINES_AT_ONCE = 128
-MOST_ANEW = 16  # times that a question is begun anew since its road has become another
+MOST_AGAIN = 16  # times that a question begins again since its road has changed
 PIECE_OF_LIST = 1_000_000  # bytes, about, of a list of operations
 LINES_FOR = 0.02  # seconds for lines of a preview, until others get their turn
 
@@ -43,7 +44,7 @@ Reply = Union[bytes, "dict[str, Any]"]
 
 
 def detector_count(said: dict[str, Any], edits: list[Edit], detector: int, window: Window) -> DetectorCount:
-    """What a detector counted by the program's reply, and for how long it was on by the edits of detectors."""
+    """Return what a detector counted, given the program's reply; the edits of detectors say for how long it was on."""
     return DetectorCount(said["cars"], said["speeds"], count_seconds_on(edits, detector, window), window.steps)
 
 
@@ -52,11 +53,11 @@ class Questions:
 
     def __init__(self, lab: Lab) -> None:
         self._lab, self._keeper = lab, lab.keeper
-        self._previews, self._chance, self._figures = Previews(), chance.Questions(), figures.Figures()
+        self._previews, self._chance, self._figures = Previews(), chance.DayQuestions(), figures.Figures()
         self._saved, self._admissions = saving.Saved(), admissions.Admissions()
 
-    def road(self, index: int, at: str) -> Road:
-        """The road that a seat means: the own or the shared one, or one of its preview."""
+    def road(self, index: int, at: str) -> AskedRoad:
+        """Return the road that a seat means: its own or the shared one, or one of its preview."""
         if at in SIDES:
             return Side(self._previews.get(index), at)
         return KeptRoad(self._keeper, index, 0 if at == "shared" else index)
@@ -68,13 +69,13 @@ class Questions:
         self._admissions.close()
 
     def left(self, index: int) -> None:
-        """A tab of this seat has gone."""
+        """Drop what was kept for a seat whose tab has gone."""
         self._previews.put(index, None)
         self._chance.stop(index)
         self._saved.drop(index)
 
-    async def plain(self, road: Road, times: Times, verb: str, fields: dict[str, Any]) -> bytes:
-        """What the program answers."""
+    async def plain(self, road: AskedRoad, times: Times, verb: str, fields: dict[str, Any]) -> bytes:
+        """Return what the program answers."""
         line = packed({verb: {"at": road.name, **fields}}).encode()
 
         async def body() -> bytes:
@@ -82,24 +83,24 @@ class Questions:
         reply: bytes = await road.job(body)
         return reply
 
-    async def advance(self, road: Road, _times: Times, *, to: int) -> Reply:
+    async def advance(self, road: AskedRoad, _times: Times, *, to: int) -> Reply:
         """Lets a road run so far, at most some hours past the clock."""
         self._reaches(to)
         return {"horizon": await road.advance(to)}
 
     def _reaches(self, to: int) -> None:
-        """No road runs further than a clock may be set."""
+        """Raise `Refused` if a road would run further than the clock may be set."""
         now = self._keeper.now()
-        if to > LAST_STEP:
-            raise Refused("Horizon", f"`to` is at most {LAST_STEP}, not {to}")
+        if to > LAST_HORIZON:
+            raise Refused("Horizon", f"`to` is at most {LAST_HORIZON}, not {to}")
         if to > now + AHEAD:
-            raise Refused("too far ahead", f"at most {AHEAD} steps ahead of the clock, which is at {now}")
+            raise Refused("TooFarAhead", f"at most {AHEAD} steps ahead of the clock, which is at {now}")
 
     # Rows
 
-    async def diagram(self, road: Road, times: Times, *, first: int, last: int, every: int,
+    async def diagram(self, road: AskedRoad, times: Times, *, first: int, last: int, every: int,
                       cells: tuple[int, int] | None) -> Reply:
-        """Each so manieth row of some steps, and of these a stretch of cells, or all."""
+        """Return every n-th row of some steps, all cells or a stretch of them."""
         left, right = cells or (0, self._length - 1)
         if not left <= right < self._length:
             raise Refused("Range", f"the cells are 0 to {self._length - 1}, the first at most the last")
@@ -112,8 +113,8 @@ class Questions:
         found = await self._rows(road, list(range(first, last + 1, every)), times)
         return rows.diagram_of([row[left:right + 1] for row in found])
 
-    async def _rows(self, road: Road, steps: list[int], times: Times) -> list[bytes]:
-        """The rows of steps at equal distances, as many in a turn as a reply may have."""
+    async def _rows(self, road: AskedRoad, steps: list[int], times: Times) -> list[bytes]:
+        """Return the rows of steps at equal distances. Each turn gets as many as a reply may have."""
         found: list[bytes] = []
 
         async def body() -> Any:
@@ -131,7 +132,7 @@ class Questions:
     def _rows_at_once(self) -> int:
         return min(MOST_ROWS, MOST_BYTES // (self._length + 3))
 
-    async def _piece(self, road: Road, steps: list[int], times: Times) -> list[bytes]:
+    async def _piece(self, road: AskedRoad, steps: list[int], times: Times) -> list[bytes]:
         every = steps[1] - steps[0] if len(steps) > 1 else 1
         if every >= 8 or every >= 2 and self._length >= LONG_ROAD:
             at = packed(road.name)
@@ -143,8 +144,8 @@ class Questions:
             found += rows.of_diagram((await road.say_all([line.encode()], times))[0])[::every]
         return found
 
-    async def sums(self, road: Road, times: Times, *, first: int, last: int) -> Reply:
-        """Of each whole minute the steps that cars spend on the road: the cars in the rows that its steps lead to."""
+    async def sums(self, road: AskedRoad, times: Times, *, first: int, last: int) -> Reply:
+        """Return for each whole minute the steps that cars spend on the road: the cars in the rows that its steps lead to."""
         if first % MINUTE or last % MINUTE or not 0 < last - first <= MOST_MINUTES * MINUTE:
             raise Refused("Range", f"1 to {MOST_MINUTES} whole minutes, `from` and `to` in steps")
         cars: list[int] = []
@@ -157,8 +158,8 @@ class Questions:
         await self._of_one_road(road, cars, body)
         return {"sums": [sum(cars[begin:begin + MINUTE]) for begin in range(0, len(cars), MINUTE)]}
 
-    async def counts(self, road: Road, times: Times, *, first: int, last: int, each: int | None) -> Reply:
-        """What all detectors count, in spans of so many steps or as a whole."""
+    async def counts(self, road: AskedRoad, times: Times, *, first: int, last: int, each: int | None) -> Reply:
+        """Return what all detectors count, in spans of `each` steps or as a whole."""
         if first > last:
             raise Refused("Range", f"`from` {first} is above `to` {last}")
         starts = range(first, last, each) if each else range(first, first + 1)
@@ -179,8 +180,8 @@ class Questions:
         parts = [slice(place * detectors, (place + 1) * detectors) for place in range(len(windows))]
         return {"counts": [pairs[part] for part in parts], "flows": [flows[part] for part in parts]}
 
-    async def _lines(self, road: Road, lines: list[bytes], times: Times) -> tuple[list[bytes], list[Any]]:
-        """The replies to lines, all of one road, and its edits as an import has them."""
+    async def _lines(self, road: AskedRoad, lines: list[bytes], times: Times) -> tuple[list[bytes], list[Any]]:
+        """Return the replies to lines, all of one road, and its edits as an import has them."""
         found: list[bytes] = []
 
         async def body() -> Any:
@@ -191,15 +192,15 @@ class Questions:
         edits: list[Any] = road.edits if isinstance(road, Side) else rows_of(await self._timeline(mark))
         return found, edits
 
-    async def _of_one_road(self, road: Road, found: list[Any], body: Job) -> Any:
+    async def _of_one_road(self, road: AskedRoad, found: list[Any], body: Job) -> Any:
         """Does at leisure what adds to what is found, from the beginning where the road has become another between. Return the
         mark of the road."""
         marks: list[Any] = []
 
         async def part() -> Any:
             if marks[-1:] != [road.mark()]:
-                if len(marks) > MOST_ANEW:
-                    raise Refused("busy", "the road is changed all the time: ask again later")
+                if len(marks) > MOST_AGAIN:
+                    raise Refused("Busy", "the road is changed all the time: ask again later")
                 marks.append(road.mark())
                 found.clear()
             return await body()
@@ -281,13 +282,13 @@ class Questions:
         return Preview(self._keeper, *map(rows_of, sides)), {"what": what, "size": len(added), "layers": lines,
                                                             "touched": first_step(edits)}
 
-    async def _timeline(self, road: RoadValue) -> Edits:
+    async def _timeline(self, road: Road) -> Edits:
         return await self._keeper.differences.between(self._keeper.state.empty, road)
 
-    async def _lines_of(self, replica: Replica, before: RoadValue, after: RoadValue,
+    async def _lines_of(self, replica: Replica, before: Road, after: Road,
                         added: set[Stamp]) -> list[dict[str, Any]]:
-        """Return the lines that show something else on another road, or of which an added operation is lost there, each with
-        what it showed, a few at a time."""
+        """Return the lines that show something else on another road, or whose added operation is lost there, with what they
+        showed before."""
         now, then = (Lister(self._keeper.state, replica, road) for road in (before, after))
         listed = all_lines(before)
         found, began = [], time.perf_counter()
@@ -302,13 +303,13 @@ class Questions:
         return found
 
     async def figures(self, index: int, own: Replica, of: str, first: int, last: int) -> Reply:
-        """What two roads differ by: those of the preview, or the shared and the own one."""
+        """Return the figures of two roads: those of the preview, or the shared and the own one."""
         asked = await self._both(index, own, of, first, last)
         slots = [f"{index} before", f"{index} after"] if of == "preview" else ["shared", f"{index} own"]
         return {"from": first, "to": last, **await self._figures.of(index, {**asked, "slots": slots})}
 
     async def _both(self, index: int, own: Replica, of: str, first: int, last: int) -> dict[str, Any]:
-        """What a program is asked that runs both roads beside."""
+        """Return the question to a program that runs both roads."""
         if first >= last:
             raise Refused("Range", f"`from` {first} is not below `to` {last}")
         self._reaches(last)
@@ -322,12 +323,12 @@ class Questions:
                 **edits}
 
     async def days(self, index: int, own: Replica, of: str | None, first: int, last: int) -> Reply:
-        """The same over many days, with the mean of each figure, and how sure it is; or the end of that question."""
+        """Return the same over many days, with the mean of each figure and its interval; or end that question."""
         if of is None:
             return {"stopped": self._chance.stop(index)}
         plan, listeners, days = self._keeper.state.plan, self._keeper.listeners, self._keeper.settings.days
         if type(plan["words"]) is not int:
-            raise Refused("one day", "the words of this road are steady, drawn by no seed: it has one day, and its figures are "
+            raise Refused("OneDay", "the words of this road are steady, drawn by no seed: it has one day, and its figures are "
                           "those of each")
         question = self._chance.begin(index, days, lambda other: self._keeper.state.seats[other].name)
         try:
@@ -340,7 +341,7 @@ class Questions:
     # What is saved
 
     async def transcript(self, index: int, replica: Replica, first: int, last: int, piece: int) -> Reply:
-        """A piece of what the viewer opens."""
+        """Return a piece of a transcript, which the viewer opens."""
         if first > last:
             raise Refused("Range", f"`from` {first} is above `to` {last}")
         self._reaches(last)
@@ -363,26 +364,8 @@ class Questions:
                                           "days": reports.DAYS}, self._keeper.path)
         return {"from": first, "to": last, "html": html}
 
-    async def table_of_changes(self, index: int, replica: Replica) -> Reply:
-        """Each operation, with who covers its layer from when to when."""
-        marks: list[RoadValue] = []
-        found: list[saving.Changes] = []
-
-        async def body() -> Any:
-            state = self._keeper.state
-            now = state.replica(replica.index)
-            if marks[-1:] != [now.road]:
-                if len(marks) > MOST_ANEW:
-                    raise Refused("busy", "the road is changed all the time: ask again later")
-                marks.append(now.road)
-                found[:] = [saving.Changes(Lister(state, now).table())]
-            found[0].add(LIST_AT_ONCE)
-            return MORE if found[0].has_more else found[0].reply()
-        reply: bytes = await self._keeper.ask(index, (), body)
-        return reply
-
-    async def table_of_counts(self, road: Road, times: Times, first: int, last: int, each: int) -> Reply:
-        """What detectors count, span by span."""
+    async def table_of_counts(self, road: AskedRoad, times: Times, first: int, last: int, each: int) -> Reply:
+        """Return a table of what detectors count, span by span."""
         said = await self.counts(road, times, first=first, last=last, each=each)
         assert isinstance(said, dict)
         title = f"counts of {self._road_name(road.name)}, {self.say_time(first)} to {self.say_time(last)}"
@@ -390,7 +373,7 @@ class Questions:
         return {"csv": saving.table_of_counts(self._keeper.state.plan, title, self.say_time, windows, said["flows"])}
 
     def _road_name(self, at: str) -> str:
-        """What a road is called in what is saved."""
+        """Return the name of a road in saved files."""
         if at == "shared":
             return "the shared road"
         name = next((seat.name for seat in self._keeper.state.seats if seat.at == at), "")
@@ -399,10 +382,10 @@ class Questions:
     def say_time(self, step: int) -> str:
         """Return a time of the road's clock: of the day, if it has one."""
         day = clock_of(self._keeper.folder)
-        return clock(step) if day is None else day.to_text(step)
+        return f"{step // 3600}:{step // 60 % 60:02}:{step % 60:02}" if day is None else day.to_text(step)
 
     async def script(self, index: int, replica: Replica) -> Reply:
-        """The commands that make a road as it is, up to the clock."""
+        """Return the commands that make a road as it is, up to the clock."""
         to = self._keeper.now()
         name = "shared" if replica.at == "shared" else self._keeper.state.seats[replica.index].name or replica.at
         edits = rows_of(await self._timeline(replica.road))

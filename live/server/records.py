@@ -38,11 +38,11 @@ class Said:
     @classmethod
     def read(cls: type[S], value: Fields) -> S:
         """Return what an object says; raise `Malformed` or KeyError if it says none."""
-        return cls(**{one.name: one.read(value[one.written]) for one in parts_of(cls)
+        return cls(**{one.name: one.read(value[one.written]) for one in written_parts(cls)
                       if one.is_required or value.get(one.written) is not None})
 
     def fields(self) -> dict[str, Json]:
-        values = ((one, getattr(self, one.name)) for one in parts_of(type(self)))
+        values = ((one, getattr(self, one.name)) for one in written_parts(type(self)))
         return {one.written: one.write(value) for one, value in values if one.is_required or value != one.default}
 
 
@@ -74,7 +74,7 @@ class Part(NamedTuple):
 PARTS: dict[Any, list[Part]] = {}
 
 
-def parts_of(kind: Any) -> list[Part]:
+def written_parts(kind: Any) -> list[Part]:
     """Return the fields of a class. One whose default is made by a factory is always written."""
     if kind not in PARTS:
         PARTS[kind] = [Part(one.name, one.metadata["name"] or one.name, one.default is dataclasses.MISSING, one.default,
@@ -84,7 +84,7 @@ def parts_of(kind: Any) -> list[Part]:
 
 # How fields are read and written
 
-def read_text(value: Json) -> str:
+def read_string(value: Json) -> str:
     if not isinstance(value, str):
         raise Malformed(f"{str(value)[:40]} is not a text")
     return value
@@ -134,7 +134,7 @@ def pairs(read_key: Callable[[Json], Any], write_key: Callable[[Any], Json], nam
     return how(read_all, lambda some: [[write_key(key), [*stamp]] for key, stamp in some.items()], name)
 
 
-TEXT, TIME, NUMBER = how(read_text), how(read_time), how(read_number)
+TEXT, TIME, NUMBER = how(read_string), how(read_time), how(read_number)
 SEAT, SITE, STEP = counted(MOST_SEATS - 1, "seat"), counted(1_023, "site"), counted(1 << 30, "step")
 COUNT, PLACE = counted(GREATEST_COUNT, "count"), counted(1 << 40, "place")
 STAMPS = many(read_stamp)
@@ -145,7 +145,7 @@ SHARED, UNSENT = (how(lambda value: value is True, name=name) for name in ("shar
 
 @dataclass(frozen=True)
 class Folder(Entry):
-    """Which road a folder has, and which site it is."""
+    """A folder's road, and its site."""
 
     kind = "lab"
     plan: dict[str, Json] = field(metadata=how(read_object))
@@ -159,7 +159,7 @@ class Folder(Entry):
 
 @dataclass(frozen=True)
 class Upgraded(Entry):
-    """What stands before is of a former form, and what follows of this one."""
+    """The entries before have a former form, and those that follow this one."""
 
     kind = "form"
     form: int = field(default_factory=lambda: JOURNAL_FORM, metadata=form(JOURNAL_FORM))
@@ -170,7 +170,7 @@ class Upgraded(Entry):
 
 @dataclass(frozen=True)
 class Clock(Entry):
-    """How late it is, how many steps pass in a second, and where a fast clock stops."""
+    """The clock: how late it is, how many steps pass in a second, and where a fast clock stops."""
 
     kind = "clock"
     rate: float = field(metadata=NUMBER)
@@ -293,7 +293,7 @@ class Came(Entry):
 
 @dataclass(frozen=True)
 class Take(Entry):
-    """A seat takes the first so many operations of the shared road."""
+    """A seat takes the first operations of the shared road, up to a place."""
 
     kind = "take"
     seat: int = field(metadata=SEAT)
@@ -341,7 +341,7 @@ class Keys(Entry):
 
 @dataclass(frozen=True)
 class News(Said):
-    """What was shared in one go: how many operations the shared road had then, and of how many it was."""
+    """Operations that were shared at once: their number, and how many the shared road had then."""
 
     upto: int = field(metadata=PLACE)
     who: str = field(metadata=TEXT)
@@ -350,7 +350,7 @@ class News(Said):
     size: int = field(metadata=PLACE)
 
     def told(self) -> dict[str, Json]:
-        """Return it as tabs are told."""
+        """Return it as a tab gets it."""
         return {name: value for name, value in self.fields().items() if name != "upto"}
 
 
@@ -367,7 +367,7 @@ class AllNews(Entry):
 
 @dataclass(frozen=True)
 class Works(Entry):
-    """So many operations of the shared road every new seat has from the start: the works of a freeway file."""
+    """The number of shared operations that every new seat has from the start: the works of a freeway file."""
 
     kind = "works"
     upto: int = field(metadata=PLACE)
@@ -377,11 +377,11 @@ class Works(Entry):
 
 
 AnyEntry = Entry
-KINDS: dict[str, type[Entry]] = {one.kind: one for one in Entry.__subclasses__()}
+ENTRY_KINDS: dict[str, type[Entry]] = {one.kind: one for one in Entry.__subclasses__()}
 
 
 def read_entry(kind: str, value: Fields) -> Entry:
     """Return an entry of form 3, or raise `Malformed`."""
-    if kind not in KINDS:
+    if kind not in ENTRY_KINDS:
         raise Malformed(f"no entry of this form: {kind}")
-    return KINDS[kind].read(value)
+    return ENTRY_KINDS[kind].read(value)

@@ -11,9 +11,9 @@ import sys
 from typing import TYPE_CHECKING, Any, Sequence
 
 from . import LIVE, figures
-from .asked import Refused
 from .journal import packed
 from .program import import_lines
+from .refusals import Refused
 
 if TYPE_CHECKING:
     from zegdrut.clock import Clock
@@ -24,7 +24,7 @@ if TYPE_CHECKING:
 DAYS = 5
 NICE = 8
 PATIENCE = 600.0
-MOST_DATES = 12  # of a demand over time, that are told
+MOST_DATES = 12  # of a demand over time, in a sentence
 
 
 async def make(index: int, asked: dict[str, Any], path: str) -> str:
@@ -37,12 +37,12 @@ async def make(index: int, asked: dict[str, Any], path: str) -> str:
             async with asyncio.timeout(PATIENCE):
                 out, _ = await process.communicate(packed(asked).encode())
         except asyncio.TimeoutError:
-            raise Refused("too long", f"the report took more than {PATIENCE:.0f} seconds: show less time") from None
+            raise Refused("TooLong", f"the report took more than {PATIENCE:.0f} seconds: show less time") from None
         finally:
             if process.returncode is None:  # nobody waits for it any more
                 figures.kill(process)
     if process.returncode != 0:
-        raise Refused("failed", "the report failed; the server's log says why")
+        raise Refused("Failed", "the report failed; the server's log says why")
     return out.decode()
 
 

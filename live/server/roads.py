@@ -7,10 +7,10 @@ import json
 import time
 from typing import Any, Protocol
 
-from .asked import Refused
 from .journal import packed
 from .keeper import Keeper, Times
-from .program import Gone, Program, command_of, import_lines, start
+from .program import ProgramExited, Program, command_of, import_lines, start
+from .refusals import Refused
 from .turns import MORE, Job
 
 SIDES = ("before", "after")
@@ -19,22 +19,22 @@ UNUSED = 600.0  # seconds after which one goes
 LET_GO = "the two roads were let go"
 
 
-class Road(Protocol):
+class AskedRoad(Protocol):
     """One that can be asked; `job` does a piece of work again as long as it gives `MORE`."""
 
     name: str
 
     async def job(self, body: Job, at_leisure: bool = False) -> Any:
-        """Does a piece of work when the road has run as far as it shall; at leisure what a picture does not wait for."""
+        """Do a piece of work when the road has run as far as it shall; at leisure if no picture waits for it."""
 
     def mark(self) -> Any:
-        """Return what changes whenever the road does."""
+        """Return a token that changes whenever the road does."""
 
     async def say_all(self, lines: list[bytes], times: Times) -> list[bytes]:
-        """The replies to lines that are sent at once; the first refusal is raised."""
+        """Return the replies to lines that are sent at once; raise the first refusal."""
 
     async def advance(self, to: int) -> int:
-        """Lets the road run so far."""
+        """Let the road run to a step."""
 
 
 class KeptRoad:
@@ -78,11 +78,11 @@ class Preview:
 
     @property
     def is_idle(self) -> bool:
-        """Whether it has a program that is asked nothing just now."""
+        """Return whether it has a program that is asked nothing just now."""
         return self._program is not None and not self._lock.locked()
 
     async def ready(self, side: str) -> Program:
-        """Its program, when it has the edits of a side and has run as far as it shall."""
+        """Return its program, when it has the edits of a side and has run as far as it shall."""
         self.used = time.monotonic()
         program = self._program or await self._started()
         lines = [packed(line).encode() for line in import_lines(side, self.edits[side])]
@@ -94,14 +94,14 @@ class Preview:
         return program
 
     async def _started(self) -> Program:
-        """A new program, which ends at once where the seat has let the two roads go meanwhile."""
+        """Start a program, which ends at once if the seat has let the two roads go meanwhile."""
         if self._is_over:
-            raise Gone(LET_GO)
+            raise ProgramExited(LET_GO)
         plan = {**self._keeper.state.plan, "replicas": list(SIDES)}
         program = await start(command_of(self._keeper.path, plan), packed(plan).encode())
         if self._is_over:
             program.kill()
-            raise Gone(LET_GO)
+            raise ProgramExited(LET_GO)
         self._program = program
         return program
 
@@ -112,14 +112,14 @@ class Preview:
                 while (said := await body()) is MORE:
                     pass
                 return said
-            except Gone as fault:
+            except ProgramExited as fault:
                 self.close()
                 raise no_preview() from fault
 
     async def say_all(self, lines: list[bytes], times: Times) -> list[bytes]:
-        """In a job."""
+        """Return the replies to lines, in a job."""
         if self._program is None:
-            raise Gone(LET_GO)
+            raise ProgramExited(LET_GO)
         began = time.perf_counter()
         replies = await self._program.ask_all(lines)
         times["program"] = times.get("program", 0) + time.perf_counter() - began
@@ -132,13 +132,13 @@ class Preview:
         self._wanted[side] = max(to, self._wanted[side])
 
     def close(self) -> None:
-        """Ends its program, until it is asked again."""
+        """End its program, until it is asked again."""
         if self._program is not None:
             self._program.kill()
         self._program, self._fed = None, dict.fromkeys(SIDES, 0)
 
     def end(self) -> None:
-        """Ends its program for good."""
+        """End its program for good."""
         self._is_over = True
         self.close()
 
@@ -151,7 +151,7 @@ class Side:
 
     @property
     def edits(self) -> list[Any]:
-        """Its edits, as an import has them."""
+        """Return its edits, as an import has them."""
         return self._preview.edits[self.name]
 
     async def job(self, body: Job, at_leisure: bool = False) -> Any:
@@ -179,7 +179,7 @@ class Previews:
         self._of: dict[int, Preview] = {}
 
     def put(self, index: int, preview: Preview | None) -> None:
-        """In the place of the seat's last one, if any."""
+        """Put a preview in the place of the seat's last one."""
         old = self._of.pop(index, None)
         if old is not None:
             old.end()
@@ -187,7 +187,7 @@ class Previews:
             self._of[index] = preview
 
     def get(self, index: int) -> Preview:
-        """The seat's last one; of others those that nobody uses stop."""
+        """Return the seat's last one. Others that nobody uses stop."""
         running = sorted((one for at, one in self._of.items() if one.is_idle and at != index), key=lambda one: one.used)
         for one in running[:max(0, len(running) + 1 - MOST_PREVIEWS)]:
             one.close()
@@ -204,4 +204,4 @@ class Previews:
 
 
 def no_preview() -> Refused:
-    return Refused("no preview", "the two roads are not kept any more: ask for the preview again")
+    return Refused("NoPreview", "the two roads are not kept any more: ask for the preview again")

@@ -8,12 +8,12 @@ from typing import Iterator, Sequence
 
 
 def of_diagram(reply: bytes) -> list[bytes]:
-    """The rows of `{"rows":["..","..",..]}`."""
+    """Return the rows of `{"rows":["..","..",..]}`."""
     return reply[10:-3].split(b'","')
 
 
 def of_cells(reply: bytes) -> bytes:
-    """The row of `{"cells":".."}`."""
+    """Return the row of `{"cells":".."}`."""
     return reply[10:-2]
 
 
@@ -22,5 +22,5 @@ def diagram_of(rows: Sequence[bytes]) -> bytes:
 
 
 def spans(first: int, last: int, most: int) -> Iterator[tuple[int, int]]:
-    """The steps from the first to the last in stretches of at most so many."""
+    """Yield the steps from the first to the last in stretches of at most `most` steps."""
     return ((start, min(last, start + most - 1)) for start in range(first, last + 1, most))

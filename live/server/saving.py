@@ -1,4 +1,4 @@
-"""What is saved: a transcript that the viewer opens and road_lab runs again, and tables for a spreadsheet."""
+"""Write what is saved: a transcript that the viewer opens and road_lab runs again, and tables for a spreadsheet."""
 from __future__ import annotations
 
 import csv
@@ -9,10 +9,9 @@ from typing import Any, Callable, Iterable, Iterator, Sequence
 from zegdrut.trips import Window
 from zegdrut.units import to_km
 
-from .asked import Refused
 from .journal import packed
-from .lines import HEAD
 from .program import Program, command_of, import_lines, start
+from .refusals import Refused
 
 MOST = 64_000_000  # bytes of rows in a transcript
 MOST_PIECE = 1_000_000
@@ -23,7 +22,7 @@ LONGEST_REPLICA = 64  # bytes of a replica's name
 
 
 def script(plan: dict[str, Any], name: str, edits: list[Any], first: int, last: int) -> Iterator[dict[str, Any]]:
-    """The lines that show a road from a step to another: plan, edits, rows, and counts of a minute each."""
+    """Yield the lines that show a road from a step to another: plan, edits, rows, and counts of a minute each."""
     if (last - first + 1) * (plan["length"] + 3) > MOST:
         raise Refused("Range", f"at most {MOST // (plan['length'] + 3)} rows are saved at once")
     at = name.encode()[:LONGEST_REPLICA].decode(errors="ignore")
@@ -46,7 +45,7 @@ def commands(plan: dict[str, Any], name: str, edits: list[Any], last: int) -> st
 
 
 async def transcript(path: str, plan: dict[str, Any], lines: Iterable[dict[str, Any]]) -> list[str]:
-    """The lines and a program's replies by turns, in pieces of some megabyte."""
+    """Return lines and a program's replies, alternating, in pieces of some megabyte."""
     pieces = [""]
     program: Program | None = None
     try:
@@ -77,7 +76,7 @@ class Saved:
         before = self._clock() - UNUSED
         self._of = {one: (pieces, used) for one, (pieces, used) in self._of.items() if used > before}
         if len(self._of) >= MOST_SAVED:
-            raise Refused("busy", f"{MOST_SAVED} others are saving just now: ask again later")
+            raise Refused("Busy", f"{MOST_SAVED} others are saving just now: ask again later")
 
     def put(self, index: int, pieces: list[str]) -> None:
         self._of[index] = pieces, self._clock()
@@ -86,7 +85,7 @@ class Saved:
         """Return a piece of a seat's transcript, and the number of the next one; the last is not kept."""
         pieces, _ = self._of.pop(index, (list[str](), 0.0))
         if piece >= len(pieces):
-            raise Refused("Range", "there is no such piece: begin anew")
+            raise Refused("Range", "there is no such piece: begin again")
         if piece + 1 == len(pieces):
             return pieces[piece], None
         self.put(index, pieces)
@@ -97,7 +96,7 @@ class Saved:
 
 
 def harmless(value: Any) -> Any:
-    """A cell that no spreadsheet runs as a formula."""
+    """Return a cell that no spreadsheet runs as a formula."""
     return f"'{value}" if isinstance(value, str) and value.lstrip()[:1] in ("=", "+", "-", "@") else value
 
 
@@ -113,7 +112,7 @@ def table(head: list[str], lines: Iterable[list[Any]]) -> str:
 
 def table_of_counts(plan: dict[str, Any], title: str, say_time: Callable[[int], str], windows: Sequence[Window],
                     counts: Sequence[Sequence[dict[str, Any]]]) -> str:
-    """What detectors counted, window by window: the first line says of what it is, the second has the units."""
+    """Return what detectors counted, window by window. The first line is the title, the second has the units."""
     lines = [[say_time(window.first), say_time(window.last), detector, rounded(to_km(plan["detectors"][detector]), 4),
               one["cars"], rounded(one["flow"], 1), rounded(one["speed"], 1), one["on"]]
              for window, span in zip(windows, counts) for detector, one in enumerate(span)]
@@ -122,34 +121,5 @@ def table_of_counts(plan: dict[str, Any], title: str, say_time: Callable[[int], 
 
 
 def rounded(value: float | None, digits: int) -> float | str:
-    """Return a number with so many digits; nothing if there is none."""
+    """Return a rounded number; an empty text if there is none."""
     return "" if value is None else round(value, digits)
-
-
-class Changes:
-    """The table of who changed what when, and who covers it, a piece at a time."""
-
-    def __init__(self, lines: Iterable[list[Any]]) -> None:
-        self._lines = iter(lines)
-        self._pieces = [as_text(table(HEAD, []))]
-        self.has_more = True
-
-    def add(self, seconds: float) -> None:
-        """Add lines for about so long."""
-        until, found = time.perf_counter() + seconds, list[list[Any]]()
-        for line in self._lines:
-            found.append(line)
-            if time.perf_counter() > until:
-                break
-        else:
-            self.has_more = False
-        self._pieces.append(as_text(table([], found)))
-
-    def reply(self) -> bytes:
-        """Return the reply with the table."""
-        return b'{"csv":"' + b"".join(self._pieces) + b'"}'
-
-
-def as_text(text: str) -> bytes:
-    """Return what stands between the quotes of a text in JSON."""
-    return packed(text)[1:-1].encode()

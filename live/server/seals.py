@@ -28,7 +28,7 @@ from typing import Any, Callable, Dict
 from .journal import Broken, packed, put_in_place, sync_folder
 
 LATE = 600.0  # seconds that a sealed message may be on its way, or two clocks apart
-AHEAD = 200  # numbers, which are milliseconds, by which what is on the disk is above what was taken
+AHEAD = 200  # numbers, which are milliseconds, that the bound on the disk is above what was taken
 WINDOW = 4_096  # numbers of a folder that may come in another order
 MOST_FOLDERS = 256
 SHORTEST_KEY = 16  # bytes
@@ -39,12 +39,12 @@ class Unsealed(Exception):
     """A message that does not bear the sites' seal; the text says why."""
 
 
-class Again(Exception):
+class Replayed(Exception):
     """A message that was there before."""
 
 
-class Late(Exception):
-    """A message that was sent too long ago to know that, or by a clock that is wrong: of which folder, and when by that clock."""
+class Expired(Exception):
+    """A message that was sent too long ago to know that, or by a clock that is wrong: its folder, and its time by that clock."""
 
     def __init__(self, folder: str, when: float) -> None:
         super().__init__(folder, when)
@@ -52,7 +52,7 @@ class Late(Exception):
 
 
 def key_of(path: Path) -> bytes:
-    """The sites' shared secret, without spaces around it."""
+    """Return the sites' shared secret, without spaces around it."""
     key = path.read_bytes().strip()
     if len(key) < SHORTEST_KEY:
         raise Broken(f"{path} has {len(key)} bytes, and {SHORTEST_KEY} are the least for the sites' key")
@@ -71,7 +71,7 @@ class Taken:
             try:
                 self._bounds = {str(folder): int(number) for folder, number in json.loads(path.read_bytes()).items()}
             except (OSError, ValueError, AttributeError, TypeError) as fault:
-                logging.warning("%s cannot be read, and is begun anew: %s", path, fault)
+                logging.warning("%s cannot be read, and begins again: %s", path, fault)
 
     def bound(self, folder: str) -> int:
         return self._bounds.get(folder, 0)
@@ -122,7 +122,7 @@ class Seen:
 
 
 class Seal:
-    """What is sent bears it; what comes is asked for it."""
+    """Seals what is sent, and checks what comes."""
 
     def __init__(self, folder: str, key: bytes | None, taken: Path | None = None,
                  clock: Callable[[], float] = time.time) -> None:
@@ -141,7 +141,7 @@ class Seal:
         return packed({**head, "mac": self._mac(topic, head, body)}).encode() + b"\n" + body
 
     def opened(self, topic: str, payload: bytes) -> tuple[str, bytes]:
-        """The folder that sent it, empty where it does not say, and the body; `Unsealed`, `Again`, `Late`."""
+        """Return the folder that sent it, empty if it does not say, and the body. Raise `Unsealed`, `Replayed` or `Expired`."""
         line, there, body = payload.partition(b"\n")
         head = head_of(line) if there else None
         if self.key is not None:
@@ -158,17 +158,17 @@ class Seal:
             raise Unsealed("its seal is not that of this site's key")
         now, folder = self._clock(), head["folder"]
         if abs(now - head["time"] / 1_000) > LATE:
-            raise Late(folder, head["time"] / 1_000)
+            raise Expired(folder, head["time"] / 1_000)
         seen = self._seen.pop(folder, None) or Seen(self._taken.bound(folder))
         self._seen[folder] = seen
         if len(self._seen) > MOST_FOLDERS:
             del self._seen[next(iter(self._seen))]
         if not seen.is_new(head["number"]):
-            raise Again
+            raise Replayed
         self._taken.take(folder, head["number"], int(1_000 * (now - LATE)))
 
     def end(self) -> None:
-        """Nothing is sealed or opened any more."""
+        """Seal and open nothing any more."""
         self._taken.end(self.folder, self._number)
 
     def _mac(self, topic: str, head: dict[str, Any], body: bytes) -> str:
@@ -178,7 +178,7 @@ class Seal:
 
 
 def head_of(line: bytes) -> dict[str, Any] | None:
-    """The fields of a message's first line, or None where it is no such line."""
+    """Return the fields of a message's first line; None if it is malformed."""
     try:
         head = json.loads(line)
     except (ValueError, RecursionError):

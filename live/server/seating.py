@@ -12,16 +12,17 @@ import hmac
 import logging
 import secrets
 import time
-from typing import Any
+from typing import Any, Callable
 
-from .asked import Refused, folded
-from .clocks import SteadyClock
+from .asked import folded
 from .keeper import A_MOMENT, SHARED, Keeper, NotKept
 from .model.operations import SEATS
 from .records import SeatFreed, SeatGiven, SeatUsed
-from .state import Seat, State
+from .refusals import Refused
+from .state import SeatReplica, State
 from .writing import confirmed
 
+JUMP = 60.0  # seconds between the time that passed and the system's clock
 NOTED = 1 / 24  # of the time after which a seat that nobody uses is free
 
 
@@ -89,21 +90,21 @@ class Seating:
 
     async def _take_over(self, index: int) -> tuple[int, str]:
         if not 1 <= index < SEATS or not self._state.seats[index].key:
-            raise self._refused("no such seat", "nobody has this seat")
+            raise self._refused("NoSuchSeat", "nobody has this seat")
         if index in self._keeper.here:
-            raise self._refused("seat is connected", "somebody is connected there")
+            raise self._refused("SeatConnected", "somebody is connected there")
         return await self._give(index, self._state.seats[index].name)
 
     async def _new_seat(self, name: str) -> tuple[int, str]:
         if not name:
-            raise self._refused("no name", "who are you? A name has 1 to 64 signs")
+            raise self._refused("NoName", "who are you? A name has 1 to 64 signs")
         alike = self._alike(name)
         if alike is not None:
             looks = "" if alike == name else f", and {name} looks like it"
             raise self._refused("NameTaken", f"there is a seat of {alike}{looks}: take it over, or choose another name")
         free = [seat.index for seat in self._state.seats[1:] if not seat.key]
         if not free:
-            raise self._refused("all seats are taken", "all 63 seats are taken: take one over")
+            raise self._refused("AllSeatsTaken", "all 63 seats are taken: take one over")
         made = {number for _, number in self._state.by_stamp}  # whose is not to be another's
         fresh = [index for index in free if self._state.seats[index].number not in made]
         return await self._give((fresh or free)[0], name, self._state.works)
@@ -114,7 +115,7 @@ class Seating:
         index = int(said) if said.isdecimal() and len(said) <= 2 else 0
         is_signed = hmac.compare_digest(self._signed(key[:8], index, name).encode(), key.encode("utf-8", "replace"))
         if not is_signed or self._state.seats[index].key or self._alike(name) is not None:
-            raise self._refused("unknown key", "the seat was taken over, or is free again: choose one")
+            raise self._refused("UnknownKey", "the seat was taken over, or is free again: choose one")
         return await self._give(index, name, self._state.works, key)
 
     def _alike(self, name: str) -> str | None:
@@ -168,17 +169,17 @@ class Seating:
         """Free a seat that holds nothing private, when what it was asked before is done."""
         async def body() -> asyncio.Future[None]:
             if self.owned(index).shareable():
-                raise Refused("private edits", "this seat has changes that are not shared: share them, or undo them")
+                raise Refused("PrivateChanges", "this seat has changes that are not shared: share them, or undo them")
             await self._keeper.writable()
             return self._free(index)
         done: asyncio.Future[None] = await self._keeper.turns.ask(index, body)
         await confirmed(done, {})
 
-    def owned(self, index: int) -> Seat:
+    def owned(self, index: int) -> SeatReplica:
         """Return a seat, unless it was left by what was asked before."""
         seat = self._state.seats[index]
         if not seat.key:
-            raise Refused("not your replica", "the seat was left")
+            raise Refused("NotYourReplica", "the seat was left")
         return seat
 
     def _free(self, index: int) -> asyncio.Future[None]:
@@ -199,3 +200,20 @@ class Seating:
                 logging.info("seat %d of %s is free again", seat.index, seat.name)
                 self._free(seat.index)
                 self._keeper.listeners.tell("seats")
+
+
+class SteadyClock:
+    """The system's clock beside one that cannot be set."""
+
+    def __init__(self, patience: float, wall: Callable[[], float] = time.time,
+                 passed: Callable[[], float] = time.monotonic) -> None:
+        """`patience` are the seconds for which a clock must go on without a jump."""
+        self._patience, self._wall, self._passed = patience, wall, passed
+        self._offset, self._since = wall() - passed(), passed()
+
+    def is_so(self) -> bool:
+        """Return whether the clock has gone on without a jump for long enough. To be asked now and then."""
+        offset, now = self._wall() - self._passed(), self._passed()
+        if abs(offset - self._offset) > JUMP:
+            self._offset, self._since = offset, now
+        return now - self._since >= self._patience

@@ -1,4 +1,4 @@
-"""What can be set: read in one place, when a server starts."""
+"""Read all settings, in one place, when a server starts."""
 from __future__ import annotations
 
 import os
@@ -18,10 +18,11 @@ class Settings:
     days: int = 20  # of a question over many: seeds, each with drivers of its own
     watch: float = 0.2  # seconds of processor for which a piece of work may keep others waiting; of more the log tells
     hello: float = 10  # seconds until a tab has shown the token
+    milliseconds: int | None = None  # a clock of stamps that stands, since 1970
 
     @classmethod
     def of(cls, environment: Mapping[str, str] = os.environ) -> Settings:
-        given = {one.name: environment.get(f"LIVE_{one.name.upper()}") for one in fields(cls)}
-        kinds = {"float": float, "int": int}
+        given = {one.name: environment.get(f"LIVE_{one.name.upper()}") or None for one in fields(cls)}
+        kinds = {"float": float, "int": int, "int | None": int}
         return cls(**{one.name: kinds[str(one.type)](given[one.name]) for one in fields(cls)
                       if given[one.name] is not None})

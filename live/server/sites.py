@@ -17,19 +17,20 @@ import time
 from types import TracebackType
 from typing import TYPE_CHECKING, Any, Callable, Deque, Iterator, NamedTuple
 
-from .asked import LONGEST_NAME, LONGEST_NOTE, Refused, words
+from .asked import LONGEST_NAME, LONGEST_NOTE, words
 from .brokers import broker_of, connack_string, new_client
 from .floods import FLOOD, STRANGERS, UNSEALED, Floods, only_newest
 from .journal import packed
 from .keeper import SHARED, Times
-from .lab import Early, Lab
-from .messages import Bad, form_of, read, site_of, sum_of
+from .lab import FutureStamp, Lab
+from .messages import InvalidMessage, form_of, read_message, site_of, sum_of
 from .model.operations import Operation
 from .model.projection import Edits
 from .model.reading import Malformed, read_operation
 from .model.road import Road
 from .peers import EVERY, Peers, Site
-from .seals import LATE, Again, Late, Seal, Unsealed, key_of
+from .refusals import Refused
+from .seals import LATE, Replayed, Expired, Seal, Unsealed, key_of
 from .state import SITE_FORM, State
 from .supervised import supervised
 
@@ -44,15 +45,15 @@ AT_ONCE = 500  # operations that are sent, and taken, without a pause
 READ_FOR = 0.02  # seconds for operations of a message, until others get their turn
 TOLD, MOST_STAY = 5, 20  # sentences
 MOST_EARLY, LONGEST_EARLY = 1_000, 2_000_000  # operations that wait until their day has come, and their bytes
-SITES = "road/sites"
+SITES_TOPIC = "road/sites"
 TOTAL = "all"  # beside the numbers: of all operations
 LATE_SAID = f"Messages more than {LATE / 60:.0f} minutes old, by this site's clock, were left out: what they told comes again"
 SENDERS = {STRANGERS: "Somebody who does not say who it is", UNSEALED: "Somebody without the sites' key"}
 
 
 class Pause(NamedTuple):
-    """When a folder was told what it may lack, for how long it is told no more, from which operation on it goes on at once where
-    that was a piece, and what was held here: once that is more, the pause is no longer than the first one."""
+    """When a folder got what it may lack, and for how long it gets no more; from which operation on it gets the next piece at once;
+    and what was held here: once that is more, the pause is no longer than the first one."""
 
     told: float
     long: float
@@ -70,7 +71,7 @@ class Sites:
         self._seal = Seal(self._id, key_of(options.site_key) if options.site_key else None, lab.keeper.folder / "seen.json")
         self._connected = False
         self._peers = Peers(lab, self._run, self._road, self._say, lambda: self._tell())
-        self._keeper.stamps.ahead = self._peers.ahead
+        self._keeper.stamps.follow(self._peers.ahead)
         self._told: Deque[str] = collections.deque(maxlen=TOLD)
         self._sent: dict[Operation, tuple[float, float]] = {}  # when, and how long until it is sent again
         self._sums: dict[str, tuple[str, str]] = {}  # of a folder: its hash when it was last heard, and ours then
@@ -91,7 +92,7 @@ class Sites:
         host, port = self._broker
         self._client.connect_async(host, port, keepalive=30)
         self._client.loop_start()
-        self._tasks = [supervised("what other sites are told", self._announce, self._keeper.ended)]
+        self._tasks = [supervised("what other sites hear", self._announce, self._keeper.ended)]
         return self
 
     async def __aexit__(self, kind: type[BaseException] | None, fault: BaseException | None,
@@ -109,7 +110,7 @@ class Sites:
         return client
 
     def state(self) -> dict[str, Any]:
-        """What tabs are told: the sites with which it exchanges, what was told once, and what is so and stays."""
+        """Return the state for tabs: the sites with which it exchanges, sentences said once, and those that stay true."""
         self._peers.forget_silent()
         return {"state": "connected" if self._connected else "away", "unsent": len(self._unsent()),
                 "sites": [{"site": site.number, "when": int(site.when)} for site in self._peers.others()],
@@ -117,7 +118,7 @@ class Sites:
                 "sealed": self._seal.key is not None, "left_out": self._left_out}
 
     def _stays(self) -> Iterator[str]:
-        """What is so, in sentences."""
+        """Yield the sentences that stay true."""
         yield from self._peers.own_state()
         if self._seal.key is None:
             yield "Sites trust each other wholly: they have no --site-key"
@@ -130,7 +131,7 @@ class Sites:
         yield from self._peers.their_state()
 
     def _say(self, sentence: str) -> None:
-        """Tells people something once; it is told again when others have been told since."""
+        """Say a sentence once; again when others have been said since."""
         if sentence not in self._told:
             logging.warning("%s", sentence)
             self._told.append(sentence)
@@ -140,7 +141,7 @@ class Sites:
 
     def _on_connect(self, client: mqtt.Client, _data: Any, _flags: Any, code: int) -> None:
         if code == 0:
-            client.subscribe([(f"road/{self._road}/operations", 1), (f"road/{self._road}/sum", 0), (SITES, 0)])
+            client.subscribe([(f"road/{self._road}/operations", 1), (f"road/{self._road}/sum", 0), (SITES_TOPIC, 0)])
         self._loop.call_soon_threadsafe(self._is_connected, code)
 
     def _on_gone(self, _client: mqtt.Client, _data: Any, _code: int) -> None:
@@ -150,13 +151,13 @@ class Sites:
         # The broker's thread acknowledges when this returns: so it waits until the edits are on the disk.
         try:
             folder, body = self._opened(message.topic, message.payload)
-        except Again:
+        except Replayed:
             return
-        except Late as late:
+        except Expired as late:
             self._loop.call_soon_threadsafe(self._peers.hear_clock, late.folder, late.when)
             self._loop.call_soon_threadsafe(self._say, LATE_SAID)
             return
-        except (Bad, Unsealed) as fault:
+        except (InvalidMessage, Unsealed) as fault:
             self._left_out += isinstance(fault, Unsealed)
             if not self._floods.are_too_many(UNSEALED):
                 self._loop.call_soon_threadsafe(self._say, f"A message from the broker was left out: {fault}")
@@ -171,7 +172,7 @@ class Sites:
 
     def _opened(self, topic: str, payload: bytes) -> tuple[str, bytes]:
         if len(payload) > LONGEST:
-            raise Bad(f"it has {len(payload)} bytes, and {LONGEST} are the most")
+            raise InvalidMessage(f"it has {len(payload)} bytes, and {LONGEST} are the most")
         return self._seal.opened(topic, payload)
 
     def _sender(self, folder: str) -> str:
@@ -241,7 +242,7 @@ class Sites:
 
     def _present(self) -> None:
         state = self._keeper.state
-        self._publish(SITES, {"run": self._run, "site": state.site, "road": self._road, "form": SITE_FORM,
+        self._publish(SITES_TOPIC, {"run": self._run, "site": state.site, "road": self._road, "form": SITE_FORM,
                               "time": int(1_000 * time.time()),
                               "silent": self._peers.is_anothers(), "bound": {str(one): folder for one, folder in
                                                                        self._peers.disputed().items()}}, 0)
@@ -279,7 +280,7 @@ class Sites:
         return self._hashed[1]
 
     def _numbers(self) -> dict[str, str]:
-        """Return for each number in stamps a hash of its operations, so that only those are told that may be missing; and one
+        """Return for each number in stamps a hash of its operations, so that only those are sent that may be missing; and one
         of all operations."""
         state = self._keeper.state
         if self._counted[0] is not state:
@@ -296,17 +297,17 @@ class Sites:
 
     async def _came(self, topic: str, folder: str, body: bytes) -> None:
         try:
-            value = read(body) if len(body) < LARGE else await asyncio.to_thread(read, body)
-            if topic == SITES:
+            value = read_message(body) if len(body) < LARGE else await asyncio.to_thread(read_message, body)
+            if topic == SITES_TOPIC:
                 await self._heard_site(folder, value)
             elif topic.endswith("/sum"):
                 await self._heard_sum(folder, value)
             else:
                 await self._heard(folder, value)
-        except (Bad, Refused) as fault:
+        except (InvalidMessage, Refused) as fault:
             self._say_left_out(fault)
 
-    def _say_left_out(self, fault: Bad | Refused) -> None:
+    def _say_left_out(self, fault: InvalidMessage | Refused) -> None:
         self._say(f"A message from the broker was left out: {fault.why if isinstance(fault, Refused) else fault}")
 
     async def _heard_site(self, folder: str, value: Any) -> None:
@@ -317,11 +318,11 @@ class Sites:
         await self._peers.heard(run, site, value.get("bound"))
 
     async def _heard(self, folder: str, value: Any) -> None:
-        """Take operations. Those that are early wait, those that are none are told, and neither keep others back."""
+        """Take operations. Early ones wait, people hear of malformed ones, and neither keep others back."""
         if self._peers.twin() is not None:
-            raise Bad("another folder has this site's number")
+            raise InvalidMessage("another folder has this site's number")
         if type(value) is not dict or value.get("form") != SITE_FORM or type(value.get("operations")) is not list:
-            raise Bad(f"it has no list of operations of form {SITE_FORM}")
+            raise InvalidMessage(f"it has no list of operations of form {SITE_FORM}")
         good = await self._good(value["operations"])
         title = words(value.get("title") or "", LONGEST_NOTE)
         latest = self._keeper.stamps.latest_count()
@@ -332,10 +333,10 @@ class Sites:
         for one in early:
             self._wait(one)
         if early:
-            raise Early(early[0])
+            raise FutureStamp(early[0])
 
     async def _good(self, written: list[Any]) -> list[Operation]:
-        """Return the operations of a message that every site takes; of the others people are told."""
+        """Return the operations of a message that every site takes; people hear of the others."""
         good: list[Operation] = []
         began = time.perf_counter()
         for one in written:
@@ -389,7 +390,7 @@ class Sites:
         try:
             if due:
                 await self._take(self._id, list(due.values()), "")
-        except (Bad, Refused) as fault:
+        except (InvalidMessage, Refused) as fault:
             self._say_left_out(fault)
 
     async def _heard_sum(self, folder: str, value: Any) -> None:
@@ -410,7 +411,7 @@ class Sites:
             self._tell_what_may_lack(folder, numbers, ours)
 
     def _tell_what_may_lack(self, folder: str, numbers: dict[str, str], held: str) -> None:
-        """A piece of it, and the next piece soon; from the first again after pauses that grow."""
+        """Send a piece of it, and the next piece soon; from the first again after pauses that grow."""
         now = time.monotonic()
         last = self._pauses.pop(folder, Pause(0.0, 0.0, 0, held))
         place, pause = last.place, last.long if last.held == held else min(last.long, EVERY)

@@ -1,17 +1,16 @@
-"""What a folder's journal says: the plan, the seats, and each operation with who holds it.
+"""Hold what a folder's journal says: the plan, the seats, and each operation with who holds it.
 
     state = State()
-    for entry in read(path): state.read(entry)
+    for entry in read_entries(path)[0]: state.read(entry)
     entry.apply(state)                     a new entry
     entries = list(state.entries())        the same in as few entries as possible
 
-Seat 0 is the shared road. Its operations stand in the order in which they came, and a seat that takes has the first so many
-of them, beside its own.
+Seat 0 is the shared road. Its operations stand in the order in which they came. A seat that takes has the first of them, up to
+a place, beside its own.
 """
 from __future__ import annotations
 
 import asyncio
-import itertools
 from typing import Any, Iterable, Iterator, Mapping
 
 from .records import (JOURNAL_FORM, AllNews, AnyEntry, Bound, Came, Clock, Fields, Folder, Keys, Made, News, SeatFreed,
@@ -19,21 +18,19 @@ from .records import (JOURNAL_FORM, AllNews, AnyEntry, Bound, Came, Clock, Field
 from .former_journal import Former
 from .journal import Broken
 from .model.changes import all_lines, altered, lines_of, operations_on
-from .model.choices import shareable
-from .model.forgetting import forgettable
-from .model.operations import SEATS, Operation, Stamp, same_int
+from .model.choices import forgettable, shareable
+from .model.operations import SEATS, Operation, Stamp, same_int, stamped_anew
 from .model.road import Road
-from .model.stamping import stamped_anew
 from .stamps import StampClock
 
-TAB_FORM = 3  # the protocol of tabs
+TAB_FORM = 4  # the protocol of tabs
 SITE_FORM = 3  # the protocol of sites
 MOST_NEWS = 100
 AT_ONCE = 100  # operations that are worked out before others are heard
 MOST_ROADS = 8  # values of the shared road that are kept for those who take
 
 
-def planned(plan: Mapping[str, Any], kind: str, index: int) -> int | None:
+def plan_value(plan: Mapping[str, Any], kind: str, index: int) -> int | None:
     """Return what an object is by the plan alone; None of cars that start, about which it says nothing."""
     if kind == "block":
         return 0
@@ -54,20 +51,20 @@ class Replica:
     def __init__(self, index: int, state: State) -> None:
         self.index, self._state = index, state
         self.begun = self.version = state.begun  # of its list
-        self.marks: dict[Stamp, int] | None = None  # by line the version, from `begun` on, that altered it last; if it was asked for
+        self.marks: dict[Stamp, int] | None = None  # by line the version that altered it last, from `begun` on
         self.places: dict[Operation, int] = {}  # what it holds, each with how many came before
-        self.size: int = 0  # so many came
+        self.size: int = 0  # how many came
         self._road: Road | None = None
         self._waiting: list[Operation] = []
 
     @property
     def at(self) -> str:
-        """Its name in the program."""
+        """Return its name in the program."""
         return f"seat{self.index}" if self.index else "shared"
 
     @property
     def number(self) -> int:
-        """The number in its stamps."""
+        """Return the number in its stamps."""
         return SEATS * self._state.site + self.index
 
     @property
@@ -124,7 +121,7 @@ class Replica:
         return self.marks
 
 
-class Shared(Replica):
+class SharedReplica(Replica):
     """The shared road."""
 
     def __init__(self, state: State) -> None:
@@ -145,7 +142,7 @@ class Shared(Replica):
         return self._order[since:until]
 
     def upto(self, size: int) -> Road:
-        """Return the road of the first so many operations."""
+        """Return the road of the first `size` operations."""
         if size not in self._roads:
             base = max((one for one in self._roads if one < size), default=0)
             road = self._roads[base] if base in self._roads else self._state.empty
@@ -169,18 +166,18 @@ class Shared(Replica):
             self.upto(size)
 
 
-class Seat(Replica):
+class SeatReplica(Replica):
     """A seat: who has it, and what it holds."""
 
     def __init__(self, index: int, state: State, count: int = 0) -> None:
         super().__init__(index, state)
         self.name, self.key = "", ""  # the hash of its tab's key; empty: nobody has the seat
         self.count = count  # the greatest in its stamps
-        self.upto = 0  # so many operations of the shared road it has taken
+        self.upto = 0  # how many operations of the shared road it has taken
         self.used: float = 0  # when a tab of it was last there
         self.own: dict[Operation, None] = {}  # made at this seat, in their order
         self.done: dict[str, Stamp] = {}  # its operations by their keys
-        self.renamed: dict[Stamp, Stamp] = {}  # the stamps of operations that were stamped anew
+        self.renamed: dict[Stamp, Stamp] = {}  # the stamps of operations that were stamped again
         self.idle: frozenset[Operation] = frozenset()  # private ones that need not be shared, as the list says
         self._shareable: tuple[Road, Road, list[Operation]] | None = None
 
@@ -188,13 +185,13 @@ class Seat(Replica):
         return self._state.shared.upto(self.upto).adding(self.own)
 
     def rebuild(self) -> None:
-        """Make its road anew, from all that it holds."""
+        """Make its road again, from all that it holds."""
         if self._road is not None:
             self._waiting = []
             self.become(self.built())
 
     def forgot(self, lines: set[Stamp]) -> None:
-        """Build its road anew, without what was forgotten on these lines. Those of which nothing is left were gone before."""
+        """Build its road again, without what was forgotten on these lines. Lines that have nothing left were gone before."""
         self._road = self.built()
         left = {line for line in lines if operations_on(self._road, line)}
         self.mark(sorted(left))
@@ -202,7 +199,7 @@ class Seat(Replica):
             self.marks = {line: version for line, version in self.marks.items() if line in left or line not in lines}
 
     def shareable(self) -> list[Operation]:
-        """Return the private operations by which the shared road would differ."""
+        """Return the private operations that would change the shared road."""
         if not self._state.private(self):
             return []
         road, shared = self.road, self._state.shared.road
@@ -211,7 +208,7 @@ class Seat(Replica):
         return self._shareable[2]
 
     def _all_shared(self, shared: Road) -> Road:
-        """Return the shared road with all private operations, of which most were there when it was asked for last."""
+        """Return the shared road with all private operations. Most of them were there when it was asked for last."""
         lately = self._state.lately
         known, then = lately.pop(self.index, (shared, shared))
         lately[self.index] = shared, (then if known is shared else shared).adding(self._state.private(self))
@@ -244,19 +241,20 @@ class State:
         self.unsent: dict[Operation, None] = {}  # shared here, and not yet come back from the broker
         self.titles: dict[Operation, str] = {}  # under which operations were shared
         self.shares: list[News] = []
-        self.works = 0  # so many operations of the shared road every new seat has
+        self.works = 0  # how many operations of the shared road every new seat has
         self.rate: float = 0
         self.now = 0
         self.stop: int | None = None
         self.by_stamp: dict[Stamp, Operation] = {}
         self._twins: dict[Stamp, tuple[Operation, ...]] = {}  # others of a stamp
+        self._greatest, self._later = 0, list[int]()  # the greatest count by the clock when it was asked last, and those above
         self.lately: dict[int, tuple[Road, Road]] = {}  # of a seat: the shared road, and that with all private operations
         self._clock = clock or StampClock()
         self._former: Former | None = None
-        self.empty = Road(lambda kind, index: planned(self.plan, kind, index))
-        self.shared = Shared(self)
-        self.seats: list[Seat] = []
-        self.seats = [Seat(index, self) for index in range(SEATS)]
+        self.empty = Road(lambda kind, index: plan_value(self.plan, kind, index))
+        self.shared = SharedReplica(self)
+        self.seats: list[SeatReplica] = []
+        self.seats = [SeatReplica(index, self) for index in range(SEATS)]
 
     def replica(self, index: int) -> Replica:
         """Return the road of a seat; of 0 the shared one."""
@@ -265,7 +263,7 @@ class State:
     # Entries
 
     def read(self, entry: Mapping[str, Fields]) -> None:
-        """Apply an entry as a journal has it, of any form; raise `Broken` if it is none."""
+        """Apply an entry as a journal has it, of any form; raise `Broken` if it is malformed."""
         (kind, value), = entry.items()
         try:
             if self._former is None or not self._former.apply(kind, value):
@@ -278,7 +276,7 @@ class State:
         self._former = Former(self) if form < JOURNAL_FORM else None
 
     def end_reading(self) -> None:
-        """The whole journal is read: from now on entries are of this form."""
+        """Note that the whole journal is read: from now on entries are of this form."""
         self.form, self._former = JOURNAL_FORM, None
 
     def interned(self, one: Operation) -> Operation:
@@ -287,6 +285,8 @@ class State:
         found = next((other for other in known if other.is_same(one)), None)
         if found is None:
             self._set_stamp(one.stamp, (*known, one))
+            if one.stamp[0] > self._greatest:
+                self._later.append(one.stamp[0])
         return found or one
 
     def of_stamp(self, stamp: Stamp) -> tuple[Operation, ...]:
@@ -302,14 +302,14 @@ class State:
         if len(some) > 1:
             self._twins[stamp] = some[1:]
 
-    def hold_own(self, seat: Seat, one: Operation) -> None:
-        """A seat holds an operation of its own."""
+    def hold_own(self, seat: SeatReplica, one: Operation) -> None:
+        """Let a seat hold an operation of its own."""
         seat.own[one] = None
         seat.hold([one])
         self._raise_count(one)
 
     def hold_shared(self, operations: Iterable[Operation], is_unsent: bool, title: str = "") -> list[Operation]:
-        """The shared road holds operations. Return those that are new there."""
+        """Let the shared road hold operations. Return those that are new there."""
         fresh = self.shared.hold(operations)
         for one in fresh:
             self._raise_count(one)
@@ -323,45 +323,49 @@ class State:
         return fresh
 
     def _raise_count(self, one: Operation) -> None:
-        """A number's counts rise, also if an operation of it came from outside."""
+        """Raise a number's count, also if an operation of it came from outside."""
         count, number = one.stamp
         if number // SEATS == self.site:
             own = self.seats[number % SEATS]
             own.count = max(own.count, count)
 
-    def take(self, seat: Seat, upto: int) -> None:
+    def take(self, seat: SeatReplica, upto: int) -> None:
         came, seat.upto = self.fresh(seat, upto), max(seat.upto, upto)
         seat.hold(came)
 
     def free(self, index: int, count: int) -> None:
         old = self.seats[index]
         self.lately.pop(index, None)
-        self.seats[index] = Seat(index, self, max(old.count, count))
+        self.seats[index] = SeatReplica(index, self, max(old.count, count))
 
     def tell(self, news: News) -> None:
         self.shares = [*self.shares, news][-MOST_NEWS:]
 
     # Questions
 
-    def stamp(self, seat: Seat) -> Stamp:
+    def stamp(self, seat: SeatReplica) -> Stamp:
         """Return a new stamp of a seat: above all that is held here, and above all that was made at this site, so that a clock
         that goes back puts nothing beneath what is older. What is too far ahead of the clock does not count."""
         latest = self._clock.latest_count()
-        counts = itertools.chain((count for count, _ in self.by_stamp), (other.count for other in self.seats))
-        return self._clock.count_after(max((count for count in counts if count <= latest), default=0)), seat.number
+        if self._greatest > latest:  # the clock has gone back
+            self._greatest, self._later = 0, [count for count, _ in self.by_stamp]
+        self._greatest = max((count for count in self._later if count <= latest), default=self._greatest)
+        self._later = [count for count in self._later if count > latest]
+        made = max((other.count for other in self.seats if other.count <= latest), default=0)
+        return self._clock.count_after(max(self._greatest, made)), seat.number
 
-    def private(self, seat: Seat) -> list[Operation]:
+    def private(self, seat: SeatReplica) -> list[Operation]:
         """Return the seat's own operations that have not been shared."""
         return [one for one in seat.own if one not in self.shared.places]
 
-    def fresh(self, seat: Seat, upto: int | None = None) -> list[Operation]:
+    def fresh(self, seat: SeatReplica, upto: int | None = None) -> list[Operation]:
         """Return what was shared that the seat has not taken, but for what it holds already."""
         return [one for one in self.shared.order(seat.upto, upto) if one not in seat.places]
 
-    def held_by(self, seat: Seat, stamp: Stamp) -> list[Operation]:
+    def held_by(self, seat: SeatReplica, stamp: Stamp) -> list[Operation]:
         return [one for one in self.of_stamp(stamp) if one in seat.places]
 
-    def stamp_anew(self, seat: Seat, stamps: Mapping[Stamp, Stamp]) -> None:
+    def stamp_anew(self, seat: SeatReplica, stamps: Mapping[Stamp, Stamp]) -> None:
         """Give private operations of a seat other stamps. They are called by the old ones, too."""
         old = [one for one in self.private(seat) if one.stamp in stamps]
         new = stamped_anew(old, stamps)
@@ -376,12 +380,12 @@ class State:
 
     # Forgetting
 
-    def _drop(self, seat: Seat, one: Operation) -> None:
+    def _drop(self, seat: SeatReplica, one: Operation) -> None:
         """Let a private operation go."""
         del seat.own[one], seat.places[one]
         self._set_stamp(one.stamp, tuple(other for other in self.of_stamp(one.stamp) if other is not one))
 
-    def forget(self, seat: Seat, kept: int) -> None:
+    def forget(self, seat: SeatReplica, kept: int) -> None:
         """Let private operations go that say nothing any more, but for the newest: no layer differs without them."""
         private = self.private(seat)
         if len(private) <= kept:

@@ -1,4 +1,4 @@
-"""Tasks that last as long as the server: one that ends is told, and started again.
+"""Supervise tasks that last as long as the server: if one ends, say so, and start it again.
 
     task = supervised("the clock", self._look_after, told)
 """

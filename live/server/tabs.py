@@ -1,4 +1,4 @@
-"""Tabs: sockets, hello, frames, refusals, and what tabs are told without asking.
+"""Serve tabs: sockets, hello, frames, refusals, and news that no tab asks for.
 
 A tab that does not read is let go, one that floods is answered `busy`, one that lies is closed: none is waited for.
 """
@@ -20,11 +20,12 @@ from aiohttp import WSMsgType, web
 from zegdrut.programs import describe_standing
 
 from . import plans, verbs
-from .asked import LONGEST_NAME, MOST_EDITS, Asked, Refused, not_a_command
+from .asked import LONGEST_NAME, MOST_EDITS, Asked
 from .journal import packed
 from .keeper import Times
 from .lab import Lab
 from .questions import MOST_BYTES, MOST_ROWS, Questions
+from .refusals import Refused, not_a_command
 from .state import TAB_FORM
 from .supervised import supervised
 from .timing import AHEAD
@@ -62,7 +63,7 @@ class Tab:
         self.bye = 1000, "ended"
 
     async def serve(self) -> None:
-        """Reads and writes until the tab goes, or is let go."""
+        """Read and write until the tab goes, or is let go."""
         self._tasks = [asyncio.create_task(part) for part in (self._reader(), self._writer(), self._hello_in_time())]
         try:
             await asyncio.wait(self._tasks[:2], return_when=asyncio.FIRST_COMPLETED)
@@ -75,7 +76,7 @@ class Tab:
                     logging.error("a tab ended by %r", result)
 
     def let_go(self, code: int, why: str) -> None:
-        """Ends the tab; its own handler closes the socket, since a close from another task is lost."""
+        """End the tab. Its own handler closes the socket, since a close from another task is lost."""
         self.bye = code, why
         for task in self._tasks[:2]:
             task.cancel()
@@ -89,7 +90,7 @@ class Tab:
         self._wake.set()
 
     def _next(self) -> str:
-        """What is sent next."""
+        """Return what is sent next."""
         if self._replies:
             return self._replies.popleft()
         kind = next(iter(self._news))
@@ -143,7 +144,7 @@ class Tab:
         elif self.index is None:
             self.let_go(1008, "hello comes first")
         elif len(self._asked) >= WAITING or verb in verbs.CHANGES and self._tabs.changing[self.index] >= MOST_CHANGING:
-            self._send({"id": number, **Refused("busy", f"{WAITING} questions wait: ask again later").reply()})
+            self._send({"id": number, **Refused("Busy", f"{WAITING} questions wait: ask again later").reply()})
             await asyncio.sleep(PAUSE)
         else:
             task = asyncio.ensure_future(self._answered(self.index, number, verb, fields, came))
@@ -182,7 +183,7 @@ class Tab:
             reply = fault.reply()
         except Exception:  # pylint: disable=broad-except
             logging.exception("`%s` failed", verb)
-            reply = Refused("failed", "the server could not do this, and says why in its log").reply()
+            reply = Refused("Failed", "the server could not do this, and says why in its log").reply()
         finally:
             self._tabs.changing[index] -= changes
         times["server"] = time.perf_counter() - came
@@ -197,12 +198,12 @@ class Tab:
 
 
 def taken_apart(text: str) -> tuple[int, str, Any]:
-    """Number, command and fields of a frame; a ValueError where it is none, or no text of UTF-8."""
+    """Return number, command and fields of a frame; raise ValueError if it is malformed or not UTF-8."""
     text.encode()
     value = json.loads(text, parse_constant=no_number, parse_float=finite)
     if type(value) is not dict or type(value.get("id")) is not int or len(value) != 2:
         raise ValueError("no command")
-    json.dumps(value, ensure_ascii=False).encode()  # half of a surrogate pair is none
+    json.dumps(value, ensure_ascii=False).encode()  # half of a surrogate pair is not UTF-8
     number = value.pop("id")
     if not 0 <= number < 1 << 53:
         raise ValueError("no number")
@@ -229,7 +230,7 @@ class Tabs:
         self._all: set[Tab] = set()
         self.changing: collections.Counter[int] = collections.Counter()  # commands of a seat, also of tabs that have gone
         self._standing = describe_standing(lab.keeper.path)  # what is to be known of the program: that it is unproved
-        self.broker: Callable[[], Any] = lambda: None  # what is told of it
+        self._broker: Callable[[], Any] = lambda: None  # its state, for the page
         listeners, keeper = lab.keeper.listeners, lab.keeper
         listeners.on("shared", self._news)
         listeners.on("seats", self._seats)
@@ -244,12 +245,12 @@ class Tabs:
     # Coming and going
 
     async def welcome(self, tab: Tab, asked: Asked) -> dict[str, Any]:
-        """Gives a tab its seat."""
+        """Give a tab its seat."""
         with asked:
             name, key = asked.text("name", LONGEST_NAME, ""), asked.text("key", 100, "")
             take = asked.whole("take") if asked.has("take") else None
             if asked.whole("form", default=TAB_FORM) != TAB_FORM:
-                raise Refused("another form", "this page is older or newer than the server: reload it")
+                raise Refused("OtherVersion", "this page is older or newer than the server: reload it")
         index, key = await self.lab.seating.join(name, key, take)
         for other in self._all:
             if other.index == index:
@@ -265,11 +266,11 @@ class Tabs:
                 "horizon": self.lab.keeper.wanted.get(index, 0), **self.lab.keeper.clock().fields(), "ahead": AHEAD,
                 "time": round(time.time(), 3),
                 "most": {"edits": MOST_EDITS, "rows": MOST_ROWS, "bytes": MOST_BYTES,
-                         "days": self.lab.keeper.settings.days}, "broker": self.broker(),
+                         "days": self.lab.keeper.settings.days}, "broker": self._broker(),
                 "trouble": self._trouble, "standing": self._standing, "day": self._day()}
 
     def _day(self) -> dict[str, Any]:
-        """The clock of the day, as far as it is known: seconds after midnight at which it begins, the date, the time zone."""
+        """Return the clock of the day, as far as it is known: the seconds after midnight when it begins, date and time zone."""
         clock = plans.clock_of(self.lab.keeper.folder)
         if clock is None:
             return {"begin": None, "date": None, "zone": None}
@@ -287,11 +288,11 @@ class Tabs:
             self._seats()
 
     def known(self) -> set[Any]:
-        """The connections on which the token was shown."""
+        """Return the connections that have shown the token."""
         return {tab.connection for tab in self._all if tab.has_token}
 
     async def socket(self, request: web.Request) -> web.WebSocketResponse:
-        """Serves a tab until it goes."""
+        """Serve a tab until it goes."""
         if len(self.known()) >= MOST_TABS:
             raise web.HTTPServiceUnavailable(text="too many tabs")
         socket = web.WebSocketResponse(max_msg_size=LONGEST_FRAME + 1, heartbeat=2 * PATIENCE, compress=False)
@@ -307,8 +308,8 @@ class Tabs:
         return socket
 
     async def _closed(self, request: web.Request, socket: web.WebSocketResponse, tab: Tab) -> None:
-        """Says why, and lets the tab go first: until it has gone what still comes is thrown away. A socket that is closed
-        before, with something unread, is reset, and its tab would never hear why."""
+        """Say why, and let the tab go first: until it has gone what still comes is thrown away. A socket that is closed before,
+        with something unread, is reset, and its tab would never hear why."""
         code, why = tab.bye
         try:
             async with asyncio.timeout(1):
@@ -335,7 +336,7 @@ class Tabs:
     # Answers
 
     async def answer(self, tab: Tab, index: int, verb: str, fields: Any, times: Times) -> bytes | dict[str, Any]:
-        """The answer to a seat; `Refused` says why there is none."""
+        """Answer a seat; raise `Refused` if that cannot be done."""
         if verb == "ping":
             return {"pong": fields}
         reply = await verbs.answer(self.lab, self._questions, index, Asked(verb, fields), times)
@@ -346,29 +347,33 @@ class Tabs:
         return reply
 
     def _left(self, tab: Tab, index: int) -> None:
-        """The seat is free: its tab may go."""
+        """Let the tab of a free seat go."""
         tab.index = None
         self.lab.keeper.here.discard(index)
         self._questions.left(index)
         self._seats()
         asyncio.get_running_loop().call_later(TOLD_EVERY, tab.let_go, 4001, "the seat was left")
 
-    # What is told
+    # News
 
     def _tell_all(self, kind: str, value: Any) -> None:
         for tab in self._all:
             if tab.index is not None:
                 tab.tell(kind, value)
 
+    def follow_broker(self, state: Callable[[], Any]) -> None:
+        """Tell tabs from now on the broker's state."""
+        self._broker = state
+
     def tell_broker(self) -> None:
-        self._tell_all("broker", self.broker())
+        self._tell_all("broker", self._broker())
 
     def _clock(self) -> None:
         self._tell_all("clock", self.lab.keeper.clock().fields())
 
     @property
     def _trouble(self) -> str | None:
-        """What is wrong, for people."""
+        """Return what is wrong, in a sentence; None if nothing is."""
         return self.lab.keeper.trouble or self._ended
 
     def _tell_trouble(self) -> None:
@@ -382,7 +387,7 @@ class Tabs:
             asyncio.get_running_loop().call_later(STANDS, self._part_ended, None)
 
     def _days(self, index: int, done: int, days: int) -> None:
-        """How many days of its question are done."""
+        """Tell a seat how many days of its question are done."""
         for tab in self._all:
             if tab.index == index:
                 tab.tell("days", {"done": done, "days": days})
@@ -396,7 +401,7 @@ class Tabs:
             self._tell_all("seats", await self.seats())
 
     async def seats(self) -> list[dict[str, Any]]:
-        """Who has a seat."""
+        """Return the list of who has a seat."""
         return await self.lab.seating.seats_kept()
 
     def _news(self, touched: int | None) -> None:

@@ -5,9 +5,11 @@ import asyncio
 import time
 from typing import Any
 
-from .asked import Refused
-from .keeper import A_MOMENT, LAST_STEP, SHARED, Keeper
+from zegdrut.grammar import LAST_HORIZON
+
+from .keeper import A_MOMENT, SHARED, Keeper
 from .records import Clock
+from .refusals import Refused
 from .writing import confirmed
 
 AHEAD = 36_000  # steps that a replica may run past the clock, and that the clock may be set forward
@@ -27,13 +29,13 @@ class Timing:
         """Let the clock go on at a rate, or set it forward. Of several who do so at once each keeps what the others set."""
         keeper = self._keeper
         now = keeper.now()
-        if to is not None and not now <= to <= min(LAST_STEP, now + AHEAD):
-            raise Refused("Range", f"`to` is {now} to {min(LAST_STEP, now + AHEAD)}, not {to}")
+        if to is not None and not now <= to <= min(LAST_HORIZON, now + AHEAD):
+            raise Refused("Range", f"`to` is {now} to {min(LAST_HORIZON, now + AHEAD)}, not {to}")
         async with self._setting:
             await keeper.turns.ask(SHARED, keeper.writable)
             clock = keeper.clock() if rate is None else Clock(rate, keeper.now())
             step = clock.now if to is None else max(to, clock.now)
-            stop = min(LAST_STEP, step + HOUR) if clock.rate > FAST else clock.stop
+            stop = min(LAST_HORIZON, step + HOUR) if clock.rate > FAST else clock.stop
             await confirmed(self._put(Clock(clock.rate, step, stop)), {})
         keeper.listeners.tell("clock")
         return {"now": step}

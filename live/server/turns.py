@@ -33,7 +33,7 @@ LEISURE = 1.0  # seconds that what is done at leisure waits for other jobs of it
 
 
 class More:
-    """What a job gives that has not ended."""
+    """The result of a job that has not ended."""
 
 
 MORE = More()
@@ -81,12 +81,12 @@ class Turns:
         return future
 
     def _first(self, seat: int) -> Queue:
-        """The seat's jobs of which the next is done; empty where it asks nothing."""
+        """Return the queue of the seat's next job; empty if it asks nothing."""
         queue, later = self._queues[seat], self._later[seat]
         return later if later and (not queue or self._clock() - later[0][2] > LEISURE) else queue
 
     async def run(self) -> None:
-        """Does all jobs, for ever; begun again, also those of the seat whose turn it was."""
+        """Do all jobs, for ever. Started again it also does those of the seat whose turn it was."""
         self._turn.extend(seat for seat in {*self._queues, *self._later} if self._first(seat) and seat not in self._turn)
         while True:
             while not self._turn:
@@ -98,13 +98,13 @@ class Turns:
             await self._one_turn(seat)
 
     def _takes_long(self, seat: int) -> bool:
-        """Whether what a seat asks next takes long, as far as is known."""
+        """Return whether what a seat asks next takes long, as far as is known."""
         said = self._first(seat)[0][3]
         return self._uses[seat].last >= LONG if said is None else said
 
     async def _others_first(self, seat: int) -> None:
-        """What others who have used little, or what takes others no long turn, before a long one; and what those ask next who
-        have used little, once they are answered."""
+        """Do before a long turn the jobs of others who have used little, or whose turn is not long; and what those who have used
+        little ask next, once they are answered."""
         own = self._uses[seat]
         left, wait = max(LONG, own.last) * PUT_OFF, min(own.last * WAITED, self._most_waited)
         while left > 0:
@@ -122,23 +122,24 @@ class Turns:
             wait -= time.monotonic() - began
 
     def _lighter(self, seat: int) -> Callable[[int], bool]:
-        """Which others have used little, beside this one."""
+        """Return a test of whether another seat has used little, beside this one."""
         now = self._clock()
         most = self._uses[seat].until(now) * LITTLE
         return lambda one: one != seat and self._uses[one].until(now) < most
 
     async def _asked_within(self, seconds: float) -> bool:
-        """Waits until somebody asks; whether one did."""
+        """Wait until somebody asks. Return whether somebody did."""
         self._work.clear()
         with contextlib.suppress(asyncio.TimeoutError):
             async with asyncio.timeout(seconds):
                 await self._work.wait()
         return self._work.is_set()
 
-    async def _with_short_ones(self, seat: int, job: Job) -> Any:
+    async def _with_short_ones(self, job: Job) -> Any:
         """Do a job, and while it waits the short jobs of others."""
         turn = asyncio.ensure_future(self._around(job))
         turn.add_done_callback(lambda _: self._work.set())
+        await asyncio.sleep(0)  # it begins first
         try:
             while not turn.done():
                 short = next(filter(self._is_short, self._turn), None) if self._may_be_within() else None
@@ -149,8 +150,9 @@ class Turns:
                     self._turn.remove(short)
                     await self._one_turn(short, is_within=True)
         finally:
-            turn.cancel()
-            await asyncio.wait([turn])
+            if not turn.done():
+                turn.cancel()
+                await asyncio.wait([turn])
         return turn.result()
 
     def _is_short(self, seat: int) -> bool:
@@ -161,7 +163,12 @@ class Turns:
         job, future, *_ = queue[0]
         began = self._clock()
         try:
-            result = MORE if future.cancelled() else await (job() if is_within else self._with_short_ones(seat, job))
+            if future.cancelled():
+                result: Any = MORE
+            elif self._is_short(seat):
+                result = await (job() if is_within else self._around(job))
+            else:
+                result = await self._with_short_ones(job)
         except Exception as fault:  # pylint: disable=broad-except
             if not future.done():
                 future.set_exception(fault)

@@ -1,15 +1,19 @@
-"""The commands of a tab, in one table: its name, who may ask it of which road, what it reads of its fields, what does it."""
+"""Answer the commands of a tab. One table has for each its name, the roads that may be asked, the reader of its fields, and what
+answers it."""
 from __future__ import annotations
 
 import secrets
 from dataclasses import dataclass
 from typing import Any, Awaitable, Callable
 
+from zegdrut.grammar import LAST_HORIZON
+
 from . import peers
-from .asked import LONGEST_NOTE, Asked, Refused, not_a_command
-from .keeper import LAST_STEP, SHARED, Times
+from .asked import LONGEST_NOTE, Asked
+from .keeper import SHARED, Times
 from .lab import Lab
 from .questions import Questions, Reply
+from .refusals import Refused, not_a_command
 from .roads import SIDES
 from .state import Replica
 from .timing import FASTEST
@@ -27,7 +31,7 @@ CHANGES = frozenset({"gesture", "edit", "withdraw", "undo", "again", "site", "se
 
 @dataclass
 class Call:
-    """Who asks, of which road, and how long what takes."""
+    """A question: the seat that asks, the road, and how long each part takes."""
 
     lab: Lab
     questions: Questions
@@ -37,7 +41,7 @@ class Call:
 
     @property
     def replica(self) -> Replica:
-        """The seat, or the shared road, that is asked about."""
+        """Return the seat, or the shared road, that is asked about."""
         return self.lab.state.replica(SHARED if self.at == "shared" else self.index)
 
     @property
@@ -47,8 +51,7 @@ class Call:
 
 @dataclass(frozen=True)
 class Verb:
-    """A command. `lists` are the roads of which the answer may show what others did by what is held, which is told once it
-    is on the disk; the program holds of what was shared what is there."""
+    """A command. If the road is one of `lists`, the answer may show what others did. It waits until that is on the disk."""
 
     of: frozenset[str]
     reads: Callable[[Asked], dict[str, Any]]
@@ -57,7 +60,7 @@ class Verb:
 
 
 async def answer(lab: Lab, questions: Questions, index: int, asked: Asked, times: Times) -> Reply:
-    """The answer to a seat; `Refused` says why there is none."""
+    """Answer a seat; raise `Refused` if that cannot be done."""
     if asked.verb not in VERBS:
         raise not_a_command(f"`{asked.verb}` is no command of a tab")
     verb = VERBS[asked.verb]
@@ -72,30 +75,30 @@ async def answer(lab: Lab, questions: Questions, index: int, asked: Asked, times
 
 
 def where(lab: Lab, index: int, asked: Asked, verb: Verb) -> str:
-    """The road that is meant by `at`."""
+    """Return the road that `at` names."""
     if verb.of == ALL:
         return "own"
     at, own = asked.raw("at"), lab.state.seats[index].at
     meant = "own" if at == own else at
     if type(meant) is not str or meant not in verb.of:
         valid = " or ".join(f'"{own if one == "own" else one}"' for one in sorted(verb.of))
-        raise Refused("not your replica", "a tab asks about its own replica, the shared one, and the two of its preview, and "
+        raise Refused("NotYourReplica", "a tab asks about its own replica, the shared one, and the two of its preview, and "
                       f"changes its own: here `at` is {valid}")
     return meant
 
 
 # What is read
 
-def nothing(asked: Asked) -> dict[str, Any]:
+def no_fields(asked: Asked) -> dict[str, Any]:
     return {}
 
 
-def steps(asked: Asked) -> dict[str, Any]:
+def read_steps(asked: Asked) -> dict[str, Any]:
     return {"first": asked.whole("from"), "last": asked.whole("to")}
 
 
-def a_gesture(asked: Asked) -> dict[str, Any]:
-    """What a gesture does, and its fields."""
+def read_gesture(asked: Asked) -> dict[str, Any]:
+    """Return what a gesture does, and its fields."""
     fields: dict[str, Any] = {"key": asked.key(), "note": asked.text("note", LONGEST_NOTE, "")}
     if asked.has("edits"):
         shape = None if not asked.has("shape") or asked.is_null("shape") else asked.shape()
@@ -110,8 +113,8 @@ def a_gesture(asked: Asked) -> dict[str, Any]:
     return {"does": Lab.change_line, **fields, "shape": None if asked.is_null("shape") else asked.shape(), "top": top}
 
 
-def an_edit(asked: Asked) -> dict[str, Any]:
-    """The `edit` and `withdraw` of the format, as raw edits."""
+def read_edit(asked: Asked) -> dict[str, Any]:
+    """Read the `edit` and `withdraw` of the format, as raw edits."""
     thing = asked.raw("object")
     edit = [*(thing if type(thing) is list else [thing]), asked.raw("step"),
             asked.raw("value") if asked.verb == "edit" else None]
@@ -121,123 +124,118 @@ def an_edit(asked: Asked) -> dict[str, Any]:
     return {"edits": edits}
 
 
-def an_undo(asked: Asked) -> dict[str, Any]:
+def read_undo(asked: Asked) -> dict[str, Any]:
     return {"key": asked.key(), "note": asked.text("note", LONGEST_NOTE, ""), "stamp": asked.called("stamp")}
 
 
-def a_site(asked: Asked) -> dict[str, Any]:
+def read_site(asked: Asked) -> dict[str, Any]:
     return {"key": asked.key(), "note": asked.text("note", LONGEST_NOTE, ""), "site": asked.whole("site", 1, 1_023),
             "out": asked.yes("out")}
 
 
-def a_share(asked: Asked) -> dict[str, Any]:
-    only_shared(asked, "name")
+def read_share(asked: Asked) -> dict[str, Any]:
+    require_shared(asked, "name")
     return {"stamps": asked.stamps(), "title": asked.text("title", LONGEST_NOTE, "")}
 
 
-def a_take(asked: Asked) -> dict[str, Any]:
-    only_shared(asked, "message")
+def read_take(asked: Asked) -> dict[str, Any]:
+    require_shared(asked, "message")
     return {}
 
 
-def only_shared(asked: Asked, field: str) -> None:
+def require_shared(asked: Asked, field: str) -> None:
     if asked.raw(field) != "shared":
         raise Refused("not a command", f"`{field}` is \"shared\" here")
 
 
-def a_preview(asked: Asked) -> dict[str, Any]:
+def read_preview(asked: Asked) -> dict[str, Any]:
     what = None if asked.is_null("what") else asked.raw("what")
     if what not in (None, "share", "take"):
         raise not_a_command('`what` is "share" or "take", or null')
     return {"what": what, "stamps": asked.stamps()}
 
 
-def a_comparison(asked: Asked) -> dict[str, Any]:
+def read_comparison(asked: Asked) -> dict[str, Any]:
     if asked.raw("of") not in ("preview", "mine"):
         raise not_a_command('`of` is "preview" or "mine"')
-    return {"of": asked.raw("of"), **steps(asked)}
+    return {"of": asked.raw("of"), **read_steps(asked)}
 
 
-def a_report(asked: Asked) -> dict[str, Any]:
-    """A comparison with its title, and sentences of what lies on the roads."""
-    return {**a_comparison(asked), "title": asked.text("title", LONGEST_NOTE), "works": asked.texts("works", MOST_WORKS, LONGEST_NOTE)}
+def read_report(asked: Asked) -> dict[str, Any]:
+    """Read a comparison with its title, and sentences about the works on the roads."""
+    return {**read_comparison(asked), "title": asked.text("title", LONGEST_NOTE), "works": asked.texts("works", MOST_WORKS, LONGEST_NOTE)}
 
 
-def many_days(asked: Asked) -> dict[str, Any]:
-    """A comparison over many days; of null ends the one that runs."""
+def read_days(asked: Asked) -> dict[str, Any]:
+    """Read a comparison over many days; `of` null ends the one that runs."""
     if asked.is_null("of"):
         return {"of": None, "first": 0, "last": 0}
-    return a_comparison(asked)
+    return read_comparison(asked)
 
 
-def an_admission(asked: Asked) -> dict[str, Any]:
-    """An inlet, the slow-to-start chance there, and the chances of inlets before it."""
+def read_admission(asked: Asked) -> dict[str, Any]:
+    """Read an inlet, the slow-to-start chance there, and the chances of inlets before it."""
     inlet = asked.whole("inlet")
     start = None if asked.is_null("start") else asked.whole("start", 0, 65_536)
     before = asked.pairs("before")
     return {"inlet": inlet, "start": start, "before": before}
 
 
-def a_clock(asked: Asked) -> dict[str, Any]:
+def read_clock(asked: Asked) -> dict[str, Any]:
     return {"rate": asked.number("rate", FASTEST)} if asked.has("rate") else {"to": asked.whole("to")}
 
 
-def a_diagram(asked: Asked) -> dict[str, Any]:
-    return {**steps(asked), "every": asked.whole("every", 1, LAST_STEP, 1), "cells": asked.stretch()}
+def read_diagram(asked: Asked) -> dict[str, Any]:
+    return {**read_steps(asked), "every": asked.whole("every", 1, LAST_HORIZON, 1), "cells": asked.stretch()}
 
 
-def some_counts(asked: Asked) -> dict[str, Any]:
-    return {**steps(asked), "each": asked.whole("each", 1, LAST_STEP) if asked.has("each") else None}
+def read_counts(asked: Asked) -> dict[str, Any]:
+    return {**read_steps(asked), "each": asked.whole("each", 1, LAST_HORIZON) if asked.has("each") else None}
 
 
-def a_transcript(asked: Asked) -> dict[str, Any]:
-    return {"first": asked.whole("from", default=0), "last": asked.whole("to", 0, LAST_STEP),
+def read_transcript(asked: Asked) -> dict[str, Any]:
+    return {"first": asked.whole("from", default=0), "last": asked.whole("to", 0, LAST_HORIZON),
             "piece": asked.whole("next", default=0)}
 
 
-def a_table(asked: Asked) -> dict[str, Any]:
-    what = asked.raw("what")
-    if what == "changes":
-        return {"what": what}
-    if what != "counts":
-        raise not_a_command('`what` is "counts" or "changes"')
-    return {"what": what, **steps(asked), "each": asked.whole("each", 1, LAST_STEP)}
+def read_table(asked: Asked) -> dict[str, Any]:
+    if asked.raw("what") != "counts":
+        raise not_a_command('`what` is "counts"')
+    return {**read_steps(asked), "each": asked.whole("each", 1, LAST_HORIZON)}
 
 
 # What is done
 
-def plain(verb: str) -> Callable[..., Awaitable[Reply]]:
+def forward(verb: str) -> Callable[..., Awaitable[Reply]]:
     async def does(call: Call, **fields: Any) -> Reply:
         return await call.questions.plain(call.road, call.times, verb, fields)
     return does
 
 
-async def makes(call: Call, does: Callable[..., Awaitable[Reply]], **fields: Any) -> Reply:
+async def run_gesture(call: Call, does: Callable[..., Awaitable[Reply]], **fields: Any) -> Reply:
+    """Do what a gesture means."""
     return await does(call.lab, call.index, call.times, **fields)
 
 
-def of_lab(name: str) -> Callable[..., Awaitable[Reply]]:
-    """What the lab does for a seat."""
-    async def does(call: Call, **fields: Any) -> Reply:
-        reply: Reply = await getattr(call.lab, name)(call.index, call.times, **fields)
-        return reply
-    return does
+def of_lab(does: Callable[..., Awaitable[Reply]]) -> Callable[..., Awaitable[Reply]]:
+    """Return what does something of the lab for a seat."""
+    async def act(call: Call, **fields: Any) -> Reply:
+        return await does(call.lab, call.index, call.times, **fields)
+    return act
 
 
-def of_road(name: str) -> Callable[..., Awaitable[Reply]]:
-    """What is answered about a road."""
-    async def does(call: Call, **fields: Any) -> Reply:
-        reply: Reply = await getattr(call.questions, name)(call.road, call.times, **fields)
-        return reply
-    return does
+def of_road(answers: Callable[..., Awaitable[Reply]]) -> Callable[..., Awaitable[Reply]]:
+    """Return what answers a question about a road."""
+    async def act(call: Call, **fields: Any) -> Reply:
+        return await answers(call.questions, call.road, call.times, **fields)
+    return act
 
 
-def of_seat(name: str) -> Callable[..., Awaitable[Reply]]:
-    """What is answered about what a seat holds."""
-    async def does(call: Call, **fields: Any) -> Reply:
-        reply: Reply = await getattr(call.questions, name)(call.index, call.replica, **fields)
-        return reply
-    return does
+def of_seat(answers: Callable[..., Awaitable[Reply]]) -> Callable[..., Awaitable[Reply]]:
+    """Return what answers a question about what a seat holds."""
+    async def act(call: Call, **fields: Any) -> Reply:
+        return await answers(call.questions, call.index, call.replica, **fields)
+    return act
 
 
 async def set_clock(call: Call, **fields: Any) -> Reply:
@@ -266,7 +264,7 @@ async def seats(call: Call) -> Reply:
     return {"seats": await call.lab.seating.seats_kept(call.index)}
 
 
-async def numbers(call: Call) -> Reply:
+async def list_numbers(call: Call) -> Reply:
     return {"own": call.lab.state.site, "numbers": [{"site": number, "folder": folder} for number, folder in
                                                     sorted(peers.bindings(call.lab.state).items())]}
 
@@ -276,47 +274,41 @@ async def unbind(call: Call, site: int) -> Reply:
     return {}
 
 
-async def tables(call: Call, what: str, **fields: Any) -> Reply:
-    if what == "changes":
-        return await call.questions.table_of_changes(call.index, call.replica)
-    return await call.questions.table_of_counts(call.road, call.times, **fields)
-
-
 VERBS: dict[str, Verb] = {
     # Of no road
-    "seats": Verb(ALL, nothing, seats),
-    "clock": Verb(ALL, a_clock, set_clock),
-    "numbers": Verb(ALL, nothing, numbers),
+    "seats": Verb(ALL, no_fields, seats),
+    "clock": Verb(ALL, read_clock, set_clock),
+    "numbers": Verb(ALL, no_fields, list_numbers),
     "unbind": Verb(ALL, lambda asked: {"site": asked.whole("site", 1, 1_023)}, unbind),
-    "admission": Verb(ALL, an_admission, admission),
+    "admission": Verb(ALL, read_admission, admission),
     # The own road is changed, shared, taken
-    "gesture": Verb(OWN, a_gesture, makes),
-    "edit": Verb(OWN, an_edit, edits),
-    "withdraw": Verb(OWN, an_edit, edits),
-    "undo": Verb(OWN, an_undo, of_lab("undo")),
-    "again": Verb(OWN, lambda asked: {"key": asked.key(), "stamp": asked.called("stamp")}, of_lab("put_again")),
-    "site": Verb(OWN, a_site, of_lab("exclude_site")),
-    "send": Verb(OWN, a_share, of_lab("share")),
-    "take": Verb(OWN, a_take, of_lab("take")),
-    "leave": Verb(OWN, nothing, leave),
+    "gesture": Verb(OWN, read_gesture, run_gesture),
+    "edit": Verb(OWN, read_edit, edits),
+    "withdraw": Verb(OWN, read_edit, edits),
+    "undo": Verb(OWN, read_undo, of_lab(Lab.undo)),
+    "again": Verb(OWN, lambda asked: {"key": asked.key(), "stamp": asked.called("stamp")}, of_lab(Lab.put_again)),
+    "site": Verb(OWN, read_site, of_lab(Lab.exclude_site)),
+    "send": Verb(OWN, read_share, of_lab(Lab.share)),
+    "take": Verb(OWN, read_take, of_lab(Lab.take)),
+    "leave": Verb(OWN, no_fields, leave),
     # Roads are asked
-    "advance": Verb(ROADS, lambda asked: {"to": asked.whole("to")}, of_road("advance")),
-    "cells": Verb(ROADS, Asked.rest, plain("cells")),
-    "cars": Verb(ROADS, Asked.rest, plain("cars")),
-    "count": Verb(ROADS, Asked.rest, plain("count")),
-    "scenario": Verb(KEPT, Asked.rest, plain("scenario")),
-    "diagram": Verb(ROADS, a_diagram, of_road("diagram")),
-    "sums": Verb(ROADS, steps, of_road("sums")),
-    "counts": Verb(ROADS, some_counts, of_road("counts")),
+    "advance": Verb(ROADS, lambda asked: {"to": asked.whole("to")}, of_road(Questions.advance)),
+    "cells": Verb(ROADS, Asked.rest, forward("cells")),
+    "cars": Verb(ROADS, Asked.rest, forward("cars")),
+    "count": Verb(ROADS, Asked.rest, forward("count")),
+    "scenario": Verb(KEPT, Asked.rest, forward("scenario")),
+    "diagram": Verb(ROADS, read_diagram, of_road(Questions.diagram)),
+    "sums": Verb(ROADS, read_steps, of_road(Questions.sums)),
+    "counts": Verb(ROADS, read_counts, of_road(Questions.counts)),
     # Lists, and what would be
-    "layers": Verb(KEPT, lambda asked: {"version": asked.version("from")}, of_seat("layers"), SHARED_ROAD),
-    "operations": Verb(KEPT, lambda asked: {"first": asked.whole("from", default=0)}, of_seat("operations"), SHARED_ROAD),
-    "preview": Verb(OWN, a_preview, of_seat("preview")),  # (which waits itself, before it keeps the two roads)
-    "figures": Verb(OWN, a_comparison, of_seat("figures"), OWN),
-    "days": Verb(OWN, many_days, of_seat("days"), OWN),
+    "layers": Verb(KEPT, lambda asked: {"version": asked.version("from")}, of_seat(Questions.layers), SHARED_ROAD),
+    "operations": Verb(KEPT, lambda asked: {"first": asked.whole("from", default=0)}, of_seat(Questions.operations), SHARED_ROAD),
+    "preview": Verb(OWN, read_preview, of_seat(Questions.preview)),  # (which waits itself, before it keeps the two roads)
+    "figures": Verb(OWN, read_comparison, of_seat(Questions.figures), OWN),
+    "days": Verb(OWN, read_days, of_seat(Questions.days), OWN),
     # What is saved
-    "transcript": Verb(KEPT, a_transcript, of_seat("transcript"), SHARED_ROAD),
-    "report": Verb(OWN, a_report, of_seat("report"), OWN),
-    "script": Verb(KEPT, nothing, of_seat("script"), SHARED_ROAD),
-    "csv": Verb(KEPT, a_table, tables, SHARED_ROAD),
+    "transcript": Verb(KEPT, read_transcript, of_seat(Questions.transcript), SHARED_ROAD),
+    "report": Verb(OWN, read_report, of_seat(Questions.report), OWN),
+    "script": Verb(KEPT, no_fields, of_seat(Questions.script), SHARED_ROAD),
+    "csv": Verb(KEPT, read_table, of_road(Questions.table_of_counts), SHARED_ROAD),
 }

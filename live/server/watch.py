@@ -1,4 +1,4 @@
-"""Tells which piece of work kept all others waiting.
+"""Tell which piece of work kept all others waiting; and keep collections of garbage short, which did.
 
     watch = Watch(0.2, logging.warning)     told of each piece that uses the processor for longer, in seconds
     ..
@@ -10,6 +10,7 @@ machine a short piece takes long, too. Where a long piece was is looked up by a 
 from __future__ import annotations
 
 import asyncio
+import gc
 import sys
 import threading
 import time
@@ -18,10 +19,11 @@ from pathlib import Path
 from typing import Any, Callable
 
 HERE = str(Path(__file__).resolve().parent)
-CLIENT = str(Path(HERE, "client.py"))  # what asks a server is none
+CLIENT = str(Path(HERE, "client.py"))  # which is not part of a server
 LOOKS = 4  # times that a piece of the greatest length is looked at
-FRAMES = 4  # of the stack that are told
+FRAMES = 4  # of the stack in a warning
 SAID = "all others waited"
+LONG = 0.01  # seconds of processor of a full collection of garbage
 
 
 class Watch:
@@ -93,3 +95,21 @@ def is_of_server(callback: Any) -> bool:
     does = task.get_coro() if isinstance(task, asyncio.Task) else callback
     code = getattr(does, "cr_code", None) or getattr(getattr(does, "__func__", does), "__code__", None)
     return code is not None and code.co_filename.startswith(HERE) and code.co_filename != CLIENT
+
+
+def keep_collections_short() -> None:
+    """Exclude all that lives now from later collections, and what has come since whenever a full one took long. What is
+    excluded goes all the same with its last reference; cycles alone would stay, and operations and roads are in none."""
+    began = 0.0
+
+    def look(phase: str, info: dict[str, int]) -> None:
+        nonlocal began
+        if info["generation"] < 2:
+            return
+        if phase == "start":
+            began = time.thread_time()
+        elif time.thread_time() - began > LONG:
+            gc.freeze()
+    gc.callbacks.append(look)
+    gc.collect()
+    gc.freeze()

@@ -17,7 +17,7 @@ from zegdrut.units import KMH, to_cells, to_chance, to_km, to_limit
 HOW = {"close": "FROM_KM TO_KM BEGIN [END]", "limit": "KMH FROM_KM TO_KM BEGIN [END]", "slowing": "PERCENT FROM_KM TO_KM BEGIN [END]",
        "slow-to-start": "PERCENT FROM_KM TO_KM BEGIN [END]", "demand": "CARS_PER_HOUR INLET_KM BEGIN [END]",
        "detector": "on|off KM BEGIN [END]"}
-KINDS = {"close": "block", "limit": "limit", "slowing": "slow", "slow-to-start": "start", "demand": "inflow", "detector": "watch"}
+KIND_OF_WORD = {"close": "block", "limit": "limit", "slowing": "slow", "slow-to-start": "start", "demand": "inflow", "detector": "watch"}
 
 
 class InvalidWords(ValueError):
@@ -46,13 +46,13 @@ def read_change(words: Sequence[str], plan: dict[str, Any], clock: Clock) -> Wri
     places = [given.pop(0) for _ in range(1 if kind in ("demand", "detector") else 2)]
     begin, end = read_times(given, clock)
     number, said = read_value(kind, value)
-    first, last, where = find_places(kind, [read_number(one, "a number of km") for one in places], plan)
+    first, last, where = find_places(kind, [parse_number(one, "a number of km") for one in places], plan)
     times = f"from {clock.to_text(begin)} on" if end is None else f"{clock.to_text(begin)} to {clock.to_text(end)}"
-    return WrittenChange([KINDS[kind], first, last, begin, end, number], float(value or 0) if kind == "demand" else None,
+    return WrittenChange([KIND_OF_WORD[kind], first, last, begin, end, number], float(value or 0) if kind == "demand" else None,
                          f"{said}, {where}, {times}")
 
 
-def read_number(text: str, accepted: str) -> float:
+def parse_number(text: str, accepted: str) -> float:
     """Return a number of 0 or more. InvalidWords: it is not a number."""
     try:
         number = float(text.replace(",", "."))
@@ -69,7 +69,7 @@ def read_times(given: Sequence[str], clock: Clock) -> tuple[int, int | None]:
         steps = [clock.to_step(float(one) if one.replace(".", "", 1).isdigit() else one, name) for one, name in zip(given, ("BEGIN", "END"))]
     except InvalidTime as fault:
         raise InvalidWords(str(fault)) from None
-    begin, end = (*steps, None)[:2]
+    begin, end = steps[0], steps[1] if len(steps) > 1 else None
     if end is not None and end <= begin:
         raise InvalidWords(f"END: {given[1]} is not later than {given[0]}")
     return begin, end
@@ -84,8 +84,8 @@ def read_value(kind: str, text: str | None) -> tuple[int, str]:
             raise InvalidWords(f"a detector is on or off, not {text!r}")
         return int(text == "on"), f"detector {text}"
     if kind == "demand":
-        return 0, f"{read_number(text, 'a number of cars per hour'):g} cars/h"
-    number = read_number(text, "a number of km/h" if kind == "limit" else "a number of percent")
+        return 0, f"{parse_number(text, 'a number of cars per hour'):g} cars/h"
+    number = parse_number(text, "a number of km/h" if kind == "limit" else "a number of percent")
     if kind == "limit":
         limit = to_limit(number)
         if limit > 9:

@@ -2,13 +2,11 @@
 from __future__ import annotations
 
 import asyncio
-import csv
-import io
 import os
 import signal
 from typing import Any
 
-from server.client import Refused, Seat
+from server.client import RefusedReply, Seat
 from running import SMALL, Case, descendants, until
 
 LIMIT = ["limit", 2, 50]
@@ -98,7 +96,7 @@ class Acts(Case):
             await asyncio.sleep(count / 1_000)
         await self.ada.ask("preview", what=None)
         for said in await asyncio.gather(*asked):
-            self.assertIn(said.get("refused", "no preview"), ("no preview", "busy"), said)
+            self.assertIn(said.get("refused", "NoPreview"), ("NoPreview", "Busy"), said)
 
         async def is_alone() -> bool:
             return [*descendants(self.a6.process.pid)] == [self.a6.program]
@@ -181,7 +179,7 @@ class Acts(Case):
         change = await lay(self.ben, "1", ["block", 60, 69, 30, 70, 1], layer=mine)
         await self.ben.ask("send", name="shared")
         await self.ada.ask("take", message="shared")
-        with self.assertRaisesRegex(Refused, "Ben changed it since"):
+        with self.assertRaisesRegex(RefusedReply, "Ben changed it since"):
             await self.ada.ask("undo", key="2", stamp=mine)
         await self.ben.ask("undo", key="2", stamp=change)
         await self.ben.ask("send", name="shared")
@@ -198,7 +196,7 @@ class Acts(Case):
                  ("gesture", {"key": "c", "layer": "a", "top": True}), ("undo", {"key": "d", "stamp": "b"}),
                  ("undo", {"key": "e", "stamp": "c"}), ("undo", {"key": "f", "stamp": "b"})]
         said = await asyncio.gather(*(self.ada.reply(verb, at=self.ada.at, **fields) for verb, fields in asked))
-        self.assertEqual([one.get("refused") for one in said], [None, None, None, None, None, "nothing to take back"])
+        self.assertEqual([one.get("refused") for one in said], [None, None, None, None, None, "NothingToUndo"])
         self.assertIn("Ada took it back before", said[-1]["why"])
         self.assertEqual(await numbers(self.ada), closed(60, 69, 30, 60))
         self.a6.again()
@@ -217,7 +215,7 @@ class Acts(Case):
             said = await self.ada.reply("gesture", at=self.ada.at, key="k", shape=shape)
             self.assertEqual(said.get("refused"), refusal, (shape, said))
             self.assertIn(why, said["why"])
-        for refusal, fields in (("no such change", {"layer": [7, 65], "shape": None}), ("no such change", {"layer": "x", "top": True}),
+        for refusal, fields in (("NoSuchChange", {"layer": [7, 65], "shape": None}), ("NoSuchChange", {"layer": "x", "top": True}),
                                 ("not a command", {"layer": [7, 65]}), ("not a command", {"layer": 7, "shape": None}),
                                 ("not a command", {"layer": [7, 65], "top": 1})):
             self.assertEqual((await self.ada.reply("gesture", at=self.ada.at, key="k", **fields))["refused"], refusal)
@@ -227,7 +225,7 @@ class Acts(Case):
         server = self.server(plan={**SMALL, "length": 1_300, "zone": 100, "zones": [[5, 0]] * 13, "detectors": []})
         async with server.seat() as ada:
             said = await ada.reply("gesture", at=ada.at, key="k", shape=["block", 0, 600, 5, 9, 1])
-            self.assertEqual(said["refused"], "too many objects")
+            self.assertEqual(said["refused"], "TooManyObjects")
             for count in range(4):  # and yet more edits than an import has
                 await lay(ada, f"k{count}", ["block", 0, 599, 10 * count, 10 * count + 5, 1])
             said = await ada.ask("gesture", key="all", shape=["block", 0, 599, 0, 100, 1])
@@ -286,7 +284,7 @@ class Acts(Case):
                 ("not a command", "is not a number", [["limit", 1, True, 1]]),
                 ("not a command", "is no", [["limit", 1, 5]]),
                 ("not a command", "use `limit`", [["limt", 1, 5, 1]]),
-                ("not a command", "1 to 1200", []), ("too many edits", "not 1201", many)):
+                ("not a command", "1 to 1200", []), ("TooManyEdits", "not 1201", many)):
             said = await self.ada.reply("gesture", at=self.ada.at, key="k", edits=edits)
             self.assertEqual(said["refused"], refusal, edits[:1])
             self.assertIn(why, said["why"])
@@ -314,6 +312,17 @@ class Acts(Case):
         self.assertEqual((await self.ada.ask("take", message="shared"))["size"], 0)
         self.assertGreater(await lay(self.ada, "2", SLOW), other)  # above all that it holds
 
+    async def test_an_operation_has_one_time_at_all_seats(self) -> None:
+        """When it was made, and not when it was shared or taken."""
+        mine = await lay(self.ada, "1", CLOSED)
+        made = (await lines(self.ada))[tuple(mine)]["operations"][0]["when"]
+        await asyncio.sleep(1.1)
+        await self.ada.ask("send", name="shared")
+        await asyncio.sleep(1.1)
+        took = await self.ben.ask("take", message="shared")
+        found = [(await lines(seat))[tuple(mine)]["operations"][0]["when"] for seat in (self.ada, self.ben)]
+        self.assertEqual([*found, took["changes"][0]["when"]], [made] * 3)
+
     async def test_anothers_shared_change_is_withdrawn_and_taken_back(self) -> None:
         mine = await lay(self.ada, "1", CLOSED, note="mine")
         await self.ada.ask("send", name="shared")
@@ -327,7 +336,7 @@ class Acts(Case):
         self.assertEqual([(one["who"], one["does"], one["note"], one["lost"]) for one in line["operations"]],
                          [("Ada", "put", "mine", None), ("Ben", "withdraw", "open", None)])
         self.assertEqual(await numbers(self.ada), {})
-        with self.assertRaisesRegex(Refused, "Ben changed it since"):
+        with self.assertRaisesRegex(RefusedReply, "Ben changed it since"):
             await self.ada.ask("undo", key="2", stamp=mine)
 
     async def test_what_another_does_in_turn_is_not_done_at_once(self) -> None:
@@ -447,7 +456,7 @@ class Acts(Case):
             fresh = (await lines(ada))[line]
             self.assertEqual([one["does"] for one in fresh["operations"]], ["put", *["change", "undo"] * 10])
             self.assertEqual((await ada.ask("layers", **{"from": said["next"]}))["layers"], [fresh])
-            with self.assertRaisesRegex(Refused, "you hold no change of the name"):
+            with self.assertRaisesRegex(RefusedReply, "you hold no change of the name"):
                 await ada.ask("gesture", key="late", layer=gone, top=True)
 
     async def test_z_is_the_same_after_what_a_start_forgets(self) -> None:
@@ -492,23 +501,6 @@ class Acts(Case):
         await self.ada.ask("send", name="shared", stamps=[new["stamp"]])
         flags = (await self.ada.ask("layers", **{"from": new["next"]}))["layers"]
         self.assertEqual([(one["name"], one["shared"]) for one in flags], [(new["stamp"], True)])
-
-    async def test_the_table_of_changes_has_each_operation_and_who_covers_it(self) -> None:
-        line = await lay(self.ada, "1", ["limit", 2, 2, 60, 240, 1], note="=long")
-        await lay(self.ben, "1", ["limit", 2, 2, 120, 180, 3], note="short")
-        await self.ben.ask("send", name="shared")
-        await self.ada.ask("take", message="shared")
-        gone = await lay(self.ada, "2", CLOSED, note="closed")
-        await self.ada.ask("send", name="shared")
-        await lay(self.ada, "3", None, layer=gone, note="open")
-        table = list(csv.DictReader(io.StringIO((await self.ada.ask("csv", what="changes"))["csv"])))
-        self.assertEqual([(one["who"], one["what"], one["does"], one["shared"]) for one in table], [
-            ("Ada", "'=long", "put", "True"), ("Ben", "short", "put", "True"), ("Ada", "closed", "put", "True"),
-            ("Ada", "open", "withdraw", "False")])
-        self.assertEqual([table[0]["count"], table[0]["number"]], [str(line[0]), "65"])
-        self.assertEqual(table[0]["in force"], "limit 2-2 = 1, 0:01:00 to 0:02:00; limit 2-2 = 1, 0:03:00 to 0:04:00")
-        self.assertEqual(table[0]["covered"], "limit 2-2 = 1, 0:02:00 to 0:03:00 by Ben: short")
-        self.assertEqual((table[3]["in force"], table[3]["covered"]), ("", ""))
 
 
 class Previews(Case):
@@ -611,13 +603,13 @@ class Previews(Case):
     async def test_a_preview_is_asked_for_first(self) -> None:
         for verb, fields in (("cells", {"at": "after", "step": 0}), ("advance", {"at": "before", "to": 5}),
                              ("figures", {"at": self.ada.at, "of": "preview", "from": 0, "to": 5})):
-            self.assertEqual((await self.ada.reply(verb, **fields))["refused"], "no preview")
+            self.assertEqual((await self.ada.reply(verb, **fields))["refused"], "NoPreview")
         await self.ada.ask("preview", what="share")
         self.assertEqual((await self.ada.ask("cells", at="after", step=0))["cells"], "." * 120)
         await self.ada.ask("preview", what=None)
-        self.assertEqual((await self.ada.reply("cells", at="after", step=0))["refused"], "no preview")
-        self.assertEqual((await self.ada.reply("cells", at="after", step=0))["refused"], "no preview")
-        self.assertEqual((await self.ben.reply("cells", at="after", step=0))["refused"], "no preview")
+        self.assertEqual((await self.ada.reply("cells", at="after", step=0))["refused"], "NoPreview")
+        self.assertEqual((await self.ada.reply("cells", at="after", step=0))["refused"], "NoPreview")
+        self.assertEqual((await self.ben.reply("cells", at="after", step=0))["refused"], "NoPreview")
 
     async def test_demand_that_could_not_enter(self) -> None:
         """Where no car is slowed an inlet that always asks lets in a car each other step, 1,800 an hour: so the demand is known,
@@ -658,18 +650,18 @@ class Seats(Case):
         server = self.server()
         async with server.seat("Ada") as ada, server.seat("Ben") as ben:
             await put(ada, "1", [*LIMIT, 1])
-            for hello, refusal in (({"take": 1}, "seat is connected"), ({"name": "Ada"}, "NameTaken"),
-                                   ({"take": 9}, "no such seat"),
-                                   ({"key": "none"}, "unknown key"), ({"name": " \n"}, "no name"),
-                                   ({"take": 0}, "no such seat")):
-                with self.assertRaisesRegex(Refused, refusal) as caught:
+            for hello, refusal in (({"take": 1}, "SeatConnected"), ({"name": "Ada"}, "NameTaken"),
+                                   ({"take": 9}, "NoSuchSeat"),
+                                   ({"key": "none"}, "UnknownKey"), ({"name": " \n"}, "NoName"),
+                                   ({"take": 0}, "NoSuchSeat")):
+                with self.assertRaisesRegex(RefusedReply, refusal) as caught:
                     async with server.seat(**hello):
                         pass
                 self.assertEqual([(one["name"], one["here"], one["private"]) for one in caught.exception.reply["seats"]],
                                  [("Ada", True, 1), ("Ben", True, 0)])
         async with server.seat(take=1) as taken:
             self.assertEqual((taken.welcome["name"], await limit_at(taken)), ("Ada", 1))
-            with self.assertRaisesRegex(Refused, "unknown key"):
+            with self.assertRaisesRegex(RefusedReply, "UnknownKey"):
                 async with server.seat(key=ada.key):
                     pass
         async with server.seat(key=taken.key) as back:
@@ -679,7 +671,7 @@ class Seats(Case):
         server = self.server(plan={**SMALL, "length": 20, "zones": [[5, 0]], "inlets": [[0, 65_536]], "detectors": []})
         seats = [await self.enterAsyncContext(server.seat(f"n{count}")) for count in range(63)]
         self.assertEqual({seat.at for seat in seats}, {f"seat{count}" for count in range(1, 64)})
-        with self.assertRaisesRegex(Refused, "all seats are taken"):
+        with self.assertRaisesRegex(RefusedReply, "AllSeatsTaken"):
             async with server.seat("one more"):
                 pass
         for seat in seats:
@@ -712,12 +704,12 @@ class Seats(Case):
         server = self.server()
         async with server.seat("Ada") as ada, server.seat("Ben") as ben:
             await put(ada, "1", [*LIMIT, 1])
-            with self.assertRaisesRegex(Refused, "private edits"):
+            with self.assertRaisesRegex(RefusedReply, "PrivateChanges"):
                 await ada.ask("leave")
             await ada.ask("send", name="shared")
             said = await asyncio.gather(ada.reply("gesture", at=ada.at, key="2", edits=[[*LIMIT, 2]]),
                                         ada.reply("leave", at=ada.at))
-            self.assertEqual([one.get("refused") for one in said], [None, "private edits"])  # in their order
+            self.assertEqual([one.get("refused") for one in said], [None, "PrivateChanges"])  # in their order
             await ada.ask("send", name="shared")
             await asyncio.gather(ada.reply("leave", at=ada.at),
                                  ada.reply("gesture", at=ada.at, key="3", edits=[[*LIMIT, 3]]), return_exceptions=True)

@@ -20,7 +20,7 @@ function answering(...answers) {
   return asked;
 }
 
-const BUSY = {refused: "busy", why: "another road is run"};
+const BUSY = {refused: "Busy", why: "another road is run"};
 const settled = () => new Promise((done) => { setImmediate(done); });
 
 test("a refusal is told", async () => {
@@ -30,7 +30,7 @@ test("a refusal is told", async () => {
 });
 
 test("what was asked about what is looked at no more is not told", async () => {
-  answering({refused: "no preview", why: "ask again"}, {refused: "no preview", why: "ask again"});
+  answering({refused: "NoPreview", why: "ask again"}, {refused: "NoPreview", why: "ask again"});
   await ask({diagram: {}}, {stands: () => false});
   assert.deepEqual(store.message, ["", false]);
   await ask({diagram: {}}, {stands: () => true});

@@ -9,7 +9,7 @@ from typing import Any
 
 from faulty import Here, soon
 from running import SMALL, Case, new_folder, program, until
-from server.asked import Refused
+from server.refusals import Refused
 from server.settings import Settings
 
 # Student's t for 95 % and so many degrees of freedom, from a printed table.
@@ -155,7 +155,7 @@ class Days(Case):
     async def ended(self, question: asyncio.Future[Any], processes: list[int]) -> None:
         with self.assertRaises(Refused) as caught:
             await soon(question)
-        self.assertEqual(caught.exception.text, "stopped")
+        self.assertEqual(caught.exception.text, "Stopped")
 
         async def gone() -> bool:
             return not any(map(runs, processes))
@@ -165,7 +165,7 @@ class Days(Case):
         question, processes = await self.asks(self.ada)
         with self.assertRaises(Refused) as caught:
             await soon(self.here.ask(self.ben, "days", of="mine", **SPAN))
-        self.assertEqual(caught.exception.text, "busy")
+        self.assertEqual(caught.exception.text, "Busy")
         self.assertIn("Ada asks about 20 days just now, of which 0 are done", caught.exception.why)
         self.assertEqual(await soon(self.here.ask(self.ben, "days", of=None)), {"stopped": False})
         await soon(self.here.put(self.ben, ["limit", 2, 50, 3]))  # who edits does not wait for it

@@ -17,8 +17,8 @@ from unittest import mock
 
 from faulty import Bus, Disk, Here, Message, soon
 from running import ALL, Case, new_folder
-from server.asked import Refused
-from server.journal import read
+from server.refusals import Refused
+from server.journal import read_entries
 from server.program import Program
 from server.state import State
 
@@ -188,7 +188,7 @@ def stamps_in(message: Message) -> list[tuple[int, int]]:
 
 def replayed(path: Path) -> State:
     state = State()
-    for entry in read(path)[0]:
+    for entry in read_entries(path)[0]:
         state.read(entry)
     state.end_reading()
     return state

@@ -125,8 +125,8 @@ class Here:
 
     def entries(self) -> list[Any]:
         """What the disk holds."""
-        from server.journal import read
-        return read(self.folder / "journal.jsonl")[0]
+        from server.journal import read_entries
+        return read_entries(self.folder / "journal.jsonl")[0]
 
 
 async def soon(waited_for: Any) -> Any:

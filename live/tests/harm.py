@@ -3,14 +3,17 @@ from __future__ import annotations
 
 import json
 import random
+import re
+import unittest
 from typing import Any, Iterator
 from unittest import mock
 
 from crashes import numbers
 from faulty import Bus, Here, message_of, soon, told
-from running import ALL, SMALL, Case
+from running import ALL, LIVE, SMALL, Case
 from server import stamps, verbs
-from server.asked import Asked, Refused
+from server.asked import Asked
+from server.refusals import MEANINGS, OF_THE_FORMAT, Refused
 from server.model.operations import Operation, Shape, put
 from server.model.projection import timeline
 from server.screen import rows_of
@@ -34,7 +37,7 @@ def asked_well(number: int) -> list[tuple[str, dict[str, Any]]]:
         ("diagram", {"from": 0, "to": 20, "every": 1, "cells": [0, 50]}), ("cells", {"step": 5}), ("cars", {"step": 5}),
         ("count", {"detector": 1, "from": 0, "to": 5}), ("counts", {"from": 0, "to": 5, "each": 1}), ("scenario", {}),
         ("sums", {"from": 0, "to": 60}), ("preview", {"what": "share", "stamps": [[1, 65]]}), ("seats", {}),
-        ("csv", {"what": "counts", "from": 0, "to": 5, "each": 1}), ("csv", {"what": "changes"}), ("clock", {"rate": 0})]
+        ("csv", {"what": "counts", "from": 0, "to": 5, "each": 1}), ("clock", {"rate": 0})]
 
 
 def places_in(value: Any) -> Iterator[tuple[Any, Any]]:
@@ -273,6 +276,27 @@ class Bounds(Case):
                 told = [json.loads(each.payload) for each in bus.seen if each.topic.endswith("operations")]
                 counts.append(sum(len(each["operations"]) for each in told))
         self.assertEqual((counts, two.lab.state.shared.size), ([0, 10, 10, 5, 0, 0], 25))
+
+
+class Refusals(unittest.TestCase):
+    """One table of names, which the protocol's page, the server and the format's page have alike."""
+
+    def rows(self, page: str) -> dict[str, str]:
+        text = (LIVE.parent / page).read_text().partition("## Refusals\n")[2].partition("\n## ")[0]
+        return dict(re.findall(r"^\| `([^`]+)` \| (.+) \|$", text, re.MULTILINE))
+
+    def test_the_pages_have_the_same_names(self) -> None:
+        self.assertEqual(self.rows("live/PROTOCOL.md"), MEANINGS)
+        self.assertEqual(set(self.rows("docs/FORMAT.md")), OF_THE_FORMAT)
+
+    def test_each_name_is_used_and_no_other(self) -> None:
+        texts = [path.read_text() for path in (LIVE / "server").rglob("*.py")]
+        used = {name for text in texts for name in re.findall(r'(?:[rR]efused|super\(\).__init__)\(\s*"([^"]+)"', text)}
+        self.assertEqual(used - OF_THE_FORMAT, MEANINGS.keys() - OF_THE_FORMAT)
+        for name in MEANINGS:
+            self.assertRegex(name, r"^[A-Z][A-Za-z]+$")
+        with self.assertRaisesRegex(ValueError, "no refusal is named too far ahead"):
+            Refused("too far ahead", "")
 
 
 class Tabs(Case):

@@ -12,10 +12,10 @@ from unittest import mock
 import aiohttp
 
 from server import verbs
-from server.asked import Asked, Refused
+from server.asked import Asked
+from server.refusals import Refused
 from server.client import Seat
-from server.doors import neighbourhood
-from server.strangers import Strangers
+from server.doors import Strangers, neighbourhood
 from server.tabs import Tab, taken_apart
 from running import PATIENCE, SMALL, Case, Server, until
 from working import takes_at_most
@@ -159,11 +159,11 @@ class Frames(Case):
         async with self.a6.seat("good") as good, self.a6.seat("bad") as bad:
             edits = [["limit", 1, 5, 1]]
             for verb, fields, refusal in (
-                    ("diagram", {"at": good.at, "from": 0, "to": 5}, "not your replica"),
-                    ("gesture", {"at": good.at, "edits": edits, "key": "k"}, "not your replica"),
-                    ("gesture", {"at": "shared", "edits": edits, "key": "k"}, "not your replica"),
-                    ("take", {"at": good.at, "message": "shared"}, "not your replica"),
-                    ("undo", {"at": "shared", "stamp": [1, 65], "key": "k"}, "not your replica"),
+                    ("diagram", {"at": good.at, "from": 0, "to": 5}, "NotYourReplica"),
+                    ("gesture", {"at": good.at, "edits": edits, "key": "k"}, "NotYourReplica"),
+                    ("gesture", {"at": "shared", "edits": edits, "key": "k"}, "NotYourReplica"),
+                    ("take", {"at": good.at, "message": "shared"}, "NotYourReplica"),
+                    ("undo", {"at": "shared", "stamp": [1, 65], "key": "k"}, "NotYourReplica"),
                     ("import", {"at": bad.at, "edits": [], "form": 2}, "not a command"),
                     ("crowd", {"form": 2, "shares": [[]], "to": 1_000_000}, "not a command"),
                     ("heads", {"at": bad.at, "name": "x"}, "not a command"),
@@ -173,7 +173,7 @@ class Frames(Case):
                     ("eval", {}, "not a command"), ("__class__", {"at": bad.at}, "not a command"),
                     ("hello", {}, "not a command"),
                     ("advance", {"at": bad.at, "to": 1_048_577}, "Horizon"),
-                    ("advance", {"at": bad.at, "to": 36_001}, "too far ahead"),
+                    ("advance", {"at": bad.at, "to": 36_001}, "TooFarAhead"),
                     ("advance", {"at": bad.at, "to": True}, "not a command"),
                     ("advance", {"at": bad.at, "to": "5"}, "not a command"),
                     ("advance", {"at": bad.at}, "not a command"), ("clock", {"rate": 1e9}, "Range"),
@@ -203,9 +203,9 @@ class Frames(Case):
                     ("gesture", {"at": bad.at, "shape": ["block", 60, 61, -1, None, 1], "key": "k"}, "not a command"),
                     ("gesture", {"at": bad.at, "shape": ["block", -1, 61, 5, None, 1], "key": "k"}, "not a command"),
                     ("gesture", {"at": bad.at, "shape": ["block", 60, 120, 5, None, 1], "key": "k"}, "NoObject"),
-                    ("site", {"at": bad.at, "key": "k", "site": 1, "out": True}, "own site"),
+                    ("site", {"at": bad.at, "key": "k", "site": 1, "out": True}, "OwnSite"),
                     ("site", {"at": bad.at, "key": "k", "site": 0, "out": True}, "Range"),
-                    ("site", {"at": "shared", "key": "k", "site": 2, "out": True}, "not your replica"),
+                    ("site", {"at": "shared", "key": "k", "site": 2, "out": True}, "NotYourReplica"),
                     ("gesture", {"at": bad.at, "edits": edits, "key": "k", "shape": ["x"]}, "not a command"),
                     ("undo", {"at": bad.at, "stamp": [1 << 49, 65], "key": "k"}, "not a command")):
                 said = await bad.reply(verb, **fields) if isinstance(fields, dict) else await self.other(bad, verb, fields)
@@ -234,7 +234,7 @@ class Long(Case):
             "edits": Asked.edits, "stamps": Asked.stamps, "shape": Asked.shape, "layer": lambda asked: asked.called("layer"),
             "to": lambda asked: asked.whole("to"), "key": Asked.key, "note": lambda asked: asked.text("note", 200)}
         frames = [(f'{{"id":1,"x":{{"{name}":{value}}}}}', read) for name, read in reads.items() for value in wrong]
-        frames += [(f'{{"id":1,"x":{{"object":{value},"step":1}}}}', verbs.an_edit) for value in wrong]
+        frames += [(f'{{"id":1,"x":{{"object":{value},"step":1}}}}', verbs.read_edit) for value in wrong]
         for frame, read in frames:
             with takes_at_most(0.05, frame[:40]), contextlib.suppress(Refused, RecursionError):
                 _, verb, fields = taken_apart(frame)
@@ -352,7 +352,7 @@ class Neighbours(Case):
                 said.update(one.get("refused") for one in replies)
 
         async def is_told_busy() -> bool:
-            return "busy" in said
+            return "Busy" in said
 
         async def never_reads() -> None:
             with self.assertRaises((ConnectionError, aiohttp.ClientError, asyncio.TimeoutError)):

@@ -21,10 +21,13 @@ from unittest import mock
 import running
 from faulty import Disk
 from server.client import Seat
-from server.journal import Broken, Journal, NotWritten, lock, put_in_place, read
+from server.journal import Broken, Entries, Journal, NotWritten, lock, put_in_place, read_entries
+from server.keeper import Keeper
+from server.settings import Settings
 from crashes import numbers
 from running import LIVE, SMALL, Case
 from server.state import State
+from working import takes_at_most
 
 GESTURES = [{"gesture": {"seat": 1, "key": f"k{count}", "stamp": [count, 65], "who": "Ada", "when": 1,
                          "note": "Closed é €",
@@ -50,7 +53,7 @@ class Reading(unittest.TestCase):
         for cut in range(len(self.lines[0]), len(data) + 1):
             self.path.write_bytes(data[:cut])
             whole = sum(cut >= end for end in (len(self.lines[0]), len(data) - len(self.lines[2]), len(data)))
-            entries, size = read(self.path)
+            entries, size = read_entries(self.path)
             self.assertEqual(entries, GESTURES[:whole], cut)
             self.assertEqual(size, sum(map(len, self.lines[:whole])), cut)
 
@@ -61,14 +64,14 @@ class Reading(unittest.TestCase):
             for more in (good, line_of(GESTURES[1], None), *([] if 0 in broken else [b""])):
                 self.path.write_bytes(self.lines[0] + broken + more)
                 with self.assertRaisesRegex(Broken, "line 2"):
-                    read(self.path)
+                    read_entries(self.path)
 
     def test_older_lines_have_no_checksum(self) -> None:
         old = [line_of(entry, None) for entry in GESTURES[:2]]
         self.path.write_bytes(b"".join([*old, self.lines[2]]))
-        self.assertEqual(read(self.path), (GESTURES, self.path.stat().st_size))
+        self.assertEqual(read_entries(self.path), (GESTURES, self.path.stat().st_size))
         self.path.write_bytes(b"".join([*old, self.lines[2][:-9]]))
-        self.assertEqual(read(self.path), (GESTURES[:2], len(b"".join(old))))
+        self.assertEqual(read_entries(self.path), (GESTURES[:2], len(b"".join(old))))
 
     def test_what_of_a_write_is_zero_was_never_confirmed(self) -> None:
         """A disk that lost its current may have any of the blocks of the last write: the others are zero."""
@@ -77,12 +80,24 @@ class Reading(unittest.TestCase):
             for end in (begin + 1, begin + 40, len(last)):
                 torn = last[:begin] + bytes(len(last[begin:end])) + last[end:]
                 self.path.write_bytes(whole + torn)
-                entries, size = read(self.path)
+                entries, size = read_entries(self.path)
                 kept = 1 + (begin >= len(line_of(GESTURES[1])))
                 self.assertEqual((entries, size), (GESTURES[:kept], sum(map(len, self.lines[:kept]))), (begin, end))
         self.path.write_bytes(whole + bytes(len(last)) + self.lines[2])  # a later write: the zeros were confirmed
         with self.assertRaisesRegex(Broken, "line 2"):
-            read(self.path)
+            read_entries(self.path)
+
+    def test_10_000_operations_are_read_in_a_second(self) -> None:
+        """However long the journal is; until the shared road can be asked."""
+        size = 20_000
+        entries = [{"lab": {"plan": SMALL, "site": 1, "folder": "f", "form": 3}}]
+        entries += [{"made": {"seat": 1 + count % 20, "operation": {
+            "stamp": [count, 65 + count % 20], "sets": [[[count, 65 + count % 20], ["block", count % 90, count % 90 + 19, count, count + 60, 1]]],
+            "who": "Ada", "when": count}, "key": f"key {count}", "shared": True}} for count in range(1, size + 1)]
+        self.path.write_bytes(b"".join(map(line_of, entries)))
+        with takes_at_most(size / 10_000):
+            state, _, _ = Keeper(self.path.parent, "", Settings())._read(Entries(self.path))
+            self.assertEqual(len(state.shared.road.layers), size)
 
     def test_a_folder_is_held_by_one(self) -> None:
         with lock(self.path.parent), self.assertRaisesRegex(Broken, "another server"), lock(self.path.parent):
@@ -99,7 +114,7 @@ class Writing(unittest.IsolatedAsyncioTestCase):
         journal = Journal(self.path, 0)
         for count, entry in enumerate(GESTURES, 1):
             await journal.write(entry)
-            self.assertEqual(read(self.path)[0], GESTURES[:count])
+            self.assertEqual(read_entries(self.path)[0], GESTURES[:count])
 
     async def test_after_a_failed_write_all_that_wait_are_refused_and_it_is_cut_back(self) -> None:
         journal = Journal(self.path, 0)
@@ -120,7 +135,7 @@ class Writing(unittest.IsolatedAsyncioTestCase):
         self.assertEqual(journal.confirmed(), GESTURES[:1])
         await journal.mend(GESTURES[1])
         await journal.write(GESTURES[2])
-        self.assertEqual(read(self.path)[0], GESTURES)
+        self.assertEqual(read_entries(self.path)[0], GESTURES)
 
     async def test_a_fault_behind_a_write_keeps_nobody_waiting(self) -> None:
         """What is on the disk is confirmed, and what comes is written."""
@@ -131,7 +146,7 @@ class Writing(unittest.IsolatedAsyncioTestCase):
         with self.assertLogs(level="ERROR"):
             await asyncio.wait_for(asyncio.gather(journal.write(GESTURES[0], fails), journal.write(GESTURES[1])), running.PATIENCE)
         await journal.write(GESTURES[2])
-        self.assertEqual(read(self.path)[0], GESTURES)
+        self.assertEqual(read_entries(self.path)[0], GESTURES)
 
     async def test_lines_of_one_write_say_so(self) -> None:
         journal = Journal(self.path, 0)
@@ -147,7 +162,7 @@ class Writing(unittest.IsolatedAsyncioTestCase):
         await asyncio.sleep(0)
         await journal.write(GESTURES[2])
         await short
-        self.assertEqual(read(self.path)[0], GESTURES[1:])
+        self.assertEqual(read_entries(self.path)[0], GESTURES[1:])
         self.assertEqual(journal.size, self.path.stat().st_size)
         self.assertEqual(self.path.stat().st_mode & 0o777, 0o600)
 
@@ -172,7 +187,7 @@ class Writing(unittest.IsolatedAsyncioTestCase):
         gate.touch()
         await short
         await journal.write(GESTURES[2])
-        self.assertEqual(read(self.path)[0], [GESTURES[1], *many, GESTURES[2]])
+        self.assertEqual(read_entries(self.path)[0], [GESTURES[1], *many, GESTURES[2]])
         self.assertEqual([one.name for one in self.path.parent.iterdir()], [self.path.name])
 
     async def test_a_shorter_journal_that_cannot_be_written_leaves_the_old_one(self) -> None:
@@ -189,7 +204,7 @@ class Writing(unittest.IsolatedAsyncioTestCase):
                 await journal.compact(lambda: [GESTURES[1]])
             self.assertIsNone(journal.fault, number)
             await journal.write(GESTURES[2])
-        self.assertEqual(read(self.path)[0], [GESTURES[0], *[GESTURES[2]] * 4])
+        self.assertEqual(read_entries(self.path)[0], [GESTURES[0], *[GESTURES[2]] * 4])
 
     async def test_a_shorter_journal_that_may_not_last_takes_nothing(self) -> None:
         """Where the folder cannot be synced the old one may stand there again, without what came since."""
@@ -220,13 +235,13 @@ class Writing(unittest.IsolatedAsyncioTestCase):
         sockets = [socket.socketpair() for _ in range(4)]
         with contextlib.suppress(NotWritten):
             await journal.write(GESTURES[2])
-        self.assertEqual(journal.confirmed(), read(self.path)[0])
+        self.assertEqual(journal.confirmed(), read_entries(self.path)[0])
         for one in (one for pair in sockets for one in pair):
             self.addCleanup(one.close)
             one.setblocking(False)
             with self.assertRaises(BlockingIOError, msg="a line of the journal was sent to a socket"):
                 one.recv(1_000)
-        self.assertEqual(read(self.path)[0], GESTURES[1:])
+        self.assertEqual(read_entries(self.path)[0], GESTURES[1:])
 
     async def test_what_is_put_in_place_is_whole_or_not_there(self) -> None:
         """Whichever call fails: the old file or the new one."""
@@ -326,14 +341,14 @@ class Folders(Case):
         async with server.seat(key=seat.key) as seat:
             self.assertEqual(len((await seat.ask("scenario"))["edits"]), 1)
             said = await seat.reply("gesture", at=seat.at, key="x", edits=[["limit", 2, 50, 1]])
-            self.assertEqual(said["refused"], "not written")
+            self.assertEqual(said["refused"], "NotWritten")
 
     async def test_a_plan_that_is_refused_leaves_a_folder_that_can_be_used(self) -> None:
         folder = running.new_folder()
         for plan, why in (({**SMALL, "length": 7}, "the program refuses the plan: Length"), ({"a": 1}, "refuses the plan")):
             with self.assertRaisesRegex(RuntimeError, why):
                 running.Server(folder, plan)
-            self.assertEqual(read(folder / "journal.jsonl"), ([], 0))
+            self.assertEqual(read_entries(folder / "journal.jsonl"), ([], 0))
         (folder / "journal.jsonl").write_bytes(line_of({"lab": {}})[:-3])  # what was begun was never confirmed
         server = running.Server(folder, SMALL)
         self.addCleanup(lambda: running.end(server.process))
@@ -383,14 +398,14 @@ class Folders(Case):
         async with server.seat(key=ada.key) as ada:
             self.assertEqual(numbers((await ada.ask("scenario"))["edits"]), numbers(scenario["edits"]))
             said = await ada.reply("gesture", at=ada.at, key="x", edits=[["limit", 2, 50, 1]])
-            self.assertEqual(said["refused"], "not written")
+            self.assertEqual(said["refused"], "NotWritten")
             self.assertIn("Read-only file system", said["why"])
             trouble = ada.welcome["trouble"] or next(one["trouble"] for one in reversed(ada.told) if "trouble" in one)
             self.assertIn("Read-only file system", trouble)
             async with server.seat("Ben") as ben:  # who comes now looks, too
                 self.assertEqual((await ben.ask("scenario"))["edits"], [])
                 said = await ben.reply("gesture", at=ben.at, key="x", edits=[["limit", 2, 50, 1]])
-                self.assertEqual(said["refused"], "not written")
+                self.assertEqual(said["refused"], "NotWritten")
             self.assertEqual({path: path.read_bytes() for path in before}, before)
             switch.touch()
             await self.shared(ada, 2)
@@ -418,7 +433,7 @@ class Folders(Case):
             said = await asyncio.gather(*(seat.reply("gesture", at=seat.at, key=f"full {step}",
                                                      edits=[["block", 60, step, 1], ["limit", 0, step, 0]])
                                           for step in range(10, 13) for seat in (ada, ben)))
-            self.assertEqual({one.get("refused") for one in said}, {"not written"})
+            self.assertEqual({one.get("refused") for one in said}, {"NotWritten"})
             self.assertTrue(all("could not be kept" in one["why"] for one in said))
             self.assertEqual((server.folder / "journal.jsonl").stat().st_size, size)
             after = await ada.ask("diagram", **{"from": 0, "to": 60}), await ada.ask("scenario")

@@ -188,6 +188,23 @@ test("a line says who made it, and who else has laid it since", () => {
   assert.deepEqual(metas(), ["you", "Ada"]);
 });
 
+test("who undid or redid a change is told, each by its own word", () => {
+  const done = {stamp: [5, BEN], who: "Ben", note: "", when: 0, shared: true, lost: null,
+                undoes: [1, ADA]};
+  const metas = (does) => [ADA, BEN].map((number) => listChanges(road(ada(
+    [[1200, 2400, null]], {operations: [ada([]).operations[0], {...done, does}]})), number)[0].meta);
+  assert.deepEqual(metas("undo"), ["you; undone by Ben", "Ada; undone by you"]);
+  assert.deepEqual(metas("redo"), ["you; redone by Ben", "Ada; redone by you"]);
+});
+
+test("an operation has one time at all seats", () => {
+  const when = 1_767_225_600;
+  const late = ada([[1200, 2400, null]], {operations: [{...ada([]).operations[0], when}]});
+  const [own, others] = [ADA, BEN].map((number) => listChanges(road(late), number)[0].meta);
+  assert.equal(own.replace(/^you, /, ""), others.replace(/^Ada, /, ""));
+  assert.match(own, /\d:\d\d/);
+});
+
 test("edits that were changed have one line: that of the shape in their place", () => {
   const edits = {...ada([]), standing: false, shape: null};
   const done = {stamp: [9, ADA], who: "Ada", note: "", when: 0, does: "put", shared: false,

@@ -12,7 +12,7 @@ from oracle import oracle_of
 from zegdrut import Edit, Plan, RoadLab
 from running import ALL, SMALL, Case
 from server import stamps
-from server.asked import Refused
+from server.refusals import Refused
 from server.model.operations import Operation, Shape, exclude, put
 from server.model.projection import timeline
 from server.screen import rows_of
@@ -209,7 +209,7 @@ class LeftOut(Case):
             await self.share(place)
         await self.shape(0, "limit", 1, 1, 20, None, 2)
         await self.everywhere(self.road(("limit", 1, 20, 2)))
-        with self.assertRaisesRegex(Refused, "own site"):
+        with self.assertRaisesRegex(Refused, "OwnSite"):
             await self.here[2].ask(1, "site", key="own", site=3, out=False)
         for wrong in ([0, True], [3, 1], ["3", True], [1_024, True], [3]):
             body = json.dumps({"form": 3, "operations": [{"stamp": [9, 70], "excludes": wrong}]}).encode()

@@ -337,11 +337,11 @@ class OneFreeway(BrowserCase):
             const done = arguments[0];
             const asked = {at: store.me.at, of: "mine", from: 0, to: 3600};
             ask({figures: asked});
-            ask({figures: asked}, {quiet: ["busy"]}).then(({refused}) => {
+            ask({figures: asked}, {quiet: ["Busy"]}).then(({refused}) => {
               $("saveTranscript").click();
               done(refused);
             });""")
-        self.assertEqual(refused, "busy")  # one at a time
+        self.assertEqual(refused, "Busy")  # one at a time
         tab.until(lambda: tab.saved("transcript.jsonl"), "the transcript")
 
     def test_the_viewer_opens_the_transcript(self) -> None:

@@ -234,6 +234,27 @@ class TwoTabs(BrowserCase):
         self.server.start()
         ada.until(lambda: ada.lines("own") == ["27 km/h, 0–0.3 km, 0:40:00–0:50:00 private"], "confirmed")
 
+    def test_what_is_taken_back_or_put_again_is_named_as_it_was_done(self) -> None:
+        """A place on top, and not the change that lay there; a change with the shape that comes back."""
+        ada, _ = self.open(FREE_ROAD)
+        ada.run_an_hour()
+        ada.limit("1", "0:20", "0:30")
+        ada.limit("2", "0:20", "0:30")
+        ada.press("Put on top: 27 km/h")
+        ada.settled()
+        first = "27 km/h, 0–0.3 km, 0:20:00–0:30:00"
+        said = [f"{done}: the place on top of {first}: done." for done in ("Undone", "Redone")]
+        for name, wanted in zip(("Undo", "Redo"), said):
+            ada.press(name)
+            ada.settled()
+            self.assertEqual(ada.text("said"), wanted)
+        ada.press("Change: 27 km/h")
+        ada.in_figures(timeTo="0:40")
+        for name, wanted in (("Undo", "Undone"), ("Redo", "Redone")):
+            ada.press(name)
+            ada.settled()
+            self.assertEqual(ada.text("said"), f"{wanted}: 27 km/h, 0–0.3 km, 0:20:00–0:40:00: done.")
+
     def test_what_needs_the_line_is_not_done_later(self) -> None:
         ada, ben = self.open(FREE_ROAD)
         ada.run_an_hour()

@@ -13,7 +13,7 @@ from typing import Any, Iterable
 
 from oracle import Oracle
 from running import ALL
-from server.model import changes, choices, forgetting, projection, seen
+from server.model import changes, choices, projection, seen
 from server.model.operations import About, Operation, Shape, Stamp, edit, exclude, is_raw, lift, put, undo
 from server.model.reading import read_operation
 from server.model.road import Road, change, stands
@@ -273,7 +273,7 @@ class History:
         everything = road.adding(site.order)
         then = shared.adding(choices.shareable(everything, shared, seat.number))
         assert then.layers == everything.layers and then.record.excluded == everything.record.excluded
-        gone = forgetting.forgettable(road, shared, seat.number, chance.randrange(4))
+        gone = choices.forgettable(road, shared, seat.number, chance.randrange(4))
         left = EMPTY.adding(one for one in road.record.operations() if one not in gone)
         assert left.layers == road.layers and left.record.excluded == road.record.excluded
         self.counted["forgettable"] += len(gone)

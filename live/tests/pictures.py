@@ -10,7 +10,7 @@ from typing import Any
 
 from server import saving
 from server.program import LONG_ROAD, command_of
-from server.client import Refused
+from server.client import RefusedReply
 from running import SMALL, Case, program
 
 LAST = 150
@@ -83,5 +83,5 @@ class Pictures(Case):
         for text in ("=a", "+a", "-a", "@a", " =a", "\t=a"):
             self.assertEqual(saving.harmless(text), "'" + text)
         self.assertEqual([saving.harmless(cell) for cell in ("a=", 7, "")], ["a=", 7, ""])
-        with self.assertRaises(Refused):
+        with self.assertRaises(RefusedReply):
             await self.ada.ask("csv", what="all")

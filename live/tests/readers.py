@@ -11,7 +11,7 @@ from typing import Any, Callable
 
 from crashes import numbers
 from oracle import counting_operations
-from server.client import Refused, Seat
+from server.client import RefusedReply, Seat
 from server.model.operations import Operation, Shape, Stamp
 from zegdrut import Plan, RoadLab
 from running import ALL, SMALL, Case, Server, until
@@ -23,8 +23,8 @@ THERE = {"block": 60, "limit": 3}
 HOURS, ROUNDS = (12 if ALL else 1), (20 if ALL else 6)
 
 KEPT = 20  # of its own operations that are not shared the newest, after a restart too
-NOT_THERE = "no such change"
-REFUSED = ("nothing to take back", "nothing to put", "NoEffect")
+NOT_THERE = "NoSuchChange"
+REFUSED = ("NothingToUndo", "NothingToPut", "NoEffect")
 
 
 class Reader:
@@ -69,7 +69,7 @@ class Reader:
                     await self.shares()
                 else:
                     await self.takes()
-            except Refused as fault:
+            except RefusedReply as fault:
                 if fault.reply["refused"] not in REFUSED:
                     raise
 
@@ -85,7 +85,7 @@ class Reader:
         key = f"{self.seat.at}-{self.count}"
         try:
             count, number = (await self.seat.ask(verb, key=key, **fields))["stamp"]
-        except Refused as fault:
+        except RefusedReply as fault:
             if fault.reply["refused"] == NOT_THERE and self.is_forgotten(fields.get("layer"), fields.get("stamp")):
                 return
             raise

@@ -5,7 +5,7 @@ from __future__ import annotations
 import random
 from typing import Any
 
-from server.client import Refused, Seat
+from server.client import RefusedReply, Seat
 from server.model.operations import Operation
 from server.model.reading import read_operation
 from zegdrut import Plan, RoadLab
@@ -58,8 +58,8 @@ class Acts(Case):
                 await seat.ask("take", message="shared")
             else:
                 await seat.ask("advance", to=chance.randrange(LAST + 1))
-        except Refused as fault:
-            self.assertIn(fault.reply["refused"], ("nothing to take back", "nothing to put", "NoEffect", "no such change"))
+        except RefusedReply as fault:
+            self.assertIn(fault.reply["refused"], ("NothingToUndo", "NothingToPut", "NoEffect", "NoSuchChange"))
 
     async def act_on(self, seat: Seat, chance: random.Random, key: str) -> None:
         """Something that is done to what is there."""

@@ -260,7 +260,7 @@ class Watched(unittest.TestCase):
             text = log.read_text(errors="replace") if log.exists() else ""
             LOGS[log] = len(text)
             said += [line for line in text[begin:].splitlines() if SAID in line]
-        long = [one for one in said if is_too_long(float(PIECE.findall(one)[0]), LONGEST)]
+        long = [one for one in said if is_too_long(float(PIECE.findall(one)[0]), LONGEST, 1.0)]
         if long:
             raise AssertionError("\n".join(long))
 

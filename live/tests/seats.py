@@ -10,8 +10,9 @@ from unittest import mock
 from faulty import Here, soon
 from running import Case, new_folder
 from server import verbs
-from server.asked import Asked, Refused
-from server.clocks import SteadyClock
+from server.asked import Asked
+from server.refusals import Refused
+from server.seating import SteadyClock
 from server.lab import Lab
 
 
@@ -38,7 +39,7 @@ class Seats(Case):
             self.here.keeper.here.discard(seat)
         # Each free seat but 62 and 63 was somebody's, and the program still holds what they put.
         self.assertEqual(len(set(await self.together("Ben", "Cleo", "Dan", "Eve"))), 4)
-        self.assertEqual(await self.together("Fay"), ["all seats are taken"])
+        self.assertEqual(await self.together("Fay"), ["AllSeatsTaken"])
 
     async def test_a_name_that_looks_like_anothers_is_refused(self) -> None:
         """By case, width, style, what is not seen, how it is composed, and letters of other scripts."""
@@ -56,7 +57,7 @@ class Seats(Case):
         self.here.keeper.here.discard(index)
         lab = self.here.lab
         said = await asyncio.gather(*(lab.seating.join("", "", index) for _ in range(2)), return_exceptions=True)
-        self.assertEqual([getattr(one, "text", "seat") for one in said], ["seat", "seat is connected"])
+        self.assertEqual([getattr(one, "text", "seat") for one in said], ["seat", "SeatConnected"])
 
     async def test_a_seat_that_was_used_until_a_kill_is_not_free_after_it(self) -> None:
         """Though its tab came days ago, and never left."""
@@ -75,7 +76,7 @@ class Seats(Case):
             now[0] += 22 * 3_600
             again.lab.seating.free_unused()
             self.assertEqual((await again.lab.seating.join("", self.here.keys[ada], None))[0], ada)
-            with self.assertRaisesRegex(Refused, "unknown key"):
+            with self.assertRaisesRegex(Refused, "UnknownKey"):
                 await again.lab.seating.join("", self.here.keys[ben], None)
 
     async def test_a_clock_that_jumps_frees_no_seats(self) -> None:
@@ -116,7 +117,6 @@ class Seats(Case):
                 self.here = await self.enterAsyncContext(Here(self.here.folder))
             line, = (await self.here.ask(others[0], "layers", at="shared"))["layers"]
             self.assertEqual([line["who"], line["operations"][0]["who"]], ["Ada", "Ada"])
-            self.assertIn(",Ada,", (await self.here.ask(ada, "csv", at="shared", what="changes"))["csv"])
 
     async def test_whole_lists_take_their_turn(self) -> None:
         """What a seat asks before is done first, and so are others while it waits."""
@@ -124,7 +124,7 @@ class Seats(Case):
         ada, ben = await self.here.join("Ada", "Ben")
         busy = keeper.turns.ask(ada, is_free.wait)
         asked = [asyncio.create_task(self.here.ask(ada, verb, **more)) for verb, more in (
-            ("layers", {}), ("operations", {}), ("csv", {"what": "changes"}), ("scenario", {}))]
+            ("layers", {}), ("operations", {}), ("scenario", {}))]
         asked.append(asyncio.create_task(verbs.answer(self.here.lab, self.here.questions, ada, Asked("seats", {}), {})))
         await asyncio.sleep(0.2)
         self.assertEqual([one for one in asked if one.done()], [])
@@ -137,7 +137,7 @@ class Seats(Case):
         now = self.here.keeper.now()
         for verb, more in (("advance", {"to": now + 36_001}), ("transcript", {"from": 0, "to": now + 36_001}),
                            ("figures", {"of": "mine", "from": 0, "to": now + 36_001})):
-            with self.assertRaisesRegex(Refused, "too far ahead"):
+            with self.assertRaisesRegex(Refused, "TooFarAhead"):
                 await self.here.ask(ada, verb, **more)
         with self.assertRaisesRegex(Refused, "Range"):
             await self.here.lab.timing.set_clock(to=now + 36_001)
@@ -190,7 +190,7 @@ class Seats(Case):
             seats = await self.here.join("Ada", "Ben", "Cleo", "Dan", "Eve")
             alone = [await self.saved(seat) for seat in seats]
             pieces = [[await self.piece(seat, 0)] for seat in seats[:4]]
-            with self.assertRaisesRegex(Refused, "busy"):
+            with self.assertRaisesRegex(Refused, "Busy"):
                 await self.piece(seats[4], 0)
             while any(one[-1]["next"] is not None for one in pieces):
                 for seat, one in zip(seats, pieces):

@@ -8,17 +8,20 @@ import shutil
 import time
 import unittest
 from pathlib import Path
-from typing import Any
+from typing import Any, Iterator
 from unittest import mock
 
 from crashes import numbers
 from faulty import Bus, Here, Message, message_of, told
 from running import SMALL, Case, new_folder
 from server import seals, stamps, verbs
-from server.asked import Asked, Refused
+from server.asked import Asked
+from server.refusals import Refused
 from server.floods import Floods
-from server.model.operations import About, edit
+from server.model.operations import About, Shape, edit, put
+from server.records import Came, Folder
 from server.sites import Sites
+from server.state import State
 
 DAY = 86_400_000  # milliseconds
 
@@ -611,6 +614,25 @@ class Counting(unittest.TestCase):
         self.assertEqual(stamps.next_count(32_005, 1_000, 31), 32_031)
         self.assertEqual(stamps.next_count(40_000, 1_000, 31), 40_001)
         self.assertLess(stamps.next_count(0, 4_102_444_800_000, 31), 1 << 48)  # in the year 2100, too
+
+    def test_a_new_stamp_is_above_all_that_the_clock_allows_without_a_look_at_all(self) -> None:
+        """What is more than a day ahead does not count, until its day has come, or again if the clock goes back."""
+        class Looked(dict[Any, Any]):
+            def __iter__(self) -> Iterator[Any]:
+                looks.append(True)
+                return super().__iter__()
+        clock, looks, soon, late = [0], list[bool](), 32 * DAY // 2, 32 * 3 * DAY
+        with mock.patch("server.stamps.milliseconds", lambda: clock[0]), mock.patch("server.stamps.some_bits", lambda: 0):
+            state = State(stamps.StampClock())
+            Folder(SMALL, 1, "f").apply(state)
+            state.by_stamp = Looked()
+            found = []
+            for count, now in ((7, 0), (late, 0), (soon, 0), (0, 2 * DAY), (0, DAY // 4), (0, DAY // 4)):
+                clock[0] = now
+                if count:
+                    Came([put((count, 130), Shape("limit", 0, 0, 5, None, 3))]).apply(state)
+                found.append((state.stamp(state.seats[1])[0], len(looks)))
+        self.assertEqual(found, [(8, 0), (8, 0), (soon + 1, 0), (late + 1, 0), (soon + 1, 1), (soon + 1, 1)])
 
     def test_clones_that_stamp_in_one_millisecond_differ_by_five_bits(self) -> None:
         with mock.patch("server.stamps.milliseconds", lambda: 1_000):

@@ -13,12 +13,11 @@ from faulty import Here
 from running import HELD_UP, Case, Watched, until
 from working import takes_at_most
 from server.client import Seat
-from server.collecting import keep_collections_short
 from server.keeper import Keeper
 from server.model.operations import About, edit
 from server.model.road import Road
 from server.tabs import Tab, Tabs
-from server.watch import SAID, Watch, is_of_server
+from server.watch import SAID, Watch, is_of_server, keep_collections_short
 
 
 SHAPES = 130
@@ -93,61 +92,33 @@ class Failing(Case):
         class Example(Watched):
             def runTest(self) -> None:
                 HELD_UP.extend(f"{SAID} for a piece of work of {seconds} s: x" for seconds in said)
-        for said, fails in (([], 0), (["0.21"], 0), (["30.00"], 1)):
+        for said, slowness, fails in (([], 1.0, 0), (["0.20"], 1.0, 0), (["0.21"], 1.0, 1), (["0.29"], 1.5, 0), (["0.31"], 1.5, 1)):
             result = unittest.TestResult()
-            Example().run(result)
+            with mock.patch("working.slowness", lambda now=slowness: now):
+                Example().run(result)
             self.assertEqual((len(result.failures), len(result.errors)), (fails, 0))
         HELD_UP.clear()
         server = self.server()
         with open(server.log, "a", encoding="ascii") as log:
-            log.write(f"WARNING {SAID} for a piece of work of 0.31 s: x\n")
+            log.write(f"WARNING {SAID} for a piece of work of 0.20 s: x\n")
             log.write(f"WARNING {SAID} for a piece of work of 21.00 s: x\n")
         with self.assertRaisesRegex(AssertionError, "^[^\n]*21.00[^\n]*$"):
             self._held_nobody_up()
         here = await self.enterAsyncContext(Here())
-        with mock.patch.object(Keeper, "now", lambda keeper: works(0.3) or 0):
-            await here.keeper.turns.ask(0, self.now_of(here))
+        with mock.patch.object(Keeper, "reference", property(lambda keeper: works(0.3))):  # which nothing else asks
+            await here.keeper.turns.ask(0, self.reference_of(here))
         await asyncio.sleep(0)
         self.assertEqual(len(HELD_UP), 1)
         HELD_UP.clear()
 
-    def now_of(self, here: Here) -> Any:
-        async def now() -> int:
-            return here.keeper.now()
-        return now
+    def reference_of(self, here: Here) -> Any:
+        async def reference() -> str:
+            return here.keeper.reference
+        return reference
 
 
 class Pieces(Case):
     """What takes long is done in pieces, between which others are answered."""
-
-    async def test_the_table_of_changes(self) -> None:
-        """Of shapes that cover each other; the clock's piece and its own are all that is written meanwhile."""
-        here = await self.enterAsyncContext(Here())
-        ada, ben = await here.join("Ada", "Ben")
-        for number in range(SHAPES):
-            await here.ask(ada, "gesture", key=f"{number}", note="",
-                           shape=["limit", number % 3, 5 - number % 2, number, 4 * SHAPES - number, number % 5])
-        asked = asyncio.create_task(here.ask(ada, "csv", what="changes"))
-        answers = 0
-        while not asked.done():
-            await here.ask(ben, "scenario")
-            answers += 1
-        lines = (await asked)["csv"].splitlines()
-        self.assertEqual((len(lines), lines[0].split(",")[:2]), (SHAPES + 1, ["change", "who"]))
-        self.assertGreater(answers, 2)
-
-    async def test_the_table_of_changes_is_of_one_moment(self) -> None:
-        """What is put meanwhile is in it, and nothing twice."""
-        here = await self.enterAsyncContext(Here())
-        ada, = await here.join("Ada")
-        for number in range(20):
-            await here.ask(ada, "gesture", key=f"{number}", note="", shape=["limit", 1, 4, number, 100 - number, number % 5])
-        with mock.patch("server.questions.LIST_AT_ONCE", 0, create=True):
-            asked = asyncio.create_task(here.ask(ada, "csv", what="changes"))
-            await asyncio.sleep(0)
-            await here.ask(ada, "gesture", key="more", note="", shape=["limit", 0, 0, 5, 9, 1])
-            lines = (await asked)["csv"].splitlines()
-        self.assertEqual(sorted(int(line.split(",")[0]) for line in lines[1:]), list(range(1, len(lines))))
 
     async def test_what_comes_and_is_taken(self) -> None:
         """Many operations of another site, and then a take of them."""

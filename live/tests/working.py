@@ -36,9 +36,9 @@ def slowness() -> float:
     return max(1.0, (time.thread_time() - began) / count / QUIET)
 
 
-def is_too_long(seconds: float, limit: float) -> bool:
-    """Return whether seconds of processor time are more than `limit` on a quiet machine."""
-    return seconds > ALLOWED * limit and seconds > ALLOWED * limit * slowness()
+def is_too_long(seconds: float, limit: float, allowed: float = ALLOWED) -> bool:
+    """Return whether seconds of processor time are more than `allowed` times the limit on a quiet machine."""
+    return seconds > allowed * limit and seconds > allowed * limit * slowness()
 
 
 @contextlib.contextmanager

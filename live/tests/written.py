@@ -14,11 +14,11 @@ from unittest import mock
 from faulty import Bus, Disk, Here, soon
 from running import Case, until
 from server import chance, figures
-from server.asked import Refused
+from server.refusals import Refused
 from server.records import SeatUsed
 from server.journal import Journal
 from server.model.operations import About, Operation, edit
-from server.program import Gone, Program
+from server.program import ProgramExited, Program
 from server.settings import Settings
 from server.stamps import StampClock
 from server.turns import MORE
@@ -61,7 +61,7 @@ class Written(Case):
             self.assertFalse(again.done())
             self.goes_on(fault)
             if fault:
-                self.assertEqual([await self.refused(one) for one in (first, again)], ["not written"] * 2)
+                self.assertEqual([await self.refused(one) for one in (first, again)], ["NotWritten"] * 2)
             else:
                 self.assertEqual(await soon(first), await soon(again))
         self.goes_on()
@@ -75,13 +75,13 @@ class Written(Case):
         take = asyncio.create_task(self.here.take(self.ben))
         await asyncio.sleep(0.1)
         self.goes_on(errno.EIO)
-        self.assertEqual(await self.refused(share), "not written")
+        self.assertEqual(await self.refused(share), "NotWritten")
         self.assertEqual((await soon(take))["size"], 0)
         self.goes_on()
         await self.here.share(self.ada)
         take = await self.begun(self.here.take(self.ben))
         self.goes_on(errno.EIO)
-        self.assertEqual(await self.refused(take), "not written")
+        self.assertEqual(await self.refused(take), "NotWritten")
         self.goes_on()
         self.assertEqual((await soon(self.here.take(self.ben)))["size"], 1)
 
@@ -96,7 +96,7 @@ class Written(Case):
                 self.goes_on(errno.EIO)
                 await asyncio.wait([keeper.record(SeatUsed(1, 0))])
             return MORE
-        self.assertEqual(await self.refused(keeper.ask(self.ben, (), piece)), "not written")
+        self.assertEqual(await self.refused(keeper.ask(self.ben, (), piece)), "NotWritten")
         self.assertEqual(rounds, 2)
 
     async def test_nothing_is_written_upon_what_the_disk_refused(self) -> None:
@@ -108,7 +108,7 @@ class Written(Case):
             await asyncio.wait([keeper.record(SeatUsed(1, 0))])
             self.goes_on()
             await keeper.writable()
-        self.assertEqual(await self.refused(keeper.ask(self.ben, (), body)), "not written")
+        self.assertEqual(await self.refused(keeper.ask(self.ben, (), body)), "NotWritten")
         await self.here.put(self.ben, [*LIMIT, 3])
 
     async def test_what_is_on_the_disk_was_done_whatever_becomes_of_anothers_write(self) -> None:
@@ -138,7 +138,7 @@ class Written(Case):
     async def test_what_is_on_the_disk_was_done_though_there_is_no_program(self) -> None:
         """It ended, and none can be started for a while: the next one is given it."""
         async def none(*_: Any) -> Program:
-            raise Gone("the program cannot be started")
+            raise ProgramExited("the program cannot be started")
         await self.here.put(self.ben, ["limit", 1, 50, 4])
         for act in (self.here.put(self.ada, [*LIMIT, 3]), self.here.share(self.ben), self.here.take(self.ada)):
             for seat, at in ((self.ada, "seat1"), (self.ben, "seat2"), (self.ben, "shared")):  # it has what they hold so far
@@ -146,7 +146,7 @@ class Written(Case):
             self.here.keeper.program.kill()
             with mock.patch("server.keeper.start", none):
                 await soon(act)
-                self.assertEqual(await self.refused(self.here.ask(self.ben, "scenario", at="shared")), "no program")
+                self.assertEqual(await self.refused(self.here.ask(self.ben, "scenario", at="shared")), "NoProgram")
         self.assertEqual([next(iter(one)) for one in self.here.entries()][-3:], ["made", "share", "take"])
         self.assertEqual(self.here.heard[-1:], [50])
         self.assertEqual((await self.edits(self.ben), len((await self.here.ask(self.ada, "scenario"))["edits"])), (1, 2))
@@ -163,7 +163,7 @@ class Written(Case):
             self.here.heard.clear()
             share = await self.begun(self.here.share(self.ada))
             looks = [asyncio.create_task(self.here.ask(cleo, verb, at="shared", **more)) for verb, more in (
-                ("layers", {}), ("operations", {}), ("csv", {"what": "changes"}), ("transcript", {"from": 0, "to": 0}))]
+                ("layers", {}), ("operations", {}), ("transcript", {"from": 0, "to": 0}))]
             self.assertEqual((lab.news(cleo, 9)["size"], lab.news(cleo, 9)["shares"][1:]), (1, []))
             first = asyncio.create_task(self.first(cleo))
             self.assertEqual(await self.edits(cleo), 1)  # the road is asked, and is what is there
@@ -171,11 +171,11 @@ class Written(Case):
             self.assertEqual([look for look in (*looks, first) if look.done()], [])
             self.assertEqual(self.here.heard, [])
             self.goes_on(fault)
-            layers, gestures, table, transcript = [await soon(look) for look in looks]
-            self.assertEqual([len(layers["layers"]), len(gestures["operations"]), table["csv"].count("\n") - 1,
-                              transcript["lines"].count('["limit",')], [edits] * 4)
+            layers, gestures, transcript = [await soon(look) for look in looks]
+            self.assertEqual([len(layers["layers"]), len(gestures["operations"]), transcript["lines"].count('["limit",')],
+                             [edits] * 3)
             if fault:
-                self.assertEqual(await self.refused(share), "not written")
+                self.assertEqual(await self.refused(share), "NotWritten")
             else:
                 await soon(share)
             self.assertEqual((lab.news(cleo, 9)["size"], (await soon(first))["size"], await self.edits(cleo)), (edits,) * 3)
@@ -202,7 +202,7 @@ class Written(Case):
         put = await self.begun(self.here.put(self.ada, [*LIMIT, 3]))
         pending = await soon(self.here.ask(self.ada, "layers"))
         self.goes_on(errno.EIO)
-        self.assertEqual(await self.refused(put), "not written")
+        self.assertEqual(await self.refused(put), "NotWritten")
         said = await soon(self.here.ask(self.ada, "layers", **{"from": pending["next"]}))
         self.assertEqual((len(pending["layers"]), len(said["layers"]), said["since"]), (2, 1, 0))
         said = await soon(self.here.ask(self.ada, "layers", **{"from": said["next"]}))
@@ -223,15 +223,14 @@ class Written(Case):
             self.goes_on(errno.EIO)
             await asyncio.get_running_loop().run_in_executor(None, is_read.wait)
             asked: list[tuple[str, dict[str, Any]]] = [
-                ("layers", {"at": "shared"}), ("operations", {"at": "shared"}), ("csv", {"at": "shared", "what": "changes"}),
-                ("figures", {"of": "mine", "from": 0, "to": 60})]
+                ("layers", {"at": "shared"}), ("operations", {"at": "shared"}), ("figures", {"of": "mine", "from": 0, "to": 60})]
             looks = [asyncio.create_task(self.here.ask(self.ben, verb, **fields)) for verb, fields in asked]
             await asyncio.sleep(0.2)
             may_read.set()
-            layers, gestures, table, figures_of = [await soon(look) for look in looks]
-        self.assertEqual((layers["layers"], gestures["operations"], table["csv"].count("\n")), ([], [], 1))
+            layers, gestures, figures_of = [await soon(look) for look in looks]
+        self.assertEqual((layers["layers"], gestures["operations"]), ([], []))
         self.assertEqual(figures_of["before"], figures_of["after"])
-        self.assertEqual(await self.refused(share), "not written")
+        self.assertEqual(await self.refused(share), "NotWritten")
 
     async def test_what_comes_from_another_site_is_told_once_it_is_on_the_disk(self) -> None:
         def one() -> Operation:
@@ -252,7 +251,7 @@ class Written(Case):
             self.assertFalse(look.done() or again.done())
             self.goes_on(fault)
             said = await soon(asyncio.gather(came, again, return_exceptions=True))
-            self.assertEqual([getattr(one, "text", one) for one in said], ["not written"] * 2 if fault else [True, False])
+            self.assertEqual([getattr(one, "text", one) for one in said], ["NotWritten"] * 2 if fault else [True, False])
             seen = (await soon(look))["size"], lab.news(self.ben, 9)["size"], await self.edits(self.ben)
             self.assertEqual(seen, (size,) * 3)
 
@@ -278,7 +277,7 @@ class Written(Case):
             before, after = (day[side]["detectors"][0][0] for side in ("before", "after"))
             cars = next(one for one in days["figures"] if one["name"] == "cars 0")
             if fault:
-                self.assertEqual(await self.refused(share), "not written")
+                self.assertEqual(await self.refused(share), "NotWritten")
                 self.assertEqual((before, cars["before"]), (after, cars["after"]))
             else:
                 await soon(share)
@@ -294,7 +293,7 @@ class Written(Case):
             preview = asyncio.create_task(self.first(self.ben))
             await asyncio.sleep(0.2)
             self.assertFalse(preview.done())
-            self.assertEqual(await self.refused(self.here.ask(self.ben, "advance", at="after", to=60)), "no preview")
+            self.assertEqual(await self.refused(self.here.ask(self.ben, "advance", at="after", to=60)), "NoPreview")
             self.goes_on(fault)
             self.assertEqual((await soon(preview))["size"], size)
             await soon(asyncio.gather(share, return_exceptions=True))
@@ -322,7 +321,7 @@ class Written(Case):
         await until(is_told, "the clock finds that the disk is full")
         began = keeper.now()
         for _ in range(3):
-            self.assertEqual(await self.refused(self.here.put(self.ada, [*LIMIT, 4])), "not written")
+            self.assertEqual(await self.refused(self.here.put(self.ada, [*LIMIT, 4])), "NotWritten")
             await asyncio.sleep(1)
         tries, since = self.disk.calls.count("write"), time.monotonic()
         await asyncio.sleep(5)
@@ -338,7 +337,7 @@ class Written(Case):
     async def test_a_disk_that_is_free_again_is_found_by_the_clock(self) -> None:
         keeper = self.here.keeper
         self.disk.is_full()
-        self.assertEqual(await self.refused(self.here.put(self.ada, [*LIMIT, 4])), "not written")
+        self.assertEqual(await self.refused(self.here.put(self.ada, [*LIMIT, 4])), "NotWritten")
         self.disk.is_full(False)
 
         async def is_over() -> bool:
@@ -350,7 +349,7 @@ class Written(Case):
         await self.here.put(self.ada, [*LIMIT, 3])
         self.disk.is_read_only()
         for _ in range(2):
-            self.assertEqual(await self.refused(self.here.put(self.ada, [*LIMIT, 4])), "not written")
+            self.assertEqual(await self.refused(self.here.put(self.ada, [*LIMIT, 4])), "NotWritten")
             reply = await soon(keeper.ask(self.ben, (self.ada,), lambda: keeper.say(b'{"scenario":{"at":"seat1"}}', {})))
             self.assertIn(b'["limit",2,50,', reply)
             self.assertIn(b",3]]", reply)
@@ -359,7 +358,7 @@ class Written(Case):
         self.assertEqual(await soon(lab.seating.join("", self.here.keys[self.ada], None)), (self.ada, self.here.keys[self.ada]))
         cleo, _ = await soon(lab.seating.join("Cleo", "", None))  # who comes now looks, too
         self.assertEqual((await self.here.ask(cleo, "scenario"))["edits"], [])
-        self.assertEqual(await self.refused(self.here.put(cleo, [*LIMIT, 4])), "not written")
+        self.assertEqual(await self.refused(self.here.put(cleo, [*LIMIT, 4])), "NotWritten")
         self.assertNotIn("Cleo", str(self.here.entries()))
         self.disk.is_read_only(False)
         await soon(self.here.put(cleo, [*LIMIT, 4]))
@@ -370,7 +369,7 @@ class Written(Case):
     async def test_a_seat_that_was_given_while_the_disk_took_nothing_is_given_again_after_a_kill(self) -> None:
         """By its key alone, as often as the server is killed, and to nobody by another key."""
         self.disk.is_read_only()
-        self.assertEqual(await self.refused(self.here.put(self.ada, [*LIMIT, 4])), "not written")
+        self.assertEqual(await self.refused(self.here.put(self.ada, [*LIMIT, 4])), "NotWritten")
         index, key = await soon(self.here.lab.seating.join("Zoé Ü", "", None))
         there = self.here
         for is_free in (False, False, True, True):
@@ -380,13 +379,13 @@ class Written(Case):
             there.lab.seating.secret = secret
             self.disk.is_read_only(not is_free)
             for other in (f"{key}e", key.replace(f".{index}.", ".9."), key[:20], f"..{key}"):
-                self.assertEqual(await self.refused(there.lab.seating.join("", other, None)), "unknown key")
+                self.assertEqual(await self.refused(there.lab.seating.join("", other, None)), "UnknownKey")
             self.assertEqual(await soon(there.lab.seating.join("", key, None)), (index, key))
             self.assertEqual(there.lab.state.seats[index].name, "Zoé Ü")
         await there.lab.seating.give_back(index)
         there.keeper.here.discard(index)
         await there.join("Zoe U", "Zoé ü")
-        self.assertEqual(await self.refused(there.lab.seating.join("", key, None)), "unknown key")
+        self.assertEqual(await self.refused(there.lab.seating.join("", key, None)), "UnknownKey")
 
 
 @contextlib.contextmanager
@@ -526,7 +525,7 @@ class Stalled(Case):
         self.disk.is_full(False)
         await self.stalls("fsync")
         for _ in range(3):
-            with self.assertRaisesRegex(Refused, "not written"):
+            with self.assertRaisesRegex(Refused, "NotWritten"):
                 await soon(self.here.put(self.ada, [*LIMIT, 3]))
             await self.looks(1)
         self.held.set()

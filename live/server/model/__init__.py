@@ -1,4 +1,4 @@
-"""What engineers do to a road, and what stands there because of it. No input, no output and no clock.
+"""Model what engineers do to a road, and what stands there because of it. It has no input, no output and no clock.
 
 A replica is a set of operations. An operation never changes, and sets merge by union. Everything else is a function of the
 set, and each module has one part of it:
@@ -11,8 +11,6 @@ set, and each module has one part of it:
     projection   the edits by which a program that shows one road comes to show another
     seen         where a layer is in force, who covers the rest, and whose change was lost
     changes      the list of changes: its lines, and which of them an operation may alter
-    choices      what a seat can undo, redo and share
-    forgetting   which private operations no longer matter
-    stamping     private operations under other stamps
+    choices      what a seat can undo, redo, share and forget
     former       journals and messages of forms 1 and 2
 """

@@ -75,7 +75,7 @@ def altered(before: Road, after: Road) -> set[Stamp]:
     others: set[Operation] = set()
     for one in step.fresh | step.flipped:
         lines |= lines_of(after, one)
-        if one in step.fresh:  # what waited for it had a line of its own, and what is older may name one anew
+        if one in step.fresh:  # what waited for it had a line of its own, and what is older may name another one
             lines |= {each.stamp for each in above(after, one)[1:]}
             lines |= set() if one.excludes is None else line_of_site(before, one.excludes[0])
         others.update(other for name in one.sets if is_raw(name) for other in after.setters_of(name))

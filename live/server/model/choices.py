@@ -1,4 +1,4 @@
-"""What a seat can undo, redo and share."""
+"""Choose what a seat can undo, redo, share and forget."""
 from __future__ import annotations
 
 from typing import AbstractSet, NamedTuple
@@ -53,7 +53,7 @@ def undoable(road: Road, number: int) -> Undoable:
 
 
 def overruling(road: Road, one: Operation) -> list[Operation]:
-    """Return the operations because of which the undo of this one changes nothing, the newest first."""
+    """Return the operations that leave nothing to the undo of this one, the newest first."""
     record = road.record
     root = record.root_of(one)
     found = {setter for name in root.sets for setter in [road.setter(name)] if setter is not None}
@@ -71,7 +71,7 @@ def private(road: Road, shared: Road, number: int) -> list[Operation]:
 
 
 def shareable(road: Road, shared: Road, number: int, then: Road | None = None) -> list[Operation]:
-    """Return the private operations that count and by which the shared road would differ. An undo of what others never had is
+    """Return the private operations that count and would change the shared road. An undo of what others never had is
     not among them. `then` is the shared road with all private operations, if that is known."""
     own = sendable(road, shared, number)
     if number // SEATS in shared.record.excluded:
@@ -95,3 +95,26 @@ def chain(road: Road, one: Operation) -> list[Operation]:
     for each in found:
         found += road.record.undone_by(each)
     return found
+
+
+def forgettable(road: Road, shared: Road, number: int, kept: int) -> set[Operation]:
+    """Return the private operations of a seat without which no layer differs: those that are undone, with their undos, and
+    those on private layers that are withdrawn. The newest `kept` stay, since Z and Redo may need them."""
+    own = private(road, shared, number)
+    gone = set(own[:max(0, len(own) - kept)])
+    while needed := {one for one in gone if is_needed(road, one, gone)}:
+        gone -= needed
+    return gone
+
+
+def is_needed(road: Road, one: Operation, gone: set[Operation]) -> bool:
+    """Return whether an operation still says something, if all of these were forgotten with it."""
+    record = road.record
+    if one.site in record.excluded or one.excludes is not None:
+        return True
+    if one in record.void:
+        return not gone.issuperset(record.undos_of(one))
+    if one.undoes is not None:
+        return one.undoes not in record.held or not gone.issuperset(record.held[one.undoes])
+    return any(name in road.layers or name in road.members or not gone.issuperset(road.setters_of(name) + road.lifters_of(name))
+               for name in one.names)

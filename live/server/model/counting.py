@@ -1,4 +1,4 @@
-"""Which operations of a set count.
+"""Decide which operations of a set count.
 
 An operation counts unless an operation that counts undoes it, or its site is excluded. This is worked out from the greatest
 stamp down, and again only where a new operation alters it. Exclusions come before all else: only their own site undoes

@@ -14,7 +14,7 @@ from .reading import (GREATEST_VALUE, LONGEST_NAME, LONGEST_NOTE, Malformed, opt
 SITE = "site"  # the kind of a layer that excluded a site
 
 
-def read_gesture(value: Json) -> Operation | None:
+def read_former_gesture(value: Json) -> Operation | None:
     """Return a gesture as an operation; None: a repair, which has nothing to say any more."""
     if not isinstance(value, dict):
         raise Malformed("a gesture is an object")
@@ -22,7 +22,7 @@ def read_gesture(value: Json) -> Operation | None:
         return None
     stamp, about = read_stamp(value.get("stamp")), read_about(value)
     if "lays" not in value:
-        return Operation(stamp, dict(map(read_edit, read_list(value.get("edits")))), about=about)
+        return Operation(stamp, dict(map(read_former_edit, read_list(value.get("edits")))), about=about)
     sets: dict[Name, Shape | None] = {}
     heights: dict[Name, Stamp] = {}
     excludes: tuple[int, bool] | None = None
@@ -55,7 +55,7 @@ def read_list(value: Json) -> "list[Json]":
     return value
 
 
-def read_edit(value: Json) -> tuple[RawName, Shape | None]:
+def read_former_edit(value: Json) -> tuple[RawName, Shape | None]:
     kind, index, step, number = read_row(value, 4, "an edit has four parts")
     name = read_raw_name([kind, index, step])
     if number is not None:

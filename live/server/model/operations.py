@@ -28,7 +28,8 @@ Name = Union[Stamp, RawName]
 SEATS = 64  # numbers of a site; 0 is the site itself
 END = 1 << 20  # after every step
 SMALL = tuple(range(1 << 14))
-K, V = TypeVar("K"), TypeVar("V")
+K = TypeVar("K")
+V = TypeVar("V", covariant=True)
 
 
 def same_int(value: int) -> int:
@@ -80,12 +81,12 @@ def small_mapping(some: Mapping[K, V], empty: Mapping[K, V]) -> Mapping[K, V]:
 NO_LAYERS: Mapping[Name, Shape | None] = MappingProxyType({})
 NO_HEIGHTS: Mapping[Name, Stamp] = MappingProxyType({})
 NO_MORE: Mapping[str, Json] = MappingProxyType({})
-"""What most operations lack, once for all of them."""
+"""Most operations have none of these; so the empty ones are made once."""
 
 
 @dataclass(frozen=True, slots=True)
 class About:
-    """What people are told about an operation. `shape` is how raw edits were drawn; `more` are fields of later versions."""
+    """The maker of an operation, its time and note. `shape` is how raw edits were drawn; `more` are fields of later versions."""
 
     who: str = ""
     note: str = ""
@@ -99,7 +100,7 @@ NOTHING = About()
 
 @dataclass(frozen=True, eq=False, slots=True)
 class Operation:
-    """What somebody did. Two operations with one stamp are twins: the one with the greater text counts as the later one."""
+    """An act of somebody. Two operations with one stamp are twins: the one with the greater text counts as the later one."""
 
     stamp: Stamp
     sets: Mapping[Name, Shape | None] = field(default_factory=lambda: NO_LAYERS)  # what layers are from now on; None: nothing
@@ -125,7 +126,7 @@ class Operation:
 
     @property
     def names(self) -> set[Name]:
-        """The layers that it sets or lifts."""
+        """Return the layers that it sets or lifts."""
         return {*self.sets, *self.heights}
 
     @property
@@ -134,7 +135,7 @@ class Operation:
 
     @property
     def is_empty(self) -> bool:
-        """Whether it says nothing at all."""
+        """Return whether it says nothing at all."""
         return not self.sets and not self.heights and self.undoes is None and self.excludes is None
 
     def written(self) -> dict[str, Json]:
@@ -150,7 +151,7 @@ class Operation:
         return {"stamp": [*self.stamp], **{name: value for name, value in fields.items() if value not in (None, [], "")}}
 
     def text(self) -> str:
-        """Return the text by which equal operations are known."""
+        """Return a text that equal operations have alike."""
         return json.dumps(self.written(), sort_keys=True)
 
 
@@ -219,3 +220,14 @@ def undo(stamp: Stamp, undone: Operation, about: About = NOTHING) -> Operation:
 def exclude(stamp: Stamp, site: int, is_out: bool, about: About = NOTHING) -> Operation:
     """Let nothing count that a site made or makes, or let all of it count again."""
     return Operation(stamp, excludes=(site, is_out), about=about)
+
+
+def stamped_anew(operations: Iterable[Operation], stamps: Mapping[Stamp, Stamp]) -> list[Operation]:
+    """Return these operations under new stamps, by the old ones. They refer to the new ones of each other. Raise
+    ValueError if one refers to an operation that keeps a later stamp."""
+    def renamed(name: Name) -> Name:
+        return stamps.get(name, name) if is_line(name) else name
+    return [Operation(stamps[one.stamp], {renamed(name): shape for name, shape in one.sets.items()},
+                      {renamed(name): stamps.get(height, height) for name, height in one.heights.items()},
+                      None if one.undoes is None else stamps.get(one.undoes, one.undoes), one.excludes,
+                      None if one.seen is None else stamps.get(one.seen, one.seen), one.about) for one in operations]

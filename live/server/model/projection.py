@@ -1,4 +1,4 @@
-"""The edits by which a program that shows one road comes to show another.
+"""Make the edits that bring a program from one road to another.
 
 On each object there is a number at each step where the value changes, and nothing else. Where no layer covers an object any
 more, that number is the plan's.
@@ -18,7 +18,7 @@ MANY = 64  # stretches from which on whole kinds are compared
 
 
 def difference(before: Road, after: Road, within: set[Stretch] | None = None) -> Edits:
-    """Return the edits by which a program that shows `before` comes to show `after`; of some stretches, or everywhere."""
+    """Return the edits that bring a program from `before` to `after`; of some stretches, or everywhere."""
     if before is after:
         return {}
     edits: Edits = {}
@@ -137,7 +137,7 @@ def numbers(road: Road, kind: str, index: int, begin: int, end: int, shapes: Ite
 
 
 def starts(road: Road, index: int) -> dict[int, int]:
-    """Return the same for cars that start, about which the plan says nothing: from the first layer's end on, where none is,
+    """Return the same for cars that start, about which the plan says nothing: from the first layer's end on, if there is none,
     they have the slowing chance of their zone at that time."""
     slow = numbers(road, "slow", index, 0, END, from_the_top(road.touching(("slow", index, index, 0, END))))
     found: dict[int, int] = {}

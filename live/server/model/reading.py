@@ -23,7 +23,7 @@ T = TypeVar("T")
 
 
 class Malformed(ValueError):
-    """A value that is no operation. The text says what is wrong with it."""
+    """A malformed operation. The text says what is wrong with it."""
 
 
 def read_operation(value: Json) -> Operation:

@@ -19,7 +19,7 @@ Plan = Callable[[str, int], "int | None"]
 
 
 class Step:
-    """What made one road out of another."""
+    """The step that made one road out of another."""
 
     def __init__(self, before: Road, fresh: set[Operation], flipped: set[Operation], names: set[Name]) -> None:
         self.before = weakref.ref(before)
@@ -74,9 +74,9 @@ class Road:
         fresh, flipped = road.record.add(some)
         for one in fresh:
             for name in one.sets:
-                some = road.setters_of(name)
-                if name != one.stamp or one not in some:
-                    road._setters[name] = inserted(some, one)
+                others = road.setters_of(name)
+                if name != one.stamp or one not in others:
+                    road._setters[name] = inserted(others, one)
             for name in one.heights:
                 road._lifters[name] = inserted(road.lifters_of(name), one)
         names = {name for one in flipped for name in one.names}
@@ -189,7 +189,7 @@ def stands(road: Road, line: Stamp) -> bool:
 
 
 def last_setter(road: Road, line: Stamp) -> Stamp | None:
-    """Return the operation by which a line is what it is: what a change of it has seen."""
+    """Return the operation that made a line what it is: a change of it has seen that one."""
     setter = road.setter(line)
     if setter is not None:
         return setter.stamp
@@ -199,7 +199,7 @@ def last_setter(road: Road, line: Stamp) -> Stamp | None:
 def change(road: Road, stamp: Stamp, line: Stamp, shape: Shape | None, on_top: bool = False,
            about: About = NOTHING) -> Operation:
     """Give a line another shape at the height where it is, or none, which withdraws it. It takes the place of raw edits, and
-    the line's stamp goes on naming one layer. A line of which nothing stands comes on top."""
+    the line's stamp goes on naming one layer. A line that does not stand comes on top."""
     sets: dict[Name, Shape | None] = {name: None for name in sorted(parts_of(road, line))}
     sets[line] = shape
     is_lifted = shape is not None and (on_top or not stands(road, line))

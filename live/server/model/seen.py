@@ -1,4 +1,4 @@
-"""What people see of a layer: where it is in force, who covers the rest, and whose change of it was lost."""
+"""Work out what people see of a layer: where it is in force, who covers the rest, and whose change of it was lost."""
 from __future__ import annotations
 
 from typing import NamedTuple

@@ -19,28 +19,32 @@ TOLD = 3
 
 # Faults of a plan whose fields are well-formed
 
-def names_faults(plan: PlanLine, units: Units) -> Faults:
+def check_names(plan: PlanLine, units: Units) -> Faults:
+    """Yield the faults of the replicas' names."""
     names = plan["replicas"]
     if not 1 <= len(names) <= 64:
-        yield f"there are 1 to 64 replicas, not {len(names)}"
+        yield f"{len(names)} replicas: a plan has 1 to 64"
     for one in names:
         yield from name(one)
     for one in sorted({one for one in names if names.count(one) > 1}):
         yield f"two replicas are named {shown(one)}"
 
 
-def length_faults(plan: PlanLine, units: Units) -> Faults:
+def check_length(plan: PlanLine, units: Units) -> Faults:
+    """Yield the fault of the road's length."""
     yield f"a road has 8 to 8,192 cells{units.km(8_192)}, not {plan['length']}{units.km(plan['length'])}"
 
 
-def exit_faults(plan: PlanLine, units: Units) -> Faults:
+def check_exit(plan: PlanLine, units: Units) -> Faults:
+    """Yield the fault of the deleted zone."""
     yield f"the deleted zone has 1 to {min(64, plan['length'] - 1)} cells, not {plan['exit']}{units.km(plan['exit'])}"
 
 
-def zones_faults(plan: PlanLine, units: Units) -> Faults:
+def check_zones(plan: PlanLine, units: Units) -> Faults:
+    """Yield the faults of the zones' number and width."""
     count, width, length = len(plan["zones"]), plan["zone"], plan["length"]
     if not 1 <= count <= 64:
-        yield f"there are 1 to 64 zones, not {count}"
+        yield f"{count} zones: a plan has 1 to 64"
     elif width == 0:
         yield "a zone of 0 cells"
     else:
@@ -50,7 +54,8 @@ def zones_faults(plan: PlanLine, units: Units) -> Faults:
                f"at least {least}{units.km(least)}")
 
 
-def places_faults(cells: Sequence[int], first: int, plan: PlanLine, what: str, units: Units) -> Faults:
+def check_places(cells: Sequence[int], first: int, plan: PlanLine, what: str, units: Units) -> Faults:
+    """Yield the faults of cells where an inlet or a detector cannot be."""
     last = plan["length"] - plan["exit"] - 1
     for index, cell in enumerate(cells):
         if not first <= cell <= last:
@@ -58,22 +63,25 @@ def places_faults(cells: Sequence[int], first: int, plan: PlanLine, what: str, u
                    f"{last}{units.km(last)}")
 
 
-def inlets_faults(plan: PlanLine, units: Units) -> Faults:
+def check_inlets(plan: PlanLine, units: Units) -> Faults:
+    """Yield the faults of the inlets' number and cells."""
     cells = [cell for cell, _ in plan["inlets"]]
     if not 1 <= len(cells) <= 16:
-        yield f"there are 1 to 16 inlets, not {len(cells)}"
+        yield f"{len(cells)} inlets: a plan has 1 to 16"
     for cell in sorted({cell for cell in cells if cells.count(cell) > 1}):
         yield f"two inlets are at cell {cell}{units.km(cell)}"
-    yield from places_faults(cells, 0, plan, "inlet", units)
+    yield from check_places(cells, 0, plan, "inlet", units)
 
 
-def detectors_faults(plan: PlanLine, units: Units) -> Faults:
+def check_detectors(plan: PlanLine, units: Units) -> Faults:
+    """Yield the faults of the detectors' number and cells."""
     if len(plan["detectors"]) > 64:
-        yield f"there are 0 to 64 detectors, not {len(plan['detectors'])}"
-    yield from places_faults(plan["detectors"], 1, plan, "detector", units)
+        yield f"{len(plan['detectors'])} detectors: a plan has at most 64"
+    yield from check_places(plan["detectors"], 1, plan, "detector", units)
 
 
-def default_faults(plan: PlanLine, units: Units) -> Faults:
+def check_default(plan: PlanLine, units: Units) -> Faults:
+    """Yield the faults of the limits and chances of zones and inlets."""
     for index, (limit, slow) in enumerate(plan["zones"]):
         if limit > 9:
             yield f"zone {index}: the limit is 0 to 9 cells a step, not {limit}{explain_kmh(limit, units)}"
@@ -91,8 +99,8 @@ def explain_kmh(limit: int, units: Units) -> str:
 
 
 PLAN_FAULTS: dict[str, Callable[[PlanLine, Units], Faults]] = {
-    "Names": names_faults, "Length": length_faults, "Exit": exit_faults, "Zones": zones_faults,
-    "Inlets": inlets_faults, "Detectors": detectors_faults, "Default": default_faults,
+    "Names": check_names, "Length": check_length, "Exit": check_exit, "Zones": check_zones,
+    "Inlets": check_inlets, "Detectors": check_detectors, "Default": check_default,
 }
 
 
@@ -200,12 +208,11 @@ class Reasons:
         if self._plan is None:
             return None
         plan = self._plan
-        what, there = {"block": ("cell", plan["length"]), "inflow": ("inlet", len(plan["inlets"])),
-                       "watch": ("detector", len(plan["detectors"]))}.get(
-                           kind, ("zone", len(plan["zones"])))
-        if index >= there:
+        noun, number_of = {"block": ("cell", plan["length"]), "inflow": ("inlet", len(plan["inlets"])),
+                           "watch": ("detector", len(plan["detectors"]))}.get(kind, ("zone", len(plan["zones"])))
+        if index >= number_of:
             km = self._units.km if kind == "block" else lambda cells: ""
-            return "NoObject", f"the plan has no {what} {index}{km(index)}: {format_count(what, there)}{km(there)}"
+            return "NoObject", f"the plan has no {noun} {index}{km(index)}: {format_count(noun, number_of)}{km(number_of)}"
         if step > LAST_STEP:
             minutes = self._units.minutes
             return "Step", f"the step of an edit is at most {LAST_STEP}{minutes(LAST_STEP)}, not {step}{minutes(step)}"
@@ -213,9 +220,9 @@ class Reasons:
             unit, meant = (" cells a step", explain_kmh(value, self._units)) if kind == "limit" else ("", "")
             return "ValueOutOfRange", f"the value of `{kind}` is 0 to {KINDS[kind]}{unit}, not {value}{meant}"
         if count is not None and not 1 <= count <= GREATEST_COUNT:
-            return "Count", f"the count is 1 to {GREATEST_COUNT}, not {count}"
+            return "Count", f"the count must be 1 to {GREATEST_COUNT}, not {count}"
         if number is not None and number < 64:
-            return "Insider", f"the number {number} belongs to a replica: imported edits have 64 to 65535"
+            return "Insider", f"the number {number} belongs to a replica: imported edits must have 64 to 65535"
         return None
 
     def _indexes_in_km(self, verb: str, given: object) -> Faults:

@@ -42,14 +42,17 @@ def read_script(path: Path | str) -> Script:
     return Script(lines[0], lines[1:])
 
 
+NAMES_OF_FIELDS = {"words": "seed (`words`)", "exit": "deleted zone (`exit`)"}
+
+
 def check_same_road(before: PlanLine, after: PlanLine) -> None:
     """Check that two plans describe the same road. Detectors, replicas and the bounds of equal zones may differ.
 
     Fault: they describe different roads. The message names the fields."""
     first, second = map(list_road_fields, (before, after))
-    others = [field for field, value in first.items() if value != second[field]]
+    others = [NAMES_OF_FIELDS.get(field, field) for field, value in first.items() if value != second[field]]
     if others:
-        raise Fault(f"the two scripts have different plans: {' and '.join(others)} differ")
+        raise Fault(f"the two scripts describe different roads: the {' and the '.join(others)} must be the same in both")
 
 
 def list_road_fields(plan: PlanLine) -> dict[str, object]:

@@ -1,0 +1,62 @@
+"""Refusals of the server: each has a name, which scripts compare, and a sentence for people.
+
+    raise Refused("TooFarAhead", "at most 36000 steps ahead of the clock, which is at 7200")
+
+What the program refuses has the names of docs/FORMAT.md. `MEANINGS` has all others; live/PROTOCOL.md has the same table.
+"""
+from __future__ import annotations
+
+from typing import Any
+
+MEANINGS = {
+    "AllSeatsTaken": "All 63 seats are taken: take one over",
+    "Busy": "The server does as much as it can at once: ask again later",
+    "Failed": "The server could not do this; its log says why",
+    "NameTaken": "A seat has this name, or one that looks like it: choose another",
+    "NoEffect": "Nothing would change by this operation",
+    "NoName": "A name has 1 to 64 characters",
+    "NoPreview": "The two roads of the preview are not kept any more: ask for it again",
+    "NoProgram": "The program ended over this twice; the server's log says why",
+    "NoSuchChange": "The seat holds no change of this stamp or key",
+    "NoSuchSeat": "Nobody has this seat",
+    "NotBound": "The site's number is bound to no other folder",
+    "NothingToPut": "An undo cannot be put again: change the line itself",
+    "NothingToUndo": "The undo of this operation would change nothing",
+    "NotWritten": "The disk did not take it, so it was not done: try again later",
+    "NotYourReplica": "A tab changes its own replica, and sees the shared one and its preview, too",
+    "OneDay": "The words of this road are drawn by no seed, so all days are the same",
+    "OtherVersion": "The page is older or newer than the server: reload it",
+    "OwnSite": "A site is excluded by another site",
+    "PrivateChanges": "The seat has changes that are not shared: share or undo them first",
+    "SeatConnected": "A tab is connected to this seat",
+    "SiteExcluded": "Nothing that this site makes counts, until another site lets it in",
+    "Stopped": "The question was stopped before a day was done",
+    "TooFarAhead": "A replica runs at most 36,000 steps ahead of the clock",
+    "TooLong": "The report took more than 600 seconds: show less time",
+    "TooManyEdits": "A gesture has at most 1,200 raw edits",
+    "TooManyObjects": "The shapes of an operation have at most 600 objects",
+    "UnknownKey": "The seat of this key was taken over, or is free again: choose one",
+}
+OF_THE_FORMAT = frozenset({
+    "line too long", "not json", "not a command", "unknown form", "NoReplica", "NoMessage", "NameTaken", "NoObject", "Step",
+    "ValueOutOfRange", "Count", "Insider", "CountsSpent", "Horizon", "NoDetector", "Range", "NotSimulated"})
+NOT_A_COMMAND = "not a command"
+
+
+class Refused(Exception):
+    """A refusal: `text` is its name, `why` a sentence, `more` are further fields of the reply."""
+
+    def __init__(self, text: str, why: str, **more: Any) -> None:
+        if text not in MEANINGS and text not in OF_THE_FORMAT:
+            raise ValueError(f"no refusal is named {text}")
+        super().__init__(text)
+        self.text, self.why, self.more = text, why, more
+
+    def reply(self) -> dict[str, Any]:
+        """Return the reply to a tab."""
+        return {"refused": self.text, "why": self.why, **self.more}
+
+
+def not_a_command(why: str) -> Refused:
+    """Return the refusal of a malformed command."""
+    return Refused(NOT_A_COMMAND, why)
