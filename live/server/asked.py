@@ -117,14 +117,14 @@ class Asked:
             return default
         value = self.raw(name)
         if type(value) is not str:
-            raise not_a_command(f"`{name}`: {shown(value)[:60]} is no text")
+            raise not_a_command(f"`{name}` is a string, not {shown(value)[:60]}")
         return words(value, most)
 
     def texts(self, name: str, most: int, longest: int) -> list[str]:
         """Texts that can be shown in a line each."""
         value = self.raw(name)
         if type(value) is not list or len(value) > most or any(type(one) is not str for one in value):
-            raise not_a_command(f"`{name}` is a list of at most {most} texts")
+            raise not_a_command(f"`{name}` is a list of at most {most} strings")
         return [words(one, longest) for one in value]
 
     def key(self, name: str = "key") -> str:
@@ -132,7 +132,7 @@ class Asked:
         value = self.raw(name)
         is_key = type(value) is str and 1 <= len(value) <= LONGEST_KEY and value.isascii() and value.isprintable()
         if not is_key:
-            raise not_a_command(f"`{name}` is a text of 1 to {LONGEST_KEY} ASCII signs, a new one for each gesture")
+            raise not_a_command(f"`{name}` is a string of 1 to {LONGEST_KEY} ASCII characters, a new one for each gesture")
         return str(value)
 
     def called(self, name: str) -> tuple[int, int] | str:

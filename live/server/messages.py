@@ -20,7 +20,7 @@ def read_message(body: bytes) -> Any:
         value = json.loads(body.decode())
         packed(value).encode()
     except (ValueError, RecursionError):
-        raise InvalidMessage(f"it is no message: {words(body[:60].decode(errors='replace'), 60)}") from None
+        raise InvalidMessage(f"it is not JSON: {words(body[:60].decode(errors='replace'), 60)}") from None
     return value
 
 
