@@ -267,7 +267,7 @@ class Questions:
             return await self._previewed("share", state.shared, own.shareable() if stamps is None else sendable(
                 own.road, state.shared.road, own.number, stamps))
         fed = SHARED if what == "share" else index
-        found: tuple[Preview, Reply] = await self._keeper.truly(lambda: self._keeper.ask(index, (fed,), body), "shared")
+        found: tuple[Preview, Reply] = await self._keeper.read_committed(lambda: self._keeper.ask(index, (fed,), body), "shared")
         preview, reply = found
         self._previews.put(index, preview)
         return reply
