@@ -20,15 +20,17 @@ def places_of(svg: str) -> dict[str, float]:
 
 
 class Charts(unittest.TestCase):
-    def chart(self, title: str, names: list[str], has_band: bool = False) -> str:
+    def chart(self, title: str, names: list[str], has_band: bool = False, width: int = 640) -> str:
         chart = Chart(title, "km/h", Clock(), 0, HOUR)
         for name in names:
             chart.add(Line(name, [(0, 1.0), (HOUR, 2.0)], "#000", [0.0, 1.0] if has_band else None, [2.0, 3.0] if has_band else None))
-        return chart.draw(470, 175)
+        return chart.draw(width, 175)
 
     def test_a_long_legend_has_a_line_of_its_own(self) -> None:
-        for title, names, lines in (("Flow", ["a", "b"], 1), ("Time-mean speed, km 2.7975", ["without works", "with works"], 2)):
-            places = places_of(self.chart(title, names))
+        for title, names, width, lines in (
+                ("Flow", ["a", "b"], 640, 1), ("Time-mean speed, km 2.7975", ["without works", "with works"], 470, 2),
+                ("Flow", ["a", "b"], 470, 2), ("Time-mean speed, station 402, km 2.7975", ["simulated with much more", "measured, too"], 640, 2)):
+            places = places_of(self.chart(title, names, width=width))
             legend = next(y for text, y in places.items() if names[0] in text and text != title)
             self.assertEqual(len({places[title], legend}), lines)
 

@@ -165,7 +165,7 @@ def place_rows(counts: Counts, clock: Clock, notes: list[str]) -> list[PlacedRow
     """Return the rows with their steps, and add notes on duplicate rows and on times that the clock skips.
 
     When the clock is put back, an hour comes twice: a second row of the same time then belongs to the second hour."""
-    again = {row.line for row in counts.repeated if isinstance(row.time, datetime.datetime) and clock.comes_twice(row.time)}
+    again = {row.line for row in counts.repeated if clock.comes_twice(find_moment(clock, row))}
     own = replace(counts, notes=[])
     note_lines(own, [row.line for row in counts.repeated if row.line not in again], *(
         f"{what} the station and time of an earlier row: only the first one counts" for what in ("row has", "rows have")))

@@ -25,6 +25,8 @@ SPEEDS = ((0, (120, 0, 30)), (27, (215, 48, 39)), (54, (252, 141, 89)), (81, (25
 BAND = "95 % interval of the mean"
 LETTER = 7.5
 """The width of a letter of a title or legend, at the most."""
+NARROW = 500
+"""The width below which a chart has its legend below its title, so that charts beside each other look alike."""
 LEAST_CLOSURE = 6.0
 """The least height and width of a closure in a space-time diagram, so that it is seen."""
 NO_CAR = (245, 245, 245)
@@ -107,7 +109,7 @@ class Chart:
         step = choose_tick(self.top or max(values, default=1.0) or 1.0, 4)
         top = math.ceil((self.top or max(values, default=1.0) or 1.0) / step - 1e-9) * step
         room = width - LEFT - RIGHT - LETTER * (len(self.title) + 3)
-        has_own_line = LETTER * sum(len(name) + 4 for name, _, _ in self.list_names()) > room
+        has_own_line = width < NARROW or LETTER * sum(len(name) + 4 for name, _, _ in self.list_names()) > room
         ceiling = TOP + 14 * has_own_line
         inner, depth = width - LEFT - RIGHT, height - ceiling - BOTTOM
 

@@ -135,7 +135,8 @@ def format_page(contents: Contents) -> str:
     times = f"{clock.to_text(first)} to {clock.to_text(last)}"
     few = "".join(f'<p class="warning">{escape(one)}.</p>' for one in warn_few_days(days))
     parts = [
-        f"<h1>{escape(contents.title)}</h1>", f'<p class="window">{escape(describe_window(contents))}</p>', few, make_list_html(contents.facts), "<h2>Works</h2>" + make_list_html(contents.works or ["none"]),
+        f"<h1>{escape(contents.title)}</h1>", f'<p class="window">{escape(describe_window(contents))}</p>', few, make_list_html(contents.facts),
+        "<h2>Works</h2>" + make_list_html(contents.works or ["none"]),
         f'<p class="note">Rounded to the model: {escape("; ".join(contents.notes))}.</p>' if contents.notes else "",
         f"<h2>Space-time diagrams</h2>{make_fields_html(contents)}",
         f"<h2>Flow and speed by time, each {PERIOD // 60} minutes, {f'mean of {days} days' if days > 1 else 'one day'}</h2>"

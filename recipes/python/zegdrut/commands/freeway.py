@@ -18,8 +18,9 @@ sections or stalled cars, without.jsonl is the same road and seed without them.
 the command lists, and their tables are then_demand.csv and so on.
 --plan runs nothing. It prints the plan and the shapes of sections and stalled cars for live/serve.
 
-The stretch is measured by Edie's definitions over its rows, which are those that the steps of the period lead to. With N the number of cars on its cells in all rows and V the sum of
-their speeds, density is N and flow is V, both per cell and step, and the space-mean speed is V / N.
+The stretch is measured by Edie's definitions over its rows, which are those that the steps of the period lead to. With N the number
+of cars on its cells in all rows and V the sum of their speeds, density is N and flow is V, both per cell and step, and the
+space-mean speed is V / N.
 """
 from __future__ import annotations
 

@@ -9,6 +9,9 @@ compared. The model has one lane, so all figures are per lane. The run begins so
 COUNTS.csv has a header with time, km or station, count or flow, and perhaps speed. It may also be five-minute station data without a
 header; then --stations TABLE.csv has station, km or miles, and lanes. Missing and doubtful data are reported with line numbers.
 
+With --write-road FILE it writes the road with the measured demand instead, which freeway, metering and report take. With --demand road it
+simulates the demand of ROAD.json, such as that of a calibrated road.
+
 It writes the tables hours-, speeds- and intervals-NAME-0630-0930.csv, and the pictures comparison- and space-time-NAME-0630-0930.svg.
 """
 from __future__ import annotations
