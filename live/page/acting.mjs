@@ -313,12 +313,13 @@ export async function take() {
   closePreview();
   const covered = coveredOwn();
   const fresh = untaken();
+  const from = makers(fresh);
   const said = await ask({take: {at: need("me").at, message: "shared"}}, {away: messages.NOT_TAKEN});
   if (!said || "refused" in said) return;
   if (said.touched !== null) roadOf("mine").invalidate(said.touched);
   await takeLayers("mine", said);
   refreshLists();
-  tellTaken(fresh.length, makers(fresh), covered);
+  tellTaken(fresh.length, from, covered);
   refreshDiagram();
 }
 

@@ -25,18 +25,47 @@ const readText = ({days}) => (days > 1 ? `Means of ${days} days: ${READ_MEANS}`
 const FIGURE_NAMES = {vehicle_hours: "Vehicle hours", lost: "Lost demand, cars",
                delay: "Delay, vehicle hours"};
 
-/** Return the name of a figure.
- * @param {DaysFigure} figure
+/** Make a cell of a value, with how sure it is below it; at the left of both the seconds from the
+ * inlet, if the row has them.
+ * @param {string} text
+ * @param {string} small
+ * @param {string} seconds
+ * @param {string} smallSeconds
  */
-function nameOfFigure({name}) {
-  const [what, place] = name.split(" ");
-  const cell = need("plan").detectors[Number(place)];
-  return FIGURE_NAMES[name] ?? (what === "cars" ? `Cars at ${kmText(cell)} km`
-    : `Seconds to ${cell === undefined ? "the road's end" : `${kmText(cell)} km`}`);
+const cell = (text, small, seconds = "", smallSeconds = "") => element("td", text, {},
+  element("span", seconds && `${seconds} s`, {className: "trip"}),
+  element("small", small, {}, element("span", smallSeconds, {className: "trip"})));
+
+/** Make a row of a figure, or of the cars at a detector with their seconds from the inlet.
+ * @param {string} name
+ * @param {("before" | "after")[]} sides     in their order
+ * @param {DaysFigure} figure
+ * @param {DaysFigure} [trip]
+ */
+function rowOf(name, sides, figure, trip) {
+  const {difference} = figure;
+  return row(headCell(name, "row"), ...sides.map((side) => (figure.name === "delay" ? element("td")
+    : cell(meanText(figure[side]), halfText(figure[side]), trip && meanText(trip[side]), trip && halfText(trip[side])))),
+    cell(changeText(difference), sureText(difference), trip && changeText(trip.difference),
+      trip && sureText(trip.difference)));
 }
 
-/** @type {(text: string, small: string) => HTMLElement} */
-const cell = (text, small) => element("td", text, {}, element("small", small));
+/** Make the rows of the figures: those of all, those of the detectors, the road's end.
+ * @param {DaysFigure[]} figures
+ * @param {("before" | "after")[]} sides
+ */
+function rowsOf(figures, sides) {
+  const {detectors} = need("plan");
+  const find = (/** @type {string} */ name) => figures.find((one) => one.name === name);
+  const all = figures.filter(({name}) => name in FIGURE_NAMES)
+    .map((one) => rowOf(FIGURE_NAMES[one.name], sides, one));
+  const atDetectors = detectors.flatMap((place, index) => {
+    const cars = find(`cars ${index}`);
+    return cars ? [rowOf(`Cars at ${kmText(place)} km`, sides, cars, find(`seconds ${index}`))] : [];
+  });
+  const end = find(`seconds ${detectors.length}`);
+  return [...all, ...atDetectors, ...(end ? [rowOf("Seconds to the road's end", sides, end)] : [])];
+}
 
 /** Make the table, with the roads in the order of the one that it stands for.
  * @param {DaysFigures} said
@@ -48,14 +77,10 @@ function tableOf(said, isPreview) {
   const sides = order.map(([side]) => side);
   const heads = [...order.map(([, head]) => head),
                  isPreview ? "change" : "mine \u2212\u00a0shared"];
-  const lines = figures.map((one) => row(headCell(nameOfFigure(one), "row"),
-    ...sides.map((side) => (one.name === "delay" ? element("td")
-      : cell(meanText(one[side]), halfText(one[side])))),
-    cell(changeText(one.difference), sureText(one.difference))));
   return element("table", "", {className: "over"},
     element("caption", `${daysText(said)}, ${store.day.timeText(from)} to ${store.day.timeText(to)}`),
     element("thead", "", {}, row(element("td"), ...heads.map((head) => headCell(head)))),
-    element("tbody", "", {}, ...lines));
+    element("tbody", "", {}, ...rowsOf(figures, sides)));
 }
 
 /** Ask, stop, or go back. */

@@ -24,8 +24,10 @@ def over_days(tab: Tab, within: str) -> dict[str, list[str]]:
             tab.until(is_there, "the days")
             break
     assert is_there(), tab.truth()
-    rows = tab.script("return [...document.querySelectorAll(`${arguments[0]} .over tbody tr`)].map((line) => "
-                      "[...line.children].map((one) => one.innerText.replace('\\n', ' ')))", within)
+    rows = tab.script("""
+        const text = (one) => (one ? [...one.childNodes].filter(({nodeType}) => nodeType === 3).map(({data}) => data).join("") : "");
+        return [...document.querySelectorAll(`${arguments[0]} .over tbody tr`)].map((line) =>
+          [...line.children].map((one) => `${text(one)} ${text(one.querySelector("small"))}`.trim()));""", within)
     return {name: cells for name, *cells in rows}
 
 
@@ -60,7 +62,12 @@ class TwoTabs(BrowserCase):
         found = over_days(ada, "#over")
         self.assertFalse(ada.part("oneDay").is_displayed())
         self.assertEqual(list(found), ["Vehicle hours", "Lost demand, cars", "Delay, vehicle hours", "Cars at 0.21 km",
-                                       "Seconds to 0.21 km", "Seconds to the road's end"])
+                                       "Seconds to the road's end"])
+        # Beside the cars stand their seconds from the inlet, with their interval below.
+        trips = ada.script("return [...document.querySelectorAll('#over tbody .trip')].map((one) => one.textContent).filter(Boolean)")
+        self.assertEqual(len(trips), 6)
+        for trip in trips[::2]:
+            self.assertRegex(trip, r"^[+\u2212]?\d+\.\d s$")
         self.assertIn("Over 3 days, 0:00:00 to 0:15:00", ada.text("over"))
         mine, shared, more = map(numbers, found["Vehicle hours"])
         self.assertAlmostEqual(more[0], mine[0] - shared[0], delta=0.11)

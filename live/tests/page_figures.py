@@ -132,9 +132,9 @@ class OneFreeway(BrowserCase):
         self.exact(tab)
         tab.script("""
             window.beside = [];
-            const {line} = store, {socket} = line;
-            const take = line.take.bind(line), send = socket.send.bind(socket);
-            line.take = (value) => (value.rows ? setTimeout(() => take(value), 1000) : take(value));
+            const {connection} = store, {socket} = connection;
+            const receive = connection.receive.bind(connection), send = socket.send.bind(socket);
+            connection.receive = (value) => (value.rows ? setTimeout(() => receive(value), 1000) : receive(value));
             socket.send = (text) => {
               if (store.openRowQuestions) beside.push(Object.keys(JSON.parse(text))[1]);
               send(text);
