@@ -17,7 +17,7 @@ import time
 from types import TracebackType
 from typing import TYPE_CHECKING, Any, Callable, Deque, Iterator, NamedTuple
 
-from .asked import LONGEST_NAME, LONGEST_NOTE, words
+from .asked import LONGEST_NAME, LONGEST_NOTE, clean_text
 from .brokers import broker_of, connack_string, new_client
 from .floods import FLOOD, STRANGERS, UNSEALED, Floods, only_newest
 from .journal import packed
@@ -326,7 +326,7 @@ class Sites:
         if type(value) is not dict or value.get("form") != SITE_FORM or type(value.get("operations")) is not list:
             raise InvalidMessage(f"it has no list of operations of form {SITE_FORM}")
         good = await self._good(value["operations"])
-        title = words(value.get("title") or "", LONGEST_NOTE)
+        title = clean_text(value.get("title") or "", LONGEST_NOTE)
         latest = self._keeper.stamps.latest_count()
         due = [one for one in good if one.stamp[0] <= latest]
         for begin in range(0, len(due), AT_ONCE):
@@ -353,7 +353,7 @@ class Sites:
 
     def _read(self, written: Any) -> Operation:
         one = read_operation(written)
-        if any(words(text, most) != text for text, most in ((one.about.who, LONGEST_NAME), (one.about.note, LONGEST_NOTE))):
+        if any(clean_text(text, most) != text for text, most in ((one.about.who, LONGEST_NAME), (one.about.note, LONGEST_NOTE))):
             raise Malformed("`who` and `note` are texts that can be shown in a line")
         self._lab.check(one)
         return one

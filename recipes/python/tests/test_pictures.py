@@ -10,6 +10,8 @@ import unittest.mock
 from zegdrut.bars import Bar
 from zegdrut.clock import Clock
 from zegdrut.pictures import Chart, Line, draw_field
+from zegdrut.report_page import format_number
+from zegdrut.units import format_fixed
 
 HOUR = 3_600
 
@@ -48,6 +50,13 @@ class Charts(unittest.TestCase):
         self.assertAlmostEqual(width, 830 / 30, delta=0.1)
         self.assertGreaterEqual(height, 6)
         self.assertAlmostEqual(top + height / 2, 26 + 150 * (1 - 4.20375 / 6), delta=0.2)
+
+
+class Numbers(unittest.TestCase):
+    def test_nothing_is_minus_zero(self) -> None:
+        for value, digits, wanted in ((-0.04, 1, "0.0"), (-0.4, 0, "0"), (-0.06, 1, "-0.1"), (-1_234.56, 1, "-1234.6"), (0.0, 2, "0.00")):
+            self.assertEqual(format_fixed(value, digits), wanted)
+            self.assertEqual(format_number(value, digits), wanted.replace("-1234", "-1,234"))
 
 
 class Bars(unittest.TestCase):

@@ -15,7 +15,7 @@ from .pictures import AFTER, BEFORE, Chart, Line, draw_field, draw_scale, make_s
 from .programs import program_path, read_record, sum_file
 from .report import PERIOD, Row, Side, SideDay, make_flow_series, make_speed_series
 from .trips import Window
-from .units import CELLS_A_KM, count_things, format_km
+from .units import CELLS_A_KM, count_things, format_fixed, format_km
 
 CELLS_A_PIECE, STEPS_A_PIECE = 7, 30
 NO_BANDS = f'<p class="note">With fewer than {FEW_DAYS} days the charts have no intervals.</p>'
@@ -64,7 +64,7 @@ class Contents:
 
 def format_number(value: float | None, digits: int = 1) -> str:
     """Return a number for the table; an empty string if it is unknown."""
-    return "" if value is None else f"{value:,.{digits}f}"
+    return "" if value is None else format_fixed(value, digits, ",")
 
 
 def count_digits(name: str) -> int:

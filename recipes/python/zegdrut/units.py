@@ -82,6 +82,11 @@ def count_things(number: int, thing: str, things: str | None = None) -> str:
     return f"{number:,} {thing if number == 1 else things or thing + 's'}"
 
 
+def format_fixed(number: float, digits: int, separator: str = "") -> str:
+    """Return a number with some decimals, never "-0.0". separator: "," between thousands, or nothing."""
+    return f"{round(number, digits) + 0.0:{separator}.{digits}f}"
+
+
 def format_plain(number: float) -> str:
     """Return a number with up to four decimals, without zeros at the end."""
     return f"{number:.4f}".rstrip("0").rstrip(".")

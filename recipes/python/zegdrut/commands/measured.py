@@ -36,7 +36,7 @@ from ..intervals import FEW_DAYS, warn_few_days
 from ..measured import Measured, put_on_road
 from ..pictures import MEASURED, SIMULATED, Chart, Field, Line, draw_field, draw_scale, stack_drawings, make_speed_field
 from ..stations import Counts, read_counts, read_stations
-from ..units import HOUR, count_things, format_km
+from ..units import HOUR, count_things, format_fixed, format_km
 from ..wire import Record
 from .freeway import FIGURES
 
@@ -133,7 +133,7 @@ def make_title(model: Model) -> str:
 
 def format_number(value: float | None, digits: int = 1) -> str:
     """Return a number for a table; an empty string for None."""
-    return "" if value is None else f"{value:.{digits}f}"
+    return "" if value is None else format_fixed(value, digits)
 
 
 def find_places(model: Model) -> dict[str, str]:

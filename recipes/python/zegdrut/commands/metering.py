@@ -39,7 +39,7 @@ from ..intervals import describe_chance, estimate_mean, estimate_paired, warn_fe
 from ..lab import RoadLab
 from ..road_scripts import Chances, make_base_edits, make_commands, make_plan
 from ..trips import Trips, Window, count_admitted_cars, compute_vehicle_hours
-from ..units import to_cells
+from ..units import format_fixed, to_cells
 from .freeway import FIGURES, report_progress
 from .measured import check_days
 
@@ -192,13 +192,13 @@ def format_table(days: Sequence[tuple[Numbers, Numbers]]) -> list[str]:
         before, after = [one[name] for one, _ in days], [other[name] for _, other in days]
         difference = estimate_paired(before, after)
         numbers = [number for one in (estimate_mean(before), estimate_mean(after), difference) for number in one]
-        lines.append(f"{name}," + ",".join(f"{number:.2f}" for number in numbers) + "," + describe_chance(difference))
+        lines.append(f"{name}," + ",".join(format_fixed(number, 2) for number in numbers) + "," + describe_chance(difference))
     return lines
 
 
 def format_days(days: Sequence[Numbers], titles: Sequence[str]) -> list[str]:
     """Return the table of some days."""
-    return [",".join(titles), *(",".join([name, *(f"{day[name]:.2f}" for day in days)]) for name in days[0])]
+    return [",".join(titles), *(",".join([name, *(format_fixed(day[name], 2) for day in days)]) for name in days[0])]
 
 
 def format_minutes(site: Site, meters: Sequence[RampMeter]) -> list[str]:
