@@ -243,7 +243,7 @@ class TwoTabs(BrowserCase):
         ada.press("Put on top: 27 km/h")
         ada.settled()
         first = "27 km/h, 0–0.3 km, 0:20:00–0:30:00"
-        said = [f"{done}: the place on top of {first}: done." for done in ("Undone", "Redone")]
+        said = [f"{done}: the place on top of {first}." for done in ("Undone", "Redone")]
         for name, wanted in zip(("Undo", "Redo"), said):
             ada.press(name)
             ada.settled()
@@ -253,7 +253,7 @@ class TwoTabs(BrowserCase):
         for name, wanted in (("Undo", "Undone"), ("Redo", "Redone")):
             ada.press(name)
             ada.settled()
-            self.assertEqual(ada.text("said"), f"{wanted}: 27 km/h, 0–0.3 km, 0:20:00–0:40:00: done.")
+            self.assertEqual(ada.text("said"), f"{wanted}: 27 km/h, 0–0.3 km, 0:20:00–0:40:00.")
 
     def test_what_needs_the_line_is_not_done_later(self) -> None:
         ada, ben = self.open(FREE_ROAD)
