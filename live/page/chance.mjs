@@ -25,16 +25,14 @@ const readText = ({days}) => (days > 1 ? `Means of ${days} days: ${READ_MEANS}`
 const FIGURE_NAMES = {vehicle_hours: "Vehicle hours", lost: "Lost demand, cars",
                delay: "Delay, vehicle hours"};
 
-/** Make a cell of a value, with how sure it is below it; at the left of both the seconds from the
- * inlet, if the row has them.
+/** Make a cell of a value, with how sure it is below it, and then the seconds from the inlet, if the
+ * row has them.
  * @param {string} text
  * @param {string} small
  * @param {string} seconds
- * @param {string} smallSeconds
  */
-const cell = (text, small, seconds = "", smallSeconds = "") => element("td", text, {},
-  element("span", seconds && `${seconds} s`, {className: "trip"}),
-  element("small", small, {}, element("span", smallSeconds, {className: "trip"})));
+const cell = (text, small, seconds = "") => element("td", text, {}, element("small", small),
+  ...(seconds ? [element("small", seconds, {className: "seconds"})] : []));
 
 /** Make a row of a figure, or of the cars at a detector with their seconds from the inlet.
  * @param {string} name
@@ -44,10 +42,11 @@ const cell = (text, small, seconds = "", smallSeconds = "") => element("td", tex
  */
 function rowOf(name, sides, figure, trip) {
   const {difference} = figure;
+  const later = trip && `${changeText(trip.difference)} s ${sureText(trip.difference)}`;
   return row(headCell(name, "row"), ...sides.map((side) => (figure.name === "delay" ? element("td")
-    : cell(meanText(figure[side]), halfText(figure[side]), trip && meanText(trip[side]), trip && halfText(trip[side])))),
-    cell(changeText(difference), sureText(difference), trip && changeText(trip.difference),
-      trip && sureText(trip.difference)));
+    : cell(meanText(figure[side]), halfText(figure[side]),
+      trip && `${meanText(trip[side])} s ${halfText(trip[side])}`))),
+    cell(changeText(difference), sureText(difference), later));
 }
 
 /** Make the rows of the figures: those of all, those of the detectors, the road's end.

@@ -142,9 +142,9 @@ function delayRow(exact) {
 function noteText(exact) {
   if (!exact && store.clock.rate) return messages.PAUSE_FOR_FIGURES;
   const scatter = exact ? Math.hypot(...exact.after.scatter) : 0;
-  return "Lost demand: cars asked for minus cars admitted"
+  return "Lost: cars asked for minus cars admitted"
     + (scatter >= 1 ? ` (\u00b1 ${whole(scatter)} by chance)` : "")
-    + ". Seconds count from the inlet; in the last column they are delay.";
+    + ". Seconds: from the inlet; on the right, delay.";
 }
 
 /** Show the figures that are wanted, as far as they are there; while the clock runs only all. */

@@ -63,11 +63,11 @@ class TwoTabs(BrowserCase):
         self.assertFalse(ada.part("oneDay").is_displayed())
         self.assertEqual(list(found), ["Vehicle hours", "Lost demand, cars", "Delay, vehicle hours", "Cars at 0.21 km",
                                        "Seconds to the road's end"])
-        # Beside the cars stand their seconds from the inlet, with their interval below.
-        trips = ada.script("return [...document.querySelectorAll('#over tbody .trip')].map((one) => one.textContent).filter(Boolean)")
-        self.assertEqual(len(trips), 6)
-        for trip in trips[::2]:
-            self.assertRegex(trip, r"^[+\u2212]?\d+\.\d s$")
+        # Below the cars stand their seconds from the inlet, with their interval.
+        trips = ada.script("return [...document.querySelectorAll('#over tbody .seconds')].map((one) => one.textContent)")
+        self.assertEqual(len(trips), 3)
+        for trip in trips:
+            self.assertRegex(trip, r"^[+\u2212]?\d+\.\d s \u00b1 \d+\.\d")
         self.assertIn("Over 3 days, 0:00:00 to 0:15:00", ada.text("over"))
         mine, shared, more = map(numbers, found["Vehicle hours"])
         self.assertAlmostEqual(more[0], mine[0] - shared[0], delta=0.11)
