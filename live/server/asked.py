@@ -34,7 +34,7 @@ STAMP = row_of(("count", lambda value: whole(value, 1 << 48)), ("number", lambda
 PAIR = row_of(("index", whole), ("chance", whole))
 
 
-def words(value: Any, most: int) -> str:
+def clean_text(value: Any, most: int) -> str:
     """Return a text for one line: without control characters, marks that turn its direction, and halves of pairs."""
     begin = " ".join(str(value)[:8 * most].split())
     plain = "".join(sign for sign in begin if unicodedata.category(sign)[0] != "C")
@@ -72,13 +72,13 @@ class Asked:
         self._known.add(name)
         return name in self._fields
 
-    def raw(self, name: str) -> Any:
+    def require(self, name: str) -> Any:
         if not self.has(name):
             raise not_a_command(f"`{self.verb}` lacks `{name}`")
         return self._fields[name]
 
     def _checked(self, name: str, faults: Callable[[Any], Any]) -> Any:
-        value = self.raw(name)
+        value = self.require(name)
         told = list(islice(faults(value), TOLD))
         if told:
             text = packed(value).encode()
@@ -107,7 +107,7 @@ class Asked:
         return value
 
     def number(self, name: str, most: float) -> float:
-        value = self.raw(name)
+        value = self.require(name)
         if type(value) not in (int, float) or not 0 <= value <= most:
             raise Refused("Range", f"`{name}` is 0 to {most}")
         return float(value)
@@ -115,29 +115,29 @@ class Asked:
     def text(self, name: str, most: int, default: str | None = None) -> str:
         if default is not None and not self.has(name):
             return default
-        value = self.raw(name)
+        value = self.require(name)
         if type(value) is not str:
-            raise not_a_command(f"`{name}`: {shown(value)[:60]} is no text")
-        return words(value, most)
+            raise not_a_command(f"`{name}` is a string, not {shown(value)[:60]}")
+        return clean_text(value, most)
 
     def texts(self, name: str, most: int, longest: int) -> list[str]:
         """Texts that can be shown in a line each."""
-        value = self.raw(name)
+        value = self.require(name)
         if type(value) is not list or len(value) > most or any(type(one) is not str for one in value):
-            raise not_a_command(f"`{name}` is a list of at most {most} texts")
-        return [words(one, longest) for one in value]
+            raise not_a_command(f"`{name}` is a list of at most {most} strings")
+        return [clean_text(one, longest) for one in value]
 
     def key(self, name: str = "key") -> str:
         """Return the key of a gesture: one that is sent again has the same."""
-        value = self.raw(name)
+        value = self.require(name)
         is_key = type(value) is str and 1 <= len(value) <= LONGEST_KEY and value.isascii() and value.isprintable()
         if not is_key:
-            raise not_a_command(f"`{name}` is a text of 1 to {LONGEST_KEY} ASCII signs, a new one for each gesture")
+            raise not_a_command(f"`{name}` is a string of 1 to {LONGEST_KEY} ASCII characters, a new one for each gesture")
         return str(value)
 
-    def called(self, name: str) -> tuple[int, int] | str:
+    def stamp_or_key(self, name: str) -> tuple[int, int] | str:
         """Return a stamp, or the key of a gesture that may not have one yet."""
-        if type(self.raw(name)) is str:
+        if type(self.require(name)) is str:
             return self.key(name)
         count, number = self._checked(name, STAMP)
         return count, number
@@ -152,7 +152,7 @@ class Asked:
         return [(one, other) for one, other in self._checked(name, list_of(PAIR, "pair"))]
 
     def edits(self) -> list[list[Any]]:
-        edits = self.raw("edits")
+        edits = self.require("edits")
         if type(edits) is not list or 1 <= len(edits) <= MOST_EDITS:
             edits = self._checked("edits", EDITS)
         if not 1 <= len(edits) <= MOST_EDITS:
@@ -170,7 +170,7 @@ class Asked:
     def is_null(self, name: str) -> bool:
         return self.has(name) and self._fields[name] is None
 
-    def yes(self, name: str) -> bool:
+    def flag(self, name: str) -> bool:
         """Return whether a field is true; false if it is missing."""
         if self.has(name) and type(self._fields[name]) is not bool:
             raise not_a_command(f"`{name}` is true or false")
@@ -183,7 +183,7 @@ class Asked:
         first, last = self._checked("cells", row_of(("first cell", whole), ("last cell", whole)))
         return first, last
 
-    def rest(self) -> dict[str, Any]:
+    def remaining(self) -> dict[str, Any]:
         """Return the fields that were not asked for, and count them as asked for."""
         rest = {name: value for name, value in self._fields.items() if name not in self._known}
         self._known.update(rest)

@@ -167,7 +167,8 @@ def of_day(asked: dict[str, Any], wanted: list[list[Rates]], _pairs: Any, _at: s
     from zegdrut.days import Day
     from zegdrut.trips import Window
     window = Window(asked["first"], asked["last"])
-    roads = [figures.DrivenRoad({**asked["plan"], "words": seed}) for _ in SIDES]
+    plan: Any = {**asked["plan"], "words": seed}
+    roads = [figures.DrivenRoad(plan) for _ in SIDES]
     try:
         for road, side in zip(roads, SIDES):
             road.become(figures.edits_of(asked[side]))

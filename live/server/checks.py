@@ -58,6 +58,6 @@ class Checks:
     def _edit(self, kind: str, index: int, step: int, value: int | None, stamp: Stamp) -> None:
         if kind not in KINDS:
             raise Refused("not a command", f"the kind {kind!r} does not exist: there are {', '.join(sorted(KINDS))}")
-        fault = self._reasons.edit_fault([kind, index, step, *stamp, value])
+        fault = self._reasons.edit_fault((kind, index, step, *stamp, value))
         if fault:
             raise Refused(*fault)

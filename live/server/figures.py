@@ -27,6 +27,7 @@ if TYPE_CHECKING:
     from zegdrut import Edit, RoadLab
     from zegdrut.demand import Rates
     from zegdrut.trips import Trips, TripsCompared, Window
+    from zegdrut.wire import PlanLine
 
 PATIENCE = 60.0  # seconds of a question; the next one goes on where it ended
 AT_ONCE = 5.0  # seconds after which a program says how far it is
@@ -140,7 +141,7 @@ Edits = dict[tuple[str, int, int], int]
 class DrivenRoad:
     """A road that is run and read on, and brought to other edits."""
 
-    def __init__(self, plan: dict[str, Any]) -> None:
+    def __init__(self, plan: PlanLine) -> None:
         from zegdrut import RoadLab
         from zegdrut.trips import Trips
         self.edits: Edits = {}
@@ -230,7 +231,7 @@ class Roads:
     def __init__(self) -> None:
         self._roads: OrderedDict[str, DrivenRoad] = OrderedDict()
 
-    def road(self, slot: str, plan: dict[str, Any]) -> DrivenRoad:
+    def road(self, slot: str, plan: PlanLine) -> DrivenRoad:
         """Return the road of a slot."""
         road = self._roads.pop(slot, None)
         if road is not None and road.plan != plan:

@@ -388,7 +388,7 @@ class Keeper:
         """Return whether a shared operation is on the disk."""
         return self.state.shared.places.get(one, self.confirmed) < self.confirmed
 
-    async def truly(self, look: Callable[[], Awaitable[Any]], may_see: str = "all") -> Any:
+    async def read_committed(self, look: Callable[[], Awaitable[Any]], may_see: str = "all") -> Any:
         """Return what `look` gives, once what it may have seen of others is on the disk: nothing, what was `shared`, or `all`.
         Look again if that was not taken."""
         while True:

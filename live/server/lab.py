@@ -125,7 +125,7 @@ class Lab:
         def makes(seat: SeatReplica, new: Stamp, about: About) -> Operation:
             old = self._held_by(seat, stamp)
             if not old.names:
-                raise Refused("NothingToPut", "an undo cannot be put again: change the line itself")
+                raise Refused("NothingToPut", "an undo cannot be repeated: change the line itself")
             return repeat(seat.road, new, old, About(about.who, old.about.note, about.when, old.about.shape))
         return await self._make(index, key, "", times, makes)
 
@@ -160,7 +160,7 @@ class Lab:
         """Return why the undo of an operation changes nothing."""
         record = seat.road.record
         if one.site in record.excluded:
-            return f"site {one.site} is left out, so it does not count"
+            return f"site {one.site} is excluded, so it has no effect"
         by = [other for other in overruling(seat.road, one) if other is not one]
         if not record.counts(one):
             by = [other for other in record.undos_of(one) if record.counts(other)]
@@ -211,7 +211,7 @@ class Lab:
                           "has come") from None
         self.check(one)
         if one.site in seat.road.record.excluded:
-            raise Refused("SiteExcluded", "this site is left out: nothing counts that is put here, until another site lets it in")
+            raise Refused("SiteExcluded", "this site is excluded: changes made here have no effect until another site includes it again")
         after = seat.road.adding([one])
         if after.layers == seat.road.layers and after.record.excluded == seat.road.record.excluded:
             raise Refused("NoEffect", self._why_no_effect(one))
@@ -219,7 +219,7 @@ class Lab:
 
     def _why_no_effect(self, one: Operation) -> str:
         if one.excludes is not None:
-            return f"site {one.excludes[0]} is {'left out' if one.excludes[1] else 'in'} already"
+            return f"site {one.excludes[0]} is {'excluded' if one.excludes[1] else 'included'} already"
         if not one.sets:
             return "nothing of this change is there to be put on top, or it is on top already"
         if not any(one.sets.values()):

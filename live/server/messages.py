@@ -4,7 +4,7 @@ from __future__ import annotations
 import json
 from typing import Any
 
-from .asked import words
+from .asked import clean_text
 from .journal import packed
 
 LONGEST_HASH = 40
@@ -20,7 +20,7 @@ def read_message(body: bytes) -> Any:
         value = json.loads(body.decode())
         packed(value).encode()
     except (ValueError, RecursionError):
-        raise InvalidMessage(f"it is no message: {words(body[:60].decode(errors='replace'), 60)}") from None
+        raise InvalidMessage(f"it is not JSON: {clean_text(body[:60].decode(errors='replace'), 60)}") from None
     return value
 
 
@@ -33,7 +33,7 @@ def site_of(folder: str, value: Any) -> tuple[str, str, int, str]:
     said, run, number, road = fields_of(value, "folder", "run", "site", "road")
     if type(said) is not str or type(number) is not int or number not in NUMBERS or type(road) is not str:
         raise InvalidMessage("it says of no site who it is")
-    return token_of(folder or said), words(run or "", 40), number, words(road, 40)
+    return token_of(folder or said), clean_text(run or "", 40), number, clean_text(road, 40)
 
 
 def sum_of(folder: str, value: Any) -> tuple[str, str, dict[str, str]]:
@@ -41,12 +41,12 @@ def sum_of(folder: str, value: Any) -> tuple[str, str, dict[str, str]]:
     if type(said) is not str or type(theirs) is not str or type(numbers) is not dict or not all(
             type(one) is str and len(one) <= LONGEST_HASH for one in numbers.values()):
         raise InvalidMessage("it is no hash of what a site holds")
-    return token_of(folder or said), words(theirs, LONGEST_HASH), numbers
+    return token_of(folder or said), clean_text(theirs, LONGEST_HASH), numbers
 
 
 def token_of(folder: str) -> str:
     """Return a folder's token; an older site says its place behind it."""
-    return words(folder, 40).partition("-")[0]
+    return clean_text(folder, 40).partition("-")[0]
 
 
 def form_of(value: Any) -> int:

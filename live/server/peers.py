@@ -9,7 +9,7 @@ from __future__ import annotations
 import time
 from typing import Any, Callable, Iterator, NamedTuple
 
-from .asked import words
+from .asked import clean_text
 from .floods import only_newest
 from .lab import Lab
 from .refusals import Refused
@@ -94,7 +94,7 @@ class Peers:
             self._say(f"Site {number} says that this site's number, {own}, is another folder's: if it is not, live/road NAME "
                       f"unbind {own} there, too")
             return
-        await self._lab.bind(own, words(other, 40))
+        await self._lab.bind(own, clean_text(other, 40))
         self._tell()
 
     def disputed(self) -> dict[int, str]:

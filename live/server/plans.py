@@ -11,7 +11,7 @@ from typing import Any
 
 from zegdrut.clock import Clock
 
-from .asked import LONGEST_NAME, Asked, words
+from .asked import LONGEST_NAME, Asked, clean_text
 from .journal import Broken, packed
 from .lab import Lab
 from .model.operations import Shape
@@ -68,7 +68,7 @@ def read_road(path: Path, program: str) -> Planned:
         return Planned(value)
     said = by_recipe(path, program)
     try:
-        return Planned(said["plan"], [shape_of(one) for one in said["shapes"]], words(path.name, LONGEST_NAME) or "freeway")
+        return Planned(said["plan"], [shape_of(one) for one in said["shapes"]], clean_text(path.name, LONGEST_NAME) or "freeway")
     except Refused as fault:
         raise Broken(f"{path}: {fault.why}") from None
 

@@ -4,13 +4,14 @@ from __future__ import annotations
 import asyncio
 import json
 import time
-from typing import Any, Union
+from typing import Any, Union, cast
 
 from zegdrut import Edit
 from zegdrut.grammar import LAST_HORIZON
 from zegdrut.lost import find_entry
 from zegdrut.rows import count_cars
 from zegdrut.trips import DetectorCount, Window, count_seconds_on
+from zegdrut.wire import PlanLine
 
 from . import admissions, chance, figures, reports, rows, saving
 from .journal import packed
@@ -246,7 +247,7 @@ class Questions:
         cell = plan["inlets"][inlet][0]
         limit, slowing = plan["zones"][cell // plan["zone"]]
         beside = sorted([plan["inlets"][one][0], chance_of] for one, chance_of in before if chance_of)
-        entry = find_entry(plan, cell) if beside else 0
+        entry = find_entry(cast(PlanLine, plan), cell) if beside else 0
         return await self._admissions.curve({"limit": limit, "slowing": slowing, "start": start, "entry": entry, "cell": cell if beside else 0,
                                              "before": beside}, self._keeper.path)
 
@@ -267,7 +268,7 @@ class Questions:
             return await self._previewed("share", state.shared, own.shareable() if stamps is None else sendable(
                 own.road, state.shared.road, own.number, stamps))
         fed = SHARED if what == "share" else index
-        found: tuple[Preview, Reply] = await self._keeper.truly(lambda: self._keeper.ask(index, (fed,), body), "shared")
+        found: tuple[Preview, Reply] = await self._keeper.read_committed(lambda: self._keeper.ask(index, (fed,), body), "shared")
         preview, reply = found
         self._previews.put(index, preview)
         return reply

@@ -119,7 +119,7 @@ def many(read: Callable[[Json], Any], write: Callable[[Any], Json] = list) -> Ho
     """Return how a list is read and written, given its items."""
     def read_all(value: Json) -> list[Any]:
         if not isinstance(value, list):
-            raise Malformed(f"{str(value)[:40]} is not a list")
+            raise Malformed(f"a list was expected, not {str(value)[:40]}")
         return [*map(read, value)]
     return how(read_all, lambda some: [*map(write, some)])
 
@@ -128,7 +128,7 @@ def pairs(read_key: Callable[[Json], Any], write_key: Callable[[Any], Json], nam
     """Return how a mapping to stamps is read and written: as a list of pairs."""
     def read_all(value: Json) -> dict[Any, Stamp]:
         if not isinstance(value, list):
-            raise Malformed(f"{str(value)[:40]} is not a list")
+            raise Malformed(f"a list was expected, not {str(value)[:40]}")
         rows = (read_row(pair, 2, "a pair has two parts") for pair in value)
         return {read_key(key): read_stamp(stamp) for key, stamp in rows}
     return how(read_all, lambda some: [[write_key(key), [*stamp]] for key, stamp in some.items()], name)

@@ -56,24 +56,24 @@ class Differences:
 
 
 class Screen:
-    """A program, and the road that each of its replicas shows."""
+    """A program, and the road that each of its replicas simulates."""
 
     def __init__(self, program: Program, empty: Road) -> None:
         self.program = program
-        self.withdrawn = 0  # edits that it was given and that say nothing any more
+        self.withdrawn = 0  # how many of the edits sent so far were withdrawals
         self._empty, self._count = empty, 0
         self._shown: dict[int, Road] = {}
 
     def shown(self, index: int) -> Road:
-        """Return the road that a replica shows."""
+        """Return the road that a replica simulates."""
         return self._shown.get(index, self._empty)
 
     async def show(self, index: int, at: str, road: Road, edits: Edits) -> None:
-        """Show a road, by the edits from the one that is shown."""
+        """Have a replica simulate a road. `edits` lead to it from the road that it simulates now."""
         self._count += 1
         self.withdrawn += sum(value is None for value in edits.values())
         lines = [packed(line).encode() for line in import_lines(at, rows_of(edits, self._count))]
         for reply in await self.program.ask_all(lines) if lines else ():
             if not reply.startswith(b'{"touched"'):
-                logging.error("the program refused what had been checked: %s", reply[:200])
+                logging.error("the program refused edits that had been checked: %s", reply[:200])
         self._shown[index] = road

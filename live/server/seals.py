@@ -1,6 +1,6 @@
 """Messages between sites, sealed by their shared key.
 
-    seal = Seal(folder, key)               key: bytes, or None where sites trust each other wholly
+    seal = Seal(folder, key)               key: bytes, or None: messages are not sealed
     payload = seal.sealed(topic, body)
     folder, body = seal.opened(topic, payload)
 

@@ -67,7 +67,7 @@ class Seating:
 
         async def in_turn() -> Any:
             return await (look() if turn is None else self._keeper.ask(turn, (), look))
-        asked = asyncio.ensure_future(self._keeper.truly(in_turn))
+        asked = asyncio.ensure_future(self._keeper.read_committed(in_turn))
         while not (await asyncio.wait([asked], timeout=A_MOMENT))[0]:
             if self._listed and self._keeper.journal.waits(A_MOMENT):
                 asked.cancel()

@@ -17,7 +17,7 @@ import time
 from types import TracebackType
 from typing import TYPE_CHECKING, Any, Callable, Deque, Iterator, NamedTuple
 
-from .asked import LONGEST_NAME, LONGEST_NOTE, words
+from .asked import LONGEST_NAME, LONGEST_NOTE, clean_text
 from .brokers import broker_of, connack_string, new_client
 from .floods import FLOOD, STRANGERS, UNSEALED, Floods, only_newest
 from .journal import packed
@@ -47,8 +47,8 @@ TOLD, MOST_STAY = 5, 20  # sentences
 MOST_EARLY, LONGEST_EARLY = 1_000, 2_000_000  # operations that wait until their day has come, and their bytes
 SITES_TOPIC = "road/sites"
 TOTAL = "all"  # beside the numbers: of all operations
-LATE_SAID = f"Messages more than {LATE / 60:.0f} minutes old, by this site's clock, were left out: what they told comes again"
-SENDERS = {STRANGERS: "Somebody who does not say who it is", UNSEALED: "Somebody without the sites' key"}
+LATE_SAID = f"Messages more than {LATE / 60:.0f} minutes old, by this site's clock, were ignored: what they say will be sent again"
+SENDERS = {STRANGERS: "A sender that names no folder", UNSEALED: "A sender without this site's --site-key"}
 
 
 class Pause(NamedTuple):
@@ -112,22 +112,22 @@ class Sites:
     def state(self) -> dict[str, Any]:
         """Return the state for tabs: the sites with which it exchanges, sentences said once, and those that stay true."""
         self._peers.forget_silent()
-        return {"state": "connected" if self._connected else "away", "unsent": len(self._unsent()),
+        return {"state": "connected" if self._connected else "away", "unsent": len(self._unreturned()),
                 "sites": [{"site": site.number, "when": int(site.when)} for site in self._peers.others()],
-                "told": list(self._told), "stays": list(itertools.islice(self._stays(), MOST_STAY)),
+                "told": list(self._told), "stays": list(itertools.islice(self._notices(), MOST_STAY)),
                 "sealed": self._seal.key is not None, "left_out": self._left_out}
 
-    def _stays(self) -> Iterator[str]:
-        """Yield the sentences that stay true."""
+    def _notices(self) -> Iterator[str]:
+        """Yield the sentences that hold at present."""
         yield from self._peers.own_state()
         if self._seal.key is None:
-            yield "Sites trust each other wholly: they have no --site-key"
+            yield "Anybody who reaches the broker can send changes: start the sites with --site-key"
         for folder in self._floods.paused():
-            yield f"{SENDERS.get(folder) or self._peers.named(folder)} sends too much: it is not heard for {FLOOD:.0f} seconds"
+            yield f"{SENDERS.get(folder) or self._peers.named(folder)} sends too much: its messages are ignored for {FLOOD:.0f} seconds"
         if self._early:
-            yield f"{len(self._early)} changes are more than a day ahead of the clock: they wait until their day has come"
+            yield f"{len(self._early)} changes are dated more than a day ahead of this server's clock: they take effect at their date"
         if self._left_out:
-            yield f"{self._left_out} messages without the sites' seal were left out"
+            yield f"{self._left_out} messages were ignored: they are not sealed with this site's --site-key"
         yield from self._peers.their_state()
 
     def _say(self, sentence: str) -> None:
@@ -160,7 +160,7 @@ class Sites:
         except (InvalidMessage, Unsealed) as fault:
             self._left_out += isinstance(fault, Unsealed)
             if not self._floods.are_too_many(UNSEALED):
-                self._loop.call_soon_threadsafe(self._say, f"A message from the broker was left out: {fault}")
+                self._loop.call_soon_threadsafe(self._say, f"A message from the broker was ignored: {fault}")
             return
         if self._floods.are_too_many(self._sender(folder)):
             return
@@ -189,7 +189,7 @@ class Sites:
         self._tell()
         if self._connected:
             self._present()
-            self._send_unsent()
+            self._send_unreturned()
 
     # What is sent
 
@@ -221,24 +221,26 @@ class Sites:
         more = {"title": title} if title else {}
         self._publish(f"road/{self._road}/operations", {"form": SITE_FORM, "operations": part, **more}, 1)
 
-    def _send_unsent(self) -> None:
-        """Send what has not come back, after growing pauses, unless this site's number is another's, too."""
+    def _send_unreturned(self) -> None:
+        """Send the operations that the broker has not returned: new ones at once, others again after growing pauses.
+
+        Sends none while another folder uses this site's number."""
         if not self._connected or not self._peers.may_send():
             return
         now = time.monotonic()
-        late = [one for one in self._unsent() if sum(self._sent.get(one, (0.0, 0.0))) <= now][:AT_ONCE]
-        for one in late:
+        due = [one for one in self._unreturned() if sum(self._sent.get(one, (0.0, 0.0))) <= now][:AT_ONCE]
+        for one in due:
             _, pause = self._sent.get(one, (0.0, EVERY / 2))
             self._sent[one] = now, min(LONGEST_PAUSE, 2 * pause)
-        self._send(late)
+        self._send(due)
 
-    def _unsent(self) -> list[Operation]:
-        """Return what is on the disk and has not come back."""
+    def _unreturned(self) -> list[Operation]:
+        """Return the operations that are on the disk and that the broker has not returned."""
         return [one for one in self._keeper.state.unsent if self._keeper.is_confirmed(one)]
 
     def shared(self) -> None:
         """Something was shared here."""
-        self._send_unsent()
+        self._send_unreturned()
 
     def _present(self) -> None:
         state = self._keeper.state
@@ -258,7 +260,7 @@ class Sites:
     async def announce(self) -> None:
         """Says who this is and what it holds, sends what has not come back, and takes what has waited."""
         self._present()
-        self._send_unsent()
+        self._send_unreturned()
         if self._early and (self._taking is None or self._taking.done()):
             self._taking = asyncio.ensure_future(self._take_early())
             await asyncio.wait([self._taking], timeout=EVERY)  # the disk may take for ever
@@ -308,7 +310,7 @@ class Sites:
             self._say_left_out(fault)
 
     def _say_left_out(self, fault: InvalidMessage | Refused) -> None:
-        self._say(f"A message from the broker was left out: {fault.why if isinstance(fault, Refused) else fault}")
+        self._say(f"A message from the broker was ignored: {fault.why if isinstance(fault, Refused) else fault}")
 
     async def _heard_site(self, folder: str, value: Any) -> None:
         folder, run, number, road = site_of(folder, value)
@@ -320,11 +322,11 @@ class Sites:
     async def _heard(self, folder: str, value: Any) -> None:
         """Take operations. Early ones wait, people hear of malformed ones, and neither keep others back."""
         if self._peers.twin() is not None:
-            raise InvalidMessage("another folder has this site's number")
+            raise InvalidMessage("another folder uses this site's number: start one of the two with another --site")
         if type(value) is not dict or value.get("form") != SITE_FORM or type(value.get("operations")) is not list:
             raise InvalidMessage(f"it has no list of operations of form {SITE_FORM}")
         good = await self._good(value["operations"])
-        title = words(value.get("title") or "", LONGEST_NOTE)
+        title = clean_text(value.get("title") or "", LONGEST_NOTE)
         latest = self._keeper.stamps.latest_count()
         due = [one for one in good if one.stamp[0] <= latest]
         for begin in range(0, len(due), AT_ONCE):
@@ -343,7 +345,7 @@ class Sites:
             try:
                 good.append(self._read(one))
             except (Malformed, Refused) as fault:
-                self._say(f"An operation of a message was left out: {fault.why if isinstance(fault, Refused) else fault}")
+                self._say(f"An operation of a message was ignored: {fault.why if isinstance(fault, Refused) else fault}")
             if time.perf_counter() > began + READ_FOR:
                 await asyncio.sleep(0)
                 began = time.perf_counter()
@@ -351,7 +353,7 @@ class Sites:
 
     def _read(self, written: Any) -> Operation:
         one = read_operation(written)
-        if any(words(text, most) != text for text, most in ((one.about.who, LONGEST_NAME), (one.about.note, LONGEST_NOTE))):
+        if any(clean_text(text, most) != text for text, most in ((one.about.who, LONGEST_NAME), (one.about.note, LONGEST_NOTE))):
             raise Malformed("`who` and `note` are texts that can be shown in a line")
         self._lab.check(one)
         return one

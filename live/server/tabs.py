@@ -1,6 +1,6 @@
 """Serve tabs: sockets, hello, frames, refusals, and news that no tab asks for.
 
-A tab that does not read is let go, one that floods is answered `busy`, one that lies is closed: none is waited for.
+A tab that does not read is let go, one that floods is answered `Busy`, one that lies is closed: none is waited for.
 """
 from __future__ import annotations
 
@@ -60,7 +60,7 @@ class Tab:
         self._asked: dict[asyncio.Future[None], str] = {}  # what is being answered, and its commands
         self._is_entering = self.has_token = False
         self._tasks: list[asyncio.Task[None]] = []
-        self.bye = 1000, "ended"
+        self.close_reason = 1000, "ended"
 
     async def serve(self) -> None:
         """Read and write until the tab goes, or is let go."""
@@ -75,9 +75,9 @@ class Tab:
                 if isinstance(result, Exception):
                     logging.error("a tab ended by %r", result)
 
-    def let_go(self, code: int, why: str) -> None:
+    def disconnect(self, code: int, why: str) -> None:
         """End the tab. Its own handler closes the socket, since a close from another task is lost."""
-        self.bye = code, why
+        self.close_reason = code, why
         for task in self._tasks[:2]:
             task.cancel()
 
@@ -101,7 +101,7 @@ class Tab:
         if self.has_token:
             await asyncio.sleep(NAMED)
         if self.index is None and not self._is_entering:
-            self.let_go(1008, "no hello")
+            self.disconnect(1008, "no hello")
 
     async def _writer(self) -> None:
         while True:
@@ -114,7 +114,7 @@ class Tab:
                     async with asyncio.timeout(PATIENCE):  # (`wait_for` may lose that the task was cancelled)
                         await self._socket.send_str(text)
                 except asyncio.TimeoutError:
-                    self.bye = 1013, "too slow"
+                    self.close_reason = 1013, "too slow"
                     return
                 except (ConnectionError, RuntimeError):
                     return
@@ -122,7 +122,7 @@ class Tab:
     async def _reader(self) -> None:
         async for message in self._socket:
             if message.type != WSMsgType.TEXT:
-                self.bye = 1003, "frames are text"
+                self.close_reason = 1003, "frames are text"
                 return
             await self._line(message.data)
             while len(self._replies) > WAITING:  # who does not read is not read
@@ -132,17 +132,17 @@ class Tab:
     async def _line(self, text: str) -> None:
         came = time.perf_counter()
         try:
-            number, verb, fields = taken_apart(text)
+            number, verb, fields = parse_frame(text)
         except (ValueError, RecursionError):
             self._faults += 1
             if self._faults >= MOST_FAULTS:
-                self.let_go(1008, "too many faults")
+                self.disconnect(1008, "too many faults")
             self._send(not_a_command('a frame is {"id":number,"command":{..}}').reply())
             return
         if verb == "hello" or verb == "seats" and self.index is None:
             await self._enter(number, verb, fields)
         elif self.index is None:
-            self.let_go(1008, "hello comes first")
+            self.disconnect(1008, "hello comes first")
         elif len(self._asked) >= WAITING or verb in verbs.CHANGES and self._tabs.changing[self.index] >= MOST_CHANGING:
             self._send({"id": number, **Refused("Busy", f"{WAITING} questions wait: ask again later").reply()})
             await asyncio.sleep(PAUSE)
@@ -156,8 +156,8 @@ class Tab:
         self._is_entering = True
         try:
             asked = Asked(verb, fields)
-            if not hmac.compare_digest(str(asked.raw("token")).encode("utf-8", "replace"), self._tabs.token.encode()):
-                self.let_go(1008, "the address lacks the right token: open it as live/serve printed it")
+            if not hmac.compare_digest(str(asked.require("token")).encode("utf-8", "replace"), self._tabs.token.encode()):
+                self.disconnect(1008, "the address lacks the right token: open it as live/serve printed it")
                 return
             self.has_token = True
             if verb == "seats":
@@ -197,7 +197,7 @@ class Tab:
         self._wake.set()
 
 
-def taken_apart(text: str) -> tuple[int, str, Any]:
+def parse_frame(text: str) -> tuple[int, str, Any]:
     """Return number, command and fields of a frame; raise ValueError if it is malformed or not UTF-8."""
     text.encode()
     value = json.loads(text, parse_constant=no_number, parse_float=finite)
@@ -256,7 +256,7 @@ class Tabs:
             if other.index == index:
                 other.index = None
                 self._questions.left(index)
-                other.let_go(4000, "this seat is open in another tab")
+                other.disconnect(4000, "this seat is open in another tab")
         tab.index = index
         self.lab.keeper.here.add(index)
         state = self.lab.keeper.state
@@ -310,7 +310,7 @@ class Tabs:
     async def _closed(self, request: web.Request, socket: web.WebSocketResponse, tab: Tab) -> None:
         """Say why, and let the tab go first: until it has gone what still comes is thrown away. A socket that is closed before,
         with something unread, is reset, and its tab would never hear why."""
-        code, why = tab.bye
+        code, why = tab.close_reason
         try:
             async with asyncio.timeout(1):
                 await socket.close(code=code, message=why.encode())
@@ -329,7 +329,7 @@ class Tabs:
     async def close(self) -> None:
         self._ticks.cancel()
         for tab in list(self._all):
-            tab.let_go(1012, "the server stops")
+            tab.disconnect(1012, "the server stops")
         self._questions.close()
         await asyncio.sleep(0)
 
@@ -352,7 +352,7 @@ class Tabs:
         self.lab.keeper.here.discard(index)
         self._questions.left(index)
         self._seats()
-        asyncio.get_running_loop().call_later(TOLD_EVERY, tab.let_go, 4001, "the seat was left")
+        asyncio.get_running_loop().call_later(TOLD_EVERY, tab.disconnect, 4001, "the seat was left")
 
     # News
 

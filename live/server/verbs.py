@@ -70,7 +70,7 @@ async def answer(lab: Lab, questions: Questions, index: int, asked: Asked, times
     if verb.of in (ALL, OWN) and not verb.lists:
         return await verb.does(call, **fields)
     may_see = "shared" if call.at in verb.lists else "nothing"
-    reply: Reply = await lab.keeper.truly(lambda: verb.does(call, **fields), may_see)
+    reply: Reply = await lab.keeper.read_committed(lambda: verb.does(call, **fields), may_see)
     return reply
 
 
@@ -78,7 +78,7 @@ def where(lab: Lab, index: int, asked: Asked, verb: Verb) -> str:
     """Return the road that `at` names."""
     if verb.of == ALL:
         return "own"
-    at, own = asked.raw("at"), lab.state.seats[index].at
+    at, own = asked.require("at"), lab.state.seats[index].at
     meant = "own" if at == own else at
     if type(meant) is not str or meant not in verb.of:
         valid = " or ".join(f'"{own if one == "own" else one}"' for one in sorted(verb.of))
@@ -105,7 +105,7 @@ def read_gesture(asked: Asked) -> dict[str, Any]:
         return {"does": Lab.put_edits, **fields, "edits": asked.edits(), "shape": shape}
     if not asked.has("layer"):
         return {"does": Lab.put_shape, **fields, "shape": asked.shape()}
-    fields["line"], top = asked.called("layer"), asked.yes("top")
+    fields["line"], top = asked.stamp_or_key("layer"), asked.flag("top")
     if not asked.has("shape"):
         if not top:
             raise not_a_command("a gesture with a `layer` has a `shape`, which may be null, or `top`")
@@ -115,9 +115,9 @@ def read_gesture(asked: Asked) -> dict[str, Any]:
 
 def read_edit(asked: Asked) -> dict[str, Any]:
     """Read the `edit` and `withdraw` of the format, as raw edits."""
-    thing = asked.raw("object")
-    edit = [*(thing if type(thing) is list else [thing]), asked.raw("step"),
-            asked.raw("value") if asked.verb == "edit" else None]
+    thing = asked.require("object")
+    edit = [*(thing if type(thing) is list else [thing]), asked.require("step"),
+            asked.require("value") if asked.verb == "edit" else None]
     edits = Asked("gesture", {"edits": [edit]}).edits()
     if asked.verb == "edit" and edit[-1] is None:
         raise Refused("not a command", "null is no number: `withdraw` takes an edit back")
@@ -125,12 +125,12 @@ def read_edit(asked: Asked) -> dict[str, Any]:
 
 
 def read_undo(asked: Asked) -> dict[str, Any]:
-    return {"key": asked.key(), "note": asked.text("note", LONGEST_NOTE, ""), "stamp": asked.called("stamp")}
+    return {"key": asked.key(), "note": asked.text("note", LONGEST_NOTE, ""), "stamp": asked.stamp_or_key("stamp")}
 
 
 def read_site(asked: Asked) -> dict[str, Any]:
     return {"key": asked.key(), "note": asked.text("note", LONGEST_NOTE, ""), "site": asked.whole("site", 1, 1_023),
-            "out": asked.yes("out")}
+            "out": asked.flag("out")}
 
 
 def read_share(asked: Asked) -> dict[str, Any]:
@@ -144,21 +144,21 @@ def read_take(asked: Asked) -> dict[str, Any]:
 
 
 def require_shared(asked: Asked, field: str) -> None:
-    if asked.raw(field) != "shared":
+    if asked.require(field) != "shared":
         raise Refused("not a command", f"`{field}` is \"shared\" here")
 
 
 def read_preview(asked: Asked) -> dict[str, Any]:
-    what = None if asked.is_null("what") else asked.raw("what")
+    what = None if asked.is_null("what") else asked.require("what")
     if what not in (None, "share", "take"):
         raise not_a_command('`what` is "share" or "take", or null')
     return {"what": what, "stamps": asked.stamps()}
 
 
 def read_comparison(asked: Asked) -> dict[str, Any]:
-    if asked.raw("of") not in ("preview", "mine"):
+    if asked.require("of") not in ("preview", "mine"):
         raise not_a_command('`of` is "preview" or "mine"')
-    return {"of": asked.raw("of"), **read_steps(asked)}
+    return {"of": asked.require("of"), **read_steps(asked)}
 
 
 def read_report(asked: Asked) -> dict[str, Any]:
@@ -199,7 +199,7 @@ def read_transcript(asked: Asked) -> dict[str, Any]:
 
 
 def read_table(asked: Asked) -> dict[str, Any]:
-    if asked.raw("what") != "counts":
+    if asked.require("what") != "counts":
         raise not_a_command('`what` is "counts"')
     return {**read_steps(asked), "each": asked.whole("each", 1, LAST_HORIZON)}
 
@@ -286,17 +286,17 @@ VERBS: dict[str, Verb] = {
     "edit": Verb(OWN, read_edit, edits),
     "withdraw": Verb(OWN, read_edit, edits),
     "undo": Verb(OWN, read_undo, of_lab(Lab.undo)),
-    "again": Verb(OWN, lambda asked: {"key": asked.key(), "stamp": asked.called("stamp")}, of_lab(Lab.put_again)),
+    "again": Verb(OWN, lambda asked: {"key": asked.key(), "stamp": asked.stamp_or_key("stamp")}, of_lab(Lab.put_again)),
     "site": Verb(OWN, read_site, of_lab(Lab.exclude_site)),
     "send": Verb(OWN, read_share, of_lab(Lab.share)),
     "take": Verb(OWN, read_take, of_lab(Lab.take)),
     "leave": Verb(OWN, no_fields, leave),
     # Roads are asked
     "advance": Verb(ROADS, lambda asked: {"to": asked.whole("to")}, of_road(Questions.advance)),
-    "cells": Verb(ROADS, Asked.rest, forward("cells")),
-    "cars": Verb(ROADS, Asked.rest, forward("cars")),
-    "count": Verb(ROADS, Asked.rest, forward("count")),
-    "scenario": Verb(KEPT, Asked.rest, forward("scenario")),
+    "cells": Verb(ROADS, Asked.remaining, forward("cells")),
+    "cars": Verb(ROADS, Asked.remaining, forward("cars")),
+    "count": Verb(ROADS, Asked.remaining, forward("count")),
+    "scenario": Verb(KEPT, Asked.remaining, forward("scenario")),
     "diagram": Verb(ROADS, read_diagram, of_road(Questions.diagram)),
     "sums": Verb(ROADS, read_steps, of_road(Questions.sums)),
     "counts": Verb(ROADS, read_counts, of_road(Questions.counts)),

@@ -98,8 +98,9 @@ def is_of_server(callback: Any) -> bool:
 
 
 def keep_collections_short() -> None:
-    """Exclude all that lives now from later collections, and what has come since whenever a full one took long. What is
-    excluded goes all the same with its last reference; cycles alone would stay, and operations and roads are in none."""
+    """Freeze all objects that live now, so that later collections skip them; freeze again after each full one that takes long.
+
+    Frozen objects are still freed with their last reference. Only cycles would stay, and operations and roads form none."""
     began = 0.0
 
     def look(phase: str, info: dict[str, int]) -> None:

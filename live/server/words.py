@@ -102,7 +102,7 @@ def find_places(kind: str, places: Sequence[float], plan: dict[str, Any]) -> tup
     if max(places) > end + 1e-9 or len(places) == 2 and places[0] > places[1]:
         raise InvalidWords(f"{' to '.join(f'{one:g}' for one in places)} km is not on the road: 0 to {end:g} km, the greater one second")
     if kind in ("demand", "detector"):
-        cells = [cell for cell, _ in plan["inlets"]] if kind == "demand" else plan["detectors"]
+        cells: list[int] = [cell for cell, _ in plan["inlets"]] if kind == "demand" else plan["detectors"]
         if not cells:
             raise InvalidWords("the road has no " + ("inlet" if kind == "demand" else "detector"))
         index = min(range(len(cells)), key=lambda one: abs(cells[one] - to_cells(places[0])))
@@ -136,5 +136,5 @@ def find_chance(curve: dict[str, Any], demand: float) -> int:
     points = curve["points"]
     for (low, less), (high, more) in zip(points, points[1:]):
         if demand <= more:
-            return round(low + (high - low) * (demand - less) / (more - less)) if more > less else int(low)
+            return int(round(low + (high - low) * (demand - less) / (more - less))) if more > less else int(low)
     return int(points[-1][0])

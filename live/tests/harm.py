@@ -61,7 +61,7 @@ class Bounds(Case):
             for _ in range(30):
                 second._present()
             await bus.carry()
-            self.assertIn("Site 2 sends too much: it is not heard for 30 seconds", " ".join(first.state()["stays"]))
+            self.assertIn("Site 2 sends too much: its messages are ignored for 30 seconds", " ".join(first.state()["stays"]))
             await two.join("Ben")
             await two.put(1, ["limit", 2, 50, 3])
             await two.share(1)
@@ -98,7 +98,7 @@ class Bounds(Case):
                 await bus.carry()
                 now[0] += seconds
         self.assertEqual(one.lab.state.shared.size, 4)
-        self.assertIn("Site 2 sends too much: it is not heard for 30 seconds", " ".join(first.state()["stays"]))
+        self.assertIn("Site 2 sends too much: its messages are ignored for 30 seconds", " ".join(first.state()["stays"]))
         self.assertEqual(second._floods.paused(), [])  # not by its own
 
     async def test_an_operation_that_a_tab_may_make_every_site_takes_and_no_other(self) -> None:
@@ -165,7 +165,7 @@ class Bounds(Case):
             body = json.dumps({"form": 3, "operations": [{"stamp": stamp, "who": "Eve", **wrong}]}).encode()
             await site._came(f"road/{site._road}/operations", "", body)
             self.assertEqual((len(site._told), here.lab.state.shared.size), (1, 0), wrong)
-            self.assertIn("was left out", site._told[0])
+            self.assertIn("was ignored", site._told[0])
         body = json.dumps({"form": 3, "operations": [{"stamp": stamp, "who": "Eve", **good}, 7]}).encode()
         await site._came(f"road/{site._road}/operations", "", body)
         self.assertEqual([one.about.who for one in here.lab.state.shared.places], ["Eve"])
@@ -250,7 +250,7 @@ class Bounds(Case):
             now = [1_000.0]
             await here.share(1)
             for _ in range(1_000):
-                site._send_unsent()
+                site._send_unreturned()
                 sent += [now[0]] * len([one for one in bus.sent if one.topic.endswith("operations")])
                 bus.sent.clear()
                 now[0] += 3

@@ -16,7 +16,7 @@ from server.asked import Asked
 from server.refusals import Refused
 from server.client import Seat
 from server.doors import Strangers, neighbourhood
-from server.tabs import Tab, taken_apart
+from server.tabs import Tab, parse_frame
 from running import PATIENCE, SMALL, Case, Server, until
 from working import takes_at_most
 
@@ -112,7 +112,7 @@ class Frames(Case):
         tab = Tab(mock.Mock(**{"lab.keeper.settings.hello": 0.1}), mock.Mock(), None)
         tab.has_token = True
         await asyncio.wait_for(tab._hello_in_time(), PATIENCE)
-        self.assertEqual(tab.bye, (1008, "no hello"))
+        self.assertEqual(tab.close_reason, (1008, "no hello"))
 
     async def test_frames_that_are_none(self) -> None:
         for number, frame in enumerate((
@@ -231,13 +231,13 @@ class Long(Case):
                  json.dumps("limit" * 12_000), f'["{"limit " * 10_000}",1]', '[["' + "limit" * 12_000 + '",1,1,1]]',
                  "[" * 900 + "]" * 900, json.dumps("7" * 60_000), json.dumps(" " * 60_000 + "7"), json.dumps('"' * 30_000)]
         reads: dict[str, Any] = {
-            "edits": Asked.edits, "stamps": Asked.stamps, "shape": Asked.shape, "layer": lambda asked: asked.called("layer"),
+            "edits": Asked.edits, "stamps": Asked.stamps, "shape": Asked.shape, "layer": lambda asked: asked.stamp_or_key("layer"),
             "to": lambda asked: asked.whole("to"), "key": Asked.key, "note": lambda asked: asked.text("note", 200)}
         frames = [(f'{{"id":1,"x":{{"{name}":{value}}}}}', read) for name, read in reads.items() for value in wrong]
         frames += [(f'{{"id":1,"x":{{"object":{value},"step":1}}}}', verbs.read_edit) for value in wrong]
         for frame, read in frames:
             with takes_at_most(0.05, frame[:40]), contextlib.suppress(Refused, RecursionError):
-                _, verb, fields = taken_apart(frame)
+                _, verb, fields = parse_frame(frame)
                 read(Asked(verb, fields))
 
 

@@ -327,7 +327,7 @@ class TwoTabs(BrowserCase):
         broker.start()
         ada.until(lambda: ada.text("line") == "connected, with 1 other site, trusted without a seal", "it is back")
         broker.say(f"road/{reference(self.server)}/operations", "good morning")
-        ada.until(lambda: ada.text("said") == "A message from the broker was left out: it is no message: good morning",
+        ada.until(lambda: ada.text("said") == "A message from the broker was ignored: it is not JSON: good morning",
                   "rubbish is told")
 
     def test_a_seat_is_taken_over(self) -> None:

@@ -77,7 +77,7 @@ class Strangers(Case):
         # It stays so, without the site that knew it.
         here = await self.enterAsyncContext(Here(again.folder))
         silent = Bus().site(here)
-        silent._send_unsent()
+        silent._send_unreturned()
         self.assertEqual((silent._client.sent, silent.state()["unsent"]), ([], 1))
         self.assertIn("nothing is sent", " ".join(silent.state()["stays"]))
         # The folder that had it goes on, wherever it stands.
@@ -244,7 +244,7 @@ class Strangers(Case):
         shared = [one.stamp for one in here.lab.state.shared.places]
         await here.keeper.close()
         again = await self.enterAsyncContext(Here(here.folder))
-        self.bus.site(again)._send_unsent()
+        self.bus.site(again)._send_unreturned()
         message, = self.bus.sent
         self.assertEqual([tuple(one["stamp"]) for one in json.loads(message.payload)["operations"]], shared)
 
@@ -290,14 +290,14 @@ class Strangers(Case):
             self.assertEqual([here.lab.state.shared.size for here in (one, two)], [2, 2])
             for site in (first, second):
                 self.assertIn("of number 70 is more than a day ahead of the clock", told(site))
-                self.assertIn("1 changes are more than a day ahead", told(site))
+                self.assertIn("1 changes are dated more than a day ahead", told(site))
             clock[0] += 1_000
             await self.bus.rounds()
             self.assertEqual([here.lab.state.shared.size for here in (one, two)], [2, 2])
             clock[0] += 2_000
             await self.bus.rounds()
             self.assertEqual([here.lab.state.shared.size for here in (one, two)], [3, 3])
-            self.assertNotIn("1 changes are more than a day ahead", told(first))
+            self.assertNotIn("1 changes are dated more than a day ahead", told(first))
 
     async def test_what_is_early_keeps_nothing_else_and_waits_once(self) -> None:
         """Another change of the same message is taken at once; what is sent again and again waits once, and not much waits."""
@@ -313,17 +313,17 @@ class Strangers(Case):
             for _ in range(3):
                 await comes((0, 1), (DAY + 1_000, 2), (DAY + 2_000, 3))
             self.assertEqual(steps(here), [1])
-            self.assertIn("2 changes are more than a day ahead", told(site))
+            self.assertIn("2 changes are dated more than a day ahead", told(site))
             await comes((DAY + 1_000, 1 << 20))
-            self.assertIn("2 changes are more than a day ahead", told(site))  # what is not of the plan does not wait
+            self.assertIn("2 changes are dated more than a day ahead", told(site))  # what is not of the plan does not wait
             with mock.patch("server.sites.MOST_EARLY", 9), mock.patch("server.sites.LONGEST_EARLY", 650):
                 await comes(*((DAY + 3_000, step) for step in range(4, 30)))
-                self.assertIn("8 changes are more than a day ahead", told(site))
+                self.assertIn("8 changes are dated more than a day ahead", told(site))
             await comes((DAY + 1_000, 2), (DAY + 2_000, 3))
             clock[0] += 1_500
             await self.bus.rounds()
             self.assertEqual(steps(here), [1, 2])
-            self.assertIn("9 changes are more than a day ahead", told(site))
+            self.assertIn("9 changes are dated more than a day ahead", told(site))
 
     async def test_what_a_wrong_clock_stamped_in_private_is_stamped_anew(self) -> None:
         """Three days ahead for one gesture: all goes on, and other sites take it as soon as it is shared."""
@@ -463,7 +463,7 @@ class Keys(Case):
             self.assertEqual((self.held(self.two), self.second.state()["left_out"]), (1, number), payload)
         await self.bus.give(self.second, Message("road/sites", edits.payload))  # at another topic
         self.assertEqual(self.second.state()["left_out"], 10)
-        self.assertIn("10 messages without the sites' seal were left out", " ".join(self.second.state()["stays"]))
+        self.assertIn("10 messages were ignored: they are not sealed with this site's --site-key", " ".join(self.second.state()["stays"]))
 
     async def test_a_flood_without_the_seal_is_paused_and_named(self) -> None:
         """It costs the loop nothing, and who bears the seal is heard."""
@@ -477,7 +477,7 @@ class Keys(Case):
                     await self.bus.give(self.second, Message("road/sites", json.dumps({"folder": f"{number:x}"}).encode()))
             self.assertLess(len(said), 30)
             self.assertEqual(self.second.state()["left_out"], 300)
-            self.assertIn("Somebody without the sites' key sends too much", told(self.second))
+            self.assertIn("A sender without this site's --site-key sends too much", told(self.second))
             await self.share(50)
             self.assertEqual(self.held(self.two), 1)
             now[0] += 31
@@ -498,7 +498,7 @@ class Keys(Case):
                     await bus.give(site, Message("road/sites", json.dumps({"folder": f"{number:040x}"}).encode()
                                                  .replace(b": ", b":")))
             self.assertLess(len(came), 30)
-            self.assertIn("Somebody who does not say who it is sends too much", told(site))
+            self.assertIn("A sender that names no folder sends too much", told(site))
             await self.one.put(1, ["limit", 2, 50, 3])
             await self.one.share(1)
             await bus.carry()
@@ -598,7 +598,7 @@ class Keys(Case):
         here = await self.enterAsyncContext(Here(site=3))
         site = Bus().site(here)
         self.assertFalse(site.state()["sealed"])
-        self.assertIn("Sites trust each other wholly", " ".join(site.state()["stays"]))
+        self.assertIn("Anybody who reaches the broker can send changes", " ".join(site.state()["stays"]))
         self.assertNotIn("trust", " ".join(self.first.state()["stays"]))
 
     def test_a_key_that_is_too_short_is_refused(self) -> None:
