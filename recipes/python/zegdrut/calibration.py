@@ -107,6 +107,8 @@ class Calibration:
     best: Point
     spread: Point
     tried: list[Trial]
+    is_fitted: bool = True
+    """Whether the best point is the minimum of a quadratic. Otherwise it is the mean of the elites, which is less accurate."""
 
     def best_ten(self) -> list[Trial]:
         """Return the ten trials with the smallest errors after the first round."""
@@ -333,6 +335,7 @@ def calibrate(name: str, figures: Figures, measured: Measured, bounds: Bounds = 
             raise
     last = [one for elite in elites[-2:] for one in elite]
     middle, spread = find_centre([one.point for one in last])
-    slowing, start = fit_minimum(bounds, tried) or middle[:2]
+    fitted = fit_minimum(bounds, tried)
+    slowing, start = fitted or middle[:2]
     _, of_ratios = find_centre([Point(0, 0, one.point.factor * one.ratio) for one in last])
-    return Calibration(Point(slowing, start, correct_factor(bounds, last)), spread._replace(factor=of_ratios.factor), tried)
+    return Calibration(Point(slowing, start, correct_factor(bounds, last)), spread._replace(factor=of_ratios.factor), tried, fitted is not None)

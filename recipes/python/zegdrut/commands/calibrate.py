@@ -34,6 +34,8 @@ from .measured import add_data_arguments, report_progress, read_data, print_line
 
 NO_CONGESTION = ("no station is congested (more than 10 km/h below its greatest speed): these counts cannot determine the slow-to-start "
                  "chance, and its value is arbitrary. Use counts of a day with a jam")
+NO_MINIMUM = ("the errors show no minimum, so the result is the mean of the best points: the slow-to-start chance may be off by 0.2, whatever its "
+              "spread. Try more points or days")
 SHORT_SEARCH = (f"fewer than {Search.points} points or {Search.days} days: the result may be off by more than its spread, which is that of the "
                 "best points (recipes/measured/README.md has examples)")
 
@@ -102,6 +104,8 @@ def run_calibration(given: argparse.Namespace, out: Path) -> None:
     bar.end()
     name, folder = given.road.stem, given.out or out / given.road.stem
     folder.mkdir(parents=True, exist_ok=True)
+    if not found.is_fitted:
+        print_lines([NO_MINIMUM])
     print("quantity,found,spread of the best points")
     for quantity, value, spread in zip(("slowing chance", "slow-to-start chance", "demand factor"), found.best, found.spread):
         print(f"{quantity},{value:.3f},{spread:.3f}")
