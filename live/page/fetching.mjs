@@ -207,12 +207,13 @@ export async function askSeries(period = periodShown()) {
   const sides = outcome?.layers ? ["before", "after"] : ["shared", "mine"];
   const key = keyOfSeries(sides, period);
   if (key === series.key) return;
+  const roads = sides.map(roadOf);      // those of a preview may go while answers are awaited
   series.asking = true;
   try {
-    for (const side of sides) if (!await computed(roadOf(side), to)) return;
+    for (const road of roads) if (!await computed(road, to)) return;
     const each = eachOf(to - from);
-    const said = await Promise.all(sides.map((side) =>
-      ask({counts: {at: roadOf(side).at, from, to, each}}, {quiet: ["Busy", "NoPreview"]})));
+    const said = await Promise.all(roads.map(({at}) =>
+      ask({counts: {at, from, to, each}}, {quiet: ["Busy", "NoPreview"]})));
     const flows = said.flatMap((one) => (one && "flows" in one ? [one.flows.filter(isOfSpan)] : []));
     if (flows.length < said.length) return;
     const names = outcome?.layers ? ["now", "then"] : ["shared", "mine"];

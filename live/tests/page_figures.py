@@ -199,6 +199,8 @@ class OneFreeway(BrowserCase):
         tab.choose("seriesSite", "1")
         tab.settled()
         tab.until(lambda: tab.script("return store.series.key.endsWith('0,3600')"), "the series")
+        # Rows of the table above that come later move the charts away from the pointer.
+        tab.until(lambda: tab.script("return store.figures.exactKey.startsWith('0,3600')"), "the figures")
         counts = tab.driver.execute_async_script("""
             const done = arguments[0];
             Promise.all([store.me.at, "shared"].map((at) => ask({counts: {at, from: 0, to: 3600, each: 60}})))

@@ -52,7 +52,7 @@ class Reports(Case):
     async def test_what_is_no_report_is_refused(self) -> None:
         async with Here() as here:
             seat, = await here.join("Ada")
-            for wrong, said in (({"works": "a"}, "at most 200 texts"), ({"works": [1]}, "at most 200 texts"), ({"of": "all"}, '"preview" or'),
+            for wrong, said in (({"works": "a"}, "at most 200 strings"), ({"works": [1]}, "at most 200 strings"), ({"of": "all"}, '"preview" or'),
                                 ({"to": 5}, "not below")):
                 with self.assertRaises(Refused) as caught:
                     await here.ask(seat, "report", **{**ASKED, **SPAN, **wrong})

@@ -176,13 +176,13 @@ class Ends(unittest.TestCase):
             self.refuses_all(lab, "something that is not a reply")
 
     def test_a_closed_lab(self) -> None:
-        before = threading.active_count()
+        before = {*threading.enumerate()}
         lab = fake()
         with lab:
             pass
         lab.close()
         self.refuses_all(lab, "this lab was closed")
-        self.assertEqual(threading.active_count(), before)
+        self.assertEqual({*threading.enumerate()} - before, set())  # one of an earlier test may end meanwhile
 
     def test_a_lab_that_is_closed_in_the_middle_of_a_call(self) -> None:
         lab = fake()
@@ -207,10 +207,10 @@ class Ends(unittest.TestCase):
             RoadLab(ROAD, "/nowhere/road_lab")
 
     def test_a_plan_that_is_refused(self) -> None:
-        before = threading.active_count()
+        before = {*threading.enumerate()}
         with self.assertRaisesRegex(Refused, "^Length: a road has 8 to 8,192 cells"):
             RoadLab(Plan(length=4, inlets=[(0, 1)], zones=[(5, 0)]))
-        self.assertEqual(threading.active_count(), before)
+        self.assertEqual({*threading.enumerate()} - before, set())  # one of an earlier test may end meanwhile
 
     def test_errors_go_through_a_pool(self) -> None:
         for fault in (Refused("Step", "too late", "{}"), Ended(3, "no"), LabBroken("closed"), NoProgram("/x")):
