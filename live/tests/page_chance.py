@@ -89,7 +89,14 @@ class TwoTabs(BrowserCase):
         self.assertEqual(ada.lines("own"), ["Closed 0.18–0.188 km, 0:05:00–0:07:00 private"] * 2)
 
     def test_it_is_stopped_and_who_asks_is_told(self) -> None:
-        ada, ben = self.over_three(SEEDED)
+        """Stop many days while the third waits for a file to go."""
+        folder = new_folder()
+        path, file = folder / "road_lab", folder / "wait"
+        path.write_text("#!/bin/sh\n" + PROGRAM_OF_DAYS.format(days=2, program=program()).replace(
+            "sleep 600", f'while [ -e "{file}" ]; do sleep 0.05; done'), encoding="utf-8")
+        path.chmod(0o755)
+        file.touch()
+        ada, ben = self.over_three(SEEDED, "--program", str(path))
         for tab in (ada, ben):
             self.run_a_quarter(tab)
         ada.press("Over 3 days")
@@ -100,6 +107,7 @@ class TwoTabs(BrowserCase):
         ada.press("Stop")
         ada.until(lambda: ada.text("days") in ("Over 3 days", "One day"), "it is stopped")  # one may be done
         self.assertNotIn("stopped", ada.text("said"))
+        file.unlink()
         ben.press("Over 3 days")
         self.assertEqual(over_days(ben, "#over")["Vehicle hours"][2], "0 the same each day")
 
