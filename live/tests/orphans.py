@@ -27,11 +27,12 @@ def marked(mark: str) -> set[int]:
     return found
 
 
-def command_of(process: int) -> bytes:
-    """Return the command line of a process; an empty one if it has ended."""
+def age_of(process: int) -> float:
+    """Return the seconds for which a process has run; 0 if it has ended."""
     with contextlib.suppress(OSError):
-        return Path(f"/proc/{process}/cmdline").read_bytes()
-    return b""
+        began = int(Path(f"/proc/{process}/stat").read_text().rpartition(")")[2].split()[19])
+        return float(Path("/proc/uptime").read_text().split()[0]) - began / os.sysconf("SC_CLK_TCK")
+    return 0.0
 
 
 class Orphans(Case):
@@ -55,9 +56,10 @@ class Orphans(Case):
                 (ben, "days", ben.at, {"of": "mine", "from": 0, "to": 7_000}),
                 (cleo, "transcript", cleo.at, {"from": 0, "to": 30_000}))]
             await until(lambda: self.are(8), "all is under way")
+            await asyncio.sleep(0.5)
             for process in descendants(self.a6.process.pid):
-                # The server waits for one that does not run its own program yet, and would wait for ever if it were stopped.
-                if command_of(process) not in (b"", command_of(self.a6.process.pid)):
+                # A younger one may not have asked the kernel yet to end it with the server.
+                if age_of(process) > 0.3:
                     os.kill(process, signal.SIGSTOP)
             self.a6.process.send_signal(by)
             await until(lambda: self.are(0), "all has ended", 20)
