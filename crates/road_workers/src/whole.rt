@@ -70,12 +70,16 @@ fn ready_run(
     ensures goes_on { (run : Running) → road ≡ Run run → run.plan ≡ span.now.plan → IsAt span.now.step run
         → IfOk result (λ ready. ready ≡ Some (record run { settings = span.now.settings })) }
 {
+    let end = span.plan().length();
+    let whole = Stretch { first: 0, end };
     match road {
-        RoadOrRun::Run(run) if is_before(&run, span) => Ok(Some(put_under(alloc, span, run)?)),
-        other => {
-            let end = span.plan().length();
-            let road = other.into_road(alloc)?;
-            start_run(alloc, span, Stretch { first: 0, end }, &road)
+        RoadOrRun::Road(road) => start_run(alloc, span, whole, &road),
+        RoadOrRun::Run(run) => {
+            if is_before(&run, span) {
+                return Ok(Some(put_under(alloc, span, run)?));
+            }
+            let road = run.road(alloc)?;
+            start_run(alloc, span, whole, &road)
         }
     }
 }
