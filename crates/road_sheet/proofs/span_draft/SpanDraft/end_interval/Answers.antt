@@ -1,13 +1,21 @@
--- Steps up to the end of the interval.
-use Rattle.std.proofs.Common.{◌∙◌, List, ap}
-use Rattle.std.specs.List.{slice_index_or}
-use Rattle.road_detector.specs.Passes.{no_totals, plus}
-use Rattle.road_detector.specs.declared.counts.Totals.{Totals}
-use Rattle.road_sheet.proofs.SheetIntervals.{counted_with, ended_interval}
-use Rattle.road_sheet.proofs.sheet.Sheet.span_to_end.Goals as goal
+-- The interval is whole, and a new one begins.
+use Rattle.std.proofs.Common.{◌∙◌, ap, refl, subst, sym}
+use Rattle.road_cells.specs.Cars.{cars_of}
+use Rattle.road_plan.specs.Plan.{IsWithinLimits, Plan}
+use Rattle.road_ends.specs.Laws.{StayOnRoad}
+use Rattle.road_scenario.specs.Settings.{settings_of}
+use Rattle.road_sheet.specs.Private.Checkpoints.{AreSmall}
+use Rattle.road_sheet.specs.Sheets.{Sheet}
+use Rattle.road_sheet.proofs.SmallCars.{small_cars}
+use Rattle.road_sheet.proofs.SheetIntervals.{counted_with, ended_interval, ends_interval}
+use Rattle.road_sheet.proofs.span_draft.SpanDraft.end_interval.Goals as goal
 
-pub end_interval-requires-clause-ended : goal.end_interval-requires-clause-ended
-end_interval-requires-clause-ended c =
-    ended_interval _ c.args.self.now c.args.end _ c.self.inside.open_interval c.add.new.self _ c.self.invariant c.self.view_is (c.add.ensures.start ∙ c.in_ok-ended.ensures.start)
-    (counted_with _ c.args.self.now c.args.end _ c.self.inside.open_interval _ c.in_ok-ended.ended.totals.items c.args.ran.totals.items c.add.new.self.totals.items c.self.invariant c.self.view_is c.requires.within c.requires.totals c.in_ok-ended.ensures.totals c.add.ensures.each
-    (λ d below. c.add.ensures.totals d below ∙ ap (λ (ys : List Totals). plus (slice_index_or c.in_ok-ended.ended.totals.items d no_totals) (slice_index_or ys d no_totals)) c.deref-2.ensures.value))
+-- The cars of a run are small enough to be kept.
+pub of-requires : goal.of-requires
+of-requires c =
+    let s = c.args.self.now in
+    subst (λ a. AreSmall (cars_of a)) (sym c.requires.road)
+    (small_cars s.plan (settings_of s.plan s.edits) c.args.end
+    (subst (λ (x : Sheet). IsWithinLimits x.plan) c.self.view_is c.self.invariant.run.sheet.plan_within)
+    c.requires.within.within_limit
+    (subst StayOnRoad (c.deref-2.ensures ∙ ap (λ (x : Sheet). x.plan) c.self.view_is) c.cars_stay_on_road.ensures))

@@ -1,8 +1,10 @@
 -- What a span comes to is the run's road and counts up to its end.
-use Rattle.std.proofs.Common.{◌≡◌, ◌+◌, ◌∙◌, ap, sym, subst, ℕ, List}
-use Rattle.road_detector.specs.Passes.{span_totals}
-use Rattle.road_detector.specs.declared.counts.Totals.{Totals}
-use Rattle.road_sheet.specs.Private.Intervals.{AreTotals}
-use Rattle.road_sheet.specs.Sheets.{Sheet, state_of}
-use Rattle.road_sheet.proofs.Spans.{road_after, totals_in}
+use Rattle.std.proofs.Common.{◌≡◌, ◌+◌, ◌∙◌, ap, arith}
+use Rattle.road_sheet.specs.Sheets.{Sheet}
+use Rattle.road_sheet.proofs.Spans.{road_to, totals_to}
 use Rattle.road_sheet.proofs.span_draft.SpanDraft.push_span.Goals as goal
+
+pub add_within-requires-clause-totals : goal.add_within-requires-clause-totals
+add_within-requires-clause-totals c =
+    let at = ap (λ (x : Sheet). x.horizon) c.self.view_is in
+    totals_to c.args.self.now c.args.span.now _ _ c.requires.next (omega (arith, at, c.steps.ensures.steps)) (c.deref.ensures.value ∙ c.requires.totals)
