@@ -309,9 +309,7 @@ impl UnderWay {
     pub fn is_at(&self, step: u32) -> bool
         ensures { IsTrue result ↔ IsAt step self.now }
     {
-        self.step == step
-            && self.stretch.first == 0
-            && self.stretch.end == self.plan.length()
+        self.step == step && self.stretch.first == 0 && self.stretch.end == self.plan.length()
     }
 
     /// Return whether its next step is under these settings. It takes no memory.

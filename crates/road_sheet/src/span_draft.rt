@@ -88,7 +88,9 @@ impl SpanDraft {
     {
         let first = self.horizon;
         let end = (first - first % INTERVAL_STEPS + INTERVAL_STEPS).min(to);
-        let settings = self.settings.at_step(alloc, &self.plan, &self.scenario, first)?;
+        let settings = self
+            .settings
+            .at_step(alloc, &self.plan, &self.scenario, first)?;
         let until = self.settings.until(first, end);
         let plan = Arc::try_clone(&self.plan)?;
         Ok(Span::new(plan, settings, first, until - first))

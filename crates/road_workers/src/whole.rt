@@ -60,11 +60,7 @@ pub(crate) fn reusable_run(span: &Span, kept: Option<UnderWay>) -> Option<UnderW
 
 // Return a run that stands before the steps of a span on the whole road, under its settings: one that has come to the
 // road there goes on, and else a new one begins. None if it cannot have a car of the road.
-fn ready_run(
-    alloc: Global,
-    span: &Span,
-    road: RoadOrRun,
-) -> Result<Option<UnderWay>, OutOfMemory>
+fn ready_run(alloc: Global, span: &Span, road: RoadOrRun) -> Result<Option<UnderWay>, OutOfMemory>
     ensures ready { IfOk result (λ run. IfSome run (IsReady 0 span.now.plan.cells span.now (road_now road))) }
     ensures some { IfOk result (λ run. IsRunnable 0 span.now.plan.cells span.now.plan (road_now road) → IsSome run) }
     ensures goes_on { (run : Running) → road ≡ Run run → run.plan ≡ span.now.plan → IsAt span.now.step run

@@ -71,7 +71,10 @@ pub(crate) fn is_run_of_one(
     road: &Road,
     ran: &Option<RanSpan>,
 ) -> Result<bool, Fail> {
-    match (ran, Alone.run(alloc, span, RoadOrRun::Road(road.copied()?))?) {
+    match (
+        ran,
+        Alone.run(alloc, span, RoadOrRun::Road(road.copied()?))?,
+    ) {
         (Some(ran), Some(alone)) => {
             let RanSpan { road, totals } = alone;
             let road = road.into_road(alloc)?;
@@ -211,11 +214,7 @@ fn compare_span<C: Crew>(
     let Some(ran) = crew.run(alloc, span, road)? else {
         return Err(Fail::new("a crew that does not run a span"));
     };
-    holds(
-        rt,
-        span.steps() as usize,
-        is_result(alloc, &ran, wanted)?,
-    );
+    holds(rt, span.steps() as usize, is_result(alloc, &ran, wanted)?);
     let RanSpan { road, .. } = ran;
     Ok(road)
 }

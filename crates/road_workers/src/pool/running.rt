@@ -71,11 +71,7 @@ impl<R: Wait> Pool<R> {
 
     // Run a span by the stretches of all workers, and the caller's own.
     #[tactic(auto, using(crate::proofs::OneMore::missing_right))]
-    fn run_side_by_side(
-        &mut self,
-        alloc: Global,
-        shares: Shares,
-    ) -> Result<Joined, CrewFault>
+    fn run_side_by_side(&mut self, alloc: Global, shares: Shares) -> Result<Joined, CrewFault>
         requires own { shares.own ≤ 1 }
         requires runnable { IsRunnable 0 shares.span.now.plan.cells shares.span.now.plan shares.road.now }
         ensures joined { IfOk result
