@@ -4,7 +4,7 @@ use Rattle.std.proofs.Common.{sym, ap, ◌∙◌, arith, refl}
 use Rattle.std.specs.List.{All}
 use Rattle.std.specs.declared.option.Option.{Option}
 use Rattle.road_plan.specs.Plan.{Plan, exit_start}
-use Rattle.road_cells.specs.Array.{Array, Vehicle, vehicle_at, array}
+use Rattle.road_cells.specs.Array.{Vehicle, vehicle_at, array}
 use Rattle.road_cells.specs.Cars.{AreRising, array_of, car_of, cars_of, cell_at, end_of, vehicle_among}
 use Rattle.road_cells.specs.declared.car.Car.{Car}
 use Rattle.road_cells.proofs.ArrayPlaces.{array-same}

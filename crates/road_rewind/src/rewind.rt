@@ -118,8 +118,8 @@ fn simulate<C: Crew>(
     ensures few { TicksAtMost (to - draft.horizon) meter.old meter.new }
     ensures gone { CountsGone result (C.times_gone crew.old) (C.times_gone crew.new) }
 {
-    let (mut so_far, road) = draft.by_spans();
-    let mut road = RoadOrRun::Road(road);
+    let (mut so_far, at_horizon) = draft.by_spans();
+    let mut road = RoadOrRun::Road(at_horizon);
     let mut step = so_far.horizon();
     while step < to {
         let end = to.min(step.saturating_add(crew.most_steps()));

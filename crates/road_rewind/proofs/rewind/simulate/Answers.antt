@@ -8,11 +8,11 @@ use Rattle.road_rewind.proofs.rewind.simulate.Goals as goal
 
 pub loop-step-preserved : goal.loop-step-preserved
 loop-step-preserved g c =
-    let start = c.args.draft.now in
+    let start = c.args.draft in
     let step = c.loop-step.step in
     let span = c.in_ok-span.span in
     let invariant = c.loop-step.invariant in
-    let here : c.loop-step.draft.horizon ≡ step = ap (λ (x : Sheet). x.horizon) invariant.draft in
+    let here : c.loop-step.so_far.horizon ≡ step = ap (λ (x : Sheet). x.horizon) invariant.draft in
     let steps = c.steps-step.ensures.steps in
     let count : step - start.horizon + span.steps ≡ step + c.steps-step.result - start.horizon = omega (arith, invariant.after, steps) in
     record {
@@ -29,6 +29,6 @@ pub returns-in_err-simulate_span-clause-few : goal.returns-in_err-simulate_span-
 returns-in_err-simulate_span-clause-few g c =
     let step = c.loop-step.step in
     let invariant = c.loop-step.invariant in
-    let here : c.loop-step.draft.horizon ≡ step = ap (λ (x : Sheet). x.horizon) invariant.draft in
-    few_after c.args.meter.now (step - c.args.draft.now.horizon) c.in_ok-span.span.steps (c.args.to - c.args.draft.now.horizon) c.loop-step.meter c.simulate_span.new.meter invariant.meter
+    let here : c.loop-step.so_far.horizon ≡ step = ap (λ (x : Sheet). x.horizon) invariant.draft in
+    few_after c.args.meter.now (step - c.args.draft.horizon) c.in_ok-span.span.steps (c.args.to - c.args.draft.horizon) c.loop-step.meter c.simulate_span.new.meter invariant.meter
     (omega (arith, invariant.after, here, c.in_ok-span.ensures.before, c.min-end.ensures)) c.simulate_span.ensures.few

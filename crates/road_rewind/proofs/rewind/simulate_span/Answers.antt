@@ -12,7 +12,7 @@ pub unreachable-requires : goal.unreachable-requires
 unreachable-requires g c =
     let stay = subst StayOnRoad (c.deref.ensures ∙ c.plan.ensures.plan) c.cars_stay_on_road.ensures in
     let can = next_can_be_run c.args.draft.now c.args.span.now c.requires.next c.plan.ensures.within c.steps-steps.ensures.within_limit stay in
-    false≢true (ap is_some (sym c.in_default.is) ∙ c.in_ok-ran.ensures.some (subst (CanBeRun c.args.span.now) (sym c.road.ensures) can))
+    false≢true (ap is_some (sym c.in_default.is) ∙ c.in_ok-ran.ensures.some (subst (CanBeRun c.args.span.now) (sym c.requires.road) can))
 
 pub returns-clause-steps : goal.returns-clause-steps
 returns-clause-steps g c =

@@ -28,4 +28,4 @@ end_interval-requires-in-Run-clause-totals c =
 pub end_interval-requires-in-Run-clause-road : goal.end_interval-requires-in-Run-clause-road
 end_interval-requires-in-Run-clause-road c =
     let at = ap (λ (x : Sheet). x.horizon) c.self.view_is in
-    c.in_ok-road.ensures ∙ sym (ap road_now c.in-Run.is) ∙ c.requires.road ∙ road_to c.args.self.now c.args.span.now _ c.requires.next (omega (arith, at, c.steps.ensures.steps))
+    c.in_ok-road-in-Run.ensures ∙ sym (ap road_now c.in-Run.is) ∙ c.requires.road ∙ road_to c.args.self.now c.args.span.now _ c.requires.next (omega (arith, at, c.steps.ensures.steps))
