@@ -3,6 +3,9 @@ use Rattle.std.proofs.Common.{◌+◌, ◌-◌, ◌^◌, ◌∙◌, ℕ, min, ap
 use Rattle.std.proofs.lemmas.Bool.{false≢true}
 use Rattle.std.specs.Prelude.{is_some}
 use Rattle.road_ends.specs.Laws.{StayOnRoad}
+use Rattle.road_ends.specs.Span.{span_road}
+use Rattle.road_sheet.specs.Sheets.{Sheet, state_of}
+use Rattle.road_sheet.proofs.Spans.{road_after}
 use Rattle.road_workers.specs.Crews.{CanBeRun}
 use Rattle.road_rewind.proofs.NextSpans.{next_can_be_run}
 use Rattle.road_rewind.proofs.StepCounts.{ticks_at_once}
@@ -24,3 +27,8 @@ returns-clause-few g c = record {
   few = omega arith;
   counted = ticks_at_once c.args.meter.now c.args.span.now.steps c.count.new.self c.requires.next.some (c.count.ensures ∙ ap (λ (n : ℕ). min (c.args.meter.now + n) (2 ^ 64 - 1)) c.steps-steps.ensures.steps);
 }
+
+pub returns-clause-road : goal.returns-clause-road
+returns-clause-road g c =
+    let ran = rw c.in-Some.is at c.in_ok-ran.ensures.road in
+    ran ∙ ap (span_road c.args.span.now) c.requires.road ∙ road_after c.args.draft.now c.args.span.now c.requires.next ∙ sym (ap (λ (s : Sheet). state_of s s.horizon) c.in_ok-push_span.ensures.grown)
