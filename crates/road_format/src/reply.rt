@@ -219,7 +219,7 @@ fn crowd_value(alloc: Global, edits: &[Edit], journal: u32, row: &str) -> Result
     Ok(Value::Object(fields))
 }
 
-// Write the JSON value of a step, or null if there is none.
+// Return a step as a JSON number, and None as null.
 fn step_value(step: Option<u32>) -> Value
     ensures { view result ≡ step_data step }
 {

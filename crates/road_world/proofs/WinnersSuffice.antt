@@ -166,7 +166,7 @@ message-of_winners w m n e =
     ∙ ap (λ (k : Message). map message_of_winners w.messages ++ k ∷ []) e
     ∙ sym (map-append message_of_winners w.messages (n ∷ [])))
 
--- if there is a message, it carries the winners; if there is none, it carries none
+-- a message carries the winners, and no message carries no edits
 carried_by_winners : (o : Option Message) → carried_edits (option_map message_of_winners o) ≡ winners (carried_edits o)
 carried_by_winners None = sym winners-empty
 carried_by_winners (Some (Whole s)) = refl

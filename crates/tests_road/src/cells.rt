@@ -55,7 +55,7 @@ const FOUND: &[(u32, Option<u64>, usize)] = &[
     (4_294_967_295, None, 3),
 ];
 
-// Return whether that car is found at the cell, and this number of cars before it.
+// Return whether that car is found at the cell, and this many cars before it.
 fn is_found(road: &Road, (cell, number, before): &(u32, Option<u64>, usize)) -> bool {
     let found = match road.car_at(*cell) {
         Some(car) => Some(car.number),
@@ -119,7 +119,7 @@ fn rises(blocks: &[u32]) -> bool
     blocks.is_sorted()
 }
 
-// Return whether a car of a road has this number of free cells in front of it.
+// Return whether a car of a road has this many free cells in front of it.
 fn sees(road: &Road, place: usize, (blocks, gap): &(&[u32], u8)) -> bool {
     if place >= road.cars().len() || !rises(blocks) {
         return false;

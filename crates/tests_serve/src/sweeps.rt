@@ -48,7 +48,7 @@ const ASKED: &[(u64, usize)] = &[(0, 11), (6, 50), (12, 117), (18, 224), (CALLS,
 // The number of calls of the crew in all.
 const CALLS: u64 = 24;
 
-// Return the bytes that are written if this number of calls of the crew succeed.
+// Return the bytes that are written if this many calls of the crew succeed.
 fn bytes_after(calls: u64) -> usize {
     let mut written = 0;
     for (first, bytes) in ASKED {
@@ -59,7 +59,7 @@ fn bytes_after(calls: u64) -> usize {
     written
 }
 
-// Return whether the stored run ends as it must with a crew that fails after this number of calls. A reader of one byte
+// Return whether the stored run ends as it must with a crew that fails after this many calls. A reader of one byte
 // at a time lets each reply be written before the next line is read.
 fn ends(alloc: Global, calls: u64) -> Result<bool, Fail> {
     let mut writer = sink_for(alloc, 1000)?;

@@ -18,7 +18,7 @@ use std::thread::{Threads, join, yield_now};
 /// How often a thread checks whether the other one has come this far.
 const TURNS: u32 = 1_000_000;
 
-// Return whether a flag is set before a thread has checked it this number of times.
+// Return whether a flag is set before a thread has checked it this many times.
 fn comes(flag: &AtomicBool) -> bool {
     for _ in 0..TURNS {
         if flag.load(Ordering::SeqCst) {

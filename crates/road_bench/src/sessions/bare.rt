@@ -30,8 +30,8 @@ impl Absorb<u64> for Greatest {
     }
 }
 
-// Look this number of times, and report the end. The looks that were let in are counted.
-fn look<C: Clock>(
+// Enter the store this many times, and report the end. Return how many entries succeeded.
+fn enter_repeatedly<C: Clock>(
     rt: &C,
     reader: &mut ReadHandle<Greatest>,
     count: u32,
@@ -49,7 +49,7 @@ fn look<C: Clock>(
     Some(Done { times, nanoseconds })
 }
 
-// Publish at most this number of times, until the reader has ended.
+// Publish at most this many times, until the reader has ended.
 fn publish<C: Clock, R: Wait + Drop>(
     rt: &C,
     writer: &mut WriteHandle<Greatest, u64, R>,
@@ -83,7 +83,7 @@ pub(crate) fn time<W: Threads + Wait + Clock + Clone + Drop + Sync>(
     let has_ended = AtomicBool::new(false);
     let (looked, published) = join(
         rt,
-        || look(rt, &mut reader, count, &has_ended),
+        || enter_repeatedly(rt, &mut reader, count, &has_ended),
         || publish(rt, &mut writer, writes, &has_ended),
     );
     Ok([published, looked])
