@@ -22,7 +22,7 @@ ghost use Rattle.road_replica.specs.Refusals.{CountsGone, IsRefusal, IsWriteRefu
 ghost use Rattle.road_replica.specs.Replicas.{edit_made, single_edit};
 ghost use Rattle.road_replica.specs.Writes.{IsWrite};
 
-use crate::faults::{ReplicaFault, fault_of_received_edit, fault_of_own_edit};
+use crate::faults::{ReplicaFault, fault_of_own_edit, fault_of_received_edit};
 use crate::local_edit::LocalEdit;
 use road_cells::Road;
 use road_delta::{Heads, beyond, heads_of};

@@ -1,5 +1,5 @@
 //! Try one call and judge it: prepare the state, make the call, and compare the answer and the state afterwards with
-//! worked results. If the call is refused for out of memory, the state must be unchanged, and the same call must then
+//! worked results. If the call is refused because memory ran out, the state must be unchanged, and the same call must then
 //! answer as if it had not been refused. `tools/fail-in-turn` runs this with each allocation failing in turn, and no
 //! run may find something wrong.
 //!

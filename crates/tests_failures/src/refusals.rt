@@ -1,4 +1,4 @@
-//! The faults that are due if an allocation fails.
+//! The faults that a failed allocation may cause.
 
 use crate::verdict::{Refusal, Verdict};
 use road_format::{LineFault, PlanLineFault};
@@ -9,7 +9,7 @@ use road_sheet::SheetFault;
 use road_workers::CrewFault;
 use road_world::{PlayFault, WorldFault};
 
-// Return the verdict on a refused call whose fault is due.
+// Return the verdict on a refused call: to be called again if it ran out of memory.
 fn again(is_due: bool) -> Option<Verdict> {
     if is_due { Some(Verdict::Again) } else { None }
 }
@@ -80,7 +80,7 @@ impl Refusal for PlayFault {
     }
 }
 
-/// A reader needs no memory, since the store has reserved its place.
+/// A failed allocation never causes `NoPlace`, since the store reserves a place for each reader.
 impl Refusal for OpenFault {
     fn due(&self) -> Option<Verdict> {
         match self {
@@ -99,7 +99,7 @@ impl Refusal for WriteFault {
     }
 }
 
-/// A look itself needs no memory: only the query of the sheet can fail for it.
+/// A look does not allocate: only the query of the sheet can run out of memory.
 impl Refusal for LookFault {
     fn due(&self) -> Option<Verdict> {
         match self {

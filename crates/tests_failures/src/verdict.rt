@@ -21,11 +21,11 @@ pub(crate) enum Verdict {
     Left,
     /// It gave the expected answer at once.
     Right,
-    /// It was refused for out of memory, and a retry gave the expected answer.
+    /// It was refused because memory ran out, and a retry gave the expected answer.
     Again,
     /// It was refused because a thread could not be started, and a retry gave the expected answer.
     Restarted,
-    /// One event of a list was refused for out of memory, and all else was as without it. A retry gave the expected
+    /// One event of a list was refused because memory ran out, and all else was as without it. A retry gave the expected
     /// answer.
     Skipped,
     /// It was refused with a fault that is due, and not retried.
@@ -54,7 +54,7 @@ impl Wrong {
     /// Return the verdict in words.
     pub(crate) fn text(self) -> &'static str {
         match self {
-            Wrong::Answer => "the answer, or what it leaves, is another one",
+            Wrong::Answer => "the answer, or the state after it, is wrong",
             Wrong::Cause => "it was refused for another cause",
             Wrong::Changed => "the refused call changed something",
             Wrong::Again => "it was refused again",

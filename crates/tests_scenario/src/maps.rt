@@ -1,6 +1,6 @@
 //! Maps of up to a thousand keys, which lie in several pages, compared with the standard library's map.
 
-use crate::holds;
+use crate::assert_row;
 use lattice_core::OutOfMemory;
 use lattice_core::entries::Entries;
 use lattice_core::greatest::Greatest;
@@ -289,7 +289,7 @@ fn is_right(
 fn are_right(rt: &impl Abort, alloc: Global, order: Order) -> Result<(), Fail> {
     let mut dice = Dice::of(1);
     for (row, puts) in PUTS.iter().enumerate() {
-        holds(rt, row, is_right(alloc, &mut dice, order, *puts)?);
+        assert_row(rt, row, is_right(alloc, &mut dice, order, *puts)?);
     }
     Ok(())
 }
