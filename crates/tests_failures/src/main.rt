@@ -35,7 +35,7 @@ use std::{env, io};
 // Print the verdict on a call, if it was judged.
 fn tell<R: Print>(rt: &R, verdict: Option<Verdict>) -> io::Result<()> {
     match verdict {
-        Some(Verdict::Left) => Ok(()),
+        Some(Verdict::Stopped) => Ok(()),
         Some(Verdict::Right) => println!(rt; "right"),
         Some(Verdict::Again) => println!(rt; "right again"),
         Some(Verdict::Restarted) => println!(rt; "right with new threads"),
