@@ -224,7 +224,7 @@ impl<K: Exact, V: Lattice> Lattice for LatMap<K, V> {
     }
 }
 
-// Return whether there is another value and this value is at most that one.
+// Return whether a value is at most the other one; false if the other one is missing.
 fn is_up_to<V: Lattice>(value: &V, other: Option<&V>) -> bool
     ensures { IsTrue result ↔ IsAtMostOption V.join value.now (option_copied other.entry) }
 {

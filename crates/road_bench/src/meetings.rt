@@ -45,7 +45,7 @@ fn meet<R: Threads + Wait + Clock + Clone + Drop + Send + Sync + 'static>(
     Ok(meeting.was_held(2))
 }
 
-// Let 1 to 16 workers run this plan's road this number of times, and write how often they all met.
+// Let 1 to 16 workers run this plan's road this many times, and write how often they all met.
 fn run_on<R: Threads + Wait + Clock + Print + Clone + Drop + Send + Sync + 'static>(
     rt: &R,
     alloc: Global,
@@ -64,7 +64,7 @@ fn run_on<R: Threads + Wait + Clock + Print + Clone + Drop + Send + Sync + 'stat
     Ok(())
 }
 
-/// Let 1 to 16 lasting workers run the long road this number of times, and write in how many runs they all met.
+/// Let 1 to 16 lasting workers run the long road this many times, and write in how many runs they all met.
 pub(crate) fn run<R: Threads + Wait + Clock + Print + Clone + Drop + Send + Sync + 'static>(
     rt: &R,
     alloc: Global,

@@ -34,7 +34,7 @@ fn plan_for(alloc: Global, kind: &str) -> Result<Arc<Plan>> {
     Ok(Arc::new(alloc, plan?)?)
 }
 
-// Return the number of runs whose journal is the merge of all writes.
+// Do this many runs. Return in how many the journal is the merge of all writes.
 fn count_merged_runs<R: Threads + Wait + Sync>(
     rt: &R,
     alloc: Global,
@@ -51,6 +51,7 @@ fn count_merged_runs<R: Threads + Wait + Sync>(
     Ok(good)
 }
 
+// Print how many of these runs end with a journal that is the merge of all writes.
 fn merge_all<R: Threads + Wait + Print + Sync>(
     rt: &R,
     alloc: Global,
@@ -63,6 +64,7 @@ fn merge_all<R: Threads + Wait + Print + Sync>(
     Ok(())
 }
 
+// Time the looks of sessions while another one writes, and print a line for each session.
 fn time_looks<R: Threads + Wait + Clock + Print + Sync>(
     rt: &R,
     alloc: Global,
@@ -74,7 +76,8 @@ fn time_looks<R: Threads + Wait + Clock + Print + Sync>(
     print_all(rt, all.as_slice())
 }
 
-fn time_bare<R: Threads + Wait + Clock + Print + Clone + Drop + Sync>(
+// Time the entries into a store of `left_right` alone, and print a line for each thread.
+fn time_left_right_alone<R: Threads + Wait + Clock + Print + Clone + Drop + Sync>(
     rt: &R,
     alloc: Global,
     looks: u32,
@@ -103,7 +106,7 @@ pub(crate) fn work<R: Threads + Wait + Clock + Print + Clone + Drop + Sync>(
     let plan = plan_for(alloc, kind)?;
     match (kind, numbers) {
         ("merge", [writes, runs]) => merge_all(rt, alloc, &plan, *writes, *runs),
-        ("bare", [looks, writes]) => time_bare(rt, alloc, *looks, *writes),
+        ("bare", [looks, writes]) => time_left_right_alone(rt, alloc, *looks, *writes),
         ("looks" | "advances" | "steps", [readers, looks, writes]) => {
             let work = Work {
                 looks: *looks,

@@ -30,7 +30,7 @@ pub(crate) fn time<R: Clock + Print>(
     Ok(())
 }
 
-// Time this number of steps and of words of a source, and write a line.
+// Time this many steps and of words of a source, and write a line.
 fn time_once<R: Clock + Print>(
     rt: &R,
     alloc: Global,
@@ -160,7 +160,7 @@ fn is_open(chance: u32) -> bool {
     0 < chance && chance < CERTAIN
 }
 
-// Draw this number of words, of streams and places as steps draw them, and mix them.
+// Draw this many words, of streams and places as steps draw them, and mix them.
 fn draw(source: &PlanWords, words: u64) -> u32 {
     let mut mixed = 0;
     for place in 0..words {

@@ -80,7 +80,7 @@ fn cut_at(plan: &Plan, settings: &Settings, first: u32) -> Cut
     }
 }
 
-// Return a blocked cell by its index, or a cell past every road if there is none.
+// Return the blocked cell at an index, or a cell past the end of every road if the index is too great.
 fn next_block(blocks: &[u32], reached: usize) -> u32
     ensures some { reached < length blocks.now → result ≡ slice_index blocks.now reached }
     ensures none { length blocks.now ≤ reached → result ≡ 65535 }

@@ -38,5 +38,5 @@ mod turning;
 mod under_way;
 mod words;
 
-pub use road_or_run::{RanSpan, RoadOrRun};
+pub use road_or_run::{RoadOrRun, SpanOutcome};
 pub use under_way::{UnderWay, is_runnable};

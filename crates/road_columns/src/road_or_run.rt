@@ -17,9 +17,9 @@ pub enum RoadOrRun {
     Run(UnderWay),
 }
 
-/// What a crew makes of a span: the road after it, and the counts of each detector in it.
+/// The outcome of a span: the road after it, and the counts of each detector in it.
 #[derive(Drop)]
-pub struct RanSpan {
+pub struct SpanOutcome {
     pub road: RoadOrRun,
     pub totals: Vec<Totals>,
 }

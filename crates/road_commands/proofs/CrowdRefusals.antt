@@ -9,7 +9,7 @@ use Rattle.road_scenario.specs.declared.edit.Edit as edit
 use Rattle.road_scenario.specs.declared.faults.EditFault.{EditFault}
 use Rattle.road_scenario.specs.declared.faults.EditFault.TheVariants as edit_faults
 use Rattle.road_replica.specs.Crowds.{edits_of, shares_fault}
-use Rattle.road_replica.specs.Refusals.{advance_fault, arrived_edit_fault, import_fault, imported_edit_fault}
+use Rattle.road_replica.specs.Refusals.{advance_fault, received_edit_fault, import_fault, imported_edit_fault}
 use Rattle.road_replica.specs.declared.faults.ReplicaFault.{ReplicaFault}
 use Rattle.road_replica.specs.declared.faults.ReplicaFault.TheVariants.{Horizon, Insider}
 use Rattle.road_format.specs.declared.refusal.Refusal.{Refusal}
@@ -23,7 +23,7 @@ either_answered : (a b : Option ReplicaFault) → IsAnswered a → IsAnswered b 
 either_answered (Some fault) b h k = h
 either_answered None b h k = k
 
-arrived_answered : (fault : Option EditFault) → IsAnswered (option_map arrived_edit_fault fault)
+arrived_answered : (fault : Option EditFault) → IsAnswered (option_map received_edit_fault fault)
 arrived_answered None none = refl
 arrived_answered (Some edit_faults.NoObject) none = absurd (cc)
 arrived_answered (Some edit_faults.Step) none = absurd (cc)
@@ -43,7 +43,7 @@ import_answered plan [] none = refl
 import_answered plan (e ∷ edits) none =
     let arrived = arrived_answered (fault_of_edit plan e) in
     let insider = insider_answered (nat_lt e.stamp.number FIRST_IMPORT_NUMBER) in
-    let one = either_answered (option_map arrived_edit_fault (fault_of_edit plan e)) (if nat_lt e.stamp.number FIRST_IMPORT_NUMBER then Some Insider else None) arrived insider in
+    let one = either_answered (option_map received_edit_fault (fault_of_edit plan e)) (if nat_lt e.stamp.number FIRST_IMPORT_NUMBER then Some Insider else None) arrived insider in
     either_answered (imported_edit_fault plan e) (import_fault plan edits) one (import_answered plan edits) none
 
 shares_answered : (plan : Plan) (shares : List (List edit.Edit)) (to : ℕ) → IsAnswered (shares_fault plan shares to)

@@ -9,7 +9,7 @@ use Rattle.road_plan.specs.Plan.{Plan}
 use Rattle.road_scenario.specs.declared.edit.Edit.{Edit}
 use Rattle.road_replica.specs.Crowds.{edits_of, shares_fault, shares_of}
 use Rattle.road_replica.specs.Refusals as refusals
-use Rattle.road_replica.specs.Refusals.{advance_fault, arrived_edit_fault, import_fault, imported_edit_fault, take_fault}
+use Rattle.road_replica.specs.Refusals.{advance_fault, received_edit_fault, import_fault, imported_edit_fault, take_fault}
 use Rattle.road_replica.specs.Replicas.{Replica, single_edit}
 use Rattle.road_replica.specs.declared.faults.ReplicaFault.{ReplicaFault}
 use Rattle.road_replica.specs.declared.faults.ReplicaFault.TheVariants as causes
@@ -55,14 +55,14 @@ none_of_both : (x y : Option ReplicaFault) → option_or x y ≡ None → (x ≡
 none_of_both None y is = (refl, is)
 none_of_both (Some f) y is = absurd (cc is)
 
-none_mapped : (x : Option EditFault) → option_map arrived_edit_fault x ≡ None → x ≡ None
+none_mapped : (x : Option EditFault) → option_map received_edit_fault x ≡ None → x ≡ None
 none_mapped None is = refl
 none_mapped (Some f) is = absurd (cc is)
 
 pub taken_alone : (plan : Plan) (edit : Edit) → imported_edit_fault plan edit ≡ None → take_fault plan (single_edit edit) ≡ None
 taken_alone plan edit none =
     let fits : fault_of_edit plan edit ≡ None = none_mapped (fault_of_edit plan edit) (none_of_both _ _ none).0 in
-    ap (λ (x : Option EditFault). option_map arrived_edit_fault x) (in_range-faultless plan (single_edit edit) (in_range-one plan edit fits))
+    ap (λ (x : Option EditFault). option_map received_edit_fault x) (in_range-faultless plan (single_edit edit) (in_range-one plan edit fits))
 
 pub edit_of_share : (plan : Plan) (share : List Edit) (i : ℕ) (d : Edit) → import_fault plan share ≡ None → i < length share → imported_edit_fault plan (slice_index_or share i d) ≡ None
 edit_of_share plan [] i d none below = absurd (omega arith)

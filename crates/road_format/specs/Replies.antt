@@ -77,7 +77,7 @@ head_data h =
     list_data (string (kind_of h.object) ∷ number_data (index_of h.object) ∷ number_data h.step
     ∷ number_data h.stamp.count ∷ number_data h.stamp.number ∷ [])
 
--- a step, or null if there is none
+-- a step as a number, and None as null
 abbrev pub step_data : Option ℕ → Data
 step_data None = null
 step_data (Some step) = number_data step

@@ -44,7 +44,7 @@ pub(crate) fn crowd_in(
     }
 }
 
-// Return whether a crowd may have this number of shares.
+// Return whether a crowd may have this many shares.
 fn are_few_shares(shares: &[Vec<Edit>]) -> bool
     ensures { result ≡ grammar.are_few_shares (shares_view shares.now) }
 {
@@ -93,7 +93,7 @@ fn shares_in(alloc: Global, items: &[Value]) -> Result<Option<Vec<Vec<Edit>>>, O
     Ok(Some(found))
 }
 
-// Read the edits from a list.
+// Parse a list of edits. Return None if the value is not one.
 fn edits_in(alloc: Global, value: &Value) -> Result<Option<Vec<Edit>>, OutOfMemory>
     ensures { IfOk result (λ found. option_map (λ found. found.items) found
         ≡ edit_grammar.edits_in (view value.now)) }

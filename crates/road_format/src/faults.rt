@@ -48,7 +48,7 @@ pub enum PlanLineFault {
 }
 
 impl LineFault {
-    /// Return the refusal that the reply names, or none if memory ran out.
+    /// Return the refusal that the reply names, or None if memory ran out.
     pub fn refusal(self) -> Option<Refusal>
         ensures { result ≡ line_refusal self }
     {
@@ -62,7 +62,7 @@ impl LineFault {
 }
 
 impl PlanLineFault {
-    /// Return the refusal that the reply names, or none if memory ran out.
+    /// Return the refusal that the reply names, or None if memory ran out.
     pub fn refusal(self) -> Option<Refusal>
         ensures { result ≡ plan_line_refusal self }
     {

@@ -8,7 +8,7 @@ use road_plan::OutOfMemory;
 use serde_json::Value;
 use std::alloc::Global;
 
-// Read the JSON value of a line. There is none if the bytes are not UTF-8, or the text is not JSON.
+// Parse a line as JSON. Return None if it is not UTF-8 or not JSON.
 #[tactic(auto, unfolding(crate::specs::Reading::value_of))]
 pub(crate) fn value_in(alloc: Global, line: &[u8]) -> Result<Option<Value>, OutOfMemory>
     ensures value { IfOk result (λ value. option_map view value ≡ value_of line.now) }

@@ -40,7 +40,7 @@ pub fn reply_line(alloc: Global, answer: &Answer) -> Result<String, OutOfMemory>
     Ok(line)
 }
 
-// Write the JSON value of an answer.
+// Return an answer as a JSON value.
 fn answer_value(alloc: Global, answer: &Answer) -> Result<Value, OutOfMemory>
     ensures { IfOk result (λ value. view value ≡ data_of (answer_view answer.now)) }
 {
@@ -66,7 +66,7 @@ fn answer_value(alloc: Global, answer: &Answer) -> Result<Value, OutOfMemory>
     }
 }
 
-// Add a field to those of an object.
+// Add a field to an object.
 fn with_field(
     alloc: Global,
     mut fields: Map<String, Value>,
@@ -80,7 +80,7 @@ fn with_field(
     Ok(fields)
 }
 
-// Add a field with a string to those of an object.
+// Add a field with a string to an object.
 fn with_text(
     alloc: Global,
     fields: Map<String, Value>,
@@ -94,7 +94,7 @@ fn with_text(
     with_field(alloc, fields, name, text)
 }
 
-// Write the object of one field.
+// Return an object with one field.
 fn field_value(alloc: Global, name: &str, value: Value) -> Result<Value, OutOfMemory>
     ensures { IfOk result (λ made. view made ≡ field_data name.now (view value)) }
 {
@@ -219,7 +219,7 @@ fn crowd_value(alloc: Global, edits: &[Edit], journal: u32, row: &str) -> Result
     Ok(Value::Object(fields))
 }
 
-// Write the JSON value of a step, or null if there is none.
+// Return a step as a JSON number, and None as null.
 fn step_value(step: Option<u32>) -> Value
     ensures { view result ≡ step_data step }
 {

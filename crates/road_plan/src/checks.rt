@@ -105,10 +105,11 @@ fn are_between(sites: &[u32], end: u32) -> bool
 fn has_defaults(parts: &PlanParts) -> bool
     ensures { result ≡ refusals.has_defaults (plan_of parts.now) }
 {
-    are_zones(&parts.zones) && are_inflows(&parts.inlets)
+    have_zone_defaults(&parts.zones) && have_inlet_defaults(&parts.inlets)
 }
 
-fn are_zones(zones: &[(u32, u32)]) -> bool
+// Return whether the default limit and slowing chance of each zone are in range.
+fn have_zone_defaults(zones: &[(u32, u32)]) -> bool
     ensures { result ≡ list_all (λ zone. nat_le zone.0 GREATEST_LIMIT && nat_le zone.1 CERTAIN) zones.now }
 {
     zones
@@ -116,7 +117,8 @@ fn are_zones(zones: &[(u32, u32)]) -> bool
         .all(|zone| zone.0 <= GREATEST_LIMIT && zone.1 <= CERTAIN)
 }
 
-fn are_inflows(inlets: &[(u32, u32)]) -> bool
+// Return whether the default inflow of each inlet is in range.
+fn have_inlet_defaults(inlets: &[(u32, u32)]) -> bool
     ensures { result ≡ list_all (λ inlet. nat_le inlet.1 CERTAIN) inlets.now }
 {
     inlets.iter().all(|inlet| inlet.1 <= CERTAIN)

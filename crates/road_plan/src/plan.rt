@@ -26,7 +26,7 @@ impl Model for Plan {
 }
 
 impl Plan {
-    /// Make the plan of these parts, if they are within the limits. It takes no memory: the parts become the plan.
+    /// Make a plan from these parts, if they are within the limits. It does not allocate: the parts become the plan.
     ///
     /// # Errors
     ///
@@ -39,7 +39,7 @@ impl Plan {
         // So each plan within the limits is accepted.
         ensures accepted { IsWithinLimits (plan_of parts) → IsOk result }
 
-        // Refused by the first fault, which is never out of memory.
+        // A refusal names the first fault, which is never `OutOfMemory`.
         ensures refused { IfErr result (λ fault. fault_of_plan (plan_of parts) ≡ Some fault) }
     {
         match first_fault(&parts) {
@@ -56,7 +56,7 @@ impl Plan {
         self.parts.length
     }
 
-    /// Return the number of the cells of the deleted zone, the last ones of the road.
+    /// Return the number of cells in the exit zone, at the end of the road, where cars are removed.
     pub fn exit(&self) -> u32
         ensures { result ≡ self.now.exit }
     {
@@ -71,14 +71,14 @@ impl Plan {
         self.parts.width
     }
 
-    /// Return for each zone its speed limit, in cells per step, and its slowing chance, in 1/65,536.
+    /// Return the speed limit (cells per step) and the slowing chance (1/65,536) of each zone.
     pub fn zones(&self) -> &[(u32, u32)]
         ensures { result.now ≡ self.now.zones }
     {
         &self.parts.zones
     }
 
-    /// Return for each inlet its cell and its inflow chance, in 1/65,536.
+    /// Return the cell and the inflow chance (1/65,536) of each inlet.
     pub fn inlets(&self) -> &[(u32, u32)]
         ensures inlets { result.now ≡ self.now.inlets }
         ensures within { IsWithinLimits self.now }
@@ -86,7 +86,7 @@ impl Plan {
         &self.parts.inlets
     }
 
-    /// Return for each detector its site, a cell.
+    /// Return the cell of each detector (its site).
     pub fn detectors(&self) -> &[u32]
         ensures detectors { result.now ≡ self.now.detectors }
         ensures within { IsWithinLimits self.now }

@@ -8,7 +8,7 @@ use Rattle.road_scenario.specs.declared.edit.Edit.{Edit}
 use Rattle.road_scenario.specs.declared.faults.EditFault.{EditFault}
 use Rattle.road_scenario.specs.declared.faults.EditFault.TheVariants.{NoObject, Step, ValueOutOfRange, Count}
 use Rattle.road_plan.specs.declared.limits.TheConstants.{FIRST_IMPORT_NUMBER}
-use Rattle.road_replica.specs.Refusals.{arrived_edit_fault, imported_edit_fault, import_fault, gone_after_fault}
+use Rattle.road_replica.specs.Refusals.{received_edit_fault, imported_edit_fault, import_fault, gone_after_fault}
 use Rattle.road_replica.specs.declared.faults.ReplicaFault.{ReplicaFault}
 use Rattle.road_replica.specs.declared.faults.ReplicaFault.TheVariants.{Insider}
 
@@ -17,7 +17,7 @@ pub none_of_both : (x y : Option ReplicaFault) → option_or x y ≡ None → (x
 none_of_both None y h = (refl, h)
 none_of_both (Some f) y h = cc
 
-unmapped : (x : Option EditFault) → option_map arrived_edit_fault x ≡ None → x ≡ None
+unmapped : (x : Option EditFault) → option_map received_edit_fault x ≡ None → x ≡ None
 unmapped None h = refl
 unmapped (Some f) h = cc
 
@@ -26,7 +26,7 @@ pub no_fault_imported : (plan : Plan) (edits : List Edit) → import_fault plan 
 no_fault_imported plan [] h = refl
 no_fault_imported plan (e ∷ es) h =
     let both = none_of_both (imported_edit_fault plan e) (import_fault plan es) h in
-    let here = none_of_both (option_map arrived_edit_fault (fault_of_edit plan e)) _ both.0 in
+    let here = none_of_both (option_map received_edit_fault (fault_of_edit plan e)) _ both.0 in
     ap (λ x. option_or x (first_fault plan es)) (unmapped (fault_of_edit plan e) here.0) ∙ no_fault_imported plan es both.1
 
 -- ---- no worker is lost by a named cause
@@ -39,7 +39,7 @@ either : (n : ℕ) (x y : Option ReplicaFault) → LosesNone n x → LosesNone n
 either n None y p q = q
 either n (Some f) y p q = p
 
-arrived : (n : ℕ) (x : Option EditFault) → LosesNone n (option_map arrived_edit_fault x)
+arrived : (n : ℕ) (x : Option EditFault) → LosesNone n (option_map received_edit_fault x)
 arrived n None = tt
 arrived n (Some NoObject) = refl
 arrived n (Some Step) = refl
@@ -54,5 +54,5 @@ pub refused_import_loses_none : (plan : Plan) (edits : List Edit) (n : ℕ) → 
 refused_import_loses_none plan [] n = tt
 refused_import_loses_none plan (e ∷ es) n =
     either n (imported_edit_fault plan e) (import_fault plan es)
-    (either n (option_map arrived_edit_fault (fault_of_edit plan e)) _ (arrived n (fault_of_edit plan e)) (insider n (nat_lt e.stamp.number FIRST_IMPORT_NUMBER)))
+    (either n (option_map received_edit_fault (fault_of_edit plan e)) _ (arrived n (fault_of_edit plan e)) (insider n (nat_lt e.stamp.number FIRST_IMPORT_NUMBER)))
     (refused_import_loses_none plan es n)

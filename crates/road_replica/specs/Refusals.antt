@@ -28,18 +28,18 @@ use Rattle.road_replica.specs.declared.faults.ReplicaFault.TheVariants.{NotSimul
 -- ---- causes of lower layers
 
 -- the refusal of an edit that comes from elsewhere
-abbrev pub arrived_edit_fault : EditFault → ReplicaFault
-arrived_edit_fault edits.NoObject = NoObject
-arrived_edit_fault edits.Step = Step
-arrived_edit_fault edits.ValueOutOfRange = ValueOutOfRange
-arrived_edit_fault edits.Count = Count
+abbrev pub received_edit_fault : EditFault → ReplicaFault
+received_edit_fault edits.NoObject = NoObject
+received_edit_fault edits.Step = Step
+received_edit_fault edits.ValueOutOfRange = ValueOutOfRange
+received_edit_fault edits.Count = Count
 
 -- the refusal of an edit that the replica would make: its count, one more than the greatest held, can only be too great
-abbrev pub made_edit_fault : EditFault → ReplicaFault
-made_edit_fault edits.NoObject = NoObject
-made_edit_fault edits.Step = Step
-made_edit_fault edits.ValueOutOfRange = ValueOutOfRange
-made_edit_fault edits.Count = CountsSpent
+abbrev pub own_edit_fault : EditFault → ReplicaFault
+own_edit_fault edits.NoObject = NoObject
+own_edit_fault edits.Step = Step
+own_edit_fault edits.ValueOutOfRange = ValueOutOfRange
+own_edit_fault edits.Count = CountsSpent
 
 -- the refusal of a query that the sheet refuses
 abbrev pub query_fault : SheetFault → ReplicaFault
@@ -57,11 +57,11 @@ growth_fault growth.OutOfMemory = OutOfMemory
 
 -- the first named cause for which an edit that the replica would make is refused
 abbrev pub edit_fault : Replica → Object → ℕ → Value → Option ReplicaFault
-edit_fault r object step value = option_map made_edit_fault (fault_of_edit r.sheet.plan (edit_made r object step value))
+edit_fault r object step value = option_map own_edit_fault (fault_of_edit r.sheet.plan (edit_made r object step value))
 
 -- the first named cause for which one imported edit is refused: it must not have the number of a replica
 abbrev pub imported_edit_fault : Plan → Edit → Option ReplicaFault
-imported_edit_fault plan edit = option_or (option_map arrived_edit_fault (fault_of_edit plan edit))
+imported_edit_fault plan edit = option_or (option_map received_edit_fault (fault_of_edit plan edit))
     (if nat_lt edit.stamp.number FIRST_IMPORT_NUMBER then Some Insider else None)
 
 -- the cause for which an import is refused: the fault of its first faulty edit
@@ -71,7 +71,7 @@ import_fault plan (edit ∷ edits) = option_or (imported_edit_fault plan edit) (
 
 -- the cause for which a scenario is not taken: the fault of its first faulty edit, by object and step
 abbrev pub take_fault : Plan → Edits → Option ReplicaFault
-take_fault plan edits = option_map arrived_edit_fault (fault_in plan edits)
+take_fault plan edits = option_map received_edit_fault (fault_in plan edits)
 
 -- the cause for which an advance to a step is refused
 abbrev pub advance_fault : ℕ → Option ReplicaFault

@@ -88,8 +88,8 @@ impl From<GrownFault> for ReplicaFault {
 }
 
 // Return the refusal of an edit that comes from elsewhere.
-pub(crate) fn arrived_fault(fault: EditFault) -> ReplicaFault
-    ensures { result ≡ refusals.arrived_edit_fault fault }
+pub(crate) fn fault_of_received_edit(fault: EditFault) -> ReplicaFault
+    ensures { result ≡ refusals.received_edit_fault fault }
 {
     match fault {
         EditFault::NoObject => ReplicaFault::NoObject,
@@ -100,8 +100,8 @@ pub(crate) fn arrived_fault(fault: EditFault) -> ReplicaFault
 }
 
 // Return the refusal of an edit that the replica would make.
-pub(crate) fn made_fault(fault: EditFault) -> ReplicaFault
-    ensures { result ≡ refusals.made_edit_fault fault }
+pub(crate) fn fault_of_own_edit(fault: EditFault) -> ReplicaFault
+    ensures { result ≡ refusals.own_edit_fault fault }
 {
     match fault {
         EditFault::NoObject => ReplicaFault::NoObject,

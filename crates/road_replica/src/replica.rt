@@ -22,7 +22,7 @@ ghost use Rattle.road_replica.specs.Refusals.{CountsGone, IsRefusal, IsWriteRefu
 ghost use Rattle.road_replica.specs.Replicas.{edit_made, single_edit};
 ghost use Rattle.road_replica.specs.Writes.{IsWrite};
 
-use crate::faults::{ReplicaFault, arrived_fault, made_fault};
+use crate::faults::{ReplicaFault, fault_of_own_edit, fault_of_received_edit};
 use crate::local_edit::LocalEdit;
 use road_cells::Road;
 use road_delta::{Heads, beyond, heads_of};
@@ -133,7 +133,7 @@ impl Replica {
         ensures fits { IfNone result (AreInRange self.now.sheet.plan scenario.now) }
     {
         match scenario.fits(self.sheet.plan()) {
-            Some(fault) => Some(arrived_fault(fault)),
+            Some(fault) => Some(fault_of_received_edit(fault)),
             None => None,
         }
     }
@@ -251,7 +251,7 @@ impl Replica {
     {
         let edit = self.stamped_edit(local);
         if let Some(fault) = edit.fault(self.sheet.plan()) {
-            return Err(made_fault(fault));
+            return Err(fault_of_own_edit(fault));
         }
         let alone = Scenario::empty(alloc).with_edit(&edit)?;
         Ok((edit.stamp, alone))
@@ -535,7 +535,7 @@ fn imported_fault(plan: &Plan, edit: &Edit) -> Option<ReplicaFault>
     ensures { result ≡ refusals.imported_edit_fault plan.now edit.now }
 {
     match edit.fault(plan) {
-        Some(fault) => Some(arrived_fault(fault)),
+        Some(fault) => Some(fault_of_received_edit(fault)),
         None if edit.stamp.number < FIRST_IMPORT_NUMBER => Some(ReplicaFault::Insider),
         None => None,
     }

@@ -13,7 +13,7 @@ ghost use Rattle.road_rewind.specs.Growth.{TicksAtMost};
 
 use crate::GrownFault;
 use crate::outcome::Grown;
-use road_columns::{RanSpan, RoadOrRun};
+use road_columns::{RoadOrRun, SpanOutcome};
 use road_ends::laws::cars_stay_on_road;
 use road_ends::{Meter, OutOfMemory, Span};
 use road_scenario::Scenario;
@@ -131,7 +131,7 @@ fn simulate<C: Crew>(
 }
 
 // Simulate the next steps of a draft by a run of the crew, from the road at its horizon, and return the road after them.
-// The meter counts all of them once the draft has them, and none if the run or its taking is refused.
+// The meter counts all of them once the draft has them, and none if the run is refused or cannot be added.
 fn simulate_span<C: Crew>(
     alloc: Global,
     draft: &mut SpanDraft,
@@ -155,6 +155,6 @@ fn simulate_span<C: Crew>(
     };
     draft.push_span(alloc, span, &ran)?;
     meter.count(steps);
-    let RanSpan { road, .. } = ran;
+    let SpanOutcome { road, .. } = ran;
     Ok(road)
 }

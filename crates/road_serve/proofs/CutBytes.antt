@@ -40,7 +40,7 @@ cut-newline (x ∷ a) = ap (pieces_with_byte x) (cut-newline a) ∙ ended_at x (
 
 -- ---- the place where the first line of bytes ends
 
--- the number of bytes before the first newline, or of all bytes if there is none
+-- the number of bytes before the first newline, or of all bytes if there is no newline
 abbrev line_len : List ℕ → ℕ
 line_len b = position_or_len (λ x. x == newline) b
 

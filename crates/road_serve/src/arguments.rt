@@ -36,9 +36,9 @@ impl From<AllocError> for ArgumentFault {
 // The content of the arguments.
 #[derive(Clone, Copy, Debug, PartialEq, Eq)]
 pub(crate) struct Arguments<'a> {
-    // The path of the script. If there is none, standard input is read.
+    // The path of the script; None to read standard input.
     pub script: Option<&'a str>,
-    // The number of workers that compute the speeds, 1 to 16. If there is none, the program computes them itself.
+    // The number of worker threads that compute the speeds, 1 to 16; None to compute them on the main thread.
     pub workers: Option<u32>,
 }
 

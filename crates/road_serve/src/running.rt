@@ -88,28 +88,14 @@ pub fn run<
     match arguments_in(rt.alloc(), words) {
         Ok(asked) => match asked.script {
             None => run_reader(rt, asked.workers, reader, writer),
-            Some(path) => run_script(rt, path, asked.workers, writer),
+            Some(path) => run_opened(rt, fs::open(rt, path).ok(), asked.workers, writer),
         },
         Err(ArgumentFault::Refused) => Ended::bad_arguments(),
         Err(ArgumentFault::OutOfMemory) => Ended::no_memory(),
     }
 }
 
-// Run the program from the script at a path.
-fn run_script<
-    F: Files + Threads + Wait + RandomSource + AllocGlobal + Clone + Drop + Send + 'static,
-    W: Sink,
->(rt: &F, path: &str, workers: Option<u32>, writer: &mut W) -> Ended
-    requires { IfSome workers (λ count. (0 < count) × (count ≤ MOST_WORKERS)) }
-    ensures { (served : Result Served ServeFault) × (gone : ℕ) × (workers ≡ None → gone ≡ 0)
-        × (before : SourceView) × (after : SourceView) × (opened : Option F.File)
-        × EndsScript F.File.remaining opened result (program_serving before after
-        (sink_view W.Sink writer.old) (sink_view W.Sink writer.new) 0 gone served) }
-{
-    run_opened(rt, fs::open(rt, path).ok(), workers, writer)
-}
-
-// Run the program from the script that was opened, from its first byte. If none could be opened, report a read error.
+// Run the program from a script, from its first byte. If the script could not be opened, report a read error.
 fn run_opened<
     F: Files + Threads + Wait + RandomSource + AllocGlobal + Clone + Drop + Send + 'static,
     W: Sink,
@@ -149,7 +135,8 @@ fn run_reader<
     }
 }
 
-// Run the program with `workers` workers, or alone, from a reader to a writer, and find names by this hasher.
+// Run the program with `workers` workers, or alone, from a reader to a writer, and find names by this hasher. Workers
+// are stopped before the program ends.
 fn run_hashed<F: Threads + Wait + AllocGlobal + Clone + Drop + Send + 'static, R: Source, W: Sink>(
     rt: &F,
     workers: Option<u32>,
@@ -162,57 +149,13 @@ fn run_hashed<F: Threads + Wait + AllocGlobal + Clone + Drop + Send + 'static, R
         × EndsAfter result (program_serving (source_view R.Source reader.old) (source_view R.Source reader.new)
         (sink_view W.Sink writer.old) (sink_view W.Sink writer.new) 0 gone served) }
 {
-    match workers {
-        None => run_alone(rt, reader, writer, hasher),
-        Some(count) => run_by_workers(rt, count, reader, writer, hasher),
-    }
-}
-
-// Run the program with a crew of one, from a reader to a writer.
-fn run_alone<F: Threads + Wait + AllocGlobal, R: Source, W: Sink>(
-    rt: &F,
-    reader: &mut R,
-    writer: &mut W,
-    hasher: RandomState,
-) -> Ended
-    ensures { (served : Result Served ServeFault)
-        × EndsAfter result (program_serving (source_view R.Source reader.old) (source_view R.Source reader.new)
-        (sink_view W.Sink writer.old) (sink_view W.Sink writer.new) 0 0 served) }
-{
-    let mut crew = Alone;
-    run_by(
-        rt.alloc(),
-        reader,
-        writer,
-        &mut crew,
-        &OnThreads::new(rt),
-        hasher,
-    )
-}
-
-// Run the program with a crew of lasting workers, from a reader to a writer. The workers are stopped before the program
-// ends.
-fn run_by_workers<
-    F: Threads + Wait + AllocGlobal + Clone + Drop + Send + 'static,
-    R: Source,
-    W: Sink,
->(rt: &F, count: u32, reader: &mut R, writer: &mut W, hasher: RandomState) -> Ended
-    requires some { 0 < count }
-    requires few { count ≤ MOST_WORKERS }
-    ensures { (served : Result Served ServeFault) × (gone : ℕ)
-        × EndsAfter result (program_serving (source_view R.Source reader.old) (source_view R.Source reader.new)
-        (sink_view W.Sink writer.old) (sink_view W.Sink writer.new) 0 gone served) }
-{
+    let crowds = OnThreads::new(rt);
+    let Some(count) = workers else {
+        return run_by(rt.alloc(), reader, writer, &mut Alone, &crowds, hasher);
+    };
     match crew_of(rt, count) {
         Ok(mut crew) => {
-            let ended = run_by(
-                rt.alloc(),
-                reader,
-                writer,
-                &mut crew,
-                &OnThreads::new(rt),
-                hasher,
-            );
+            let ended = run_by(rt.alloc(), reader, writer, &mut crew, &crowds, hasher);
             crew.finish();
             ended
         }
@@ -220,7 +163,7 @@ fn run_by_workers<
     }
 }
 
-// Start a crew of this number of lasting workers.
+// Start a crew of this many lasting workers.
 fn crew_of<F: Threads + Wait + AllocGlobal + Clone + Drop + Send + 'static>(
     rt: &F,
     count: u32,

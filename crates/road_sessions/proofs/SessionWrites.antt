@@ -26,7 +26,7 @@ use Rattle.road_sessions.proofs.Prefixes.{each_of_both, got_last, in_longer_jour
 
 -- ---- a write
 
--- a write without a named cause is refused for out of memory
+-- a write without a named cause is refused because memory ran out
 pub refused_late : {A : Type 0} (limit : ℕ) (wish : Wish) (r : Replica) (journal : List Entry) (result : Result A WriteFault) (fault : ReplicaFault) (meter counted : ℕ)
     → write_fault limit wish r journal ≡ None → IsErrAnd result (λ given. given ≡ OfReplica fault) → fault ≡ causes.OutOfMemory → TicksAtMost (most_steps_of_wish wish (replay r journal)) meter counted
     → MatchResult result (λ _. IsAccepted limit wish r journal meter counted) (λ given. IsRefused limit wish r journal given meter counted)

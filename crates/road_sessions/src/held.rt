@@ -146,9 +146,9 @@ impl<J: Naming, R: Wait + Drop> Held<J, R> {
         wish: &Wish<'_>,
         crew: &mut C,
         meter: &mut Meter,
-        mine: &mut Share<J>,
+        share: &mut Share<J>,
     ) -> Result<(u64, Reply), WriteFault>
-        requires { 0 < mine.old.parts }
+        requires { 0 < share.old.parts }
         ensures journal { OnOk result (self.new.journal.items ≡ self.old.journal.items
             ++ entry session (wish_command wish.now (replay J.replica self.old.journal.items)) ∷ []) }
         ensures reply { IfOk result (λ wrote. (wrote.0 ≡ length self.old.journal.items)
@@ -160,8 +160,8 @@ impl<J: Naming, R: Wait + Drop> Held<J, R> {
             × (self.new.replica ≡ self.old.replica)
             × (self.new.writer.desk.shown.value ≡ self.old.writer.desk.shown.value)) }
         ensures limit { self.new.limit ≡ self.old.limit }
-        ensures share { (mine.new.parts ≡ mine.old.parts) × MatchResult result
-            (λ _. mine.new.amount ≡ mine.old.amount + 1) (λ _. mine.new.amount ≡ mine.old.amount) }
+        ensures share { (share.new.parts ≡ share.old.parts) × MatchResult result
+            (λ _. share.new.amount ≡ share.old.amount + 1) (λ _. share.new.amount ≡ share.old.amount) }
         ensures gone { CountsGone result (C.times_gone crew.old) (C.times_gone crew.new) }
     {
         if self.journal.len() as u64 >= self.limit {
@@ -170,7 +170,7 @@ impl<J: Naming, R: Wait + Drop> Held<J, R> {
         let Errand { command, stamp } = errand_of(self.alloc, &self.replica, wish)?;
         let (replica, answer) = self.next(&command, crew, meter)?;
         let place = self.journal.len() as u64;
-        self.put_in_place(replica, Entry { session, command }, mine)?;
+        self.put_in_place(replica, Entry { session, command }, share)?;
         Ok((place, reply_of(stamp, answer)))
     }
 
@@ -201,9 +201,9 @@ impl<J: Naming, R: Wait + Drop> Held<J, R> {
         &mut self,
         replica: Replica,
         entry: Entry,
-        mine: &mut Share<J>,
+        share: &mut Share<J>,
     ) -> Result<(), ReplicaFault>
-        requires part { 0 < mine.old.parts }
+        requires part { 0 < share.old.parts }
         requires room { length self.old.journal.items < self.old.limit }
         requires next { IsNext self.old.replica entry replica }
         ensures journal { OnOk result (self.new.journal.items ≡ self.old.journal.items ++ entry ∷ []) }
@@ -212,8 +212,8 @@ impl<J: Naming, R: Wait + Drop> Held<J, R> {
             × (self.new.writer.desk.shown.value ≡ self.old.writer.desk.shown.value)) }
         ensures limit { self.new.limit ≡ self.old.limit }
         ensures refused { IfErr result (λ fault. fault ≡ replica_faults.OutOfMemory) }
-        ensures share { (mine.new.parts ≡ mine.old.parts) × MatchResult result
-            (λ _. mine.new.amount ≡ mine.old.amount + 1) (λ _. mine.new.amount ≡ mine.old.amount) }
+        ensures share { (share.new.parts ≡ share.old.parts) × MatchResult result
+            (λ _. share.new.amount ≡ share.old.amount + 1) (λ _. share.new.amount ≡ share.old.amount) }
     {
         let Held {
             head,
@@ -225,7 +225,7 @@ impl<J: Naming, R: Wait + Drop> Held<J, R> {
         let Held { rt, writer, .. } = self;
         publish_here(rt, writer, next);
         self.replica = replica;
-        self.accepted.add(mine, 1);
+        self.accepted.add(share, 1);
         Ok(())
     }
 

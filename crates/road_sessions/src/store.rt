@@ -20,7 +20,7 @@ use std::alloc::AllocError;
 use std::marker::Model;
 use std::sync::{Arc, Wait};
 
-/// A sheet and the history that it is the result of. Contracts see it as that history.
+/// A sheet and the history that produced it. Contracts see it as that history.
 #[derive(Drop)]
 pub struct Published<J: Naming> {
     sheet: Arc<Sheet>,
@@ -45,7 +45,7 @@ impl<J: Naming> Model for Published<J> {
 }
 
 impl<J: Naming> Published<J> {
-    // Pair a sheet with the history that it is the result of.
+    // Pair a sheet with the history that produced it.
     pub(crate) fn new(sheet: Arc<Sheet>, history: Prefix<J>) -> Published<J>
         requires { arc_value sheet ≡ (replay J.replica history).sheet }
         ensures { result ≡ history }
@@ -67,7 +67,7 @@ impl<J: Naming> Published<J> {
         &self.history
     }
 
-    // Copy it. This is refused if the sheet can have no more owners.
+    // Copy it. This fails if the sheet's reference count is at its limit.
     pub(crate) fn again(&self) -> Result<Published<J>, OutOfMemory>
         ensures { IfOk result (λ same. same ≡ self.now) }
     {
@@ -79,7 +79,7 @@ impl<J: Naming> Published<J> {
     }
 }
 
-/// Each operation replaces the whole published value, so one that is left pending has no effect.
+/// Each operation replaces the whole published value, so a pending operation has no effect once the next one is applied.
 impl<J: Naming> Absorb<Published<J>> for Published<J> {
     type State = [Entry; 0];
 
@@ -169,7 +169,7 @@ fn hand_over<J: Naming, R: Wait>(
     unreachable!()
 }
 
-// Publish what is pending. Retry until it is done. The last pending value has this history.
+// Publish what is pending, whose last value must have this history. Retry until it is done.
 fn publish_pending<J: Naming, R: Wait>(
     rt: &R,
     mut writer: StoreWriter<J>,
@@ -189,7 +189,7 @@ fn publish_pending<J: Naming, R: Wait>(
     unreachable!()
 }
 
-// The same as `publish`, for a writer that stays where it is.
+// Publish as `publish` does, and replace the writer in place.
 pub(crate) fn publish_here<J: Naming, R: Wait>(
     rt: &R,
     writer: &mut StoreWriter<J>,

@@ -38,7 +38,7 @@ pub record IsSheet (s : Sheet) : Type 0 where
 abbrev pub opening_sheet : Plan → Sheet
 opening_sheet plan = record { plan = plan; edits = empty; horizon = 0 }
 
--- the horizon that the greatest step is: 0 if there is none
+-- the horizon: the greatest step, or 0 if there is no step
 abbrev pub horizon_of : Greatest ℕ → ℕ
 horizon_of Nothing = 0
 horizon_of (Of step) = step

@@ -83,7 +83,7 @@ impl Draft {
         self.sheet.road()
     }
 
-    /// Go on by spans: return the draft apart from the road at its horizon, and that road.
+    /// Split the draft into a draft that grows by spans, and the road at its horizon.
     pub fn by_spans(self) -> (SpanDraft, Road)
         ensures draft { result.0 ≡ self }
         ensures road { result.1 ≡ state_of self self.horizon }

@@ -59,7 +59,7 @@ impl SharedIntervals {
         }
     }
 
-    // Add an interval behind the others.
+    // Append an interval.
     pub(crate) fn push(&mut self, alloc: Global, interval: Interval) -> Result<(), OutOfMemory>
         ensures pushed { OnOk result (self.new ≡ self.old ++ interval ∷ []) }
         ensures unchanged { OnErr result (self.new ≡ self.old) }

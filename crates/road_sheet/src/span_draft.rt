@@ -17,7 +17,7 @@ use crate::sheet::Sheet;
 use lattice_core::both::Both;
 use lattice_core::greatest::Greatest;
 use road_cells::Road;
-use road_columns::{RanSpan, RoadOrRun};
+use road_columns::{RoadOrRun, SpanOutcome};
 use road_detector::Totals;
 use road_detector::laws::totals_are_bounded;
 use road_ends::Span;
@@ -28,8 +28,8 @@ use std::alloc::Global;
 use std::marker::Model;
 use std::sync::Arc;
 
-/// A draft that grows by spans. It does not hold the road at its horizon: whoever runs the spans does, so that a run can
-/// go on from span to span. Contracts see the sheet that it is so far.
+/// A draft that grows by spans. It does not hold the road at its horizon: whoever runs the spans holds it, so that one run
+/// can continue from span to span. Contracts see the sheet that it is so far.
 #[derive(Drop)]
 pub struct SpanDraft {
     pub(crate) plan: Arc<Plan>,
@@ -96,8 +96,8 @@ impl SpanDraft {
         Ok(Span::new(plan, settings, first, until - first))
     }
 
-    /// Add the steps of a span at once, from what they come to. The span must be of the next steps, the road that after
-    /// it, and the totals those of each detector in it.
+    /// Add the steps of a span at once, from its outcome. The span must be of the next steps, and the outcome that of
+    /// running it from the road at the horizon.
     ///
     /// # Errors
     ///
@@ -106,7 +106,7 @@ impl SpanDraft {
         &mut self,
         alloc: Global,
         span: &Span,
-        ran: &RanSpan,
+        ran: &SpanOutcome,
     ) -> Result<(), OutOfMemory>
         requires next { IsNextSpan self.old span.now }
         requires road { road_now ran.now.road ≡ span_road span.now (state_of self.old self.old.horizon) }
@@ -140,8 +140,8 @@ impl SpanDraft {
         self.horizon = end;
     }
 
-    // Add the steps up to the end of the interval, where a road stands. What can fail for memory is done before the
-    // draft is changed.
+    // Add the steps up to the end of the interval, from the road there. Everything that can fail is done before the draft
+    // is changed.
     fn end_interval(
         &mut self,
         alloc: Global,

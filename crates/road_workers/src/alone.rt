@@ -12,7 +12,7 @@ ghost use Rattle.road_workers.specs.declared.faults.CrewFault.TheVariants.{Worke
 use crate::crew::Crew;
 use crate::faults::CrewFault;
 use crate::whole::run_alone;
-use road_columns::{RanSpan, RoadOrRun};
+use road_columns::{RoadOrRun, SpanOutcome};
 use road_ends::{Span, StepInput};
 use road_plan::limits::GREATEST_HORIZON;
 use std::alloc::Global;
@@ -46,7 +46,7 @@ impl Crew for Alone {
         alloc: Global,
         span: &Span,
         road: RoadOrRun,
-    ) -> Result<Option<RanSpan>, CrewFault>
+    ) -> Result<Option<SpanOutcome>, CrewFault>
         ensures road { IfOk result (λ done. IfSome done (λ ran. road_now ran.road
             ≡ span_road span.now (road_now road))) }
         ensures totals { IfOk result (λ done. IfSome done (λ ran. ran.totals.items

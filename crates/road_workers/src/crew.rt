@@ -10,7 +10,7 @@ ghost use Rattle.road_workers.specs.Crews.{CanBeRun, gone_after};
 
 use crate::faults::CrewFault;
 use crate::step_by_step::{count_passes, enter_step};
-use road_columns::{RanSpan, RoadOrRun};
+use road_columns::{RoadOrRun, SpanOutcome};
 use road_detector::Totals;
 use road_ends::{Span, StepInput, finish};
 use std::alloc::Global;
@@ -39,9 +39,9 @@ pub trait Crew {
         1
     }
 
-    /// Run all steps of a span from the road before them. A crew without its own way computes the speeds of one step
-    /// after another. A crew that runs several steps at once may go on with a run that has come to this road, and give
-    /// it on. None if the span has no step, or the road has a car that no run can have.
+    /// Run all steps of a span from the road before them. By default the crew computes the speeds of one step after
+    /// another. A crew that runs several steps at once may continue a run that has come to this road, and return it with
+    /// the outcome. None if the span has no step, or the road has a car that no run can have.
     ///
     /// # Errors
     ///
@@ -51,7 +51,7 @@ pub trait Crew {
         alloc: Global,
         span: &Span,
         road: RoadOrRun,
-    ) -> Result<Option<RanSpan>, CrewFault>
+    ) -> Result<Option<SpanOutcome>, CrewFault>
         ensures road { IfOk result (λ done. IfSome done (λ ran. road_now ran.road
             ≡ span_road span.now (road_now road))) }
         ensures totals { IfOk result (λ done. IfSome done (λ ran. ran.totals.items
@@ -68,7 +68,7 @@ pub trait Crew {
             count_passes(&mut totals, &input, &speeds);
             before = finish(alloc, &input, &speeds)?;
         }
-        Ok(Some(RanSpan {
+        Ok(Some(SpanOutcome {
             road: RoadOrRun::Road(before),
             totals,
         }))

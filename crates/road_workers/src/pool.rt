@@ -31,7 +31,7 @@ use crate::pool::spin::{Lookout, processors_of};
 use crate::pool::stepping::speeds_by;
 use crate::pool::working::{Ends, work};
 use crossbeam_channel::{Sender, bounded};
-use road_columns::{RanSpan, RoadOrRun};
+use road_columns::{RoadOrRun, SpanOutcome};
 use road_ends::{OutOfMemory, Span, StepInput};
 use road_plan::limits::GREATEST_HORIZON;
 use std::alloc::Global;
@@ -206,7 +206,7 @@ impl<R: Wait> Crew for Pool<R> {
         alloc: Global,
         span: &Span,
         road: RoadOrRun,
-    ) -> Result<Option<RanSpan>, CrewFault>
+    ) -> Result<Option<SpanOutcome>, CrewFault>
         ensures road { IfOk result (λ done. IfSome done (λ ran. road_now ran.road
             ≡ span_road span.now (road_now road))) }
         ensures totals { IfOk result (λ done. IfSome done (λ ran. ran.totals.items

@@ -13,19 +13,19 @@ ghost use Rattle.road_workers.specs.Crews.{CanBeRun};
 ghost use Rattle.road_workers.specs.Private.RunsUnderWay.{IsReady, IsRunAt, after_steps, uncounted};
 
 use road_cells::Road;
-use road_columns::{RanSpan, RoadOrRun, UnderWay};
+use road_columns::{RoadOrRun, SpanOutcome, UnderWay};
 use road_ends::{OutOfMemory, Span, Stretch};
 use road_plan::limits::GREATEST_HORIZON;
 use std::alloc::Global;
 use std::sync::Arc;
 
-// Run the whole road for the steps of a span, in a run that is given on. None if the span has no step, or runs cannot
-// have a car of the road.
+// Run the whole road for the steps of a span. The outcome has the run, which the next span can continue. None if the span
+// has no step, or runs cannot have a car of the road.
 pub(crate) fn run_alone(
     alloc: Global,
     span: &Span,
     road: RoadOrRun,
-) -> Result<Option<RanSpan>, OutOfMemory>
+) -> Result<Option<SpanOutcome>, OutOfMemory>
     ensures road { IfOk result (λ done. IfSome done (λ ran. road_now ran.road ≡ span_road span.now (road_now road))) }
     ensures totals { IfOk result (λ done. IfSome done (λ ran. ran.totals.items
         ≡ span_totals span.now (road_now road))) }
@@ -41,7 +41,7 @@ pub(crate) fn run_alone(
     };
     make_steps(alloc, span, &mut run)?;
     let totals = run.totals(alloc)?;
-    Ok(Some(RanSpan {
+    Ok(Some(SpanOutcome {
         road: RoadOrRun::Run(run),
         totals,
     }))
@@ -58,8 +58,8 @@ pub(crate) fn reusable_run(span: &Span, kept: Option<UnderWay>) -> Option<UnderW
     }
 }
 
-// Return a run that stands before the steps of a span on the whole road, under its settings: one that has come to the
-// road there goes on, and else a new one begins. None if it cannot have a car of the road.
+// Return a run that stands before the steps of a span on the whole road, under its settings. A run that has come to the
+// road there is continued; otherwise a new one begins. None if it cannot have a car of the road.
 fn ready_run(alloc: Global, span: &Span, road: RoadOrRun) -> Result<Option<UnderWay>, OutOfMemory>
     ensures ready { IfOk result (λ run. IfSome run (IsReady 0 span.now.plan.cells span.now (road_now road))) }
     ensures some { IfOk result (λ run. IsRunnable 0 span.now.plan.cells span.now.plan (road_now road) → IsSome run) }

@@ -25,7 +25,7 @@ use Rattle.road_sheet.specs.Commands as commands
 use Rattle.road_sheet.specs.Sheets.{IsSheet, Sheet}
 use Rattle.road_rewind.specs.Growth.{TicksAtMost, meter_after, touched_step}
 use Rattle.road_rewind.proofs.StepCounts.{few_steps}
-use Rattle.road_replica.specs.Refusals.{advance_fault, arrived_edit_fault, edit_fault, import_fault, made_edit_fault, take_fault}
+use Rattle.road_replica.specs.Refusals.{advance_fault, received_edit_fault, edit_fault, import_fault, own_edit_fault, take_fault}
 use Rattle.road_replica.specs.Replicas.{Replica, edit_made, replica_after, single_edit}
 use Rattle.road_replica.specs.Writes.{IsAccepted, IsRefused, most_steps_of_command, steps_of_command}
 use Rattle.road_replica.specs.declared.faults.ReplicaFault.{ReplicaFault}
@@ -74,7 +74,7 @@ nothing (Some fault) none = cc
 pub edit_allowed : (x : Replica) (object : Object) (step : ℕ) (value : Value) → edit_fault x object step value ≡ None → IsAllowed x.sheet.plan (commands.Take (single_edit (edit_made x object step value)))
 edit_allowed x object step value none =
     let made : edit.Edit = edit_made x object step value in
-    in_range-one x.sheet.plan made (none_of made_edit_fault (fault_of_edit x.sheet.plan made) none)
+    in_range-one x.sheet.plan made (none_of own_edit_fault (fault_of_edit x.sheet.plan made) none)
 
 -- so are imported edits,
 pub import_allowed : (p : Plan) (edits : List edit.Edit) → import_fault p edits ≡ None → IsAllowed p (commands.Take (from_list edits))
@@ -82,7 +82,7 @@ import_allowed p edits none e i = each_in_range p edits (no_fault_imported p edi
 
 -- the edits of a scenario
 pub take_allowed : (p : Plan) (edits : Edits) → take_fault p edits ≡ None → IsAllowed p (commands.Take edits)
-take_allowed p edits none = all_in_range p edits (fault_in p edits) refl (nothing _ (none_of arrived_edit_fault (fault_in p edits) none))
+take_allowed p edits none = all_in_range p edits (fault_in p edits) refl (nothing _ (none_of received_edit_fault (fault_in p edits) none))
 
 -- and a step
 pub advance_allowed : (p : Plan) (to : ℕ) → advance_fault to ≡ None → IsAllowed p (commands.Advance to)

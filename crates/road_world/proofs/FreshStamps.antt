@@ -20,7 +20,7 @@ use Rattle.road_scenario.specs.declared.edit.Stamp.{Stamp}
 use Rattle.road_scenario.specs.declared.edit.Value.{Value}
 use Rattle.road_scenario.specs.declared.edit.Value.TheVariants.{Withdrawn, Put}
 use Rattle.road_scenario.proofs.GreatestCounts.{upper_in}
-use Rattle.road_replica.specs.Refusals.{arrived_edit_fault, imported_edit_fault, import_fault}
+use Rattle.road_replica.specs.Refusals.{received_edit_fault, imported_edit_fault, import_fault}
 use Rattle.road_replica.specs.Replicas.{local_edit, single_edit}
 use Rattle.road_replica.specs.declared.faults.ReplicaFault.{ReplicaFault}
 use Rattle.road_replica.specs.declared.faults.ReplicaFault.TheVariants.{Insider}
@@ -237,7 +237,7 @@ imported_outside : (plan : Plan) (es : List edits.Edit) → import_fault plan es
 imported_outside plan [] h = tt
 imported_outside plan (e ∷ es) h =
     let both = none_of_both (imported_edit_fault plan e) (import_fault plan es) h in
-    let here = none_of_both (option_map arrived_edit_fault (fault_of_edit plan e)) _ both.0 in
+    let here = none_of_both (option_map received_edit_fault (fault_of_edit plan e)) _ both.0 in
     (no_insider e.stamp.number here.1, imported_outside plan es both.1)
 
 -- a fact about each of two lists is a fact about each of both together

@@ -28,7 +28,7 @@ use Rattle.road_scenario.proofs.EditMembers.{any-filter}
 use Rattle.road_scenario.proofs.WinnersOfLists.{from_list-winners_in}
 use Rattle.road_delta.specs.Deltas.{beyond, head_of, heads, is_beyond}
 use Rattle.road_delta.specs.declared.heads.Head.{Head}
-use Rattle.road_replica.specs.Refusals.{import_fault, advance_fault, made_edit_fault}
+use Rattle.road_replica.specs.Refusals.{import_fault, advance_fault, own_edit_fault}
 use Rattle.road_replica.specs.Replicas.{local_edit, single_edit}
 use Rattle.road_replica.specs.declared.reply.Reply.{Reply}
 use Rattle.road_replica.specs.declared.reply.Reply.TheVariants as replies
@@ -212,9 +212,9 @@ reply_to w (Advance r to) = replies.Horizon (max (at w r).horizon to)
 -- the cause if the replica exists
 abbrev pub fault_there : Plan → ListWorld → Event → Option WorldFault
 fault_there plan w (Edit r o step n) =
-    option_map faults.Replica (option_map made_edit_fault (fault_of_edit plan (made w r o step (Put n))))
+    option_map faults.Replica (option_map own_edit_fault (fault_of_edit plan (made w r o step (Put n))))
 fault_there plan w (Withdraw r o step) =
-    option_map faults.Replica (option_map made_edit_fault (fault_of_edit plan (made w r o step Withdrawn)))
+    option_map faults.Replica (option_map own_edit_fault (fault_of_edit plan (made w r o step Withdrawn)))
 fault_there plan w (Import r es) = option_map faults.Replica (import_fault plan es.items)
 fault_there plan w (Send r) = None
 fault_there plan w (Heads r) = None
@@ -388,14 +388,14 @@ module _ (plan : Plan) (w : ListWorld) where
   reply_of_lists (Advance r to) = ap (λ (x : WorldReplica). replies.Horizon (max x.horizon to)) (replica_of_lists r)
 
   -- the fault of the edit that a replica would make
-  made_edit_fault_of_lists : (r : ℕ) (o : Object) (step : ℕ) (v : Value) → option_map faults.Replica (option_map made_edit_fault (fault_of_edit plan (local_edit r (replica_at sets r).edits o step v))) ≡ option_map faults.Replica (option_map made_edit_fault (fault_of_edit plan (made w r o step v)))
-  made_edit_fault_of_lists r o step v =
-      ap (λ (e : edits.Edit). option_map faults.Replica (option_map made_edit_fault (fault_of_edit plan e))) (made_of_lists r o step v)
+  own_edit_fault_of_lists : (r : ℕ) (o : Object) (step : ℕ) (v : Value) → option_map faults.Replica (option_map own_edit_fault (fault_of_edit plan (local_edit r (replica_at sets r).edits o step v))) ≡ option_map faults.Replica (option_map own_edit_fault (fault_of_edit plan (made w r o step v)))
+  own_edit_fault_of_lists r o step v =
+      ap (λ (e : edits.Edit). option_map faults.Replica (option_map own_edit_fault (fault_of_edit plan e))) (made_of_lists r o step v)
 
   -- the cause for which an event at an existing replica is refused
   fault_there_of_lists : (e : Event) → fault_at_replica sets e ≡ fault_there plan w e
-  fault_there_of_lists (Edit r o step n) = made_edit_fault_of_lists r o step (Put n)
-  fault_there_of_lists (Withdraw r o step) = made_edit_fault_of_lists r o step Withdrawn
+  fault_there_of_lists (Edit r o step n) = own_edit_fault_of_lists r o step (Put n)
+  fault_there_of_lists (Withdraw r o step) = own_edit_fault_of_lists r o step Withdrawn
   fault_there_of_lists (Import r es) = refl
   fault_there_of_lists (Send r) = refl
   fault_there_of_lists (Heads r) = refl

@@ -70,7 +70,7 @@ no_command (Advance r to) w m made = absurd (none_is_no_item m made)
 
 -- ---- any event
 
--- if no cause is named, each may be refused for out of memory
+-- if no cause is named, each may be refused because memory ran out
 pub memory_refuses : (e : Event) → IsUnnamedRefusal e (faults.Replica OutOfMemory)
 memory_refuses (Edit r o step n) = inr refl
 memory_refuses (Withdraw r o step) = inr refl

@@ -22,7 +22,7 @@ use Rattle.road_scenario.proofs.GreatestCounts.{greatest_count-winners}
 use Rattle.road_scenario.proofs.NoEdits.{winners-empty}
 use Rattle.road_delta.specs.Deltas.{heads, beyond}
 use Rattle.road_delta.specs.declared.heads.Head.{Head}
-use Rattle.road_replica.specs.Refusals.{made_edit_fault}
+use Rattle.road_replica.specs.Refusals.{own_edit_fault}
 use Rattle.road_replica.specs.Replicas.{local_edit, single_edit}
 use Rattle.road_replica.specs.declared.reply.Reply.{Reply}
 use Rattle.road_replica.specs.declared.reply.Reply.TheVariants as replies
@@ -166,7 +166,7 @@ message-of_winners w m n e =
     ∙ ap (λ (k : Message). map message_of_winners w.messages ++ k ∷ []) e
     ∙ sym (map-append message_of_winners w.messages (n ∷ [])))
 
--- if there is a message, it carries the winners; if there is none, it carries none
+-- a message carries the winners, and no message carries no edits
 carried_by_winners : (o : Option Message) → carried_edits (option_map message_of_winners o) ≡ winners (carried_edits o)
 carried_by_winners None = sym winners-empty
 carried_by_winners (Some (Whole s)) = refl
@@ -273,15 +273,15 @@ heads_wanted_of_winners (Some (Answer s)) = refl
 heads_wanted_of_winners (Some (Asked hs)) = refl
 
 -- the edit that a replica would make has the same fault
-made_edit_fault-of_winners : (w : World) (r : ℕ) (o : Object) (step : ℕ) (v : Value)
-    → option_map faults.Replica (option_map made_edit_fault (fault_of_edit w.plan (local_edit r (replica_at (world_of_winners w) r).edits o step v))) ≡ option_map faults.Replica (option_map made_edit_fault (fault_of_edit w.plan (local_edit r (replica_at w r).edits o step v)))
-made_edit_fault-of_winners w r o step v =
-    ap (λ (e : edits.Edit). option_map faults.Replica (option_map made_edit_fault (fault_of_edit w.plan e))) (local_edit-of_winners w r o step v)
+own_edit_fault-of_winners : (w : World) (r : ℕ) (o : Object) (step : ℕ) (v : Value)
+    → option_map faults.Replica (option_map own_edit_fault (fault_of_edit w.plan (local_edit r (replica_at (world_of_winners w) r).edits o step v))) ≡ option_map faults.Replica (option_map own_edit_fault (fault_of_edit w.plan (local_edit r (replica_at w r).edits o step v)))
+own_edit_fault-of_winners w r o step v =
+    ap (λ (e : edits.Edit). option_map faults.Replica (option_map own_edit_fault (fault_of_edit w.plan e))) (local_edit-of_winners w r o step v)
 
 -- if the replica exists, an event is refused for the same cause
 pub fault_at-of_winners : (e : Event) (w : World) → fault_at_replica (world_of_winners w) e ≡ fault_at_replica w e
-fault_at-of_winners (Edit r o step n) w = made_edit_fault-of_winners w r o step (Put n)
-fault_at-of_winners (Withdraw r o step) w = made_edit_fault-of_winners w r o step Withdrawn
+fault_at-of_winners (Edit r o step n) w = own_edit_fault-of_winners w r o step (Put n)
+fault_at-of_winners (Withdraw r o step) w = own_edit_fault-of_winners w r o step Withdrawn
 fault_at-of_winners (Import r es) w = refl
 fault_at-of_winners (Send r) w = refl
 fault_at-of_winners (Heads r) w = refl

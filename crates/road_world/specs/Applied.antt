@@ -27,7 +27,7 @@ pub record IsApplied (event : Event) (result : Result Reply WorldFault) (old new
   pub steps : OnOk result (later ≡ meter_after meter (steps_of_event old event))
   -- if refused for a named cause, no step is computed
   pub named : OnErr result (fault_of_event old event ≢ None → later ≡ meter)
-  -- if refused for out of memory or lost workers, at most the steps that it may cost are computed
+  -- if refused because memory ran out or a worker was lost, at most the steps that it may cost are computed
   pub few_steps : TicksAtMost (most_steps_of_event old event) meter later
 
 -- the result of making the message of an event: that message if nothing refuses the event, or its refusal

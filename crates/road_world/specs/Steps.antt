@@ -76,6 +76,6 @@ sum_of_answers count w (event ∷ events) (reply ∷ replies) =
 abbrev pub steps_of_events : World → List Event → List (Result Reply WorldFault) → ℕ
 steps_of_events w events replies = sum_of_answers steps_of_answer w events replies
 
--- the most steps computed for refused events of a list: those refused for out of memory or lost workers
+-- the most steps computed for refused events of a list: those refused because memory ran out or a worker was lost
 abbrev pub most_wasted_steps_of_events : World → List Event → List (Result Reply WorldFault) → ℕ
 most_wasted_steps_of_events w events replies = sum_of_answers most_wasted_steps w events replies

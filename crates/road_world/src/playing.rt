@@ -61,8 +61,8 @@ pub fn play<C: Crew>(
     // No stamp is issued twice, and no issued stamp is that of an import.
     ensures stamps { IfOk result (λ played. AreFresh (issued_stamps played.replies.items)
         (imported_stamps (accepted_events events.now played.replies.items))) }
-    // The meter counts the sum of the steps of the accepted events. For events refused for out of memory or lost
-    // workers it also counts at most the steps that they may cost.
+    // The meter counts the sum of the steps of the accepted events. For events refused because memory ran out or a
+    // worker was lost, it also counts at most the steps that they may cost.
     ensures steps { IfOk result (λ played. TicksAtMost
         (most_wasted_steps_of_events (opening_world (arc_value plan) replicas) events.now played.replies.items)
         (meter_after meter.old

@@ -60,7 +60,7 @@ fn random_course(
     run_course(alloc, plan, cells, SPANS)
 }
 
-// Compare the results of crews on a random road of this number of cells.
+// Compare the results of crews on a random road of this many cells.
 fn run_road<R: Threads + Wait + Abort + Clone + Drop + Send + 'static>(
     rt: &R,
     alloc: Global,

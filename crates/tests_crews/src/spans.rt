@@ -7,7 +7,7 @@ ghost use Rattle.road_plan.specs.Settings.{Fits};
 use crate::holds;
 use crate::rows::shared_plan;
 use road_cells::Road;
-use road_columns::{RanSpan, RoadOrRun};
+use road_columns::{RoadOrRun, SpanOutcome};
 use road_detector::{SpanResult, Totals, passes};
 use road_ends::{Meter, Span, step_alone};
 use road_plan::{Plan, Settings};
@@ -69,14 +69,14 @@ pub(crate) fn is_run_of_one(
     alloc: Global,
     span: &Span,
     road: &Road,
-    ran: &Option<RanSpan>,
+    ran: &Option<SpanOutcome>,
 ) -> Result<bool, Fail> {
     match (
         ran,
         Alone.run(alloc, span, RoadOrRun::Road(road.copied()?))?,
     ) {
         (Some(ran), Some(alone)) => {
-            let RanSpan { road, totals } = alone;
+            let SpanOutcome { road, totals } = alone;
             let road = road.into_road(alloc)?;
             is_result(alloc, ran, &SpanResult { road, totals })
         }
@@ -86,7 +86,7 @@ pub(crate) fn is_run_of_one(
 }
 
 // Return whether a crew's result for a span is the expected one.
-fn is_result(alloc: Global, ran: &RanSpan, wanted: &SpanResult) -> Result<bool, Fail> {
+fn is_result(alloc: Global, ran: &SpanOutcome, wanted: &SpanResult) -> Result<bool, Fail> {
     let road = road_of(alloc, &ran.road)?;
     Ok(road.cars() == wanted.road.cars() && ran.totals == wanted.totals)
 }
@@ -215,7 +215,7 @@ fn compare_span<C: Crew>(
         return Err(Fail::new("a crew that does not run a span"));
     };
     holds(rt, span.steps() as usize, is_result(alloc, &ran, wanted)?);
-    let RanSpan { road, .. } = ran;
+    let SpanOutcome { road, .. } = ran;
     Ok(road)
 }
 

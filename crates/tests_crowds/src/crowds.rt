@@ -50,7 +50,7 @@ pub(crate) fn run_crowd<R: Threads + Wait, G: Gate + Sync>(
     Ok(crowd(rt, alloc, &plan, shares, to, gate)?)
 }
 
-/// Return whether the result of a crowd has these edits, this number of writes and this row.
+/// Return whether the result of a crowd has these edits, this many writes and this row.
 pub(crate) fn has_result(crowd: &Crowd, edits: &[Edit], journal: u32, row: &str) -> bool {
     crowd.edits.as_slice() == edits && crowd.journal == journal && crowd.row.as_str() == row
 }

@@ -46,9 +46,9 @@ pub(crate) enum Case {
     SheetQuestion(&'static [Edit], sheets::Question),
     /// A draft that keeps the run up to a step, and what it shows in the end.
     Draft(u32, Shown),
-    /// The input of the step after this number of steps, and its speeds.
+    /// The input of the step after this many steps, and its speeds.
     Input(u32, &'static [u8]),
-    /// The step after this number of steps, and the row after it.
+    /// The step after this many steps, and the row after it.
     Push(u32, &'static str),
     Growth(GrowthCase),
     WorldOpening,

@@ -218,15 +218,15 @@ fn try_start<R: Threads + Wait + Clone + Drop + Send + 'static>(
 ) -> Option<Verdict> {
     let task = first_speeds(alloc)?;
     if until == Until::Prepared {
-        return Some(Verdict::Left);
+        return Some(Verdict::Stopped);
     }
     match start_two(rt, alloc, is_gated)? {
         Ok(pool) if until == Until::Called => {
             pool.finish();
-            Some(Verdict::Left)
+            Some(Verdict::Stopped)
         }
         Ok(pool) => judge_start(alloc, pool, &task, Verdict::Right),
-        Err(fault) => start_again(rt, alloc, is_gated, &task, fault.due()?),
+        Err(fault) => start_again(rt, alloc, is_gated, &task, fault.verdict_after_retry()?),
     }
 }
 

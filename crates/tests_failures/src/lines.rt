@@ -7,7 +7,7 @@ use road_format::{
 };
 use road_plan::{OutOfMemory, Plan, PlanFault};
 use std::alloc::Global;
-use tests_plans::{BLOCK, FREE, plan_of, reads};
+use tests_plans::{BLOCK, FREE, has_parts, plan_of};
 use tests_portraits::Portrait;
 
 /// What is read or written.
@@ -49,7 +49,7 @@ impl Call for Planning {
     }
 
     fn is_right(&mut self, _alloc: Global, plan: Plan) -> Option<bool> {
-        Some(reads(&plan, &FREE))
+        Some(has_parts(&plan, &FREE))
     }
 }
 
@@ -76,7 +76,7 @@ impl Call for ReadingPlan {
     }
 
     fn is_right(&mut self, _alloc: Global, line: PlanLine) -> Option<bool> {
-        Some(are_names(&line.names) && reads(&line.plan, &FREE))
+        Some(are_names(&line.names) && has_parts(&line.plan, &FREE))
     }
 }
 
@@ -152,17 +152,17 @@ impl Call for Replying {
     }
 }
 
-// Try to write a reply.
+// Judge the call that writes a reply.
 fn try_reply(alloc: Global, until: Until, answer: Answer, case: LineCase) -> Option<Verdict> {
     try_call(alloc, until, &mut Replying { answer, case })
 }
 
-// Return the edits of a reply.
+// Return an answer that lists two edits.
 fn edits(alloc: Global) -> Option<Answer> {
     Some(Answer::Edits([BLOCKED, OPENED].to_vec(alloc).ok()?))
 }
 
-// Return the rows of a reply.
+// Return an answer that lists two rows.
 fn rows(alloc: Global) -> Option<Answer> {
     let mut rows = Vec::new(alloc);
     for row in ["0..2...2#...", ".1...2.0#..."] {

@@ -1,5 +1,5 @@
 //! Try one call and judge it: prepare the state, make the call, and compare the answer and the state afterwards with
-//! worked results. If the call is refused for out of memory, the state must be unchanged, and the same call must then
+//! worked results. If the call is refused because memory ran out, the state must be unchanged, and the same call must then
 //! answer as if it had not been refused. `tools/fail-in-turn` runs this with each allocation failing in turn, and no
 //! run may find something wrong.
 //!
@@ -35,7 +35,7 @@ use std::{env, io};
 // Print the verdict on a call, if it was judged.
 fn tell<R: Print>(rt: &R, verdict: Option<Verdict>) -> io::Result<()> {
     match verdict {
-        Some(Verdict::Left) => Ok(()),
+        Some(Verdict::Stopped) => Ok(()),
         Some(Verdict::Right) => println!(rt; "right"),
         Some(Verdict::Again) => println!(rt; "right again"),
         Some(Verdict::Restarted) => println!(rt; "right with new threads"),

@@ -1,4 +1,4 @@
-//! The faults that are due if an allocation fails.
+//! The faults that a failed allocation may cause.
 
 use crate::verdict::{Refusal, Verdict};
 use road_format::{LineFault, PlanLineFault};
@@ -9,19 +9,23 @@ use road_sheet::SheetFault;
 use road_workers::CrewFault;
 use road_world::{PlayFault, WorldFault};
 
-// Return the verdict on a refused call whose fault is due.
-fn again(is_due: bool) -> Option<Verdict> {
-    if is_due { Some(Verdict::Again) } else { None }
+// Return the verdict `Again` if a refused call ran out of memory, else None.
+fn again_if(is_out_of_memory: bool) -> Option<Verdict> {
+    if is_out_of_memory {
+        Some(Verdict::Again)
+    } else {
+        None
+    }
 }
 
 impl Refusal for OutOfMemory {
-    fn due(&self) -> Option<Verdict> {
+    fn verdict_after_retry(&self) -> Option<Verdict> {
         Some(Verdict::Again)
     }
 }
 
 impl Refusal for CrewFault {
-    fn due(&self) -> Option<Verdict> {
+    fn verdict_after_retry(&self) -> Option<Verdict> {
         Some(match self {
             CrewFault::OutOfMemory => Verdict::Again,
             CrewFault::WorkersGone => Verdict::Restarted,
@@ -30,59 +34,59 @@ impl Refusal for CrewFault {
 }
 
 impl Refusal for PlanFault {
-    fn due(&self) -> Option<Verdict> {
-        again(matches!(self, PlanFault::OutOfMemory))
+    fn verdict_after_retry(&self) -> Option<Verdict> {
+        again_if(matches!(self, PlanFault::OutOfMemory))
     }
 }
 
 impl Refusal for LineFault {
-    fn due(&self) -> Option<Verdict> {
-        again(matches!(self, LineFault::OutOfMemory))
+    fn verdict_after_retry(&self) -> Option<Verdict> {
+        again_if(matches!(self, LineFault::OutOfMemory))
     }
 }
 
 impl Refusal for PlanLineFault {
-    fn due(&self) -> Option<Verdict> {
+    fn verdict_after_retry(&self) -> Option<Verdict> {
         match self {
             PlanLineFault::OutOfMemory => Some(Verdict::Again),
-            PlanLineFault::Plan(fault) => fault.due(),
+            PlanLineFault::Plan(fault) => fault.verdict_after_retry(),
             PlanLineFault::NotJson | PlanLineFault::NotAPlan | PlanLineFault::Names => None,
         }
     }
 }
 
 impl Refusal for SheetFault {
-    fn due(&self) -> Option<Verdict> {
-        again(matches!(self, SheetFault::OutOfMemory))
+    fn verdict_after_retry(&self) -> Option<Verdict> {
+        again_if(matches!(self, SheetFault::OutOfMemory))
     }
 }
 
 impl Refusal for ReplicaFault {
-    fn due(&self) -> Option<Verdict> {
-        again(matches!(self, ReplicaFault::OutOfMemory))
+    fn verdict_after_retry(&self) -> Option<Verdict> {
+        again_if(matches!(self, ReplicaFault::OutOfMemory))
     }
 }
 
 impl Refusal for WorldFault {
-    fn due(&self) -> Option<Verdict> {
+    fn verdict_after_retry(&self) -> Option<Verdict> {
         match self {
-            WorldFault::Replica(fault) => fault.due(),
+            WorldFault::Replica(fault) => fault.verdict_after_retry(),
             WorldFault::NoReplica | WorldFault::NoMessage => None,
         }
     }
 }
 
 impl Refusal for PlayFault {
-    fn due(&self) -> Option<Verdict> {
+    fn verdict_after_retry(&self) -> Option<Verdict> {
         match self {
             PlayFault::OutOfMemory => Some(Verdict::Again),
         }
     }
 }
 
-/// A reader needs no memory, since the store has reserved its place.
+/// A failed allocation never causes `NoPlace`, since the store reserves a place for each reader.
 impl Refusal for OpenFault {
-    fn due(&self) -> Option<Verdict> {
+    fn verdict_after_retry(&self) -> Option<Verdict> {
         match self {
             OpenFault::OutOfMemory => Some(Verdict::Again),
             OpenFault::NoPlace => None,
@@ -91,19 +95,19 @@ impl Refusal for OpenFault {
 }
 
 impl Refusal for WriteFault {
-    fn due(&self) -> Option<Verdict> {
+    fn verdict_after_retry(&self) -> Option<Verdict> {
         match self {
-            WriteFault::Replica(fault) => fault.due(),
+            WriteFault::Replica(fault) => fault.verdict_after_retry(),
             WriteFault::JournalFull => None,
         }
     }
 }
 
-/// A look itself needs no memory: only the query of the sheet can fail for it.
+/// A look does not allocate: only the query of the sheet can run out of memory.
 impl Refusal for LookFault {
-    fn due(&self) -> Option<Verdict> {
+    fn verdict_after_retry(&self) -> Option<Verdict> {
         match self {
-            LookFault::Sheet(fault) => fault.due(),
+            LookFault::Sheet(fault) => fault.verdict_after_retry(),
             LookFault::NotEntered => None,
         }
     }

@@ -228,7 +228,7 @@ fn map_of(alloc: Global, registers: &[(u32, Register)]) -> Option<Registers> {
     Some(map)
 }
 
-// Return the map of this number of even steps from 0 on.
+// Return the map of this many even steps from 0 on.
 fn even_steps(alloc: Global, count: u32) -> Option<Registers> {
     let mut map = Registers::empty(alloc);
     for place in 0..count {
@@ -237,7 +237,7 @@ fn even_steps(alloc: Global, count: u32) -> Option<Registers> {
     Some(map)
 }
 
-// Return whether a map has exactly the value 2 at this number of even steps from 0 on, but 3 at some of them.
+// Return whether a map has exactly the value 2 at this many even steps from 0 on, but 3 at some of them.
 fn has_even_and(map: &Registers, count: u32, three: &[u32]) -> bool {
     for place in 0..count {
         if map.get(place.saturating_mul(2)).is_none() {

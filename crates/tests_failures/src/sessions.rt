@@ -259,7 +259,7 @@ fn judge_once<J: Naming, S: Writes<J>, W: Wait>(
 ) -> Option<Verdict> {
     match told {
         Ok(told) => Some(verdict_of(Verdict::Right, writing.is_right(alloc, told)?)),
-        Err(fault) => match fault.due() {
+        Err(fault) => match fault.verdict_after_retry() {
             Some(_) => Some(Verdict::Refused),
             None => Some(Verdict::Wrong(Wrong::Cause)),
         },
@@ -273,11 +273,11 @@ fn try_once<J: Naming, S: Writes<J>, W: Wait>(
     writing: &mut Writing<J, S, W>,
 ) -> Option<Verdict> {
     if until == Until::Prepared {
-        return Some(Verdict::Left);
+        return Some(Verdict::Stopped);
     }
     let told = writing.make(alloc);
     if until == Until::Called {
-        return Some(Verdict::Left);
+        return Some(Verdict::Stopped);
     }
     judge_once(alloc, writing, told)
 }
@@ -412,7 +412,7 @@ fn judge_closed(
 ) -> Option<Verdict> {
     let SessionCase(_, _, before, after, journal) = *case;
     let is_right = match verdict {
-        Verdict::Wrong(_) | Verdict::Left => return Some(verdict),
+        Verdict::Wrong(_) | Verdict::Stopped => return Some(verdict),
         Verdict::Refused => is_closed_with(alloc, closed, journal.split_last()?.1, &before)?,
         _ => is_closed_with(alloc, closed, journal, &after)?,
     };
@@ -438,7 +438,7 @@ fn close_after<J: Naming, R: Wait + Drop, W: Drop>(
     if until == Until::Judged {
         judge_closed(alloc, &closed, verdict?, case)
     } else {
-        Some(Verdict::Left)
+        Some(Verdict::Stopped)
     }
 }
 
@@ -562,7 +562,7 @@ fn opens<J: Naming, R: Wait + Drop>(
 {
     let (shared, mut sessions) = open::<J, R>(prepared)?;
     if until == Until::Called {
-        return Ok(Some(Verdict::Left));
+        return Ok(Some(Verdict::Stopped));
     }
     Ok(judge_opening(alloc, &shared, sessions.as_mut_slice(), verdict))
 }
@@ -581,7 +581,7 @@ fn judge_opening<J: Naming, R: Wait + Drop>(
 
 // Prepare a store again and open it, after it was refused with this fault.
 fn open_again<R: Wait + Drop + Copy>(rt: R, alloc: Global, fault: OpenFault) -> Option<Verdict> {
-    let Some(verdict) = fault.due() else {
+    let Some(verdict) = fault.verdict_after_retry() else {
         return Some(Verdict::Wrong(Wrong::Cause));
     };
     let prepared = prepare_for_two(rt, alloc)?;
@@ -600,7 +600,7 @@ fn open_or_retry<R: Wait + Drop + Copy>(
 ) -> Option<Verdict> {
     match opens::<Brand, R>(alloc, prepared, until, Verdict::Right) {
         Ok(verdict) => verdict,
-        Err(_) if until == Until::Called => Some(Verdict::Left),
+        Err(_) if until == Until::Called => Some(Verdict::Stopped),
         Err(fault) => open_again(rt, alloc, fault),
     }
 }
@@ -613,7 +613,7 @@ pub(crate) fn try_open<R: Wait + Drop + Copy>(
 ) -> Option<Verdict> {
     let prepared = prepare_for_two(rt, alloc)?;
     if until == Until::Prepared {
-        return Some(Verdict::Left);
+        return Some(Verdict::Stopped);
     }
     open_or_retry(rt, alloc, prepared, until)
 }
@@ -639,11 +639,11 @@ pub(crate) fn try_prepare<R: Wait + Drop + Copy>(
 ) -> Option<Verdict> {
     let plan = free_plan(alloc)?;
     if until == Until::Prepared {
-        return Some(Verdict::Left);
+        return Some(Verdict::Stopped);
     }
     let prepared = prepare(rt, alloc, plan, 0, 2, 3);
     if until == Until::Called {
-        return Some(Verdict::Left);
+        return Some(Verdict::Stopped);
     }
     judge_prepared(rt, alloc, prepared)
 }

@@ -417,7 +417,7 @@ fn judge_push(alloc: Global, until: Until, draft: &mut Draft) -> Option<Verdict>
     let mut before = Portrait::new(alloc);
     draw_draft(&mut before, draft)?;
     if until == Until::Prepared {
-        return Some(Verdict::Left);
+        return Some(Verdict::Stopped);
     }
     push(alloc, draft, &input, &speeds, &before)
 }
@@ -439,6 +439,6 @@ pub(crate) fn try_push(alloc: Global, until: Until, steps: u32, row: &str) -> Op
     if until == Until::Judged {
         is_pushed(alloc, draft, row, verdict)
     } else {
-        Some(Verdict::Left)
+        Some(Verdict::Stopped)
     }
 }

@@ -262,11 +262,11 @@ fn run_of(alloc: Global, case: &RunCase) -> Option<Run> {
 fn try_from_step(alloc: Global, until: Until, run: &Run, rows: &Rows) -> Option<Verdict> {
     let steps = steps_of(alloc, run, rows.last()?)?;
     if until == Until::Prepared {
-        return Some(Verdict::Left);
+        return Some(Verdict::Stopped);
     }
     let verdict = try_steps(alloc, run, rows, &steps)?;
     if until == Until::Called {
-        return Some(Verdict::Left);
+        return Some(Verdict::Stopped);
     }
     Some(verdict)
 }

@@ -18,17 +18,17 @@ pub(crate) enum Until {
 #[derive(Clone, Copy, PartialEq, Eq)]
 pub(crate) enum Verdict {
     /// The program ended at an earlier stage.
-    Left,
+    Stopped,
     /// It gave the expected answer at once.
     Right,
-    /// It was refused for out of memory, and a retry gave the expected answer.
+    /// It was refused because memory ran out, and a retry gave the expected answer.
     Again,
     /// It was refused because a thread could not be started, and a retry gave the expected answer.
     Restarted,
-    /// One event of a list was refused for out of memory, and all else was as without it. A retry gave the expected
+    /// One event of a list was refused because memory ran out, and all else was as without it. A retry gave the expected
     /// answer.
     Skipped,
-    /// It was refused with a fault that is due, and not retried.
+    /// It was refused with a fault that a failed allocation may cause, and not retried.
     Refused,
     Wrong(Wrong),
 }
@@ -38,7 +38,7 @@ pub(crate) enum Verdict {
 pub(crate) enum Wrong {
     /// The answer, or the state after the call.
     Answer,
-    /// It was refused for a cause that is not due.
+    /// It was refused for a cause that a failed allocation cannot have.
     Cause,
     /// It was refused, and something has changed.
     Changed,
@@ -54,7 +54,7 @@ impl Wrong {
     /// Return the verdict in words.
     pub(crate) fn text(self) -> &'static str {
         match self {
-            Wrong::Answer => "the answer, or what it leaves, is another one",
+            Wrong::Answer => "the answer, or the state after it, is wrong",
             Wrong::Cause => "it was refused for another cause",
             Wrong::Changed => "the refused call changed something",
             Wrong::Again => "it was refused again",
@@ -68,7 +68,7 @@ impl Wrong {
 pub(crate) trait Refusal {
     /// Return the verdict on a call that was refused for this cause and then gave the expected answer, or `None` if a
     /// failed allocation cannot be the cause.
-    fn due(&self) -> Option<Verdict>;
+    fn verdict_after_retry(&self) -> Option<Verdict>;
 }
 
 /// A call, with the state before it and the expected answer.
@@ -112,7 +112,11 @@ pub(crate) fn both(first: Verdict, second: Verdict) -> Verdict {
 }
 
 /// Return whether the state of a call is as it was drawn.
-pub(crate) fn is_as<C: Call>(alloc: Global, call: &mut C, before: &Portrait) -> Option<bool> {
+pub(crate) fn is_unchanged<C: Call>(
+    alloc: Global,
+    call: &mut C,
+    before: &Portrait,
+) -> Option<bool> {
     let mut after = Portrait::new(alloc);
     call.draw(alloc, &mut after)?;
     Some(after.is_same(before))
@@ -127,7 +131,7 @@ fn judge_answer<C: Call>(
     answer: C::Answer,
 ) -> Option<Verdict> {
     let is_right = call.is_right(alloc, answer)?;
-    let is_kept = call.writes() || is_as(alloc, call, before)?;
+    let is_kept = call.writes() || is_unchanged(alloc, call, before)?;
     Some(verdict_of(verdict, is_right && is_kept))
 }
 
@@ -138,10 +142,10 @@ fn judge_refusal<C: Call>(
     before: &Portrait,
     fault: C::Fault,
 ) -> Option<Verdict> {
-    let Some(verdict) = fault.due() else {
+    let Some(verdict) = fault.verdict_after_retry() else {
         return Some(Verdict::Wrong(Wrong::Cause));
     };
-    if !is_as(alloc, call, before)? {
+    if !is_unchanged(alloc, call, before)? {
         return Some(Verdict::Wrong(Wrong::Changed));
     }
     match call.make(alloc) {
@@ -161,7 +165,7 @@ pub(crate) fn judge<C: Call>(alloc: Global, call: &mut C, before: &Portrait) -> 
 // Make a call.
 fn make_call<C: Call>(alloc: Global, call: &mut C) -> Verdict {
     let _ = call.make(alloc);
-    Verdict::Left
+    Verdict::Stopped
 }
 
 /// Draw the state before a call, make the call, and judge it.
@@ -169,7 +173,7 @@ pub(crate) fn try_call<C: Call>(alloc: Global, until: Until, call: &mut C) -> Op
     let mut before = Portrait::new(alloc);
     call.draw(alloc, &mut before)?;
     match until {
-        Until::Prepared => Some(Verdict::Left),
+        Until::Prepared => Some(Verdict::Stopped),
         Until::Called => Some(make_call(alloc, call)),
         Until::Judged => judge(alloc, call, &before),
     }

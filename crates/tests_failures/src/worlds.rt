@@ -307,10 +307,10 @@ enum ListFault {
 }
 
 impl Refusal for ListFault {
-    fn due(&self) -> Option<Verdict> {
+    fn verdict_after_retry(&self) -> Option<Verdict> {
         match self {
-            ListFault::Play(fault) => fault.due(),
-            ListFault::Event(fault) => fault.due().map(|_| Verdict::Skipped),
+            ListFault::Play(fault) => fault.verdict_after_retry(),
+            ListFault::Event(fault) => fault.verdict_after_retry().map(|_| Verdict::Skipped),
             ListFault::Otherwise => None,
         }
     }

@@ -9,7 +9,7 @@ use road_plan::{Object, WordKind};
 use road_scenario::{Edit, Stamp, Value};
 use std::alloc::Global;
 use std::test::Fail;
-use tests_plans::{FREE, Parts, cars, edit, head, pairs, parts, reads, stamp};
+use tests_plans::{FREE, Parts, cars, edit, has_parts, head, pairs, parts, stamp};
 
 /// A plan of 12 cells with three replicas.
 const PLAN: &str =
@@ -46,7 +46,7 @@ fn is_plan(
 ) -> Result<bool, Fail> {
     let line = PLAN.replacen(alloc, old, new, 1)?;
     let read = read_plan(alloc, line.as_bytes())?;
-    Ok(are_named(&read.names, names) && reads(&read.plan, parts))
+    Ok(are_named(&read.names, names) && has_parts(&read.plan, parts))
 }
 
 #[test]

@@ -3,7 +3,7 @@
 ghost use Rattle.std.specs.Prelude.{◌≡◌};
 ghost use Rattle.road_workers.specs.Crews.{gone_after};
 
-use road_columns::{RanSpan, RoadOrRun};
+use road_columns::{RoadOrRun, SpanOutcome};
 use road_ends::{Span, StepInput};
 use road_workers::{Crew, CrewFault};
 use std::alloc::Global;
@@ -150,7 +150,7 @@ impl<C: Crew> Crew for Running<C> {
         alloc: Global,
         span: &Span,
         road: RoadOrRun,
-    ) -> Result<Option<RanSpan>, CrewFault> {
+    ) -> Result<Option<SpanOutcome>, CrewFault> {
         let answer = match self.fault_of_run() {
             Some(fault) => Err(fault),
             None => self.crew.run(alloc, span, road),

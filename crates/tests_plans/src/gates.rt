@@ -53,7 +53,7 @@ impl<R: Clock> Meeting<R> {
         behind.saturating_sub(1)
     }
 
-    /// Return whether all workers have met this number of times, and no worker has waited in vain.
+    /// Return whether all workers have met this many times, and no worker has waited in vain.
     pub fn was_held(&self, meetings: u32) -> bool {
         self.came.load(Ordering::SeqCst) == Self::bits(self.workers)
             && self.arrived.load(Ordering::SeqCst) == self.workers.saturating_mul(meetings)

@@ -277,7 +277,7 @@ pub const DENSE_ROWS: &[&str] = &[
     "0..00..1.00..1..1.00..1.0.1.....",
 ];
 
-/// A slowing chance of standing cars, and the rows of the dense road with it after each step from the first on.
+/// A slowing chance of standing cars, and the rows of the dense road under it, after each step from the first on.
 pub const DENSE_START: u32 = 45_000;
 
 pub const DENSE_START_ROWS: &[&str] = &[
@@ -344,7 +344,7 @@ pub fn parts_of(alloc: Global, parts: &Parts) -> Result<PlanParts, OutOfMemory> 
     })
 }
 
-/// Make the plan of these parts.
+/// Make a plan from these parts.
 ///
 /// # Errors
 ///
@@ -357,7 +357,7 @@ pub fn plan_of(alloc: Global, parts: &Parts) -> Result<Plan, PlanFault> {
 }
 
 /// Return whether a plan has these parts.
-pub fn reads(plan: &Plan, parts: &Parts) -> bool {
+pub fn has_parts(plan: &Plan, parts: &Parts) -> bool {
     (plan.length(), plan.exit(), plan.width()) == parts.road
         && plan.zones() == parts.zones
         && plan.inlets() == parts.inlets

@@ -68,7 +68,7 @@ impl Dice {
     }
 }
 
-// Make zones of this width for a road of this number of cells.
+// Make zones of this width for a road of this many cells.
 fn zones_of(
     alloc: Global,
     dice: &mut Dice,
@@ -146,7 +146,7 @@ pub fn random_settings(alloc: Global, plan: &Plan, seed: u32) -> Result<Settings
     Ok(settings)
 }
 
-/// Make a road with about this number of cars before the exit of a plan. Their speeds and numbers are random. If there
+/// Make a road with about this many cars before the exit of a plan. Their speeds and numbers are random. If there
 /// is not enough room, no cell is free.
 ///
 /// # Errors

@@ -15,7 +15,7 @@ fn have_digits(cars: &[Car]) -> bool
     cars.iter().all(|car| car.speed <= 9)
 }
 
-/// Draw the row of a road with this number of cells and these blocked cells, or an empty text if a speed is not a
+/// Draw the row of a road with this many cells and these blocked cells, or an empty text if a speed is not a
 /// digit.
 ///
 /// # Errors

@@ -129,7 +129,7 @@ fn is_done<C: Crew>(
     is_as(alloc, replica.sheet(), last)
 }
 
-// Return whether a replica survives a crew that fails after this number of steps.
+// Return whether a replica survives a crew that fails after this many steps.
 fn outlives_leaving(
     alloc: Global,
     replica: &mut Replica,
@@ -153,7 +153,7 @@ fn has_counted<C>(crew: &Running<C>, before: u64, ticks: u64, has_failed: bool) 
     ticks == crew.steps.saturating_sub(before) && crew.fault.is_none() == has_failed
 }
 
-// Return whether a replica survives a crew that fails at the run after this number of runs, and counts the steps of its
+// Return whether a replica survives a crew that fails at the run after this many runs, and counts the steps of its
 // runs.
 fn outlives_failing<C: Crew>(
     alloc: Global,
@@ -173,7 +173,7 @@ fn outlives_failing<C: Crew>(
     Ok(is_done && has_counted(crew, steps, meter.ticks(), fails))
 }
 
-// Return whether a new replica survives a crew that fails after this number of steps.
+// Return whether a new replica survives a crew that fails after this many steps.
 fn new_outlives_leaving(
     alloc: Global,
     case: &Case,
@@ -184,7 +184,7 @@ fn new_outlives_leaving(
     outlives_leaving(alloc, &mut replica, case, calls, last)
 }
 
-// Return whether a new replica survives a crew that fails at the run after this number of runs.
+// Return whether a new replica survives a crew that fails at the run after this many runs.
 fn new_outlives_failing<C: Crew>(
     alloc: Global,
     case: &Case,

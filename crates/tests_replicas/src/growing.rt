@@ -60,7 +60,7 @@ fn extend<C: Crew>(
     extend_by(alloc, sheet, &scenario, to, crew, meter)
 }
 
-// Return whether a sheet fails with a crew that fails at the run after this number of runs. The steps of these are
+// Return whether a sheet fails with a crew that fails at the run after this many runs. The steps of these are
 // counted, and the sheet is unchanged.
 fn is_refused<C: Crew>(
     alloc: Global,

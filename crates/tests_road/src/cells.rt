@@ -4,7 +4,7 @@ ghost use Rattle.std.specs.Prelude.{◌≡◌, IsTrue, IfOk};
 ghost use Rattle.std.specs.List.Sorted.{IsNonDecreasing};
 ghost use Rattle.road_cells.specs.Cars.{AreRising, cars_of};
 
-use crate::holds;
+use crate::assert_row;
 use road_cells::{Car, GREATEST_SPEED, OutOfMemory, Road, reached_blocks, reached_blocks_below};
 use std::alloc::Global;
 use std::test::Fail;
@@ -31,15 +31,15 @@ fn keeps(alloc: Global, cars: &[Car]) -> Result<bool, OutOfMemory>
 
 #[test]
 fn keeps_and_copies_the_cars(rt: HostRuntime) -> Result<(), Fail> {
-    holds(&rt, 0, keeps(rt.alloc(), CARS)?);
-    holds(&rt, 1, keeps(rt.alloc(), &[])?);
+    assert_row(&rt, 0, keeps(rt.alloc(), CARS)?);
+    assert_row(&rt, 1, keeps(rt.alloc(), &[])?);
     Ok(())
 }
 
 #[test]
 fn an_empty_road_has_no_car(rt: HostRuntime) {
     let road = Road::empty(rt.alloc());
-    holds(&rt, 0, road.cars().is_empty() && road.car_at(0).is_none());
+    assert_row(&rt, 0, road.cars().is_empty() && road.car_at(0).is_none());
 }
 
 /// A cell, the number of the car there, and the number of cars before the cell.
@@ -55,7 +55,7 @@ const FOUND: &[(u32, Option<u64>, usize)] = &[
     (4_294_967_295, None, 3),
 ];
 
-// Return whether that car is found at the cell, and this number of cars before it.
+// Return whether that car is found at the cell, and this many cars before it.
 fn is_found(road: &Road, (cell, number, before): &(u32, Option<u64>, usize)) -> bool {
     let found = match road.car_at(*cell) {
         Some(car) => Some(car.number),
@@ -68,7 +68,7 @@ fn is_found(road: &Road, (cell, number, before): &(u32, Option<u64>, usize)) -> 
 fn finds_the_car_of_a_cell(rt: HostRuntime) -> Result<(), Fail> {
     let road = road_of(rt.alloc(), CARS)?;
     for (row, found) in FOUND.iter().enumerate() {
-        holds(&rt, row, is_found(&road, found));
+        assert_row(&rt, row, is_found(&road, found));
     }
     Ok(())
 }
@@ -86,7 +86,7 @@ fn finds_the_cars_between_cells(rt: HostRuntime) -> Result<(), Fail> {
     let road = road_of(rt.alloc(), CARS)?;
     for (row, ((from, to), (first, end))) in BETWEEN.iter().enumerate() {
         let between = road.between(*from, *to);
-        holds(&rt, row, CARS.get(*first..*end) == Some(between));
+        assert_row(&rt, row, CARS.get(*first..*end) == Some(between));
     }
     Ok(())
 }
@@ -119,7 +119,7 @@ fn rises(blocks: &[u32]) -> bool
     blocks.is_sorted()
 }
 
-// Return whether a car of a road has this number of free cells in front of it.
+// Return whether a car of a road has this many free cells in front of it.
 fn sees(road: &Road, place: usize, (blocks, gap): &(&[u32], u8)) -> bool {
     if place >= road.cars().len() || !rises(blocks) {
         return false;
@@ -132,10 +132,10 @@ fn sees(road: &Road, place: usize, (blocks, gap): &(&[u32], u8)) -> bool {
 fn sees_the_next_car_or_block(rt: HostRuntime) -> Result<(), Fail> {
     let road = road_of(rt.alloc(), CARS)?;
     for (row, said) in TO_BLOCK.iter().enumerate() {
-        holds(&rt, row, sees(&road, 2, said));
+        assert_row(&rt, row, sees(&road, 2, said));
     }
     for (row, said) in TO_CAR.iter().enumerate() {
-        holds(&rt, row, sees(&road, 1, said));
+        assert_row(&rt, row, sees(&road, 1, said));
     }
     Ok(())
 }
@@ -150,7 +150,7 @@ const GAPS: &[u8] = &[0, 8, 9, 9];
 fn sees_nine_cells_far(rt: HostRuntime) -> Result<(), Fail> {
     let road = road_of(rt.alloc(), FAR)?;
     for (place, gap) in GAPS.iter().enumerate() {
-        holds(&rt, place, sees(&road, place, &(&[], *gap)));
+        assert_row(&rt, place, sees(&road, place, &(&[], *gap)));
     }
     Ok(())
 }
@@ -163,7 +163,7 @@ fn counts_the_blocks_that_a_cell_has_reached(rt: HostRuntime) {
     let blocks = [3, 12, 15];
     for (row, (cell, count)) in REACHED.iter().enumerate() {
         let walked = reached_blocks_below(&blocks, *cell, 3);
-        holds(
+        assert_row(
             &rt,
             row,
             reached_blocks(&blocks, *cell) == *count && walked == *count,

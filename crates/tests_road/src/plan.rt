@@ -1,12 +1,12 @@
 //! Plans worked out by hand: the parts of a plan, its own settings and its objects. The program shows which plans are
 //! refused (`tests/line_cases.py`).
 
-use crate::holds;
+use crate::assert_row;
 use road_plan::{Object, OutOfMemory, Plan, PlanFault, Settings, WordKind};
 use std::alloc::Global;
 use std::process::Abort;
 use std::test::Fail;
-use tests_plans::{FREE, Parts, pairs, plan_of, reads};
+use tests_plans::{FREE, Parts, has_parts, pairs, plan_of};
 
 /// The greatest values of everything.
 const GREATEST: Parts = Parts {
@@ -20,13 +20,13 @@ const GREATEST: Parts = Parts {
 // Return whether a plan of these parts has them.
 fn is_read(alloc: Global, parts: &Parts) -> Result<bool, PlanFault> {
     let plan = plan_of(alloc, parts)?;
-    Ok(reads(&plan, parts))
+    Ok(has_parts(&plan, parts))
 }
 
 #[test]
 fn reads_the_parts(rt: HostRuntime) -> Result<(), Fail> {
-    holds(&rt, 0, is_read(rt.alloc(), &FREE)?);
-    holds(&rt, 1, is_read(rt.alloc(), &GREATEST)?);
+    assert_row(&rt, 0, is_read(rt.alloc(), &FREE)?);
+    assert_row(&rt, 1, is_read(rt.alloc(), &GREATEST)?);
     Ok(())
 }
 
@@ -102,7 +102,7 @@ fn settings_of(
 // Check that the settings of each row fit as it says.
 fn settings_fit(rt: &impl Abort, alloc: Global, plan: &Plan) -> Result<(), Fail> {
     for (row, (numbers, fits)) in FITTING.iter().enumerate() {
-        holds(rt, row, settings_of(alloc, numbers)?.fits(plan) == *fits);
+        assert_row(rt, row, settings_of(alloc, numbers)?.fits(plan) == *fits);
     }
     Ok(())
 }
@@ -116,7 +116,7 @@ fn own_have(alloc: Global, plan: &Plan, numbers: &Numbers) -> Result<bool, OutOf
 #[test]
 fn knows_the_settings_that_fit(rt: HostRuntime) -> Result<(), Fail> {
     let plan = plan_of(rt.alloc(), &TWO_ZONES)?;
-    holds(&rt, 0, own_have(rt.alloc(), &plan, &OWN)?);
+    assert_row(&rt, 0, own_have(rt.alloc(), &plan, &OWN)?);
     settings_fit(&rt, rt.alloc(), &plan)
 }
 
@@ -158,7 +158,7 @@ fn objects_are_known(rt: &impl Abort, plan: &Plan) {
     for (row, (object, own, greatest)) in OBJECTS.iter().enumerate() {
         let is_own = own_number(plan, *object) == *own;
         let is_behind = last < Some(*object);
-        holds(
+        assert_row(
             rt,
             row,
             is_own && is_behind && allows_up_to(*object, *greatest),

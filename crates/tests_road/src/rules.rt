@@ -4,7 +4,7 @@ ghost use Rattle.std.specs.Prelude.{◌≤◌, length};
 ghost use Rattle.road_cells.specs.Cars.{AreRising, array_of};
 ghost use Rattle.road_rules.specs.Motion.{MayMove};
 
-use crate::holds;
+use crate::assert_row;
 use road_cells::{Car, OutOfMemory, Road};
 use road_rules::{moved, slowed, two_rules, wanted};
 use std::alloc::Global;
@@ -31,7 +31,7 @@ const WANTED: &[(u8, u32, u8, u8)] = &[
 #[test]
 fn wants_the_least_of_three(rt: HostRuntime) {
     for (row, (speed, limit, gap, want)) in WANTED.iter().enumerate() {
-        holds(&rt, row, wanted(*speed, *limit, *gap) == *want);
+        assert_row(&rt, row, wanted(*speed, *limit, *gap) == *want);
     }
 }
 
@@ -52,7 +52,7 @@ const TWO_RULES: &[(u8, u8, u32, u8)] = &[
 fn keeps_the_rules_of_1992(rt: HostRuntime) {
     for (row, (speed, vmax, distance, want)) in TWO_RULES.iter().enumerate() {
         let keeps = *distance > 0 && two_rules(*speed, *vmax, *distance) == *want;
-        holds(&rt, row, keeps);
+        assert_row(&rt, row, keeps);
     }
 }
 
@@ -78,7 +78,7 @@ const SLOWED: &[(u8, u32, u32, u8)] = &[
 #[test]
 fn slows_below_the_chance(rt: HostRuntime) {
     for (row, (speed, word, chance, want)) in SLOWED.iter().enumerate() {
-        holds(&rt, row, slowed(*speed, *word, *chance) == *want);
+        assert_row(&rt, row, slowed(*speed, *word, *chance) == *want);
     }
 }
 
@@ -98,16 +98,16 @@ fn moves(alloc: Global, cars: &[Car], speeds: &[u8], later: &[Car]) -> Result<bo
 fn moves_each_car_by_its_speed(rt: HostRuntime) -> Result<(), Fail> {
     let alloc = rt.alloc();
     let one = [car(0, 0, 0)];
-    holds(&rt, 0, moves(alloc, &one, &[1], &[car(0, 1, 1)])?);
+    assert_row(&rt, 0, moves(alloc, &one, &[1], &[car(0, 1, 1)])?);
     let two = [car(16, 0, 0), car(0, 1, 1)];
     let later = [car(16, 0, 0), car(0, 3, 2)];
-    holds(&rt, 1, moves(alloc, &two, &[0, 2], &later)?);
+    assert_row(&rt, 1, moves(alloc, &two, &[0, 2], &later)?);
     let two = [car(16, 0, 0), car(0, 3, 2)];
     let later = [car(16, 1, 1), car(0, 5, 2)];
-    holds(&rt, 2, moves(alloc, &two, &[1, 2], &later)?);
+    assert_row(&rt, 2, moves(alloc, &two, &[1, 2], &later)?);
     let three = [car(48, 0, 0), car(16, 1, 1), car(0, 5, 2)];
     let later = [car(48, 0, 0), car(16, 3, 2), car(0, 7, 2)];
-    holds(&rt, 3, moves(alloc, &three, &[0, 2, 2], &later)?);
+    assert_row(&rt, 3, moves(alloc, &three, &[0, 2, 2], &later)?);
     Ok(())
 }
 
@@ -117,9 +117,9 @@ fn moves_a_fast_car(rt: HostRuntime) -> Result<(), Fail> {
     let alloc = rt.alloc();
     let two = [car(2, 3, 4), car(1, 8, 9)];
     let later = [car(2, 7, 4), car(1, 17, 9)];
-    holds(&rt, 0, moves(alloc, &two, &[4, 9], &later)?);
+    assert_row(&rt, 0, moves(alloc, &two, &[4, 9], &later)?);
     let later = [car(2, 7, 4), car(1, 8, 0)];
-    holds(&rt, 1, moves(alloc, &two, &[4, 0], &later)?);
-    holds(&rt, 2, moves(alloc, &[], &[], &[])?);
+    assert_row(&rt, 1, moves(alloc, &two, &[4, 0], &later)?);
+    assert_row(&rt, 2, moves(alloc, &[], &[], &[])?);
     Ok(())
 }

@@ -2,7 +2,7 @@
 
 mod chacha_words;
 
-use crate::holds;
+use crate::assert_row;
 use chacha_words::{CHACHA_WORDS, ZERO_KEY};
 use road_plan::{PlanFault, WordKind};
 use road_words::{ChaChaWords, PlanWords, SteadyWords, Words};
@@ -27,7 +27,7 @@ const STEADY_WORDS: &[(u64, u64, u32, u32)] = &[
 fn steady_words_follow_the_line(rt: HostRuntime) {
     for (row, (stream, place, upper, want)) in STEADY_WORDS.iter().enumerate() {
         let word = word_of(&SteadyWords, *stream, *place);
-        holds(&rt, row, word == *want && word >> 16 == *upper);
+        assert_row(&rt, row, word == *want && word >> 16 == *upper);
     }
 }
 
@@ -37,7 +37,7 @@ fn seed_zero_gives_the_published_keystream(rt: HostRuntime) {
     for (place, printed) in ZERO_KEY.iter().enumerate() {
         // a word is made of its four bytes with the last one first
         let word = word_of(&words, 0, place as u64);
-        holds(&rt, place, word == printed.swap_bytes());
+        assert_row(&rt, place, word == printed.swap_bytes());
     }
 }
 
@@ -45,7 +45,7 @@ fn seed_zero_gives_the_published_keystream(rt: HostRuntime) {
 fn seeded_words_are_those_of_another_program(rt: HostRuntime) {
     for (row, (seed, stream, place, want)) in CHACHA_WORDS.iter().enumerate() {
         let word = word_of(&ChaChaWords::new(*seed), *stream, *place);
-        holds(&rt, row, word == *want);
+        assert_row(&rt, row, word == *want);
     }
 }
 
@@ -66,7 +66,7 @@ fn named_word(alloc: Global, words: WordKind) -> Result<u32, PlanFault> {
 #[test]
 fn a_plan_names_its_words(rt: HostRuntime) -> Result<(), Fail> {
     for (row, (words, want)) in NAMED_WORDS.iter().enumerate() {
-        holds(&rt, row, named_word(rt.alloc(), *words)? == *want);
+        assert_row(&rt, row, named_word(rt.alloc(), *words)? == *want);
     }
     Ok(())
 }

@@ -265,7 +265,7 @@ pub(crate) fn holds_at(rt: &impl Abort, holds: bool, place: Place<'_>) {
     assert!(rt; holds, "{name} {number}, after {done} steps");
 }
 
-/// Make this number of steps of both, and check that they are the same before the first and after each.
+/// Make this many steps of both, and check that they are the same before the first and after each.
 pub(crate) fn are_same_throughout(
     rt: &impl Abort,
     alloc: Global,

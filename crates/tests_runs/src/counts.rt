@@ -52,7 +52,7 @@ fn counts_restart(rt: HostRuntime) -> Result<(), Fail> {
     check_each_restart(&rt, rt.alloc(), &mut beside)
 }
 
-// Make this number of steps of both.
+// Make this many steps of both.
 fn go_on(alloc: Global, beside: &mut Beside, steps: u32) -> Result<(), Fail> {
     for _ in 0..steps {
         beside.step(alloc)?;

@@ -34,7 +34,7 @@ fn compare_spans(rt: &impl Abort, alloc: Global, beside: &mut Beside) -> Result<
     Ok(())
 }
 
-// Take both through the spans on a road of this number of cells, from the empty road.
+// Take both through the spans on a road of this many cells, from the empty road.
 fn compare_from_empty_road(
     rt: &impl Abort,
     alloc: Global,
@@ -58,7 +58,7 @@ fn a_run_from_the_empty_road_is_the_plain_steps(rt: HostRuntime) -> Result<(), F
 /// last span that the tests reach.
 const STARTS: &[u32] = &[0, 1, 37, 63, 64, 1_048_300];
 
-// Go on from a road with about this number of cars at a step.
+// Go on from a road with about this many cars at a step.
 fn restart_random(
     alloc: Global,
     dice: &mut Dice,
@@ -75,7 +75,7 @@ fn restart_random(
     beside.restart_on(alloc, &settings, step, whole, &road)
 }
 
-// Go on from a road with about this number of cars at each of these steps.
+// Go on from a road with about this many cars at each of these steps.
 fn restart_each(
     rt: &impl Abort,
     alloc: Global,
@@ -93,7 +93,7 @@ fn restart_each(
 /// The lengths of such roads.
 const TAKEN: &[u32] = &[8, 40, 500, 3_000];
 
-// Go on from full, thinner and thin roads of this number of cells.
+// Go on from full, thinner and thin roads of this many cells.
 fn restart_roads(rt: &impl Abort, alloc: Global, dice: &mut Dice, length: u32) -> Result<(), Fail> {
     let mut beside = Beside::of_plan(alloc, random_plan(alloc, dice, length)?)?;
     restart_each(rt, alloc, dice, &mut beside, length)?;

@@ -139,7 +139,7 @@ fn runs_stretches(
     Ok(compared)
 }
 
-// Run the stretches of a random road on both sides of a cell for this number of steps.
+// Run the stretches of a random road on both sides of a cell for this many steps.
 fn cut_at(
     rt: &impl Abort,
     alloc: Global,
@@ -177,7 +177,7 @@ fn cut_everywhere(
     Ok(compared)
 }
 
-// Divide a random road of this number of cells at every n-th of them.
+// Divide a random road of this many cells at every n-th of them.
 fn cut_road(
     rt: &impl Abort,
     alloc: Global,

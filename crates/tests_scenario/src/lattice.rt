@@ -1,6 +1,6 @@
 //! Merges worked out by hand, of values of generic types.
 
-use crate::holds;
+use crate::assert_row;
 use lattice_core::OutOfMemory;
 use lattice_core::both::Both;
 use lattice_core::greatest::Greatest;
@@ -43,7 +43,7 @@ fn joins_to<L: Lattice>(first: &L, second: &L, both: &L) -> Result<bool, OutOfMe
 #[test]
 fn equal_stamps_go_by_value(rt: HostRuntime) -> Result<(), Fail> {
     for (row, (first, second, both)) in REGISTERS.iter().enumerate() {
-        holds(&rt, row, joins_to(first, second, both)?);
+        assert_row(&rt, row, joins_to(first, second, both)?);
     }
     Ok(())
 }
@@ -141,7 +141,7 @@ fn merges(
 #[test]
 fn replicas_merge_key_by_key(rt: HostRuntime) -> Result<(), Fail> {
     for (row, (ours, theirs, entries)) in MERGES.iter().enumerate() {
-        holds(&rt, row, merges(rt.alloc(), ours, theirs, entries)?);
+        assert_row(&rt, row, merges(rt.alloc(), ours, theirs, entries)?);
     }
     Ok(())
 }

@@ -1,6 +1,6 @@
 //! Maps of up to a thousand keys, which lie in several pages, compared with the standard library's map.
 
-use crate::holds;
+use crate::assert_row;
 use lattice_core::OutOfMemory;
 use lattice_core::entries::Entries;
 use lattice_core::greatest::Greatest;
@@ -60,7 +60,7 @@ type Map = LatMap<u32, Value>;
 /// The expected content of a map.
 type Held = BTreeMap<u32, u32>;
 
-// Make a map of this number of puts, and put the same into the expected content.
+// Make a map of this many puts, and put the same into the expected content.
 fn put_many(
     alloc: Global,
     held: &mut Held,
@@ -135,7 +135,7 @@ fn are_same(entries: Entries<'_, u32, Value>, held: Range<'_, u32, u32>, turns: 
     false
 }
 
-// Return whether a map has the keys that are held.
+// Return whether a map has exactly the expected keys.
 fn has_keys(map: &Map, held: &Held) -> bool {
     let mut keys = map.keys();
     for (key, _) in held.iter() {
@@ -146,7 +146,7 @@ fn has_keys(map: &Map, held: &Held) -> bool {
     keys.next().is_none()
 }
 
-// Return whether a map has at a key what is held: its value, the entries up to it and those after it.
+// Return whether a map gives the expected entries at a key: its value, the entries up to it and those after it.
 fn gives_at(map: &Map, held: &Held, key: u32) -> bool {
     let value = match held.get(&key) {
         Some(number) => Greatest::Of(*number),
@@ -166,7 +166,7 @@ fn gives_at(map: &Map, held: &Held, key: u32) -> bool {
     true
 }
 
-// Return whether a map has all entries that are held.
+// Return whether a map has exactly the expected entries.
 fn gives_all(map: &Map, held: &Held) -> bool {
     for turns in TURNS {
         if !are_same(map.iter(), held.range(..), *turns) {
@@ -176,7 +176,7 @@ fn gives_all(map: &Map, held: &Held) -> bool {
     has_keys(map, held) && map.is_bottom() == held.is_empty()
 }
 
-// Return whether a map has what is held: everything, and at random keys and the first ones.
+// Return whether a map has the expected entries: as a whole, at random keys and at the first ones.
 fn gives(map: &Map, held: &Held, dice: &mut Dice) -> bool {
     for _ in 0..20 {
         if !gives_at(map, held, dice.below(KEYS + 2)) {
@@ -191,7 +191,7 @@ fn gives(map: &Map, held: &Held, dice: &mut Dice) -> bool {
     gives_all(map, held)
 }
 
-// Return whether each number is also held by the other, or a greater one.
+// Return whether the other entries have each key, with the same number or a greater one.
 fn is_within(held: &Held, other: &Held) -> bool {
     for (key, number) in held.iter() {
         let is_there = match other.get(key) {
@@ -205,7 +205,7 @@ fn is_within(held: &Held, other: &Held) -> bool {
     true
 }
 
-// Return whether a copy of a map has what is held.
+// Return whether a copy of a map has the expected entries.
 fn copy_gives(map: &Map, held: &Held) -> Result<bool, OutOfMemory> {
     let copy = map.copied()?;
     Ok(gives_all(&copy, held))
@@ -216,7 +216,7 @@ fn are_ordered(one: (&Map, &Held), other: (&Map, &Held)) -> bool {
     one.0.at_most(other.0) == is_within(one.1, other.1)
 }
 
-// Put everything that a map must hold.
+// Add further entries to the expected ones.
 fn put_all(held: &mut Held, more: &Held) -> Result<(), OutOfMemory> {
     for (key, number) in more.iter() {
         put(held, *key, *number)?;
@@ -224,7 +224,7 @@ fn put_all(held: &mut Held, more: &Held) -> Result<(), OutOfMemory> {
     Ok(())
 }
 
-// Return whether two maps join to one that has what is held by both, and stay unchanged.
+// Return whether two maps join to one that has the expected entries, and stay unchanged.
 fn join(
     one: (&Map, &Held),
     other: (&Map, &Held),
@@ -243,7 +243,7 @@ fn join(
     Ok(is_right && copy_gives(&both, held)?)
 }
 
-// Return whether a map joins in this way with one of this number of mixed puts.
+// Return whether a map joins as expected with a map of this many puts in mixed order.
 fn joins_with(
     alloc: Global,
     one: (&Map, &Held),
@@ -263,7 +263,7 @@ fn grows_apart(map: &Map, key: u32) -> Result<bool, OutOfMemory> {
     Ok(more.get(key) == Some(&Greatest::Of(10)) && map.at_most(&more) && !more.at_most(map))
 }
 
-// Return whether a map has what is held, once others that share its pages have changed.
+// Return whether a map still has the expected entries after others that share its pages have changed.
 fn stays(map: &Map, held: &Held, dice: &mut Dice) -> Result<bool, OutOfMemory> {
     for _ in 0..50 {
         if !grows_apart(map, dice.below(KEYS))? {
@@ -273,7 +273,7 @@ fn stays(map: &Map, held: &Held, dice: &mut Dice) -> Result<bool, OutOfMemory> {
     Ok(gives(map, held, dice))
 }
 
-// Return whether a map of this number of puts has what was put, and joins with one of this number of others.
+// Return whether a map of `ours` puts has what was put, and joins as expected with a map of `theirs` puts.
 fn is_right(
     alloc: Global,
     dice: &mut Dice,
@@ -289,7 +289,7 @@ fn is_right(
 fn are_right(rt: &impl Abort, alloc: Global, order: Order) -> Result<(), Fail> {
     let mut dice = Dice::of(1);
     for (row, puts) in PUTS.iter().enumerate() {
-        holds(rt, row, is_right(alloc, &mut dice, order, *puts)?);
+        assert_row(rt, row, is_right(alloc, &mut dice, order, *puts)?);
     }
     Ok(())
 }

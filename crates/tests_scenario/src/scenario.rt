@@ -1,6 +1,6 @@
 //! Scenarios worked out by hand, and compared with the plain program.
 
-use crate::holds;
+use crate::assert_row;
 use lattice_core::lattice::Lattice;
 use road_plan::{Object, Plan, Settings};
 use road_scenario::{Edit, EditFault, OutOfMemory, Scenario, Stamp, Value};
@@ -38,21 +38,21 @@ fn make(alloc: Global, way: Way, edits: &[Edit]) -> Result<Scenario, OutOfMemory
     }
 }
 
-/// A check of a scenario. Only [`looks_right`] owns a scenario, because its owner must drop it on each way out.
-trait Look {
-    /// Return whether a scenario is right.
-    fn is_right(&self, alloc: Global, made: &Scenario) -> Result<bool, OutOfMemory>;
+/// A check of a scenario. Only [`make_and_check`] owns a scenario, so that one function alone drops it on every exit path.
+trait Check {
+    /// Return whether a scenario passes.
+    fn passes(&self, alloc: Global, made: &Scenario) -> Result<bool, OutOfMemory>;
 }
 
-// Make a scenario of edits, and return whether it is right.
-fn looks_right<L: Look>(
+// Make a scenario of edits. Return whether it passes a check.
+fn make_and_check<C: Check>(
     alloc: Global,
     way: Way,
     edits: &[Edit],
-    look: &L,
+    check: &C,
 ) -> Result<bool, OutOfMemory> {
     let made = make(alloc, way, edits)?;
-    look.is_right(alloc, &made)
+    check.passes(alloc, &made)
 }
 
 /// Two imports with one stamp: the greater number wins, whichever came first.
@@ -133,8 +133,8 @@ struct Numbers<'a> {
     numbers: [u32; 4],
 }
 
-impl Look for Numbers<'_> {
-    fn is_right(&self, _alloc: Global, made: &Scenario) -> Result<bool, OutOfMemory> {
+impl Check for Numbers<'_> {
+    fn passes(&self, _alloc: Global, made: &Scenario) -> Result<bool, OutOfMemory> {
         for (step, number) in [2, 4, 5, 1_048_575].iter().zip(&self.numbers) {
             if setting_at(made, self.plan, self.object, *step) != Some(*number) {
                 return Ok(false);
@@ -152,13 +152,13 @@ fn numbers_are_given(rt: &impl Abort, alloc: Global, plan: &Plan) -> Result<(), 
             object: *object,
             numbers: *numbers,
         };
-        holds(rt, row, looks_right(alloc, Way::OneByOne, edits, &look)?);
+        assert_row(rt, row, make_and_check(alloc, Way::OneByOne, edits, &look)?);
     }
     Ok(())
 }
 
 #[test]
-fn an_earlier_put_acts_on_and_standing_cars_are_slowed_like_others(
+fn an_earlier_edit_stays_in_force_and_standing_cars_are_slowed_like_others(
     rt: HostRuntime,
 ) -> Result<(), Fail> {
     let plan = plan_of(rt.alloc(), &FREE)?;
@@ -200,7 +200,7 @@ fn have(settings: &Settings, (limit, chance, inflow, blocks, watched, start): &G
         && settings.starts() == [*start].as_slice()
 }
 
-// Return whether a scenario gives these settings at a step, which fit the plan.
+// Return whether a scenario gives these settings at a step, and they fit the plan.
 fn gives(
     alloc: Global,
     plan: &Plan,
@@ -218,8 +218,8 @@ fn gives(
 #[derive(Clone, Copy)]
 struct AllKinds<'a>(&'a Plan);
 
-impl Look for AllKinds<'_> {
-    fn is_right(&self, alloc: Global, made: &Scenario) -> Result<bool, OutOfMemory> {
+impl Check for AllKinds<'_> {
+    fn passes(&self, alloc: Global, made: &Scenario) -> Result<bool, OutOfMemory> {
         for row in SETTINGS {
             if !gives(alloc, self.0, made, row)? {
                 return Ok(false);
@@ -230,10 +230,10 @@ impl Look for AllKinds<'_> {
 }
 
 #[test]
-fn edits_of_all_kinds_act(rt: HostRuntime) -> Result<(), Fail> {
+fn every_kind_of_edit_takes_effect(rt: HostRuntime) -> Result<(), Fail> {
     let plan = plan_of(rt.alloc(), &FREE)?;
-    let is_right = looks_right(rt.alloc(), Way::OneByOne, ALL_KINDS, &AllKinds(&plan))?;
-    holds(&rt, 0, is_right);
+    let is_right = make_and_check(rt.alloc(), Way::OneByOne, ALL_KINDS, &AllKinds(&plan))?;
+    assert_row(&rt, 0, is_right);
     Ok(())
 }
 
@@ -254,8 +254,8 @@ struct FirstFault<'a> {
     fault: Option<EditFault>,
 }
 
-impl Look for FirstFault<'_> {
-    fn is_right(&self, _alloc: Global, made: &Scenario) -> Result<bool, OutOfMemory> {
+impl Check for FirstFault<'_> {
+    fn passes(&self, _alloc: Global, made: &Scenario) -> Result<bool, OutOfMemory> {
         Ok(made.fits(self.plan) == self.fault)
     }
 }
@@ -267,7 +267,7 @@ fn first_faults_are_named(rt: &impl Abort, alloc: Global, plan: &Plan) -> Result
             plan,
             fault: *fault,
         };
-        holds(rt, row, looks_right(alloc, Way::OneByOne, edits, &look)?);
+        assert_row(rt, row, make_and_check(alloc, Way::OneByOne, edits, &look)?);
     }
     Ok(())
 }
@@ -288,16 +288,16 @@ fn is_doubled<L: Lattice>(value: &L) -> Result<bool, OutOfMemory> {
 #[derive(Clone, Copy)]
 struct Doubled;
 
-impl Look for Doubled {
-    fn is_right(&self, _alloc: Global, made: &Scenario) -> Result<bool, OutOfMemory> {
+impl Check for Doubled {
+    fn passes(&self, _alloc: Global, made: &Scenario) -> Result<bool, OutOfMemory> {
         is_doubled(made)
     }
 }
 
 #[test]
 fn scenarios_are_a_lattice(rt: HostRuntime) -> Result<(), Fail> {
-    let is_right = looks_right(rt.alloc(), Way::OneByOne, &[ONE], &Doubled)?;
-    holds(&rt, 0, is_right);
+    let is_right = make_and_check(rt.alloc(), Way::OneByOne, &[ONE], &Doubled)?;
+    assert_row(&rt, 0, is_right);
     Ok(())
 }
 
@@ -314,7 +314,7 @@ const RISING: &[Edit] = &[
 fn edits_are_ordered_by_step_then_stamp_then_value(rt: HostRuntime) {
     let mut last = None;
     for (row, edit) in RISING.iter().enumerate() {
-        holds(&rt, row, last < Some(edit));
+        assert_row(&rt, row, last < Some(edit));
         last = Some(edit);
     }
 }

@@ -19,7 +19,7 @@ const FREE_ROAD: &str =
     r#"{"detectors":[5],"exit":1,"inlets":[[0,65536]],"length":12,"replicas":["A","B","C"],"words":7,"zone":12,"zones":[[2,0]]}
 "#;
 
-/// Return a sink with room for this number of bytes, so that none of its writes needs memory.
+/// Return a sink with room for this many bytes, so that none of its writes needs memory.
 pub(crate) fn sink_for(alloc: Global, room: usize) -> Result<MemorySink, OutOfMemory> {
     let bytes = Vec::with_capacity(alloc, room)?;
     Ok(MemorySink::new(bytes, room, Failing::Never, Failing::Never))
@@ -125,7 +125,7 @@ fn is_end(ended: &Result<Served, ServeFault>, end: End) -> bool {
     }
 }
 
-// Return whether a run over an input ends as expected, and writes this number of bytes of the replies. The sink takes at
+// Return whether a run over an input ends as expected, and writes this many bytes of the replies. The sink takes at
 // most `step` bytes in each call.
 fn ends(alloc: Global, input: &str, run: &Run, step: usize) -> Result<bool, Fail> {
     let &(((lines, bytes), (piece, reads), (room, writes, flushes)), (end, written)) = run;

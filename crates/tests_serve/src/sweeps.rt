@@ -41,17 +41,17 @@ pub(crate) const ANSWERS: &str = r##"{"open":3}
 {"edits":[["block",8,4,2,0,null]],"form":2}
 "##;
 
-// The calls of the crew that are the first of an advance, an edit or a withdrawal, each of six steps, and how many
-// bytes are written before. A crew that would fail after all 24 calls does not fail.
-const ASKED: &[(u64, usize)] = &[(0, 11), (6, 50), (12, 117), (18, 224), (CALLS, 338)];
+// For each command that computes six steps (an advance, an edit or a withdrawal): the number of its first call of the
+// crew, and how many bytes are written before it. The last row is for a crew that does not fail.
+const BYTES_BEFORE: &[(u64, usize)] = &[(0, 11), (6, 50), (12, 117), (18, 224), (CALLS, 338)];
 
 // The number of calls of the crew in all.
 const CALLS: u64 = 24;
 
-// Return the bytes that are written if this number of calls of the crew succeed.
+// Return how many bytes are written if the crew fails after this many calls.
 fn bytes_after(calls: u64) -> usize {
     let mut written = 0;
-    for (first, bytes) in ASKED {
+    for (first, bytes) in BYTES_BEFORE {
         if calls >= *first {
             written = *bytes;
         }
@@ -59,9 +59,9 @@ fn bytes_after(calls: u64) -> usize {
     written
 }
 
-// Return whether the stored run ends as it must with a crew that fails after this number of calls. A reader of one byte
+// Return whether the stored run ends as expected with a crew that fails after this many calls. A reader of one byte
 // at a time lets each reply be written before the next line is read.
-fn ends(alloc: Global, calls: u64) -> Result<bool, Fail> {
+fn ends_as_expected(alloc: Global, calls: u64) -> Result<bool, Fail> {
     let mut writer = sink_for(alloc, 1000)?;
     let mut reader = MemorySource::new(STORED.as_bytes(), 1, Failing::Never);
     let mut crew = Leaving::after(calls);
@@ -83,9 +83,9 @@ fn ends(alloc: Global, calls: u64) -> Result<bool, Fail> {
 }
 
 #[test]
-fn a_crew_leaves_at_each_call(rt: HostRuntime) -> Result<(), Fail> {
+fn a_crew_fails_at_each_call(rt: HostRuntime) -> Result<(), Fail> {
     for calls in 0..=CALLS {
-        assert!(rt; ends(rt.alloc(), calls)?, "after {calls} calls");
+        assert!(rt; ends_as_expected(rt.alloc(), calls)?, "after {calls} calls");
     }
     Ok(())
 }

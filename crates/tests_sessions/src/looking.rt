@@ -15,11 +15,11 @@ use std::sync::{Arc, Wait};
 use std::test::Fail;
 use std::thread::{Threads, join, yield_now};
 
-/// How often a thread checks whether the other one has come this far.
+/// How often a thread checks a flag of the other one before it gives up.
 const TURNS: u32 = 1_000_000;
 
-// Return whether a flag is set before a thread has checked it this number of times.
-fn comes(flag: &AtomicBool) -> bool {
+// Return whether a flag is set within `TURNS` checks.
+fn is_set_soon(flag: &AtomicBool) -> bool {
     for _ in 0..TURNS {
         if flag.load(Ordering::SeqCst) {
             return true;
@@ -46,7 +46,7 @@ impl Crew for Waiting<'_> {
         if self.gone == 0 && !self.has_waited {
             self.has_waited = true;
             self.called.store(true, Ordering::SeqCst);
-            if !comes(self.looked) {
+            if !is_set_soon(self.looked) {
                 self.gone = 1;
                 return Err(CrewFault::WorkersGone);
             }
@@ -55,7 +55,7 @@ impl Crew for Waiting<'_> {
     }
 }
 
-// Let a session advance to 9, with a crew that waits.
+// Let a session advance to step 9, with a crew that waits.
 fn advance<J: Naming, R: Wait + Drop, W: Wait>(
     rt: &W,
     shared: &Shared<J, R>,
@@ -73,14 +73,14 @@ fn advance<J: Naming, R: Wait + Drop, W: Wait>(
     Ok((wrote.place, wrote.reply))
 }
 
-// Return the horizon that a session is shown once the crew was called.
-fn finds<J: Naming, R: Wait + Drop>(
+// Return the horizon that a session sees after the crew was called.
+fn horizon_seen<J: Naming, R: Wait + Drop>(
     shared: &Shared<J, R>,
     session: &mut Session<J>,
     called: &AtomicBool,
     looked: &AtomicBool,
 ) -> Option<u32> {
-    if !comes(called) {
+    if !is_set_soon(called) {
         return None;
     }
     let sheet = session.look(shared).ok()?;
@@ -88,8 +88,8 @@ fn finds<J: Naming, R: Wait + Drop>(
     Some(sheet.horizon())
 }
 
-// Return the reply to one session, and what the other is shown meanwhile.
-fn both<J: Naming + Send + Sync, R: Wait + Drop + Send, W: Threads + Wait + Sync>(
+// Let one session write and another look meanwhile. Return the reply to the write, and the horizon that the other sees.
+fn write_and_look<J: Naming + Send + Sync, R: Wait + Drop + Send, W: Threads + Wait + Sync>(
     rt: &W,
     shared: &Shared<J, R>,
     writer: &mut Session<J>,
@@ -100,11 +100,11 @@ fn both<J: Naming + Send + Sync, R: Wait + Drop + Send, W: Threads + Wait + Sync
     join(
         rt,
         || advance(rt, shared, writer, &called, &looked),
-        || finds(shared, reader, &called, &looked),
+        || horizon_seen(shared, reader, &called, &looked),
     )
 }
 
-// Let a session advance to 6, as the first entry of the journal.
+// Let a session advance to step 6, as the first entry of the journal.
 fn begin<J: Naming, R: Wait + Drop, W: Wait>(
     rt: &W,
     shared: &Shared<J, R>,
@@ -112,29 +112,35 @@ fn begin<J: Naming, R: Wait + Drop, W: Wait>(
 ) -> Result<(), Fail> {
     let wrote = session.advance(rt, shared, 6, &mut Alone, &mut Meter::new())?;
     if wrote.place != 0 {
-        return Err(Fail::new("another place"));
+        return Err(Fail::new("the first write is not at place 0"));
     }
     Ok(())
 }
 
-// Let the first session begin. Return its reply, and what the second is shown meanwhile.
-fn one_after_another<J: Naming + Send + Sync, R: Wait + Drop + Send, W: Threads + Wait + Sync>(
+// Let the first session write twice, and the second look during the second write. Return the reply to that write, and
+// the horizon that the second session sees.
+fn begin_then_look_during_a_write<
+    J: Naming + Send + Sync,
+    R: Wait + Drop + Send,
+    W: Threads + Wait + Sync,
+>(
     rt: &W,
     shared: &Shared<J, R>,
     sessions: &mut [Session<J>],
 ) -> Result<(Answer, Option<u32>), Fail> {
     let Some((writer, others)) = sessions.split_first_mut() else {
-        return Err(Fail::new("two sessions"));
+        return Err(Fail::new("fewer than two sessions"));
     };
     let Some(reader) = others.first_mut() else {
-        return Err(Fail::new("two sessions"));
+        return Err(Fail::new("fewer than two sessions"));
     };
     begin(rt, shared, writer)?;
-    Ok(both(rt, shared, writer, reader))
+    Ok(write_and_look(rt, shared, writer, reader))
 }
 
-// Return whether a session that has heard of no write finds the finished one, while another session holds the lock.
-fn looks_meanwhile<J: Naming + Send + Sync, R: Wait + Drop + Send, W: Threads + Wait + Sync>(
+// Open a store. Return the reply to its second write, and the horizon that a session sees which has heard of no write,
+// while the second write holds the lock.
+fn look_during_a_write<J: Naming + Send + Sync, R: Wait + Drop + Send, W: Threads + Wait + Sync>(
     rt: &W,
     prepared: Prepared<R>,
 ) -> Result<(Answer, Option<u32>), Fail>
@@ -144,13 +150,13 @@ fn looks_meanwhile<J: Naming + Send + Sync, R: Wait + Drop + Send, W: Threads + 
     requires limit { prepared.limit ≡ J.limit }
 {
     let (shared, mut sessions) = open::<J, R>(prepared)?;
-    one_after_another(rt, &shared, sessions.as_mut_slice())
+    begin_then_look_during_a_write(rt, &shared, sessions.as_mut_slice())
 }
 
 #[test]
 fn a_look_takes_no_lock(rt: HostRuntime) -> Result<(), Fail> {
     let prepared = prepare_free_road(&rt, rt.alloc(), 0, 2, 10)?;
-    let (answer, found) = looks_meanwhile::<Brand, _, _>(&rt, prepared)?;
+    let (answer, found) = look_during_a_write::<Brand, _, _>(&rt, prepared)?;
     let wrote = answer?;
     assert!(rt; wrote == (1, Reply::Horizon(9)) && found == Some(6));
     Ok(())

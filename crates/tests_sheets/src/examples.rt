@@ -34,7 +34,7 @@ const CLOSED: &[Growth] = pairs![
     (&[edit!(Object::Block(0), 1_048_575, (1, 0), 0)], 0) => (Some(1_048_575), 64),
 ];
 
-// Return the sheet of a trial that touches this step, and takes this number of steps by both counts.
+// Return the sheet of a trial that touches this step, and takes this many steps by both counts.
 fn checked_sheet(trial: Trial, (touched, steps): (Option<u32>, u64)) -> Result<Sheet, Fail> {
     if (trial.touched, trial.steps, trial.counted) == (touched, steps, steps) {
         Ok(trial.sheet)

@@ -1,6 +1,6 @@
 //! Counts at any speeds, and rows. The program shows the counts of the free road (`tests/scripts/counts.jsonl`).
 
-use crate::holds;
+use crate::assert_row;
 use road_cells::{Car, Road};
 use road_detector::{Totals, passes};
 use road_ends::{OutOfMemory, StepInput, enter};
@@ -70,7 +70,7 @@ fn passes_are_counted(rt: &impl Abort, input: &StepInput) {
             cars: *cars,
             speeds: *sum,
         };
-        holds(
+        assert_row(
             rt,
             row,
             count_passing(input, speeds, *detector) == Some(wanted),
@@ -107,7 +107,7 @@ const ROWS: &[(&[u32], &str)] = &[
 fn rows_are_drawn(rt: &impl Abort, alloc: Global, road: &Road) -> Result<(), Fail> {
     for (row, (blocks, text)) in ROWS.iter().enumerate() {
         let drawn = row_of(alloc, road, blocks, 12)?;
-        holds(rt, row, drawn.as_str() == *text);
+        assert_row(rt, row, drawn.as_str() == *text);
     }
     Ok(())
 }

@@ -13,6 +13,6 @@ use std::process::Abort;
 
 // Check the facts of a table's row or of a step.
 #[cfg(test)]
-fn holds(rt: &impl Abort, row: usize, holds: bool) {
-    assert!(rt; holds, "row {row}");
+fn assert_row(rt: &impl Abort, row: usize, is_right: bool) {
+    assert!(rt; is_right, "row {row}");
 }

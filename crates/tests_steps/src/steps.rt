@@ -3,7 +3,7 @@
 ghost use Rattle.std.specs.Prelude.{IfOk};
 ghost use Rattle.road_plan.specs.Settings.{Fits};
 
-use crate::{holds, plain};
+use crate::{assert_row, plain};
 use road_cells::{Car, Road};
 use road_ends::{Meter, OutOfMemory, StepInput, enter, finish, step_alone};
 use road_plan::{Plan, Settings, WordKind};
@@ -286,7 +286,7 @@ fn steps_rows(
         step_on(alloc, plan, example, (step, *until), &mut road, &mut meter)?;
         step = *until;
         let is_drawn = is_drawn(alloc, plan, example, (step, text), &road)?;
-        holds(
+        assert_row(
             rt,
             step as usize,
             is_drawn && meter.ticks() == u64::from(step),
@@ -307,7 +307,7 @@ fn steps_rows_plainly(
     for (until, text) in example.rows {
         step_on_plainly(alloc, plan, example, (step, *until), &mut road)?;
         step = *until;
-        holds(
+        assert_row(
             rt,
             step as usize,
             is_drawn(alloc, plan, example, (step, text), &road)?,
@@ -334,7 +334,7 @@ fn runs_plainly(
     example: &Example,
 ) -> Result<(), Fail> {
     for (step, text) in example.rows {
-        holds(
+        assert_row(
             rt,
             *step as usize,
             is_drawn_plainly(alloc, plan, (*step, text))?,
@@ -415,7 +415,7 @@ fn are_numbered(alloc: Global, plan: &Arc<Plan>) -> Result<bool, Fail> {
 #[test]
 fn numbers_cars_by_step_and_inlet(rt: HostRuntime) -> Result<(), Fail> {
     let plan = Arc::new(rt.alloc(), plan_of(rt.alloc(), &FREE)?)?;
-    holds(&rt, 6, are_numbered(rt.alloc(), &plan)?);
+    assert_row(&rt, 6, are_numbered(rt.alloc(), &plan)?);
     Ok(())
 }
 
@@ -498,10 +498,10 @@ const SLOWINGS: &[(u32, &[Car])] =
 #[test]
 fn goes_by_the_words_of_each_inlet_and_car(rt: HostRuntime) -> Result<(), Fail> {
     for (row, entry) in ENTRIES.iter().enumerate() {
-        holds(&rt, row, enters(rt.alloc(), entry)?);
+        assert_row(&rt, row, enters(rt.alloc(), entry)?);
     }
     for (row, slowing) in SLOWINGS.iter().enumerate() {
-        holds(&rt, row, is_slowed(rt.alloc(), slowing)?);
+        assert_row(&rt, row, is_slowed(rt.alloc(), slowing)?);
     }
     Ok(())
 }

@@ -1,4 +1,4 @@
-//! Looks at a number that `left_right` publishes, with nothing of this repository in between.
+//! The baseline: reads of a number that is published through `left_right` alone, without this repository's code.
 
 ghost use Rattle.std.specs.Prelude.{max};
 
@@ -30,8 +30,8 @@ impl Absorb<u64> for Greatest {
     }
 }
 
-// Look this number of times, and report the end. The looks that were let in are counted.
-fn look<C: Clock>(
+// Enter the store this many times, and then set the flag. Return how many entries succeeded.
+fn enter_repeatedly<C: Clock>(
     rt: &C,
     reader: &mut ReadHandle<Greatest>,
     count: u32,
@@ -41,6 +41,7 @@ fn look<C: Clock>(
     let mut times = 0u64;
     for _ in 0..count {
         if let Some(greatest) = reader.enter() {
+            // The number is used, so that the compiler does not leave out its reading. It is always 0.
             times = times.saturating_add(1).max(greatest.0);
         }
     }
@@ -49,7 +50,7 @@ fn look<C: Clock>(
     Some(Done { times, nanoseconds })
 }
 
-// Publish at most this number of times, until the reader has ended.
+// Publish at most this many times, until the reader has ended.
 fn publish<C: Clock, R: Wait + Drop>(
     rt: &C,
     writer: &mut WriteHandle<Greatest, u64, R>,
@@ -71,20 +72,20 @@ fn publish<C: Clock, R: Wait + Drop>(
     Some(Done { times, nanoseconds })
 }
 
-/// Return the results of a writer of a number and one reader, each on its own thread, the writer first, or none if the
-/// clock could not be read.
+/// Time one writer of a number and one reader, each on its own thread. Return the writer's result and the reader's; one is
+/// None if its clock could not be read.
 pub(crate) fn time<W: Threads + Wait + Clock + Clone + Drop + Sync>(
     rt: &W,
     alloc: Global,
-    count: u32,
-    writes: u32,
+    looks: u32,
+    most_writes: u32,
 ) -> Result<[Option<Done>; 2]> {
     let (mut writer, mut reader) = new::<Greatest, u64, _, _>(alloc, rt.clone()?, 1)?;
     let has_ended = AtomicBool::new(false);
     let (looked, published) = join(
         rt,
-        || look(rt, &mut reader, count, &has_ended),
-        || publish(rt, &mut writer, writes, &has_ended),
+        || enter_repeatedly(rt, &mut reader, looks, &has_ended),
+        || publish(rt, &mut writer, most_writes, &has_ended),
     );
     Ok([published, looked])
 }

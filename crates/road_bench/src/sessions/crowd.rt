@@ -41,8 +41,8 @@ fn write_once<J: Naming, R: Wait + Drop, W: Wait>(
     }
 }
 
-// Return whether a session that looks is shown its write.
-fn finds<J: Naming, R: Wait + Drop>(
+// Return whether a session that looks sees its own write.
+fn sees_own_write<J: Naming, R: Wait + Drop>(
     shared: &Shared<J, R>,
     session: &mut Session<J>,
     write: u32,
@@ -61,13 +61,13 @@ fn write_and_look<J: Naming, R: Wait + Drop, W: Wait>(
     session: &mut Session<J>,
     count: u32,
 ) -> bool {
-    let mut well = true;
+    let mut is_right = true;
     for write in 0..count {
-        well = well
+        is_right = is_right
             && write_once(rt, alloc, shared, session, write)
-            && finds(shared, session, write);
+            && sees_own_write(shared, session, write);
     }
-    well
+    is_right
 }
 
 // Return whether all sessions get right results, each on its own thread.
@@ -78,21 +78,21 @@ fn all_work<J: Naming + Send + Sync, R: Wait + Drop + Send, W: Threads + Wait + 
     sessions: &mut [Session<J>],
     count: u32,
 ) -> bool {
-    let well = AtomicBool::new(true);
+    let are_right = AtomicBool::new(true);
     for_each_mut(
         rt,
         sessions,
         SESSIONS as usize,
         &|_, session| {
             if !write_and_look(rt, alloc, shared, session, count) {
-                well.store(false, Ordering::SeqCst);
+                are_right.store(false, Ordering::SeqCst);
             }
         },
     );
-    well.load(Ordering::SeqCst)
+    are_right.load(Ordering::SeqCst)
 }
 
-// Return the result of a store, or nothing if it could not be closed.
+// Close the store. Return the result, or None if the store could not be closed.
 fn close_store<J: Naming, R: Wait + Drop>(
     shared: Shared<J, R>,
     sessions: Vec<Session<J>>,
@@ -103,7 +103,7 @@ fn close_store<J: Naming, R: Wait + Drop>(
     }
 }
 
-// Return whether the result has the merge of all writes as its journal.
+// Return whether the result's journal is the merge of all writes.
 fn has_merge(alloc: Global, closed: &Option<Closed>, count: u32) -> Result<bool, OutOfMemory> {
     match closed {
         Some(closed) => is_merge(alloc, &closed.journal, count),
@@ -111,8 +111,8 @@ fn has_merge(alloc: Global, closed: &Option<Closed>, count: u32) -> Result<bool,
     }
 }
 
-// Return whether the result of a store is the merge of all writes.
-fn leaves_merge<J: Naming, R: Wait + Drop>(
+// Close the store. Return whether its journal is the merge of all writes.
+fn close_and_check_merge<J: Naming, R: Wait + Drop>(
     alloc: Global,
     shared: Shared<J, R>,
     sessions: Vec<Session<J>>,
@@ -136,7 +136,7 @@ fn is_merged<J: Naming + Send + Sync, R: Wait + Drop + Send, W: Threads + Wait +
 {
     let (shared, mut sessions) = open::<J, R>(prepared)?;
     let well = all_work(rt, alloc, &shared, sessions.as_mut_slice(), count);
-    let is_merged = leaves_merge(alloc, shared, sessions, count);
+    let is_merged = close_and_check_merge(alloc, shared, sessions, count);
     Ok(well && is_merged?)
 }
 

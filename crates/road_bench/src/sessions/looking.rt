@@ -36,8 +36,8 @@ struct Task {
     looking: AtomicU64,
 }
 
-// Look for a session.
-fn look<J: Naming, R: Wait + Drop>(
+// Look as often as a reader's work says. Return how many looks succeeded.
+fn look_repeatedly<J: Naming, R: Wait + Drop>(
     shared: &Shared<J, R>,
     session: &mut Session<J>,
     task: &Task,
@@ -87,7 +87,7 @@ fn do_task<J: Naming, R: Wait + Drop, W: Wait + Clock>(
     let times = if session.number() == 0 {
         publish(rt, shared, session, task)
     } else {
-        look(shared, session, task)
+        look_repeatedly(shared, session, task)
     };
     let nanoseconds = start.elapsed(rt).ok()?.as_nanos();
     Some(Done { times, nanoseconds })

@@ -23,7 +23,7 @@ use crate::pool::{Pool, Worker};
 use crate::stretch::joining::{Joined, join_first, join_none, whole_run};
 use crate::stretch::{road_near, run_stretch, stretch_at};
 use crate::whole::run_alone;
-use road_columns::{RanSpan, RoadOrRun, is_runnable};
+use road_columns::{RoadOrRun, SpanOutcome, is_runnable};
 use road_ends::{OutOfMemory, Span, Stretch};
 use std::alloc::Global;
 use std::sync::Wait;
@@ -35,7 +35,7 @@ impl<R: Wait> Pool<R> {
         alloc: Global,
         span: &Span,
         road: RoadOrRun,
-    ) -> Result<Option<RanSpan>, CrewFault>
+    ) -> Result<Option<SpanOutcome>, CrewFault>
         ensures road { IfOk result (λ done. IfSome done (λ ran. road_now ran.road
             ≡ span_road span.now (road_now road))) }
         ensures totals { IfOk result (λ done. IfSome done (λ ran. ran.totals.items

@@ -10,7 +10,7 @@ ghost use Rattle.road_columns.specs.RoadOrRun.{road_now};
 ghost use Rattle.road_workers.specs.Private.Stretches.{IsJoined, IsRunOf};
 
 use road_cells::{Car, Road};
-use road_columns::{RanSpan, RoadOrRun};
+use road_columns::{RoadOrRun, SpanOutcome};
 use road_detector::{SpanResult, Totals};
 use road_ends::{OutOfMemory, Span, Stretch};
 use std::alloc::Global;
@@ -95,7 +95,7 @@ fn add(totals: &mut Vec<Totals>, others: &[Totals])
 }
 
 // Make the road of what all its stretches come to, after a step at least.
-pub(crate) fn whole_run(span: &Span, road: &Road, cells: u32, joined: Joined) -> RanSpan
+pub(crate) fn whole_run(span: &Span, road: &Road, cells: u32, joined: Joined) -> SpanOutcome
     requires some { 0 < span.now.steps }
     requires cells { cells ≡ span.now.plan.cells }
     requires within { IsWithinLimits span.now.plan }
@@ -104,7 +104,7 @@ pub(crate) fn whole_run(span: &Span, road: &Road, cells: u32, joined: Joined) ->
     ensures totals { result.totals.items ≡ span_totals span.now road.now }
 {
     let Joined { cars, totals } = joined;
-    RanSpan {
+    SpanOutcome {
         road: RoadOrRun::Road(Road::of(cars)),
         totals,
     }

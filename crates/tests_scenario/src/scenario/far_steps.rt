@@ -1,7 +1,7 @@
 //! Edits of one object at steps far apart, worked out by hand, and at many steps.
 
-use super::{Look, Way, looks_right, setting_at};
-use crate::holds;
+use super::{Check, Way, make_and_check, setting_at};
+use crate::assert_row;
 use lattice_core::lattice::Lattice;
 use road_plan::Plan;
 use road_scenario::{Edit, OutOfMemory, Scenario, Stamp, Value};
@@ -73,8 +73,8 @@ struct Limits<'a> {
     limits: &'a [Limit],
 }
 
-impl Look for Limits<'_> {
-    fn is_right(&self, _alloc: Global, made: &Scenario) -> Result<bool, OutOfMemory> {
+impl Check for Limits<'_> {
+    fn passes(&self, _alloc: Global, made: &Scenario) -> Result<bool, OutOfMemory> {
         for (step, limit, next) in self.limits {
             if setting_at(made, self.plan, LIMIT, *step) != Some(*limit)
                 || made.next_date(*step) != *next
@@ -96,17 +96,17 @@ fn act(alloc: Global, plan: &Plan, edits: &mut Vec<Edit>) -> Result<bool, OutOfM
         plan,
         limits: WITHDRAWN_LIMITS,
     };
-    let by_one = looks_right(alloc, Way::OneByOne, edits, &puts)?;
-    let at_once = looks_right(alloc, Way::AtOnce, edits, &puts)?;
+    let by_one = make_and_check(alloc, Way::OneByOne, edits, &puts)?;
+    let at_once = make_and_check(alloc, Way::AtOnce, edits, &puts)?;
     withdraw(edits)?;
-    Ok(by_one && at_once && looks_right(alloc, Way::OneByOne, edits, &withdrawals)?)
+    Ok(by_one && at_once && make_and_check(alloc, Way::OneByOne, edits, &withdrawals)?)
 }
 
 #[test]
 fn each_edit_acts_from_its_own_step_on(rt: HostRuntime) -> Result<(), Fail> {
     let plan = plan_of(rt.alloc(), &FREE)?;
     let mut edits = put_edits(rt.alloc())?;
-    holds(&rt, 0, act(rt.alloc(), &plan, &mut edits)?);
+    assert_row(&rt, 0, act(rt.alloc(), &plan, &mut edits)?);
     Ok(())
 }
 
@@ -166,8 +166,8 @@ struct Many<'a> {
     other: Option<&'a Scenario>,
 }
 
-impl Look for Many<'_> {
-    fn is_right(&self, alloc: Global, made: &Scenario) -> Result<bool, OutOfMemory> {
+impl Check for Many<'_> {
+    fn passes(&self, alloc: Global, made: &Scenario) -> Result<bool, OutOfMemory> {
         let is_same = match self.other {
             Some(other) => other.touched(made).is_none() && other.at_most(made),
             None => true,
@@ -183,8 +183,8 @@ struct BothWays<'a> {
     edits: &'a [Edit],
 }
 
-impl Look for BothWays<'_> {
-    fn is_right(&self, alloc: Global, made: &Scenario) -> Result<bool, OutOfMemory> {
+impl Check for BothWays<'_> {
+    fn passes(&self, alloc: Global, made: &Scenario) -> Result<bool, OutOfMemory> {
         let alone = Many {
             plan: self.plan,
             other: None,
@@ -193,8 +193,8 @@ impl Look for BothWays<'_> {
             plan: self.plan,
             other: Some(made),
         };
-        let by_one = alone.is_right(alloc, made)?;
-        Ok(by_one && looks_right(alloc, Way::AtOnce, self.edits, &beside)?)
+        let by_one = alone.passes(alloc, made)?;
+        Ok(by_one && make_and_check(alloc, Way::AtOnce, self.edits, &beside)?)
     }
 }
 
@@ -206,10 +206,10 @@ fn an_object_has_edits_at_many_steps(rt: HostRuntime) -> Result<(), Fail> {
         plan: &plan,
         edits: &edits,
     };
-    holds(
+    assert_row(
         &rt,
         0,
-        looks_right(rt.alloc(), Way::OneByOne, &edits, &look)?,
+        make_and_check(rt.alloc(), Way::OneByOne, &edits, &look)?,
     );
     Ok(())
 }

@@ -2,10 +2,10 @@
 //! scenarios.
 
 use super::{
-    BLOCKED, EARLY, FREED, LATE, Look, NEXT, NO_LIMIT, NO_SLOW, NO_START, ONE, SLOWED,
-    SLOWED_LATER, STARTED, STARTED_LATER, THREE, TWO, Way, looks_right, setting_at,
+    BLOCKED, Check, EARLY, FREED, LATE, NEXT, NO_LIMIT, NO_SLOW, NO_START, ONE, SLOWED,
+    SLOWED_LATER, STARTED, STARTED_LATER, THREE, TWO, Way, make_and_check, setting_at,
 };
-use crate::holds;
+use crate::assert_row;
 use lattice_core::lattice::Lattice;
 use road_plan::{Object, Plan};
 use road_scenario::{Edit, OutOfMemory, Scenario, Value};
@@ -149,8 +149,8 @@ impl Come<'_> {
     }
 }
 
-impl Look for Come<'_> {
-    fn is_right(&self, _alloc: Global, come: &Scenario) -> Result<bool, OutOfMemory> {
+impl Check for Come<'_> {
+    fn passes(&self, _alloc: Global, come: &Scenario) -> Result<bool, OutOfMemory> {
         let after = self.before.joined(come)?;
         let first = self.before.touched_by(come, &after);
         Ok(self.have_merged(come, &after, first))
@@ -165,8 +165,8 @@ struct Held<'a> {
     come: &'a [Edit],
 }
 
-impl Look for Held<'_> {
-    fn is_right(&self, alloc: Global, before: &Scenario) -> Result<bool, OutOfMemory> {
+impl Check for Held<'_> {
+    fn passes(&self, alloc: Global, before: &Scenario) -> Result<bool, OutOfMemory> {
         let mut all = self.held.to_vec(alloc)?;
         all.extend_from_slice(self.come)?;
         let look = Come {
@@ -175,7 +175,7 @@ impl Look for Held<'_> {
             held: self.held,
             all: &all,
         };
-        looks_right(alloc, Way::AtOnce, self.come, &look)
+        make_and_check(alloc, Way::AtOnce, self.come, &look)
     }
 }
 
@@ -189,7 +189,7 @@ fn merge_with_each(
 ) -> Result<(), Fail> {
     for (row, come) in lists.iter().enumerate() {
         let look = Held { plan, held, come };
-        holds(rt, row, looks_right(alloc, Way::OneByOne, held, &look)?);
+        assert_row(rt, row, make_and_check(alloc, Way::OneByOne, held, &look)?);
     }
     Ok(())
 }

@@ -1,5 +1,5 @@
--- The parser's value is that of the line. The line has none if the parser refuses it for a cause other than out of
--- memory.
+-- The parser's value is that of the line. If the parser refuses the line for a reason other than memory, the line has
+-- no value.
 use Rattle.std.proofs.Common.{sym}
 use Rattle.road_format.proofs.LineValues.{value_of-read, value_of-unread}
 use Rattle.road_format.proofs.reading.value_in.Goals as goal
