@@ -63,7 +63,7 @@ class Story:
         self.bus.hears = self._hears
         self.ada, self.ben, self.cleo = await self.here.join("Ada", "Ben", "Cleo")
         await self.there.join("Sam")
-        self.here.keeper.listeners.on("shared", lambda touched: self._look())
+        self.here.keeper.listeners.shared.on(lambda touched: self._look())
         self.disk.calls.clear()
         return self
 

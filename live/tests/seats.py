@@ -176,7 +176,7 @@ class Seats(Case):
 
     async def test_a_fast_clock_stops_in_an_hour_and_says_so(self) -> None:
         told: list[Any] = []
-        self.here.keeper.listeners.on("clock", lambda: told.append(self.here.keeper.clock().fields()))
+        self.here.keeper.listeners.clock.on(lambda: told.append(self.here.keeper.clock().fields()))
         self.assertEqual(await self.clock(60, 100), 6_000)
         self.assertEqual(await self.clock(600, 5), 3_000)
         self.assertEqual(told[-1], {"rate": 600, "now": 6_000, "stop": 9_600})

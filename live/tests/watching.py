@@ -163,7 +163,7 @@ class Pieces(Case):
         with mock.patch.object(here.lab, "news", slowly):
             with takes_at_most(0.1):
                 for step in (70, 50, 60):
-                    here.keeper.listeners.tell("shared", step)
+                    here.keeper.listeners.shared.tell(step)
             writers = [asyncio.create_task(tab._writer()) for tab in several]
 
             async def all_are_told() -> bool:

@@ -311,7 +311,7 @@ class Written(Case):
     async def test_a_full_disk_beside_a_running_clock_starts_one_program(self) -> None:
         lab, keeper = self.here.lab, self.here.keeper
         told: list[Any] = []
-        keeper.listeners.on("trouble", lambda: told.append(keeper.trouble))
+        keeper.listeners.trouble.on(lambda: told.append(keeper.trouble))
         await lab.timing.set_clock(rate=60)
         await self.here.put(self.ada, [*LIMIT, 3])
         self.disk.is_full()
@@ -415,7 +415,7 @@ class Stalled(Case):
         self.here = await self.enterAsyncContext(Here(site=1))
         self.keeper = self.here.keeper
         self.told: list[Any] = []
-        self.keeper.listeners.on("trouble", lambda: self.told.append(self.keeper.trouble))
+        self.keeper.listeners.trouble.on(lambda: self.told.append(self.keeper.trouble))
         self.ada, self.ben = await self.here.join("Ada", "Ben")
         await self.here.put(self.ben, ["limit", 1, 50, 4])
         await self.here.share(self.ben)
