@@ -16,25 +16,9 @@ from .journal import packed
 NICE = 8
 POINTS = 128  # of a curve: a straight line between two is off by less than 0.1 cars per hour
 MOST_KEPT = 2_000  # curves
-
-
-class Inflow(TypedDict):
-    """A question about an inlet: the limit of its zone in cells per step, chances in 1/65,536, the cells of nobody slowed, and
-    the cells and chances of inlets before it."""
-
-    limit: int
-    slowing: int
-    start: int | None
-    entry: int
-    cell: int
-    before: Sequence[tuple[int, int]]
-
-
-class Curve(TypedDict):
-    """Cars per hour by rising chances in 1/65,536, as [chance, cars], and the most."""
-
-    points: Sequence[tuple[int, float]]
-    capacity: float
+Inflow = TypedDict("Inflow", {
+    "limit": int, "slowing": int, "start": "int | None", "entry": int, "cell": int, "before": Sequence["tuple[int, int]"]})
+Curve = TypedDict("Curve", {"points": Sequence["tuple[int, float]"], "capacity": float})
 
 
 class Admissions(figures.Beside[Inflow, Curve]):

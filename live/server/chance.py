@@ -32,35 +32,12 @@ if TYPE_CHECKING:
 NICE = 10
 SIDES = "before", "after"
 HOURS, LOST, DELAY = "vehicle_hours", "lost", "delay"
-
-
-class DaysAsked(TypedDict):
-    """The question for figures of several days: two roads, and the number of days."""
-
-    roads: figures.TwoRoads
-    days: int
-
-
+DaysAsked = TypedDict("DaysAsked", {"roads": figures.TwoRoads, "days": int})
 Mean = Sequence["float | None"]
 """A mean, and how far its interval reaches to both sides; None: of one day that is not known."""
-
-
-class FigureTold(TypedDict):
-    """A figure over all days; `others` is the number of days whose difference has the other sign."""
-
-    name: str
-    before: Mean
-    after: Mean
-    difference: Mean
-    others: int
-
-
-class DaysTold(TypedDict, total=False):
-    """The days that are done and their figures; or what went wrong."""
-
-    done: int
-    figures: Sequence[FigureTold]
-    fault: str
+FigureTold = TypedDict("FigureTold", {"name": str, "before": Mean, "after": Mean, "difference": Mean, "others": int})
+"""A figure over all days; `others` is the number of days whose difference has the other sign."""
+DaysTold = TypedDict("DaysTold", {"done": int, "figures": Sequence[FigureTold], "fault": str}, total=False)
 
 
 class Question:

@@ -46,62 +46,22 @@ Q = TypeVar("Q", bound=Mapping[str, object])
 A = TypeVar("A")
 
 
-class TwoRoads(TypedDict):
-    """A question about two roads: their plan and edits, the steps `first` to `last` - 1, and the path of road_lab."""
-
-    plan: PlanLine
-    before: Sequence[WrittenEdit]
-    after: Sequence[WrittenEdit]
-    first: int
-    last: int
-    program: str
-
-
-class FiguresAsked(TypedDict):
-    """The question for figures: two roads, the slot of each, and the seconds that the answer may take."""
-
-    roads: TwoRoads
-    slots: Sequence[str]
-    seconds: float
-
-
-class DetectorFigures(TypedDict):
-    """Cars, the sum of speeds in cells per step, flow in cars per hour, speed in km/h, and the seconds on."""
-
-    cars: int
-    speeds: int
-    flow: float | None
-    speed: float | None
-    on: int
-
-
+TwoRoads = TypedDict("TwoRoads", {
+    "plan": "PlanLine", "before": "Sequence[WrittenEdit]", "after": "Sequence[WrittenEdit]", "first": int, "last": int, "program": str})
+"""A question about two roads: their plan and edits, the steps `first` to `last` - 1, and the path of road_lab."""
+FiguresAsked = TypedDict("FiguresAsked", {"roads": TwoRoads, "slots": Sequence[str], "seconds": float})
+"""Two roads, the slot of each, and the seconds that the answer may take."""
+DetectorFigures = TypedDict("DetectorFigures", {"cars": int, "speeds": int, "flow": "float | None", "speed": "float | None", "on": int})
+"""Cars, the sum of their speeds in cells per step, flow in cars per hour, speed in km/h, and the seconds on."""
 Times = Sequence[Sequence["float | None"]]
 """For each site, and last for the road's end, the cars and their mean seconds."""
-
-
-class RoadFigures(TypedDict):
-    """The figures of a road. Demands and supplies are in cars, one for each inlet."""
-
-    detectors: Sequence[Sequence[int]]
-    flows: Sequence[DetectorFigures]
-    asked: Sequence[float]
-    entered: Sequence[int]
-    lost: Sequence[float]
-    scatter: Sequence[float]
-    vehicle_hours: float
-    travel: Times
-    travel_by_entry: Mapping[str, Times]
-
-
-class FiguresTold(TypedDict, total=False):
-    """The figures of both roads and what the change costs; or how far they are computed."""
-
-    done: int
-    before: RoadFigures
-    after: RoadFigures
-    delay_hours: float
-    delayed: int
-    later: Times
+RoadFigures = TypedDict("RoadFigures", {
+    "detectors": Sequence[Sequence[int]], "flows": Sequence[DetectorFigures], "asked": Sequence[float], "entered": Sequence[int],
+    "lost": Sequence[float], "scatter": Sequence[float], "vehicle_hours": float, "travel": Times, "travel_by_entry": Mapping[str, Times]})
+"""The figures of a road: `asked` to `scatter` in cars, for each inlet."""
+FiguresTold = TypedDict("FiguresTold", {
+    "done": int, "before": RoadFigures, "after": RoadFigures, "delay_hours": float, "delayed": int, "later": Times}, total=False)
+"""The figures of both roads and what the change costs; or how far they are computed."""
 
 
 @contextlib.asynccontextmanager
@@ -279,8 +239,7 @@ def road_of(road: DrivenRoad, wanted: list[Rates], window: Window) -> RoadFigure
 
 
 def compared(before: Trips, after: Trips, told: Sequence[RoadFigures], window: Window) -> FiguresTold:
-    """Return the figures of both roads, and what the change costs: the delay in vehicle hours, the cars, and how much later they are
-    at each detector."""
+    """Return the figures of both roads, and what the change costs: vehicle hours, cars, and how late these are at each detector."""
     from zegdrut.trips import compare_trips
     found = compare_trips(before, after, window)
     return {"before": told[0], "after": told[1], "delay_hours": found.delay_hours, "delayed": found.cars,

@@ -14,41 +14,15 @@ from .state import Replica, SeatReplica, State
 SITE = "site"  # the kind of a line that excludes one
 NONE: frozenset[Operation] = frozenset()
 
-class Act(TypedDict, total=False):
-    """What an operation did to a line, as a tab gets it."""
-
-    stamp: Stamp
-    who: str
-    note: str
-    when: float
-    does: str
-    shared: bool
-    undoes: Stamp | None
-    lost: Stamp | None
-    """The operation that beat it."""
-    idle: bool
-    void: bool
-    shape: Shape | None
-
-
-class Line(TypedDict, total=False):
-    """A line of a list, as a tab gets it. One that is `gone` has only its name."""
-
-    name: Stamp
-    gone: bool
-    kind: str | None
-    shape: Shape | None
-    who: str
-    note: str
-    when: float
-    height: Stamp
-    standing: bool
-    shared: bool
-    shown: Sequence[Rectangle]
-    operations: Sequence[Act]
-    edits: Sequence[Sequence[str | int]]
-    was: Sequence[Rectangle] | None
-    """In a preview: what it shows without it."""
+Act = TypedDict("Act", {
+    "stamp": Stamp, "who": str, "note": str, "when": float, "does": str, "shared": bool, "undoes": "Stamp | None", "lost": "Stamp | None",
+    "idle": bool, "void": bool, "shape": "Shape | None"}, total=False)
+"""What an operation did to a line, as a tab gets it; `lost` is the operation that beat it."""
+Line = TypedDict("Line", {
+    "name": Stamp, "gone": bool, "kind": "str | None", "shape": "Shape | None", "who": str, "note": str, "when": float, "height": Stamp,
+    "standing": bool, "shared": bool, "shown": Sequence[Rectangle], "operations": Sequence[Act], "edits": Sequence[Sequence["str | int"]],
+    "was": "Sequence[Rectangle] | None"}, total=False)
+"""A line of a list, as a tab gets it. One that is `gone` has only its name; `was` is what it shows without a preview."""
 
 
 class Lister:

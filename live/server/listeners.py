@@ -25,18 +25,13 @@ class Topic(Generic[P]):
 
 
 class Listeners:
-    """What others want to know."""
+    """All kinds of news."""
 
     def __init__(self) -> None:
-        self.shared: Topic[[int | None]] = Topic()
-        """The shared road has changed from a step on. None: no step differs."""
+        self.shared: Topic[[int | None]] = Topic()  # the shared road has changed from a step on; None: no step differs
         self.seats: Topic[[]] = Topic()
         self.clock: Topic[[]] = Topic()
-        self.trouble: Topic[[]] = Topic()
-        """The disk fails, or works again."""
-        self.program: Topic[[]] = Topic()
-        """Another program runs."""
-        self.ended: Topic[[str]] = Topic()
-        """A part of the server has ended: the sentence says which."""
-        self.days: Topic[[int, int, int]] = Topic()
-        """A question over many days: the seat that asks, the days that are done, and all days."""
+        self.trouble: Topic[[]] = Topic()  # the disk fails, or works again
+        self.program: Topic[[]] = Topic()  # another program runs
+        self.ended: Topic[[str]] = Topic()  # a part of the server has ended, as the sentence says
+        self.days: Topic[[int, int, int]] = Topic()  # of a question over many days: the seat, the days that are done, and all days

@@ -35,24 +35,12 @@ class Site(NamedTuple):
     when: float
 
 
-class HeardSite(TypedDict):
-    """Another site, and when it was heard, in seconds since 1970."""
-
-    site: int
-    when: int
-
-
-class BrokerState(TypedDict):
-    """The state of the line to the broker, as tabs get it: sentences that were said once, those that hold at present, and
-    `left_out`, the number of messages without a seal."""
-
-    state: str
-    unsent: int
-    sites: Sequence[HeardSite]
-    told: Sequence[str]
-    stays: Sequence[str]
-    sealed: bool
-    left_out: int
+HeardSite = TypedDict("HeardSite", {"site": int, "when": int})
+"""Another site, and when it was heard, in seconds since 1970."""
+BrokerState = TypedDict("BrokerState", {
+    "state": str, "unsent": int, "sites": Sequence[HeardSite], "told": Sequence[str], "stays": Sequence[str], "sealed": bool,
+    "left_out": int})
+"""The line to the broker, as tabs get it: `told` are sentences said once, `stays` those that are true now."""
 
 
 class Peers:

@@ -74,11 +74,8 @@ def read_road(path: Path, program: str) -> Planned:
         raise Broken(f"{path}: {fault.why}") from None
 
 
-class Converted(TypedDict):
-    """What the recipe prints of a freeway."""
-
-    plan: Mapping[str, Json]
-    shapes: Sequence[Json]
+Converted = TypedDict("Converted", {"plan": Mapping[str, Json], "shapes": Sequence[Json]})
+"""What the recipe prints of a freeway."""
 
 
 def by_recipe(path: Path, program: str) -> Converted:

@@ -33,15 +33,17 @@ V = TypeVar("V", covariant=True)
 J = TypeVar("J", bound=Json)
 
 
+@dataclass(frozen=True)
 class Codec(Generic[V]):
     """How a field is read and written, and its name if that differs from the one in Python."""
 
-    def __init__(self, read: Callable[[Json], V], write: Callable[[V], Json], name: str = "") -> None:
-        self.read, self.write, self.name = read, write, name
+    read: Callable[[Json], V]
+    write: Callable[[V], Json]
+    name: str
 
 
 How = Mapping[str, Codec[object]]
-"""The metadata of a field, which is a mapping."""
+"""The metadata of a field: its codec, as `how`."""
 
 
 def how(read: Callable[[Json], T], write: Callable[[T], Json], name: str = "") -> How:
@@ -49,13 +51,9 @@ def how(read: Callable[[Json], T], write: Callable[[T], Json], name: str = "") -
     return {"how": codec}
 
 
-def same(value: Json) -> Json:
-    return value
-
-
 def as_it_is(read: Callable[[Json], J], name: str = "") -> How:
     """Return how a value is read that is written as it is."""
-    return how(read, same, name)
+    return how(read, lambda value: value, name)
 
 
 class Said:
@@ -131,7 +129,7 @@ def read_plan_line(value: Json) -> PlanLine:
     return cast(PlanLine, value)
 
 
-def written_plan(plan: PlanLine) -> Json:
+def write_plan(plan: PlanLine) -> Json:
     written: Json = json.loads(json.dumps(plan))
     return written
 
@@ -153,10 +151,6 @@ def form(*forms: int) -> How:
 
 def counted(most: int, what: str) -> How:
     return as_it_is(lambda value: whole(value, most, what))
-
-
-def write_stamp(stamp: Stamp) -> Json:
-    return [*stamp]
 
 
 def many(read: Callable[[Json], T], write: Callable[[T], Json]) -> How:
@@ -184,7 +178,7 @@ def pairs(read_key: Callable[[Json], T], write_key: Callable[[T], Json]) -> How:
 TEXT, TIME, NUMBER = as_it_is(read_string), as_it_is(read_time), as_it_is(read_number)
 SEAT, SITE, STEP = counted(MOST_SEATS - 1, "seat"), counted(1_023, "site"), counted(1 << 30, "step")
 COUNT, PLACE = counted(GREATEST_COUNT, "count"), counted(1 << 40, "place")
-STAMPS = many(read_stamp, write_stamp)
+STAMPS = many(read_stamp, lambda stamp: [*stamp])
 SHARED, UNSENT = (as_it_is(lambda value: value is True, name) for name in ("shared", "unsent"))
 
 
@@ -195,7 +189,7 @@ class Folder(Entry):
     """A folder's road, and its site."""
 
     kind = "lab"
-    plan: PlanLine = field(metadata=how(read_plan_line, written_plan))
+    plan: PlanLine = field(metadata=how(read_plan_line, write_plan))
     site: int = field(metadata=SITE)
     folder: str = field(metadata=TEXT)
     form: int = field(default_factory=lambda: JOURNAL_FORM, metadata=form(*FORMER_FORMS, JOURNAL_FORM))
@@ -298,7 +292,7 @@ class StampedAnew(Entry):
 
     kind = "restamp"
     seat: int = field(metadata=SEAT)
-    stamps: Mapping[Stamp, Stamp] = field(metadata=pairs(read_stamp, write_stamp))
+    stamps: Mapping[Stamp, Stamp] = field(metadata=pairs(read_stamp, lambda stamp: [*stamp]))
 
     def apply(self, state: State) -> None:
         state.stamp_anew(state.seats[self.seat], self.stamps)

@@ -24,18 +24,9 @@ DAYS = 5
 NICE = 8
 PATIENCE = 600.0
 MOST_DATES = 12  # of a demand over time, in a sentence
-
-
-class ReportAsked(TypedDict):
-    """The question for a report: two roads with their names, sentences about the works on them, and the begin, date and time zone
-    of the file."""
-
-    roads: figures.TwoRoads
-    title: str
-    works: Sequence[str]
-    names: Sequence[str]
-    clock: Sequence[str | None]
-    days: int
+ReportAsked = TypedDict("ReportAsked", {
+    "roads": figures.TwoRoads, "title": str, "works": Sequence[str], "names": Sequence[str], "clock": Sequence["str | None"], "days": int})
+"""Two roads with their names, sentences about the works on them, and the begin, date and time zone of the file."""
 
 
 async def make(index: int, asked: ReportAsked) -> str:

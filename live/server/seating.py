@@ -30,14 +30,8 @@ def digest(key: str) -> str:
     return hashlib.sha256(key.encode("utf-8", "replace")).hexdigest()
 
 
-class ListedSeat(TypedDict):
-    """A seat that somebody has, as tabs get it; `private` is how many changes it has not shared."""
-
-    seat: int
-    at: str
-    name: str
-    here: bool
-    private: int
+ListedSeat = TypedDict("ListedSeat", {"seat": int, "at": str, "name": str, "here": bool, "private": int})
+"""A seat that somebody has, as tabs get it; `private` is how many changes it has not shared."""
 
 
 class Seating:

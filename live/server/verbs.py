@@ -91,6 +91,10 @@ def where(lab: Lab, index: int, asked: Asked, verb: Verb) -> str:
 
 # Parts of what is read
 
+def no_fields(does: Does) -> Callable[[Asked], Does]:
+    return lambda _asked: does
+
+
 def read_steps(asked: Asked) -> tuple[int, int]:
     return asked.whole("from"), asked.whole("to")
 
@@ -114,10 +118,8 @@ def require_shared(asked: Asked, field: str) -> None:
 
 # Of no road
 
-def seats(_asked: Asked) -> Does:
-    async def does(call: Call) -> Reply:
-        return {"seats": await call.lab.seating.seats_kept(call.index)}
-    return does
+async def seats(call: Call) -> Reply:
+    return {"seats": await call.lab.seating.seats_kept(call.index)}
 
 
 def clock(asked: Asked) -> Does:
@@ -126,11 +128,9 @@ def clock(asked: Asked) -> Does:
     return lambda call: call.lab.timing.set_clock(rate, to)
 
 
-def list_numbers(_asked: Asked) -> Does:
-    async def does(call: Call) -> Reply:
-        return {"own": call.lab.state.site, "numbers": [{"site": number, "folder": folder} for number, folder in
-                                                        sorted(peers.bindings(call.lab.state).items())]}
-    return does
+async def list_numbers(call: Call) -> Reply:
+    return {"own": call.lab.state.site, "numbers": [{"site": number, "folder": folder} for number, folder in
+                                                    sorted(peers.bindings(call.lab.state).items())]}
 
 
 def unbind(asked: Asked) -> Does:
@@ -226,11 +226,9 @@ def take(asked: Asked) -> Does:
     return lambda call: call.lab.take(call.index, call.times)
 
 
-def leave(_asked: Asked) -> Does:
-    async def does(call: Call) -> Reply:
-        await call.lab.seating.give_back(call.index)
-        return {}
-    return does
+async def leave(call: Call) -> Reply:
+    await call.lab.seating.give_back(call.index)
+    return {}
 
 
 # Roads are asked
@@ -311,10 +309,6 @@ def report(asked: Asked) -> Does:
     return lambda call: call.questions.report(call.index, call.replica, of, first, last, title, works)
 
 
-def script(_asked: Asked) -> Does:
-    return lambda call: call.questions.script(call.index, call.replica)
-
-
 def table_of_counts(asked: Asked) -> Does:
     if asked.require("what") != "counts":
         raise not_a_command('`what` is "counts"')
@@ -325,9 +319,9 @@ def table_of_counts(asked: Asked) -> Does:
 
 VERBS: dict[str, Verb] = {
     # Of no road
-    "seats": Verb(ALL, seats),
+    "seats": Verb(ALL, no_fields(seats)),
     "clock": Verb(ALL, clock),
-    "numbers": Verb(ALL, list_numbers),
+    "numbers": Verb(ALL, no_fields(list_numbers)),
     "unbind": Verb(ALL, unbind),
     "admission": Verb(ALL, admission),
     # The own road is changed, shared, taken
@@ -339,7 +333,7 @@ VERBS: dict[str, Verb] = {
     "site": Verb(OWN, exclude_site),
     "send": Verb(OWN, share),
     "take": Verb(OWN, take),
-    "leave": Verb(OWN, leave),
+    "leave": Verb(OWN, no_fields(leave)),
     # Roads are asked
     "advance": Verb(ROADS, advance),
     "cells": Verb(ROADS, forward),
@@ -358,6 +352,6 @@ VERBS: dict[str, Verb] = {
     # What is saved
     "transcript": Verb(KEPT, transcript, SHARED_ROAD),
     "report": Verb(OWN, report, OWN),
-    "script": Verb(KEPT, script, SHARED_ROAD),
+    "script": Verb(KEPT, no_fields(lambda call: call.questions.script(call.index, call.replica)), SHARED_ROAD),
     "csv": Verb(KEPT, table_of_counts, SHARED_ROAD),
 }

@@ -39,12 +39,8 @@ class WrittenChange:
     sentence: str
 
 
-class InletState(TypedDict):
-    """What the curve of an inlet depends on: the chance of standing cars there, and the chances of inlets before it, in 1/65,536."""
-
-    inlet: int
-    start: int | None
-    before: Sequence[tuple[int, int]]
+InletState = TypedDict("InletState", {"inlet": int, "start": "int | None", "before": Sequence["tuple[int, int]"]})
+"""What the curve of an inlet depends on: the chance of standing cars, and the chances of inlets before it, in 1/65,536."""
 
 
 def read_change(words: Sequence[str], plan: PlanLine, clock: Clock) -> WrittenChange:

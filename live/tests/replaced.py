@@ -12,7 +12,7 @@ from faulty import Here, soon
 from running import SMALL, Case, program
 from server.program import start
 
-LONG = {**SMALL, "length": 8_000, "zone": 1_000, "zones": [[5, 6_554]] * 8}
+LONG: dict[str, Any] = {**SMALL, "length": 8_000, "zone": 1_000, "zones": [[5, 6_554]] * 8}
 
 
 def state_of(process: int) -> str:
