@@ -87,8 +87,8 @@ class Questions:
             return (await road.say_all([line], times))[0]
         return await road.job(body)
 
-    async def advance(self, road: AskedRoad, _times: Times, *, to: int) -> Reply:
-        """Lets a road run so far, at most some hours past the clock."""
+    async def advance(self, road: AskedRoad, to: int) -> Reply:
+        """Let a road run to a step, at most some hours past the clock."""
         self._reaches(to)
         return {"horizon": await road.advance(to)}
 
@@ -147,7 +147,7 @@ class Questions:
             found += rows.of_diagram((await road.say_all([line.encode()], times))[0])[::every]
         return found
 
-    async def sums(self, road: AskedRoad, times: Times, *, first: int, last: int) -> Reply:
+    async def sums(self, road: AskedRoad, times: Times, first: int, last: int) -> Reply:
         """Return for each whole minute the steps that cars spend on the road: the cars in the rows that its steps lead to."""
         if first % MINUTE or last % MINUTE or not 0 < last - first <= MOST_MINUTES * MINUTE:
             raise Refused("Range", f"1 to {MOST_MINUTES} whole minutes, `from` and `to` in steps")

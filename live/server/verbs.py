@@ -4,7 +4,7 @@ from __future__ import annotations
 
 import secrets
 from dataclasses import dataclass
-from typing import Awaitable, Callable
+from typing import Awaitable, Callable, TypeVar
 
 from zegdrut.grammar import LAST_HORIZON
 
@@ -51,6 +51,8 @@ class Call:
 
 Does = Callable[[Call], Awaitable[Reply]]
 """A command whose fields are read: it answers a call."""
+Reads = Callable[[Asked], Does]
+T = TypeVar("T")
 
 
 @dataclass(frozen=True)
@@ -58,7 +60,7 @@ class Verb:
     """A command. If the road is one of `lists`, the answer may show what others did. It waits until that is on the disk."""
 
     of: frozenset[str]
-    reads: Callable[[Asked], Does]
+    reads: Reads
     lists: frozenset[str] = frozenset()
 
 
@@ -89,10 +91,18 @@ def where(lab: Lab, index: int, asked: Asked, verb: Verb) -> str:
     return meant
 
 
-# Parts of what is read
+# How fields are read
 
-def no_fields(does: Does) -> Callable[[Asked], Does]:
+def no_fields(does: Does) -> Reads:
     return lambda _asked: does
+
+
+def one_part(read: Callable[[Asked], T], does: Callable[[Call, T], Awaitable[Reply]]) -> Reads:
+    """Return the reader of a command whose fields are one part: a value, or a tuple."""
+    def reads(asked: Asked) -> Does:
+        part = read(asked)
+        return lambda call: does(call, part)
+    return reads
 
 
 def read_steps(asked: Asked) -> tuple[int, int]:
@@ -109,6 +119,10 @@ def read_comparison(asked: Asked) -> tuple[str, int, int]:
     if type(of) is not str or of not in ("preview", "mine"):
         raise not_a_command('`of` is "preview" or "mine"')
     return (of, *read_steps(asked))
+
+
+def read_site(asked: Asked) -> int:
+    return asked.whole("site", 1, 1_023)
 
 
 def require_shared(asked: Asked, field: str) -> None:
@@ -133,13 +147,9 @@ async def list_numbers(call: Call) -> Reply:
                                                     sorted(peers.bindings(call.lab.state).items())]}
 
 
-def unbind(asked: Asked) -> Does:
-    site = asked.whole("site", 1, 1_023)
-
-    async def does(call: Call) -> Reply:
-        await peers.revoke(call.lab, site)
-        return {}
-    return does
+async def unbind(call: Call, site: int) -> Reply:
+    await peers.revoke(call.lab, site)
+    return {}
 
 
 def admission(asked: Asked) -> Does:
@@ -189,13 +199,9 @@ def read_edit(asked: Asked) -> list[RawEdit]:
     return edits
 
 
-def put_edit(asked: Asked) -> Does:
-    edits = read_edit(asked)
-
-    async def does(call: Call) -> Reply:
-        said = await call.lab.put_edits(call.index, call.times, key=secrets.token_hex(8), note="", edits=edits)
-        return {"stamp": said["stamp"]}
-    return does
+async def put_edits(call: Call, edits: list[RawEdit]) -> Reply:
+    said = await call.lab.put_edits(call.index, call.times, key=secrets.token_hex(8), note="", edits=edits)
+    return {"stamp": said["stamp"]}
 
 
 def undo(asked: Asked) -> Does:
@@ -211,7 +217,7 @@ def put_again(asked: Asked) -> Does:
 
 def exclude_site(asked: Asked) -> Does:
     key, note = read_key_and_note(asked)
-    site, is_out = asked.whole("site", 1, 1_023), asked.flag("out")
+    site, is_out = read_site(asked), asked.flag("out")
     return lambda call: call.lab.exclude_site(call.index, call.times, key=key, note=note, site=site, out=is_out)
 
 
@@ -219,11 +225,6 @@ def share(asked: Asked) -> Does:
     require_shared(asked, "name")
     stamps, title = asked.stamps(), asked.text("title", LONGEST_NOTE, "")
     return lambda call: call.lab.share(call.index, call.times, stamps=stamps, title=title)
-
-
-def take(asked: Asked) -> Does:
-    require_shared(asked, "message")
-    return lambda call: call.lab.take(call.index, call.times)
 
 
 async def leave(call: Call) -> Reply:
@@ -239,20 +240,10 @@ def forward(asked: Asked) -> Does:
     return lambda call: call.questions.plain(call.road, call.times, asked.verb, fields)
 
 
-def advance(asked: Asked) -> Does:
-    to = asked.whole("to")
-    return lambda call: call.questions.advance(call.road, call.times, to=to)
-
-
 def diagram(asked: Asked) -> Does:
     first, last = read_steps(asked)
     every, cells = asked.whole("every", 1, LAST_HORIZON, 1), asked.stretch()
     return lambda call: call.questions.diagram(call.road, call.times, first=first, last=last, every=every, cells=cells)
-
-
-def sums(asked: Asked) -> Does:
-    first, last = read_steps(asked)
-    return lambda call: call.questions.sums(call.road, call.times, first=first, last=last)
 
 
 def counts(asked: Asked) -> Does:
@@ -263,27 +254,12 @@ def counts(asked: Asked) -> Does:
 
 # Lists, and what would be
 
-def layers(asked: Asked) -> Does:
-    version = asked.version("from")
-    return lambda call: call.questions.layers(call.index, call.replica, version)
-
-
-def operations(asked: Asked) -> Does:
-    first = asked.whole("from", default=0)
-    return lambda call: call.questions.operations(call.index, call.replica, first)
-
-
 def preview(asked: Asked) -> Does:
     what = None if asked.is_null("what") else asked.require("what")
     if what not in (None, "share", "take"):
         raise not_a_command('`what` is "share" or "take", or null')
     stamps = asked.stamps()
     return lambda call: call.questions.preview(call.index, what, stamps)
-
-
-def figures(asked: Asked) -> Does:
-    of, first, last = read_comparison(asked)
-    return lambda call: call.questions.figures(call.index, call.replica, of, first, last)
 
 
 def days(asked: Asked) -> Does:
@@ -322,32 +298,34 @@ VERBS: dict[str, Verb] = {
     "seats": Verb(ALL, no_fields(seats)),
     "clock": Verb(ALL, clock),
     "numbers": Verb(ALL, no_fields(list_numbers)),
-    "unbind": Verb(ALL, unbind),
+    "unbind": Verb(ALL, one_part(read_site, unbind)),
     "admission": Verb(ALL, admission),
     # The own road is changed, shared, taken
     "gesture": Verb(OWN, gesture),
-    "edit": Verb(OWN, put_edit),
-    "withdraw": Verb(OWN, put_edit),
+    "edit": Verb(OWN, one_part(read_edit, put_edits)),
+    "withdraw": Verb(OWN, one_part(read_edit, put_edits)),
     "undo": Verb(OWN, undo),
     "again": Verb(OWN, put_again),
     "site": Verb(OWN, exclude_site),
     "send": Verb(OWN, share),
-    "take": Verb(OWN, take),
+    "take": Verb(OWN, one_part(lambda asked: require_shared(asked, "message"), lambda call, _: call.lab.take(call.index, call.times))),
     "leave": Verb(OWN, no_fields(leave)),
     # Roads are asked
-    "advance": Verb(ROADS, advance),
+    "advance": Verb(ROADS, one_part(lambda asked: asked.whole("to"), lambda call, to: call.questions.advance(call.road, to))),
     "cells": Verb(ROADS, forward),
     "cars": Verb(ROADS, forward),
     "count": Verb(ROADS, forward),
     "scenario": Verb(KEPT, forward),
     "diagram": Verb(ROADS, diagram),
-    "sums": Verb(ROADS, sums),
+    "sums": Verb(ROADS, one_part(read_steps, lambda call, span: call.questions.sums(call.road, call.times, *span))),
     "counts": Verb(ROADS, counts),
     # Lists, and what would be
-    "layers": Verb(KEPT, layers, SHARED_ROAD),
-    "operations": Verb(KEPT, operations, SHARED_ROAD),
+    "layers": Verb(KEPT, one_part(lambda asked: asked.version("from"), lambda call, version: call.questions.layers(
+        call.index, call.replica, version)), SHARED_ROAD),
+    "operations": Verb(KEPT, one_part(lambda asked: asked.whole("from", default=0), lambda call, first: call.questions.operations(
+        call.index, call.replica, first)), SHARED_ROAD),
     "preview": Verb(OWN, preview),  # (which waits itself, before it keeps the two roads)
-    "figures": Verb(OWN, figures, OWN),
+    "figures": Verb(OWN, one_part(read_comparison, lambda call, asked: call.questions.figures(call.index, call.replica, *asked)), OWN),
     "days": Verb(OWN, days, OWN),
     # What is saved
     "transcript": Verb(KEPT, transcript, SHARED_ROAD),

@@ -65,13 +65,15 @@ class Run:
     def left(self) -> Array:
         """The step in which each car leaves, or a step that never comes."""
         gone = (self.cells[:-1] >= 0) & (self.cells[1:] < 0)
-        return np.where(gone.any(axis=0), gone.argmax(axis=0), 1 << 30)
+        found: Array = np.where(gone.any(axis=0), gone.argmax(axis=0), 1 << 30)
+        return found
 
     def passed(self, site: int) -> Array:
         """The step in which each car passes a cell, or a step that never comes."""
         now = np.where((self.before >= 0) & (self.cells[1:] < 0), 1 << 20, self.cells[1:])
         crossed = (self.before >= 0) & (self.before < site) & (now >= site)
-        return np.where(crossed.any(axis=0), crossed.argmax(axis=0), 1 << 30)
+        found: Array = np.where(crossed.any(axis=0), crossed.argmax(axis=0), 1 << 30)
+        return found
 
     def arrivals(self) -> list[Array]:
         return [*map(self.passed, self.plan["detectors"]), self.left()]
@@ -79,7 +81,8 @@ class Run:
     def on(self, detector: int, first: int, last: int) -> Array:
         """Whether a detector is on in each step of a window."""
         watch = sorted((edit[2], edit[-1]) for edit in self.edits if edit[:2] == ["watch", detector] and edit[-1] is not None)
-        return np.array([next((value for begin, value in reversed(watch) if begin <= step), 1) for step in range(first, last)], dtype=bool)
+        found: Array = np.array([next((value for begin, value in reversed(watch) if begin <= step), 1) for step in range(first, last)], dtype=bool)
+        return found
 
     def detector(self, detector: int, first: int, last: int) -> dict[str, Any]:
         """What a detector counts in a window."""
