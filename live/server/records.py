@@ -35,7 +35,7 @@ J = TypeVar("J", bound=Json)
 
 @dataclass(frozen=True)
 class Codec(Generic[V]):
-    """How a field is read and written, and its name if that differs from the one in Python."""
+    """Reads and writes a field; `name` is its written name, if that differs from the one in Python."""
 
     read: Callable[[Json], V]
     write: Callable[[V], Json]

@@ -31,7 +31,7 @@ async def shared(seat: Seat) -> list[Any]:
 
 
 def broker_of(seat: Seat) -> BrokerState:
-    """Return the last state of the broker that a seat was told."""
+    """Return the last state of the broker that a seat has heard."""
     told = [seat.welcome["broker"], *(one["broker"] for one in seat.told if "broker" in one)]
     assert told[-1] is not None
     return told[-1]

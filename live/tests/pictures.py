@@ -36,7 +36,7 @@ class Pictures(Case):
         return (await self.ada.ask("diagram", **fields))["rows"]
 
     async def counts(self, **fields: int) -> Any:
-        """The counts of detectors: pairs, for each span if there are spans."""
+        """Return the counts of detectors: pairs, for each span if there are spans."""
         return (await self.ada.ask("counts", **fields))["counts"]
 
     async def test_every_so_manieth_row_and_stretches(self) -> None:
