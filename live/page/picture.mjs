@@ -306,7 +306,7 @@ function colourEntries() {
   const closed = {text: "closed", colour: BLOCKED};
   const unknown = {text: "not computed", colour: NO_ROW};
   if (store.whose === "both") {
-    const whose = whoseShown()[0] === "after" ? "then" : "mine";
+    const whose = whoseShown()[0] === "after" ? "after" : "mine";
     return [{text: `${whose} slower`, colour: SLOWER}, {text: "as fast", colour: EMPTY},
             {text: `${whose} faster`, colour: FASTER}, closed, unknown];
   }

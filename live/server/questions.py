@@ -359,7 +359,7 @@ class Questions:
         """Return the report of two roads: those of the preview, or the shared and the own one."""
         asked = await self._both(index, own, of, first, last)
         day, seat = clock_of(self._keeper.folder), self._keeper.state.seats[index]
-        names = ["now", "then"] if of == "preview" else ["shared", seat.name or seat.at]
+        names = ["before", "after"] if of == "preview" else ["shared", seat.name or seat.at]
         clock = (None, None, None) if day is None else (day.to_text(0), day.date and str(day.date), day.zone and str(day.zone))
         html = await reports.make(index, {**asked, "title": title, "works": works, "names": names, "clock": clock,
                                           "days": reports.DAYS}, self._keeper.path)

@@ -16,7 +16,7 @@ function standing() {
       return socket;
     },
     onOpen: () => connection.admit(),
-    onTold: (value) => found.heard.push(value),
+    onPush: (value) => found.heard.push(value),
     onLost: (...words) => found.lost.push(words),
     later: (act, wait) => found.waits.push([act, wait]),
   });

@@ -250,7 +250,7 @@ class OneFreeway(BrowserCase):
         tab.script("store.ahead = now() + 35_000; lookAhead()")
         self.assertEqual(tab.script("return store.ahead"), 39_600)  # by 36,000 steps
         tab.press("Look 30 min ahead")
-        self.assertEqual(tab.text("said"), "Your road is already 10 hours ahead of the clock, and may be no farther.")
+        self.assertEqual(tab.text("said"), "Your road is already 10 hours ahead of the clock, which is the limit.")
         self.assertEqual(tab.script("return store.ahead"), 39_600)
 
     def test_a_look_ahead_is_private(self) -> None:

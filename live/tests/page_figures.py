@@ -123,7 +123,7 @@ class OneFreeway(BrowserCase):
         # Some 1,250 cars an hour come, for 30 minutes but those that fill 300 m.
         self.assertTrue(480 <= more <= 640, more)
         self.assertAlmostEqual(more, mine - shared, delta=1)
-        self.assertRegex(tab.text("warnings"), r"The inlet at 0 km admits [\d,]+ of the [\d,]+ cars that it is asked for\. The other \d+ are lost")
+        self.assertRegex(tab.text("warnings"), r"The inlet at 0 km admits [\d,]+ of the [\d,]+ cars that want to enter\. The other \d+ never enter")
 
     def test_figures_wait_for_the_picture(self) -> None:
         """Nothing else is asked for while rows that are seen are on their way, here for a second."""
@@ -184,7 +184,7 @@ class OneFreeway(BrowserCase):
         rows = before_rows(tab)
         self.assertEqual(rows["Vehicle hours"], (hours[1], hours[0], hours[2]))
         self.assertEqual(rows["Lost demand, cars"], (lost[1], lost[0], lost[2]))
-        self.assertEqual(rows["Delay of cars on both roads, vehicle hours"][2], delay[2])
+        self.assertEqual(rows["Delay of the cars that both roads have, vehicle hours"][2], delay[2])
         parts = [rows[name][2] for name in ("– at 0 km", "– at 1.5 km")]
         self.assertEqual(sum(parts), lost[2])
         # On the free road no more is lost than by chance: two standard deviations of some 1,250 arrivals.

@@ -163,7 +163,7 @@ class ForAll(BrowserCase):
         for width in (1366, 1920):
             tab.driver.execute_cdp_cmd("Emulation.setDeviceMetricsOverride",
                                        {"width": width, "height": 768, "deviceScaleFactor": 1, "mobile": False})
-            tab.script("store.connectionText = ['connected; ' + 'the broker is away since 10:15, what is shared waits '.repeat(4), true];"
+            tab.script("store.connectionText = ['connected; ' + 'the broker is unreachable since 10:15, what is shared waits '.repeat(4), true];"
                        "notify('connectionText')")
             whole = tab.script("return $('me').getBoundingClientRect().right <= $('who').getBoundingClientRect().right + 1")
             self.assertTrue(whole, width)

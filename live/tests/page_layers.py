@@ -300,12 +300,12 @@ class TwoTabs(BrowserCase):
         ada.until(lambda: "…" not in ada.text("figures"), "the lost demand")
         shown = ada.script("return [...document.querySelectorAll('#figures tbody tr')].map((line) => "
                            "[...line.children].map((one) => one.firstChild?.data ?? ''))")
-        rows = {row["figure"]: [row["mine"], row["shared"], row["mine less shared"]]
+        rows = {row["figure"]: [row["mine"], row["shared"], row["mine minus shared"]]
                 for row in self.rows(ada.save("Figures as CSV", "figures.csv"))}
         def number(text: str) -> float:
             return float(text.replace(",", "").replace("−", "-").replace("+", "") or "nan")
         for name, saved, digits in (("Vehicle hours", "vehicle hours", 1), ("Lost demand, cars", "lost demand", 0),
-                                    ("Delay, vehicle hours", "delay of cars on both roads", 1),
+                                    ("Delay, vehicle hours", "delay of the cars that both roads have", 1),
                                     ("Cars at 2.25 km", "cars at 2.25 km", 0)):
             wanted, = ([number(text) for text in values] for head, *values in shown if head == name)
             for one, other in zip(rows[saved], wanted):

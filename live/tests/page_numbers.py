@@ -83,12 +83,12 @@ class Numbers(BrowserCase):
                 found = rows[name][column]
                 self.assertTrue(found == "" if one is None else abs(float(found) - float(str(one))) < 6e-5, (name, column, found, one))
         near("vehicle hours", [run.hours(0, STEPS) for run in (after, before)])
-        near("delay of cars on both roads", [cost["delay_hours"]], ("mine less shared",))
+        near("delay of the cars that both roads have", [cost["delay_hours"]], ("mine minus shared",))
         near("admitted cars", [sum(run.admitted(0, STEPS)) for run in (after, before)])
         places = [*(f"{one} km" for one in self.places(rows)), "the road's end"]
         for index, place in enumerate(places):
             near(f"travel time to {place}", [run.travel(0, STEPS)[index][1] for run in (after, before)])
-            near(f"delay of cars on both roads to {place}", [cost["later"][index][1]], ("mine less shared",))
+            near(f"delay of the cars that both roads have to {place}", [cost["later"][index][1]], ("mine minus shared",))
         for index, place in enumerate(places[:-1]):
             for name, field in (("cars", "cars"), ("flow", "flow"), ("time-mean speed", "speed"), ("time on", "on")):
                 near(f"{name} at {place}", [run.detector(index, 0, STEPS)[field] for run in (after, before)])

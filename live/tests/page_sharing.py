@@ -37,7 +37,7 @@ class Sharing(BrowserCase):
         self.assertEqual((red, green, blue), jam)
         self.assertIn("then sloweras fastthen faster", ben.text("legend"))
         ben.press("Take now")
-        ben.until(lambda: ben.text("said") == "Took 1 change of Ada. They cover nothing of yours.", "taken")
+        ben.until(lambda: ben.text("said") == "Took 1 change from Ada. They cover nothing of yours.", "taken")
         ben.settled()
         ben.script("store.layers.mine.frames = []; draw()")
         ben.settled()
@@ -54,7 +54,7 @@ class Sharing(BrowserCase):
         ben.limit("2", "0:25", "0:30")
         ben.share_all()
         ada.take()
-        self.assertEqual(ada.text("said"), "Took 1 change of Ben. 1 change of yours is covered by them, wholly or in part.")
+        self.assertEqual(ada.text("said"), "Took 1 change from Ben. 1 change of yours is covered by them, wholly or in part.")
         self.assertIn("27 km/h, 0–0.3 km, 0:20:00–0:40:00 shared", ada.lines("held"))
         self.assertEqual(ada.covers("held"), ["In force 0:20:00–0:25:00; covered 0:25:00–0:30:00 by Ben's limit of "
                                                     "54 km/h; in force 0:30:00–0:40:00."])
@@ -108,7 +108,7 @@ class Sharing(BrowserCase):
         ada.until(lambda: ada.script("return store.news.text") == "Ben shared 2 changes.", "more news")
         self.assertTrue(ada.text("news").startswith("Ben shared 1 change."))
         ActionChains(ada.driver, duration=0).release().perform()
-        ada.until(lambda: ada.text("said") == "Took 2 changes of Ben. They cover nothing of yours.", "taken")
+        ada.until(lambda: ada.text("said") == "Took 2 changes from Ben. They cover nothing of yours.", "taken")
 
     def test_a_double_click_presses_nothing_that_comes_there(self) -> None:
         ada, _ = self.open(FREE_ROAD)
@@ -265,7 +265,7 @@ class Sharing(BrowserCase):
         ben.share_all()
         ada.take()
         self.assertEqual((ada.text("said"), ada.lines("held"), ben.lines("own")),
-                         ("Took 1 change of Ben. They cover nothing of yours.", [], []))
+                         ("Took 1 change from Ben. They cover nothing of yours.", [], []))
 
     def test_a_part_is_looked_at_before_it_is_shared(self) -> None:
         ada, _ = self.open(FREE_ROAD)
@@ -275,7 +275,7 @@ class Sharing(BrowserCase):
         ada.press("Share…: 27 km/h")
         rows = before_rows(ada)
         self.assertEqual(list(rows), ["Vehicle hours", "Cars admitted", "Lost demand, cars",
-                                      "Delay of cars on both roads, vehicle hours", "Cars an hour at 0.21 km", "Seconds to 0.21 km",
+                                      "Delay of the cars that both roads have, vehicle hours", "Cars an hour at 0.21 km", "Seconds to 0.21 km",
                                       "Seconds to the road's end"])
         # A car every other step drives over the 39 cells at 3 cells a step, and in ten of sixty minutes at 1.
         self.assertAlmostEqual(rows["Vehicle hours"][0], 1_800 * 13 / 3_600, delta=0.5)

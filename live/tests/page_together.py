@@ -282,7 +282,7 @@ class TwoTabs(BrowserCase):
         ada.run_an_hour()
         ada.script("store.connection.connect = () => {}")  # so that it stays away until it is loaded anew
         self.server.kill()
-        ada.until(lambda: "are stored in this tab, and sent once it is back" in ada.text("said"), "it is told")
+        ada.until(lambda: "are stored in this tab, and sent once the connection is back" in ada.text("said"), "it is told")
         ada.tool("limit")
         for limit in ("1", "2"):
             ada.choose("limit", limit)
@@ -312,7 +312,7 @@ class TwoTabs(BrowserCase):
         ada, = self.open(FREE_ROAD, ("Ada",), "--broker", broker.address)
         there = Server(None, FREE_ROAD, "--broker", broker.address, "--site", "2")
         self.addCleanup(there.kill)
-        ada.until(lambda: ada.text("line") == "connected, with 1 other site, trusted without a seal", "the other site")
+        ada.until(lambda: ada.text("line") == "connected, with 1 other site (messages are not authenticated)", "the other site")
         ada.open_part("sites")
         ada.press("Exclude: site 2")
         ada.until(lambda: ada.lines("own") == ["Site 2 is excluded private"], "site 2 is excluded")
@@ -322,10 +322,10 @@ class TwoTabs(BrowserCase):
         broker.kill()
         ada.limit("1", "0:20", "0:30")
         ada.share_all()
-        ada.until(lambda: ada.text("line") == "connected; the broker is away, 1 change to be sent", "it is away")
+        ada.until(lambda: ada.text("line") == "connected; the broker is unreachable, 1 change to be sent", "it is away")
         self.assertEqual(ada.part("line").get_attribute("class"), "away")
         broker.start()
-        ada.until(lambda: ada.text("line") == "connected, with 1 other site, trusted without a seal", "it is back")
+        ada.until(lambda: ada.text("line") == "connected, with 1 other site (messages are not authenticated)", "it is back")
         broker.say(f"road/{reference(self.server)}/operations", "good morning")
         ada.until(lambda: ada.text("said") == "A message from the broker was ignored: it is not JSON: good morning",
                   "rubbish is told")
