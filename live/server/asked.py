@@ -94,7 +94,7 @@ class Asked:
             return default
         value: int = self._checked(name, whole)
         if not least <= value <= most:
-            raise Refused("Range", f"`{name}` is {least} to {most}, not {value}")
+            raise Refused("Range", f"`{name}` must be {least} to {most}, not {value}")
         return value
 
     def version(self, name: str) -> int:
@@ -109,7 +109,7 @@ class Asked:
     def number(self, name: str, most: float) -> float:
         value = self.require(name)
         if type(value) not in (int, float) or not 0 <= value <= most:
-            raise Refused("Range", f"`{name}` is 0 to {most}")
+            raise Refused("Range", f"`{name}` must be 0 to {most}")
         return float(value)
 
     def text(self, name: str, most: int, default: str | None = None) -> str:

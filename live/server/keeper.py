@@ -304,7 +304,7 @@ class Keeper:
                     await self.replace(str(fault))
         except ProgramExited as fault:
             logging.error("%s", fault)
-        raise Refused("NoProgram", "the program ended over this, twice; the server's log says why")
+        raise Refused("NoProgram", "the program crashed on this twice; the server's log says why")
 
     async def replace(self, why: str | None = None) -> None:
         """Start another program in the place of this one. Its replicas are shown their roads when they are next asked."""

@@ -10,7 +10,7 @@ import time
 from typing import Any, Callable, Iterator, NamedTuple
 
 from .asked import clean_text
-from .floods import only_newest
+from .floods import drop_oldest
 from .lab import Lab
 from .refusals import Refused
 from .state import SITE_FORM, State
@@ -53,7 +53,7 @@ class Peers:
         now, ahead = time.monotonic(), time.time() - when
         before, least = self._clocks.pop(folder, (now, ahead))
         self._clocks[folder] = (now, ahead) if ahead <= least or now - before > RECENT else (before, least)
-        only_newest(self._clocks)
+        drop_oldest(self._clocks)
 
     def ahead(self) -> float:
         """Return by how many seconds this server's clock is ahead of all that were heard in the last minute, if that is much;
@@ -70,7 +70,7 @@ class Peers:
         is_new = key not in self.known
         self.known.pop(key, None)
         self.known[key] = site
-        only_newest(self.known)
+        drop_oldest(self.known)
         if site.road == self._road:
             await self._bind(site.folder, site.number, bound)
         if is_new:
@@ -177,5 +177,5 @@ async def revoke(lab: Lab, number: int) -> None:
     state = lab.state
     mine = state.folder if number == state.site else NOBODY
     if (state.bound.get(number) or mine) == mine:
-        raise Refused("NotBound", f"number {number} is bound to no other folder")
+        raise Refused("NotBound", f"no other folder has the number {number}, so there is nothing to revoke")
     await lab.bind(number, mine)

@@ -115,7 +115,7 @@ class Seating:
         index = int(said) if said.isdecimal() and len(said) <= 2 else 0
         is_signed = hmac.compare_digest(self._signed(key[:8], index, name).encode(), key.encode("utf-8", "replace"))
         if not is_signed or self._state.seats[index].key or self._alike(name) is not None:
-            raise self._refused("UnknownKey", "the seat was taken over, or is free again: choose one")
+            raise self._refused("UnknownKey", "the seat was taken over, or is free again: choose a seat")
         return await self._give(index, name, self._state.works, key)
 
     def _alike(self, name: str) -> str | None:
@@ -179,7 +179,7 @@ class Seating:
         """Return a seat, unless it was left by what was asked before."""
         seat = self._state.seats[index]
         if not seat.key:
-            raise Refused("NotYourReplica", "the seat was left")
+            raise Refused("NotYourReplica", "this tab has left the seat")
         return seat
 
     def _free(self, index: int) -> asyncio.Future[None]:

@@ -19,7 +19,7 @@ from typing import TYPE_CHECKING, Any, Callable, Deque, Iterator, NamedTuple
 
 from .asked import LONGEST_NAME, LONGEST_NOTE, clean_text
 from .brokers import broker_of, connack_string, new_client
-from .floods import FLOOD, STRANGERS, UNSEALED, Floods, only_newest
+from .floods import FLOOD, STRANGERS, UNSEALED, Floods, drop_oldest
 from .journal import packed
 from .keeper import SHARED, Times
 from .lab import FutureStamp, Lab
@@ -159,10 +159,10 @@ class Sites:
             return
         except (InvalidMessage, Unsealed) as fault:
             self._left_out += isinstance(fault, Unsealed)
-            if not self._floods.are_too_many(UNSEALED):
+            if not self._floods.count_message(UNSEALED):
                 self._loop.call_soon_threadsafe(self._say, f"A message from the broker was ignored: {fault}")
             return
-        if self._floods.are_too_many(self._sender(folder)):
+        if self._floods.count_message(self._sender(folder)):
             return
         done = asyncio.run_coroutine_threadsafe(self._came(message.topic, folder, body), self._loop)
         try:
@@ -368,7 +368,7 @@ class Sites:
         times: Times = {}
         await self._lab.came(operations, title, times)
         if folder != self._id:
-            self._floods.works(self._sender(folder), times.get("work", 0))
+            self._floods.add_work(self._sender(folder), times.get("work", 0))
         for one in operations:
             self._tell_if_twice(one)
         unsent = self._keeper.state.unsent
@@ -403,7 +403,7 @@ class Sites:
         pair_now = theirs, ours
         before = self._sums.pop(folder, None)
         self._sums[folder] = pair_now
-        only_newest(self._sums)
+        drop_oldest(self._sums)
         if theirs == ours:
             self._pauses.pop(folder, None)
             if value.get("timeline") != await self._timeline() and self._numbers()[TOTAL] == ours:
@@ -430,7 +430,7 @@ class Sites:
         has_more = place + AT_ONCE < len(lacking)
         self._pauses[folder] = (Pause(now, pause, place + AT_ONCE, held) if has_more
                                 else Pause(now, min(LONGEST_PAUSE, max(EVERY, 2 * pause)), 0, held))
-        only_newest(self._pauses)
+        drop_oldest(self._pauses)
 
 
 def hash_of(edits: Edits) -> str:

@@ -197,7 +197,7 @@ class Acts(Case):
                  ("undo", {"key": "e", "stamp": "c"}), ("undo", {"key": "f", "stamp": "b"})]
         said = await asyncio.gather(*(self.ada.reply(verb, at=self.ada.at, **fields) for verb, fields in asked))
         self.assertEqual([one.get("refused") for one in said], [None, None, None, None, None, "NothingToUndo"])
-        self.assertIn("Ada took it back before", said[-1]["why"])
+        self.assertIn("Ada undid it already", said[-1]["why"])
         self.assertEqual(await numbers(self.ada), closed(60, 69, 30, 60))
         self.a6.again()
         async with self.a6.seat(key=self.ada.key) as ada:  # keys are known after a restart, too
@@ -456,7 +456,7 @@ class Acts(Case):
             fresh = (await lines(ada))[line]
             self.assertEqual([one["does"] for one in fresh["operations"]], ["put", *["change", "undo"] * 10])
             self.assertEqual((await ada.ask("layers", **{"from": said["next"]}))["layers"], [fresh])
-            with self.assertRaisesRegex(RefusedReply, "you hold no change of the name"):
+            with self.assertRaisesRegex(RefusedReply, "you hold no change with the name"):
                 await ada.ask("gesture", key="late", layer=gone, top=True)
 
     async def test_z_is_the_same_after_what_a_start_forgets(self) -> None:

@@ -136,7 +136,7 @@ class Brokers(Case):
                     (said(limit([1, 70], 99, 8)), "no zone 99"), (said(limit([1, 3], 1, 8)), "belongs to a replica"),
                     (said(limit([281474976710656, 70], 1, 20)), "[281474976710656, 70] of number 70 is more than a day"),
                     (said(limit([2764800001, 70], 1, 21)), "[2764800001, 70] of number 70 is more than a day ahead"),
-                    (said(limit([1, "1"], 1, 8)), "is no whole number"), (said(limit([1, 70], 1, 8, note="\ud800")), "not JSON"),
+                    (said(limit([1, "1"], 1, 8)), "is not a whole number"), (said(limit([1, 70], 1, 8, note="\ud800")), "not JSON"),
                     (" " * 2_100_000, "bytes"),
                     (said({"stamp": [1, 70], "sets": [[["block", 1, step], 1] for step in range(1_202)]}), "at most 1200 raw edits")):
                 broker.say(topic, text)

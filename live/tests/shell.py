@@ -1,4 +1,4 @@
-"""`live/road`, the command for the shell: what a script does, six at once, and what it says where it cannot."""
+"""Test `live/road`, the command for the shell: what scripts do with it, six at once, and its error messages."""
 from __future__ import annotations
 
 import asyncio
@@ -30,10 +30,10 @@ class Written(unittest.TestCase):
             self.assertEqual((written.shape, written.sentence), (shape, said))
         self.assertEqual(written.demand, 1_200.5)
 
-    def test_what_is_written_wrongly_is_told(self) -> None:
-        for words, why in ((("jump", "1"), "'jump' is not a change: write close, limit"), (("limit", "54", "0"), "limit is followed by KMH"),
+    def test_a_wrong_change_is_refused_with_a_reason(self) -> None:
+        for words, why in ((("jump", "1"), "'jump' is not a change: write close, limit"), (("limit", "54", "0"), "write limit KMH"),
                            (("limit", "300", "0", "0.1", "1"), "0 to 243 km/h, not 300"), (("close", "2", "3", "1"), "0 to 0.9 km"),
-                           (("close", "0.2", "0.1", "1"), "the greater one second"), (("slowing", "101", "0", "0.1", "1"), "0 to 100 percent"),
+                           (("close", "0.2", "0.1", "1"), "the smaller first"), (("slowing", "101", "0", "0.1", "1"), "0 to 100 percent"),
                            (("detector", "1", "0", "1"), "on or off"), (("close", "a", "0.1", "1"), "'a' is not a number of km"),
                            (("close", "0", "0.1", "soon"), "BEGIN: 'soon' is not a time"), (("close", "0", "0.1", "9", "8"), "not later than"),
                            ((), "'' is not a change")):
@@ -64,7 +64,7 @@ class Shell(Case):
         self.assertNotIn("Traceback", said.decode())
         return process.returncode or 0, out.decode().strip(), said.decode().strip()
 
-    async def test_names_of_64_signs_in_any_script_have_seats_of_their_own(self) -> None:
+    async def test_names_of_64_characters_in_any_script_have_their_own_seats(self) -> None:
         names = ["a b", "a_b", "a/b", "../a", "\U00013000" * 64, "\U00013000" * 63 + "b", "語" * 64]
         for _ in range(2):  # the second time by the key that was kept
             said = await asyncio.gather(*(self.road(name, "ask", '{"scenario":{}}') for name in names))
@@ -83,7 +83,7 @@ class Shell(Case):
         self.assertEqual(await self.road("Ada", "edit", "limit", "0", "50", "4"), (0, "[2, 66]", ""))
         self.assertEqual(await self.road("Ada", "edit", "limit", "2", "50", "4"), (0, "[3, 66]", ""))
         self.assertEqual((await self.road("Ada", "share"))[1], "shared 2 changes")
-        self.assertEqual((await self.road("cron", "take"))[1], "took 2 changes\nchanged: limit of stamp [1, 65], by Ada")
+        self.assertEqual((await self.road("cron", "take"))[1], "took 2 changes\nchanged: limit with stamp [1, 65], by Ada")
         self.assertEqual(await self.road("cron", "withdraw", "limit", "2", "50"), (0, "[4, 65]", ""))
         held = json.loads((await self.road("cron", "ask", '{"scenario":{"at":"shared"}}'))[1])["edits"]
         self.assertEqual([[*one[:3], one[5]] for one in held], [["limit", 0, 50, 4], ["limit", 2, 50, 4]])
@@ -137,14 +137,14 @@ class Shell(Case):
         for words, status, why in (
                 (("cron", "edit", "limit", "99", "50", "1"), 1, "no zone 99"),
                 (("cron", "edit", "limt", "2", "50", "1"), 1, "use `limit`"),
-                (("cron", "edit", "limit", "2", "50"), 2, "wrong words"),
-                (("cron", "edit", "limit", "2", "x", "1"), 2, "no whole number"),
-                (("cron", "ask", "nonsense"), 2, "JSON is wanted"),
+                (("cron", "edit", "limit", "2", "50"), 2, "unknown command or wrong arguments"),
+                (("cron", "edit", "limit", "2", "x", "1"), 2, "is not a whole number"),
+                (("cron", "ask", "nonsense"), 2, "expected JSON"),
                 (("cron", "ask", '{"scenario":{"at":"cron"}}'), 1, 'here `at` is "seat1" or "shared"'),
                 (("cron", "ask", '{"take":{"at":"shared","message":"shared"}}'), 1, 'here `at` is "seat1"'),
                 (("cron", "ask", '{"crowd":{}}'), 1, "no command of a tab"),
                 (("cron",), 2, "NAME and a command"), (("cron",), 2, "live/road Cron edit limit 11 5400 2"),
-                (("cron", "dance"), 2, "wrong words")):
+                (("cron", "dance"), 2, "unknown command or wrong arguments")):
             ended, _, said = await self.road(*words)
             self.assertEqual(ended, status, words)
             self.assertIn(why, said)
