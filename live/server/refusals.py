@@ -23,7 +23,7 @@ MEANINGS = {
     "NothingToPut": "An undo cannot be repeated: change the line itself",
     "NothingToUndo": "The undo of this operation would change nothing",
     "NotWritten": "The disk did not accept it, so it was not done: try again later",
-    "NotYourReplica": "A tab may change only its own replica, and read only that one, the shared one and its preview",
+    "NotYourReplica": "`at` must be your own replica or, to read, the shared one or your preview",
     "OneDay": "This road has fixed random numbers (no seed), so all days are the same",
     "OtherVersion": "The page is older or newer than the server: reload it",
     "OwnSite": "A site cannot exclude itself: another site must do it",

@@ -173,8 +173,8 @@ class Sweeps(Folder):
                            ("there are no seeds: give at least one", lambda: sweep(plain_model, {"x": [1]}, [])),
                            ("point 1 has the parameters y, and the first one x", lambda: sweep(plain_model, [{"x": 1}, {"y": 1}])),
                            ("a parameter cannot be named seed: this is a column of the results", lambda: sweep(plain_model, [{"seed": 1}])),
-                           ("a point or a seed is duplicate: remove one", lambda: sweep(plain_model, {"x": [1, 1]})),
-                           ("jobs is 1 or more, not 0", lambda: sweep(plain_model, {"x": [1]}, jobs=0)),
+                           ("a point or a seed appears twice: remove one", lambda: sweep(plain_model, {"x": [1, 1]})),
+                           ("jobs must be 1 or more, not 0", lambda: sweep(plain_model, {"x": [1]}, jobs=0)),
                            ("part 3 of 2 does not exist", lambda: sweep(plain_model, {"x": [1]}, part=(3, 2)))):
             with self.subTest(said), self.assertRaisesRegex(Fault, f"^{said}$"):
                 call()
