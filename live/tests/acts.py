@@ -1,4 +1,4 @@
-"""What a tab can do: put, change, withdraw, raise, take back, share, take; who covers whom, and what is told of it."""
+"""Test what a tab can do: put, change, withdraw, raise, undo, share, take; which change covers which, and what the server tells."""
 from __future__ import annotations
 
 import asyncio
@@ -15,31 +15,31 @@ SLOW = ["limit", 1, 3, 20, 80, 2]
 
 
 async def put(seat: Seat, key: str, *edits: list[Any], **more: Any) -> list[int]:
-    """Raw edits."""
+    """Put raw edits. Return the stamp."""
     stamp: list[int] = (await seat.ask("gesture", key=key, edits=list(edits), **more))["stamp"]
     return stamp
 
 
 async def lay(seat: Seat, key: str, shape: list[Any] | None, **more: Any) -> list[int]:
-    """A shape, or what becomes of one."""
+    """Put, change or withdraw a shape. Return the stamp."""
     stamp: list[int] = (await seat.ask("gesture", key=key, shape=shape, **more))["stamp"]
     return stamp
 
 
 async def limit_at(seat: Seat, at: str = "") -> Any:
-    """What the seat's replica holds for LIMIT: null for a withdrawal, "-" for nothing."""
+    """Return what the seat's replica holds for LIMIT: null for a withdrawal, "-" for nothing."""
     edits = (await seat.ask("scenario", **({"at": at} if at else {})))["edits"]
     return next((edit[5] for edit in edits if edit[:3] == LIMIT), "-")
 
 
 async def numbers(seat: Seat, at: str = "") -> dict[tuple[Any, ...], int]:
-    """The numbers that are put."""
+    """Return the values of the edits in force, by object and step."""
     edits = (await seat.ask("scenario", **({"at": at} if at else {})))["edits"]
     return {tuple(edit[:3]): edit[5] for edit in edits if edit[5] is not None}
 
 
 async def lines(seat: Seat, at: str = "") -> dict[tuple[int, int], Any]:
-    """The whole list, by names."""
+    """Return the whole list of changes, by name."""
     found: dict[tuple[int, int], Any] = {}
     after, more = 0, True
     while more:
@@ -50,7 +50,7 @@ async def lines(seat: Seat, at: str = "") -> dict[tuple[int, int], Any]:
 
 
 def closed(first: int, last: int, begin: int, end: int) -> dict[tuple[Any, ...], int]:
-    """The numbers of a closure alone."""
+    """Return the values of the edits of a closure alone."""
     return {("block", cell, step): value for cell in range(first, last + 1) for step, value in ((begin, 1), (end, 0))}
 
 
@@ -77,7 +77,7 @@ class Acts(Case):
         self.assertEqual((again["stamp"], again["again"], again["layers"]), (stamp, True, []))
         self.assertEqual(await numbers(self.ada), closed(60, 69, 30, 60))
 
-    async def test_of_two_closures_that_overlap_each_can_be_withdrawn(self) -> None:
+    async def test_each_of_two_overlapping_closures_can_be_withdrawn(self) -> None:
         first = await lay(self.ada, "1", ["block", 60, 60, 30, 60, 1])
         second = await lay(self.ada, "2", ["block", 60, 60, 20, 40, 1])
         self.assertEqual(await numbers(self.ada), closed(60, 60, 20, 60))
@@ -87,7 +87,7 @@ class Acts(Case):
         self.assertEqual(await numbers(self.ada), {})
         self.assertEqual(await lines(self.ada), {})  # it was private: nothing of it is left to list
 
-    async def test_of_a_preview_that_is_replaced_no_program_is_left(self) -> None:
+    async def test_a_replaced_preview_leaves_no_program(self) -> None:
         await lay(self.ada, "1", CLOSED)
         asked = []
         for count in range(30):
@@ -101,17 +101,17 @@ class Acts(Case):
         async def is_alone() -> bool:
             return [*descendants(self.a6.process.pid)] == [self.a6.program]
         await until(is_alone, "the program of the roads alone")
-        self.assertNotIn("` failed", self.a6.said())  # a question; that a pipe broke asyncio may say
+        self.assertNotIn("` failed", self.a6.said())  # no question failed (asyncio may log a broken pipe)
 
-    async def test_who_covers_whom_from_when_to_when(self) -> None:
+    async def test_shown_lists_which_layer_covers_which_and_when(self) -> None:
         old = await lay(self.ada, "old", ["limit", 2, 2, 20, 80, 1], note="long")
         said = await self.ada.ask("gesture", key="new", shape=["limit", 2, 2, 40, 50, 3])
         new = said["stamp"]
-        self.assertEqual({tuple(one["name"]) for one in said["layers"]}, {tuple(old), tuple(new)})  # what is other now
+        self.assertEqual({tuple(one["name"]) for one in said["layers"]}, {tuple(old), tuple(new)})  # what differs now
         shown = next(one["shown"] for one in said["layers"] if one["name"] == old)
         self.assertEqual(shown, [["limit", 2, 2, 20, 40, 1, None], ["limit", 2, 2, 40, 50, 1, new],
                                  ["limit", 2, 2, 50, 80, 1, None]])
-        changed = await lay(self.ada, "change", ["limit", 2, 2, 20, 90, 2], layer=old)  # it stays where it is
+        changed = await lay(self.ada, "change", ["limit", 2, 2, 20, 90, 2], layer=old)  # a change keeps its height
         self.assertEqual(await numbers(self.ada), {("limit", 2, 20): 2, ("limit", 2, 40): 3, ("limit", 2, 50): 2,
                                                    ("limit", 2, 90): 5})
         top = await self.ada.ask("gesture", key="top", layer=old, top=True)
@@ -120,10 +120,10 @@ class Acts(Case):
         self.assertEqual(held[tuple(new)]["shown"], [["limit", 2, 2, 40, 50, 3, old]])  # wholly covered
         self.assertEqual([one["does"] for one in held[tuple(old)]["operations"]], ["put", "change", "top"])
         self.assertEqual([one["stamp"] for one in held[tuple(old)]["operations"]], [old, changed, top["stamp"]])
-        gone = await self.ada.ask("gesture", key="gone", layer=new, shape=None)  # it can be withdrawn all the same
+        gone = await self.ada.ask("gesture", key="gone", layer=new, shape=None)  # it can still be withdrawn
         self.assertEqual((gone["touched"], gone["layers"]), (None, [{"name": new, "gone": True}]))
 
-    async def test_undo_gives_back_exactly_what_was(self) -> None:
+    async def test_undo_restores_exactly_what_was_there(self) -> None:
         old = await lay(self.ada, "old", ["limit", 2, 2, 20, 80, 1])
         await lay(self.ada, "new", ["limit", 2, 2, 40, 50, 3])
         before = await numbers(self.ada), await lines(self.ada)
@@ -138,7 +138,7 @@ class Acts(Case):
         await self.ada.ask("undo", key="again", stamp=back["redo"])
         self.assertEqual(await numbers(self.ada), {("limit", 2, 40): 3, ("limit", 2, 50): 5})
 
-    async def test_z_takes_back_one_after_the_other_and_redo_puts_them_again(self) -> None:
+    async def test_z_undoes_one_change_after_the_other_and_redo_repeats_them(self) -> None:
         states, undo = [await numbers(self.ada)], None
         for count in range(4):
             undo = (await self.ada.ask("gesture", key=f"g{count}", shape=["limit", count % 2, 2, 20 + count, 80, 1]))["undo"]
@@ -157,7 +157,7 @@ class Acts(Case):
         await self.ada.ask("undo", key="last", stamp=undo)
         self.assertEqual(await numbers(self.ada), states[3])
 
-    async def test_z_takes_back_all_that_was_done_to_one_line(self) -> None:
+    async def test_z_undoes_every_change_of_one_line(self) -> None:
         line = await lay(self.ada, "under", ["limit", 2, 2, 40, 90, 1])
         states = [await numbers(self.ada)]
         for key, fields in (("put", {"shape": ["limit", 2, 3, 20, 50, 2]}), ("change", {"shape": ["limit", 2, 3, 20, 70, 2]}),

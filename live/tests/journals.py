@@ -116,7 +116,7 @@ class Writing(unittest.IsolatedAsyncioTestCase):
             await journal.write(entry)
             self.assertEqual(read_entries(self.path)[0], GESTURES[:count])
 
-    async def test_after_a_failed_write_all_that_wait_are_refused_and_it_is_cut_back(self) -> None:
+    async def test_after_a_failed_write_waiting_entries_are_refused_and_the_file_is_cut_back(self) -> None:
         journal = Journal(self.path, 0)
         await journal.write(GESTURES[0])
         old = resource.getrlimit(resource.RLIMIT_FSIZE)
@@ -130,15 +130,15 @@ class Writing(unittest.IsolatedAsyncioTestCase):
             resource.setrlimit(resource.RLIMIT_FSIZE, old)
         self.assertEqual([type(one) for one in results], [NotWritten] * 3)
         self.assertEqual(self.path.read_bytes(), line_of(GESTURES[0]))
-        with self.assertRaises(NotWritten):  # what it stands on may not be there
+        with self.assertRaises(NotWritten):  # the entry before it may be missing
             await journal.write(GESTURES[1])
         self.assertEqual(journal.confirmed(), GESTURES[:1])
         await journal.mend(GESTURES[1])
         await journal.write(GESTURES[2])
         self.assertEqual(read_entries(self.path)[0], GESTURES)
 
-    async def test_a_fault_behind_a_write_keeps_nobody_waiting(self) -> None:
-        """What is on the disk is confirmed, and what comes is written."""
+    async def test_a_fault_after_a_write_keeps_nobody_waiting(self) -> None:
+        """Entries on the disk are confirmed, and later ones are written."""
         journal = Journal(self.path, 0)
 
         def fails() -> None:
@@ -158,17 +158,16 @@ class Writing(unittest.IsolatedAsyncioTestCase):
     async def test_compaction_loses_nothing_that_is_written_meanwhile(self) -> None:
         journal = Journal(self.path, 0)
         await journal.write(GESTURES[0])
-        short = asyncio.ensure_future(journal.compact(lambda: [GESTURES[1]]))
-        await asyncio.sleep(0)
+        compaction = asyncio.ensure_future(journal.compact(lambda: [GESTURES[1]]))  # replaces GESTURES[0] by GESTURES[1]
+        await asyncio.sleep(0)  # lets the process start that writes the new journal
         await journal.write(GESTURES[2])
-        await short
+        await compaction
         self.assertEqual(read_entries(self.path)[0], GESTURES[1:])
         self.assertEqual(journal.size, self.path.stat().st_size)
         self.assertEqual(self.path.stat().st_mode & 0o777, 0o600)
 
-
-    async def test_nobody_waits_while_it_is_shortened(self) -> None:
-        """What is written meanwhile, much of it, stands behind; what is changed meanwhile is not in what stands before."""
+    async def test_nobody_waits_for_a_compaction(self) -> None:
+        """Entries written during compaction follow the compacted ones; changes made during it are not in the compacted ones."""
         journal, held, gate = Journal(self.path, 0), [GESTURES[1]], running.new_folder() / "gate"
         await journal.write(GESTURES[0])
 
@@ -177,15 +176,15 @@ class Writing(unittest.IsolatedAsyncioTestCase):
             while not gate.exists() and time.monotonic() < until:
                 time.sleep(0.02)
             yield from held
-        short = asyncio.ensure_future(journal.compact(entries))
+        compaction = asyncio.ensure_future(journal.compact(entries))
         await asyncio.sleep(0)
         held.append(GESTURES[0])
         many = [{"gesture": {"note": "x" * 60_000, "number": number}} for number in range(20)]
         for entry in many:
             await journal.write(entry)
-        self.assertFalse(short.done())
+        self.assertFalse(compaction.done())
         gate.touch()
-        await short
+        await compaction
         await journal.write(GESTURES[2])
         self.assertEqual(read_entries(self.path)[0], [GESTURES[1], *many, GESTURES[2]])
         self.assertEqual([one.name for one in self.path.parent.iterdir()], [self.path.name])

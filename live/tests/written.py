@@ -1,4 +1,4 @@
-"""What is confirmed is on the disk, and what is not is told to nobody, whatever the disk does."""
+"""Test that everything confirmed is on the disk, and that nobody hears of anything else, whatever the disk does."""
 from __future__ import annotations
 
 import asyncio
@@ -32,8 +32,8 @@ class Written(Case):
         self.here = await self.enterAsyncContext(Here())
         self.ada, self.ben = await self.here.join("Ada", "Ben")
 
-    async def begun(self, act: Coroutine[Any, Any, Any]) -> asyncio.Task[Any]:
-        """An act that waits for the disk, and what the laboratory does by it is done."""
+    async def start(self, act: Coroutine[Any, Any, Any]) -> asyncio.Task[Any]:
+        """Start an act, and wait until only the disk holds it up. Return its task."""
         self.disk.is_asked.clear()
         self.disk.free.clear()
         task = asyncio.create_task(act)
@@ -43,8 +43,8 @@ class Written(Case):
         self.assertFalse(task.done())
         return task
 
-    def goes_on(self, fault: int | None = None) -> None:
-        """The disk does what it was asked; or it fails."""
+    def release_disk(self, fault: int | None = None) -> None:
+        """Let the disk do what it was asked to, or fail."""
         self.disk.fault = lambda _, name: fault if name == "write" else None
         self.disk.free.set()
 
@@ -55,34 +55,34 @@ class Written(Case):
 
     async def test_a_gesture_that_is_sent_again_is_answered_after_its_first_write_and_as_that_ended(self) -> None:
         for key, fault in (("a", None), ("b", errno.EIO)):
-            first = await self.begun(self.here.put(self.ada, [*LIMIT, 3], key=key))
+            first = await self.start(self.here.put(self.ada, [*LIMIT, 3], key=key))
             again = asyncio.create_task(self.here.put(self.ada, [*LIMIT, 3], key=key))
             await asyncio.sleep(0.2)
             self.assertFalse(again.done())
-            self.goes_on(fault)
+            self.release_disk(fault)
             if fault:
                 self.assertEqual([await self.refused(one) for one in (first, again)], ["NotWritten"] * 2)
             else:
                 self.assertEqual(await soon(first), await soon(again))
-        self.goes_on()
+        self.release_disk()
         stamp = await self.here.put(self.ada, [*LIMIT, 3], key="b")
         self.assertEqual(stamp, await self.here.put(self.ada, [*LIMIT, 3], key="b"))
         self.assertEqual([one["made"]["key"] for one in self.here.entries() if "made" in one], ["a", "b"])
 
     async def test_a_take_and_a_share_across_a_failed_write_end(self) -> None:
         await self.here.put(self.ada, [*LIMIT, 3])
-        share = await self.begun(self.here.share(self.ada))
+        share = await self.start(self.here.share(self.ada))
         take = asyncio.create_task(self.here.take(self.ben))
         await asyncio.sleep(0.1)
-        self.goes_on(errno.EIO)
+        self.release_disk(errno.EIO)
         self.assertEqual(await self.refused(share), "NotWritten")
         self.assertEqual((await soon(take))["size"], 0)
-        self.goes_on()
+        self.release_disk()
         await self.here.share(self.ada)
-        take = await self.begun(self.here.take(self.ben))
-        self.goes_on(errno.EIO)
+        take = await self.start(self.here.take(self.ben))
+        self.release_disk(errno.EIO)
         self.assertEqual(await self.refused(take), "NotWritten")
-        self.goes_on()
+        self.release_disk()
         self.assertEqual((await soon(self.here.take(self.ben)))["size"], 1)
 
     async def test_what_is_in_pieces_ends_where_a_write_fails(self) -> None:
@@ -93,7 +93,7 @@ class Written(Case):
             nonlocal rounds
             rounds += 1
             if rounds == 2:
-                self.goes_on(errno.EIO)
+                self.release_disk(errno.EIO)
                 await asyncio.wait([keeper.record(SeatUsed(1, 0))])
             return MORE
         self.assertEqual(await self.refused(keeper.ask(self.ben, (), piece)), "NotWritten")
@@ -104,9 +104,9 @@ class Written(Case):
         keeper = self.here.keeper
 
         async def body() -> None:
-            self.goes_on(errno.EIO)
+            self.release_disk(errno.EIO)
             await asyncio.wait([keeper.record(SeatUsed(1, 0))])
-            self.goes_on()
+            self.release_disk()
             await keeper.writable()
         self.assertEqual(await self.refused(keeper.ask(self.ben, (), body)), "NotWritten")
         await self.here.put(self.ben, [*LIMIT, 3])
@@ -128,11 +128,11 @@ class Written(Case):
             async def is_kept() -> bool:
                 return any("share" in one for one in self.here.entries())
             await until(is_kept, "the share is on the disk")
-            self.goes_on(errno.EIO)
+            self.release_disk(errno.EIO)
             await asyncio.wait([keeper.record(SeatUsed(self.ben, 0))])
             is_free.set()
             self.assertEqual(len((await soon(share))["stamps"]), 3)
-        self.goes_on()
+        self.release_disk()
         self.assertEqual((await self.here.take(self.ben))["size"], 3)
 
     async def test_what_is_on_the_disk_was_done_though_there_is_no_program(self) -> None:
@@ -158,10 +158,10 @@ class Written(Case):
         await self.here.put(self.ben, ["limit", 1, 50, 4])
         await self.here.share(self.ben)
         for fault, edits in ((errno.EIO, 1), (None, 2)):
-            self.goes_on()
+            self.release_disk()
             await keeper.until_writable()
             self.here.heard.clear()
-            share = await self.begun(self.here.share(self.ada))
+            share = await self.start(self.here.share(self.ada))
             looks = [asyncio.create_task(self.here.ask(cleo, verb, at="shared", **more)) for verb, more in (
                 ("layers", {}), ("operations", {}), ("transcript", {"from": 0, "to": 0}))]
             self.assertEqual((lab.news(cleo, 9)["size"], lab.news(cleo, 9)["shares"][1:]), (1, []))
@@ -170,7 +170,7 @@ class Written(Case):
             await asyncio.sleep(0.2)
             self.assertEqual([look for look in (*looks, first) if look.done()], [])
             self.assertEqual(self.here.heard, [])
-            self.goes_on(fault)
+            self.release_disk(fault)
             layers, gestures, transcript = [await soon(look) for look in looks]
             self.assertEqual([len(layers["layers"]), len(gestures["operations"]), transcript["lines"].count('["limit",')],
                              [edits] * 3)
@@ -182,13 +182,13 @@ class Written(Case):
 
     async def test_who_goes_while_a_seat_is_given_harms_nobody(self) -> None:
         """Others, who wait for the same write, are answered, and the seat can be taken over."""
-        join = await self.begun(self.here.lab.seating.join("Cleo", "", None))
+        join = await self.start(self.here.lab.seating.join("Cleo", "", None))
         looks = [asyncio.create_task(self.here.lab.seating.seats_kept(turn)) for turn in (self.ben, None)]
         await asyncio.sleep(0.1)
         join.cancel()
         looks.append(asyncio.create_task(self.here.lab.seating.seats_kept()))
         await asyncio.sleep(0.1)
-        self.goes_on()
+        self.release_disk()
         for look in looks:
             self.assertEqual([one["name"] for one in await soon(look)][:2], ["Ada", "Ben"])
         seats = {one["name"]: one for one in await soon(self.here.lab.seating.seats_kept())}
@@ -197,21 +197,21 @@ class Written(Case):
         await soon(self.here.put(index, [*LIMIT, 3]))
 
     async def test_the_list_is_whole_after_a_failed_write(self) -> None:
-        """Who was told of a change that was pending shall not go on from there."""
+        """A tab that saw a pending change must not continue from that version."""
         await self.here.put(self.ada, ["limit", 1, 40, 3])
-        put = await self.begun(self.here.put(self.ada, [*LIMIT, 3]))
+        put = await self.start(self.here.put(self.ada, [*LIMIT, 3]))
         pending = await soon(self.here.ask(self.ada, "layers"))
-        self.goes_on(errno.EIO)
+        self.release_disk(errno.EIO)
         self.assertEqual(await self.refused(put), "NotWritten")
         said = await soon(self.here.ask(self.ada, "layers", **{"from": pending["next"]}))
         self.assertEqual((len(pending["layers"]), len(said["layers"]), said["since"]), (2, 1, 0))
         said = await soon(self.here.ask(self.ada, "layers", **{"from": said["next"]}))
         self.assertEqual((said["layers"], said["since"]), ([], said["next"]))
 
-    async def test_what_is_being_forgotten_is_told_to_nobody(self) -> None:
-        """Who asks while the journal is read again, since a write failed, is told what is there."""
+    async def test_nobody_hears_of_what_is_being_forgotten(self) -> None:
+        """A tab that asks while the journal is read again after a failed write gets what is there."""
         await self.here.put(self.ada, [*LIMIT, 3])
-        share = await self.begun(self.here.share(self.ada))
+        share = await self.start(self.here.share(self.ada))
         reads, is_read, may_read = Journal.confirmed, threading.Event(), threading.Event()
         self.addCleanup(may_read.set)
 
@@ -220,7 +220,7 @@ class Written(Case):
             may_read.wait()
             return reads(journal)
         with mock.patch.object(Journal, "confirmed", held_up):
-            self.goes_on(errno.EIO)
+            self.release_disk(errno.EIO)
             await asyncio.get_running_loop().run_in_executor(None, is_read.wait)
             asked: list[tuple[str, dict[str, Any]]] = [
                 ("layers", {"at": "shared"}), ("operations", {"at": "shared"}), ("figures", {"of": "mine", "from": 0, "to": 60})]
@@ -232,16 +232,16 @@ class Written(Case):
         self.assertEqual(figures_of["before"], figures_of["after"])
         self.assertEqual(await self.refused(share), "NotWritten")
 
-    async def test_what_comes_from_another_site_is_told_once_it_is_on_the_disk(self) -> None:
-        def one() -> Operation:
+    async def test_operations_of_another_site_are_announced_only_after_they_are_on_the_disk(self) -> None:
+        def new_operation() -> Operation:
             return edit((StampClock().count_after(0), 2 * 64 + 1), {("limit", 2, 50): 3}, About("Sam"))
         lab = self.here.lab
         for fault, size in ((errno.EIO, 0), (None, 1)):
-            self.goes_on()
+            self.release_disk()
             await self.here.keeper.until_writable()
             self.here.heard.clear()
-            operations = [one()]
-            came = await self.begun(lab.came(operations, "", {}))
+            operations = [new_operation()]
+            came = await self.start(lab.came(operations, "", {}))
             again = asyncio.create_task(lab.came(operations, "", {}))
             self.assertEqual((lab.news(self.ben, 9)["size"], lab.news(self.ben, 9)["shares"], self.here.heard), (0, [], []))
             self.assertEqual(await self.edits(self.ben), 0)
@@ -249,21 +249,21 @@ class Written(Case):
             look = asyncio.create_task(self.first(self.ben))
             await asyncio.sleep(0.2)
             self.assertFalse(look.done() or again.done())
-            self.goes_on(fault)
+            self.release_disk(fault)
             said = await soon(asyncio.gather(came, again, return_exceptions=True))
             self.assertEqual([getattr(one, "text", one) for one in said], ["NotWritten"] * 2 if fault else [True, False])
             seen = (await soon(look))["size"], lab.news(self.ben, 9)["size"], await self.edits(self.ben)
             self.assertEqual(seen, (size,) * 3)
 
     async def test_figures_are_of_what_is_on_the_disk(self) -> None:
-        """Of a share by which nobody enters at the first inlet: the first detector counts the cars of this one alone."""
+        """The share closes the first inlet, so the first detector counts no car if the share is on the disk."""
         span = {"from": 0, "to": 60}
         self.here.keeper.settings = Settings(days=2)
         await self.here.put(self.ada, ["inflow", 0, 0, 0])
         for fault in (errno.EIO, None):
-            self.goes_on()
+            self.release_disk()
             await self.here.keeper.until_writable()
-            share = await self.begun(self.here.share(self.ada))
+            share = await self.start(self.here.share(self.ada))
             with counted() as computed:
                 looks = [asyncio.create_task(self.here.ask(self.ben, verb, of="mine", **span)) for verb in ("figures", "days")]
 
@@ -272,7 +272,7 @@ class Written(Case):
                 await until(both, "they are computed")
                 await asyncio.sleep(0.2)
                 self.assertEqual([look for look in looks if look.done()], [])
-                self.goes_on(fault)
+                self.release_disk(fault)
                 day, days = [await soon(look) for look in looks]
             before, after = (day[side]["detectors"][0][0] for side in ("before", "after"))
             cars = next(one for one in days["figures"] if one["name"] == "cars 0")
@@ -287,25 +287,25 @@ class Written(Case):
     async def test_the_roads_of_a_preview_are_asked_once_they_are_on_the_disk(self) -> None:
         await self.here.put(self.ada, [*LIMIT, 3])
         for fault, size in ((errno.EIO, 0), (None, 1)):
-            self.goes_on()
+            self.release_disk()
             await self.here.keeper.until_writable()
-            share = await self.begun(self.here.share(self.ada))
+            share = await self.start(self.here.share(self.ada))
             preview = asyncio.create_task(self.first(self.ben))
             await asyncio.sleep(0.2)
             self.assertFalse(preview.done())
             self.assertEqual(await self.refused(self.here.ask(self.ben, "advance", at="after", to=60)), "NoPreview")
-            self.goes_on(fault)
+            self.release_disk(fault)
             self.assertEqual((await soon(preview))["size"], size)
             await soon(asyncio.gather(share, return_exceptions=True))
             await soon(self.here.ask(self.ben, "advance", at="after", to=60))
             await self.here.ask(self.ben, "preview", what=None)
 
     async def edits(self, seat: int) -> int:
-        """How many win on the shared road."""
+        """Return how many edits are in force on the shared road."""
         return len((await soon(self.here.ask(seat, "scenario", at="shared")))["edits"])
 
     async def first(self, seat: int) -> Any:
-        """What `Look first` shows."""
+        """Return what `Look first` shows."""
         return await self.here.ask(seat, "preview", what="take")
 
     async def test_a_full_disk_beside_a_running_clock_starts_one_program(self) -> None:
