@@ -208,7 +208,7 @@ class Acts(Case):
         for refusal, why, shape in (
                 ("NoObject", "no zone 6", ["limit", 5, 6, 0, None, 1]), ("NoObject", "before its first", ["limit", 3, 2, 0, 9, 1]),
                 ("NoObject", "no cell 120", ["block", 119, 120, 0, 9, 1]), ("Step", "at most", ["limit", 1, 1, 1_048_576, None, 1]),
-                ("Step", "ends at step", ["limit", 1, 1, 5, 1_048_576, 1]), ("Range", "behind its beginning", ["limit", 1, 1, 5, 5, 1]),
+                ("Step", "must end at step", ["limit", 1, 1, 5, 1_048_576, 1]), ("Range", "after its beginning", ["limit", 1, 1, 5, 5, 1]),
                 ("ValueOutOfRange", "0 to 9", ["limit", 1, 1, 5, 6, 10]), ("not a command", "not a number", ["limit", 1, 1, 5, 6, None]),
                 ("not a command", "is not [kind", ["limit", 1, 1, 5, 6]), ("not a command", "is not [kind", None),
                 ("not a command", "does not exist", ["lane", 1, 1, 5, 6, 1])):
@@ -340,7 +340,7 @@ class Acts(Case):
             await self.ada.ask("undo", key="2", stamp=mine)
 
     async def test_what_another_does_in_turn_is_not_done_at_once(self) -> None:
-        """Who holds a change knows it, however often the line is changed since; a taking back alone, too."""
+        """A seat that holds a change has seen it, however often the line is changed later; an undo alone, too."""
         line = tuple(await lay(self.ada, "1", CLOSED))
         await self.ada.ask("send", name="shared")
         await self.ben.ask("take", message="shared")
@@ -460,7 +460,7 @@ class Acts(Case):
                 await ada.ask("gesture", key="late", layer=gone, top=True)
 
     async def test_z_is_the_same_after_what_a_start_forgets(self) -> None:
-        """Of the newest operations one takes back one that is older."""
+        """One of the newest operations undoes an older one."""
         line = await lay(self.ada, "line", CLOSED)
         stamp = await lay(self.ada, "change", ["block", 60, 69, 30, 70, 1], layer=line)
         await self.ada.ask("undo", key="undo", stamp=stamp)
@@ -504,7 +504,7 @@ class Acts(Case):
 
 
 class Previews(Case):
-    """What sharing or taking would change, beside the same done."""
+    """Compare what a preview says of sharing or taking with what it then does."""
 
     async def asyncSetUp(self) -> None:
         self.a6 = self.server()
@@ -527,7 +527,7 @@ class Previews(Case):
         return [{name: value for name, value in one.items() if name not in ("id", "us")} for one in picture]
 
     async def figures_are(self, said: Any, name: str, at: str, first: int) -> None:
-        """The figures of a road are those of the replica, by its cars."""
+        """Compare the figures of a road with those of the replica's cars."""
         cars = [(await self.ada.ask("cars", at=at, step=step))["cars"] for step in range(first, 201)]
         self.assertAlmostEqual(said[name]["vehicle_hours"], sum(map(len, cars[1:])) / 3_600)
         numbers = {car[0] for row in cars for car in row if first <= car[0] // 16 < 200}
@@ -612,7 +612,7 @@ class Previews(Case):
         self.assertEqual((await self.ben.reply("cells", at="after", step=0))["refused"], "NoPreview")
 
     async def test_demand_that_could_not_enter(self) -> None:
-        """Where no car is slowed an inlet that always asks lets in a car each other step, 1,800 an hour: so the demand is known,
+        """Without slowing, an inlet with chance 1 admits a car every other step, 1,800 an hour: so the demand is known,
         and what is lost, too. A demand that is lowered is not lost."""
         plan = {**SMALL, "zones": [[5, 0]] * 6, "inlets": [[0, 65_536], [40, 0]]}
         server = self.server(plan=plan)

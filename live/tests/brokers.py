@@ -1,4 +1,4 @@
-"""Two and three servers by a broker that is stopped, killed, keeps nothing, and is told rubbish."""
+"""Test two and three servers with a broker that is stopped, killed, forgets everything, and gets garbage."""
 from __future__ import annotations
 
 import asyncio
@@ -16,20 +16,20 @@ TOTALS = {"from": 0, "to": 100}
 
 
 async def put(seat: Seat, *edits: list[Any]) -> list[int]:
-    """A gesture that is shared at once."""
+    """Make a gesture, and share it at once."""
     stamp: list[int] = (await seat.ask("gesture", key=os.urandom(8).hex(), edits=list(edits)))["stamp"]
     await seat.ask("send", name="shared")
     return stamp
 
 
 async def shared(seat: Seat) -> list[Any]:
-    """What is put on the shared road; the stamps are local to each server."""
+    """Return what is put on the shared road, without stamps, which are local to each server."""
     edits: list[Any] = (await seat.ask("scenario", at="shared"))["edits"]
     return [[*edit[:3], 1, 64, edit[5]] for edit in edits if edit[5] is not None]
 
 
 def broker_of(seat: Seat) -> dict[str, Any]:
-    """What the page shows of the broker."""
+    """Return what the page shows about the broker."""
     return next((one["broker"] for one in reversed(seat.told) if "broker" in one), {})
 
 
@@ -42,7 +42,7 @@ class Brokers(Case):
         return self.server("--broker", broker.address, "--site", str(number), plan=plan)
 
     async def same(self, *seats: Seat, edits: int) -> list[Any]:
-        """Waits until all shared replicas hold the same so many edits; then rows and totals are the same, and those
+        """Wait until all shared replicas hold the same number of edits; then rows and totals are the same, and those
         of one program that got the edits in another order."""
         async def holds() -> bool:
             held = [await shared(seat) for seat in seats]
@@ -112,7 +112,7 @@ class Brokers(Case):
             self.assertEqual([one["title"] for one in news["shares"]], ["night works", "by day"])
 
     async def has_title(self, seat: Seat, title: str) -> bool:
-        """Whether the seat is told that Ada shared something so titled, and nothing else was."""
+        """Return whether the server told the seat that Ada shared something with this title, and nothing else."""
         news = next((one["news"] for one in reversed(seat.told) if "news" in one), {"shares": []})
         return bool(news["shares"]) and (news["shares"][-1]["who"], news["shares"][-1]["title"]) == ("Ada", title)
 
@@ -154,7 +154,7 @@ class Brokers(Case):
         return all(any(why in sentence for sentence in told(seat)) for seat in seats)
 
     async def stays(self, why: str, *seats: Seat) -> bool:
-        """Whether a panel says so that stays."""
+        """Return whether a permanent warning has this sentence."""
         return all(any(why in sentence for sentence in broker_of(seat).get("stays", [])) for seat in seats)
 
     async def test_one_number_twice_is_told_and_nothing_is_mixed(self) -> None:
@@ -215,7 +215,7 @@ class Brokers(Case):
 
 
 def reference(server: Server) -> str:
-    """By which sites know that they have the same road."""
+    """Tests of the hashes that show sites that they have the same road."""
     import hashlib
     plan = server.journal()[0]["lab"]["plan"]
     return hashlib.sha256(json.dumps({**plan, "replicas": 0}, sort_keys=True).encode()).hexdigest()[:16]

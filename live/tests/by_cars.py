@@ -30,7 +30,7 @@ class ByCars(Case):
             self.assertAlmostEqual(found, wanted, 7, what)
 
     async def runs(self, here: Here, seat: int) -> list[Run]:
-        """The shared road and the own one, by the edits that the laboratory says."""
+        """Build the shared road and the own one from the edits that the laboratory reports."""
         edits = [(await here.ask(seat, "scenario", at=at))["edits"] for at in ("shared", f"seat{seat}")]
         return [Run(here.plan, one, STEPS) for one in edits]
 
@@ -62,7 +62,7 @@ class ByCars(Case):
                                   (number, side))
                     if [first, last] == whole:
                         self.demand_is(said, before, after, number)
-                for step in (300, 40):  # late edits, of which one is further back than the other
+                for step in (300, 40):  # late edits, the second one further back
                     await here.ask(seat, "gesture", key=f"late {step}", shape=["block", 8, 8, step, step + 40, 1])
                     before, after = await self.runs(here, seat)
                     said = await soon(here.ask(seat, "figures", of="mine", **{"from": 0, "to": STEPS}))
@@ -76,7 +76,7 @@ class ByCars(Case):
                     self.assertAlmostEqual(sum(sums) / 3_600, run.hours(60, 420), 9)
 
     def demand_is(self, said: Any, before: Run, after: Run, number: int) -> None:
-        """The demand is what its chances admit in long runs: to 0.5 %, and four standard errors of such a run."""
+        """The demand equals what its chances admit in long runs, within 0.5 % and four standard errors of such a run."""
         for side, run in (("before", before), ("after", after)):
             for inlet, asked in enumerate(said[side]["asked"]):
                 wanted = run.asked(inlet, 0, STEPS)

@@ -96,7 +96,7 @@ class Certificates(Case):
             writer.close()
 
     async def test_a_flood_of_one_address_locks_nobody_out_at_another(self) -> None:
-        """By 600 connections a second that say nothing, by TLS: of those that the other opens none is closed, and each has its
+        """600 silent TLS connections a second come from one address: none of the other address's connections is closed, and each has its
         page in time."""
         server = self.server("--listen", "0.0.0.0", "--name", "localhost", "--certificate", self.both)
         port = int(server.address.partition("/#")[0].rpartition(":")[2])
@@ -138,7 +138,7 @@ class Certificates(Case):
                 told[:] = [one["broker"] for one in eve.told if "broker" in one and one["broker"]["told"]]
                 return bool(told and (await sam.ask("scenario", at="shared"))["edits"])
             told: list[Any] = []
-            await until(is_told, "the one has the edit, the other is told")
+            await until(is_told, "the one has the edit, the other a warning")
             kind, index, step, *_, value = (await sam.ask("scenario", at="shared"))["edits"][0]  # stamps are a server's own
             self.assertEqual((kind, index, step, value), ("limit", 1, 5, 1))
             self.assertIn("does not let this site in", told[-1]["told"][0])
@@ -176,7 +176,7 @@ class Certificates(Case):
             self.refused(f"--broker is HOST:PORT, not {broker}", "--broker", broker)
 
     def refused(self, why: str, *options: str) -> str:
-        """A server that does not start, and says why. Return what it says."""
+        """Start a server that must fail. Return its message."""
         command = [sys.executable, LIVE / "serve", "--folder", new_folder(), "--port", "0", *options]
         ran = subprocess.run(command, capture_output=True, text=True, timeout=PATIENCE, check=False)
         self.assertNotEqual(ran.returncode, 0)

@@ -51,12 +51,12 @@ class Engineer:
 
 
 def raw_edits(operation: dict[str, Any]) -> list[list[Any]]:
-    """The raw edits of an operation."""
+    """Return the raw edits of an operation."""
     return [[*name, value] for name, value in operation["sets"]]
 
 
 def numbers(scenario: list[Any]) -> dict[tuple[Any, ...], int]:
-    """What is put in a program, whatever the stamps."""
+    """Return what is put in a program, without stamps."""
     return {tuple(edit[:3]): edit[5] for edit in scenario if edit[5] is not None}
 
 
@@ -89,7 +89,7 @@ class Crashes(Case):
         await until(has_more, "gestures are confirmed")
 
     async def look(self, server: Server, engineers: list[Engineer]) -> None:
-        """Every confirmed gesture is there with its edits; what was not confirmed goes out again, and is there once."""
+        """Check that every confirmed gesture is there with its edits, and that each other one is sent again and is there once."""
         for engineer in engineers:
             async with engineer.seat(server) as seat:
                 for key in engineer.sent.keys() - engineer.confirmed.keys():
@@ -132,7 +132,7 @@ class Crashes(Case):
         await self.rounds(server, engineers, kill)
 
     async def test_the_broker_is_killed(self) -> None:
-        """What was shared meanwhile comes to the other site all the same."""
+        """What was shared meanwhile still reaches the other site."""
         broker = self.broker()
         server = self.server("--broker", broker.address, plan=PLAN)
         other = self.server("--broker", broker.address, "--site", "2", plan=PLAN)
@@ -183,7 +183,7 @@ class Crashes(Case):
         return max((one["program"]["changes"] for one in seat.told if "program" in one), default=0)
 
     async def test_it_ends_by_an_interrupt_with_tabs_open(self) -> None:
-        """One of them does not read."""
+        """One of the tabs does not read."""
         server = self.server(plan=PLAN)
         ada, deaf = [await server.seat(name).__aenter__() for name in ("Ada", "deaf")]
         await ada.ask("gesture", key="1", edits=[["block", 30, 10, 1]])

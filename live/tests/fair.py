@@ -67,7 +67,7 @@ class FairTurns(unittest.IsolatedAsyncioTestCase):
             one.cancel()
 
     async def asks(self, seat: int, name: str, cost: float, takes_long: bool | None = None) -> None:
-        """Asks once, for a turn that takes so many seconds of the test's clock."""
+        """Ask for one turn that takes this many seconds of the test's clock."""
         async def work() -> None:
             self.done.append(name)
             for _ in range(5):
@@ -80,7 +80,7 @@ class FairTurns(unittest.IsolatedAsyncioTestCase):
             await self.asks(seat, name, cost)
 
     async def beside(self) -> None:
-        """From now on the turns have the test's clock."""
+        """Let the turns use the test's clock from now on."""
         self.task.cancel()
         self.now, self.waits = 0.0, 0
         test = self
@@ -143,7 +143,7 @@ class FairTurns(unittest.IsolatedAsyncioTestCase):
         await asyncio.gather(*takes)
 
     async def test_what_is_short_is_done_within_the_long_turn_of_another(self) -> None:
-        """In its seat's order, one at a time, and not if the turn mends what jobs stand on."""
+        """Jobs run in their seat's order, one at a time, and not while the turn repairs what they depend on."""
         self.task.cancel()
         may, ends = [True], asyncio.Event()
         self.turns = Turns(self.around, may_be_within=lambda: may[0])

@@ -128,8 +128,8 @@ class Bounds(Case):
         await here.join("Ada")
         line = list(await here.put(1, ["limit", 1, 50, 4]))
         await here.ask(1, "gesture", key="w", layer=line, shape=None)
-        for what, why in (({"layer": line, "shape": None}, "to be withdrawn"), ({"layer": line, "top": True}, "to be put on top"),
-                          ({"edits": [["limit", 1, 50, None]]}, "to be withdrawn")):
+        for what, why in (({"layer": line, "shape": None}, "left to withdraw"), ({"layer": line, "top": True}, "left to put on top"),
+                          ({"edits": [["limit", 1, 50, None]]}, "left to withdraw")):
             with self.assertRaisesRegex(Refused, "NoEffect") as caught:
                 await here.ask(1, "gesture", key="again", **what)
             self.assertIn(why, caught.exception.why)

@@ -89,7 +89,7 @@ class Shell(Case):
         self.assertEqual([[*one[:3], one[5]] for one in held], [["limit", 0, 50, 4], ["limit", 2, 50, 4]])
         said = [await self.road("cron", *words) for words in (("out", "2"), ("in", "2"), ("out", "1"))]
         self.assertEqual([status for status, _, _ in said], [0, 0, 1])
-        self.assertIn("1 is this site", said[2][2])
+        self.assertIn("site 1 cannot exclude itself", said[2][2])
         self.assertEqual((await self.road("cron", "tell"))[:2], (0, "all came back"))
         self.broker.kill()
         await self.road("cron", "share")
@@ -133,16 +133,16 @@ class Shell(Case):
                 await ada.ask("edit", object=["limit", number % 6], step=number, value=number // 6 % 5)
             self.assertEqual(len((await ada.ask("scenario"))["edits"]), 200)
 
-    async def test_faults_are_told(self) -> None:
+    async def test_faults_are_reported(self) -> None:
         for words, status, why in (
                 (("cron", "edit", "limit", "99", "50", "1"), 1, "no zone 99"),
                 (("cron", "edit", "limt", "2", "50", "1"), 1, "use `limit`"),
                 (("cron", "edit", "limit", "2", "50"), 2, "unknown command or wrong arguments"),
                 (("cron", "edit", "limit", "2", "x", "1"), 2, "is not a whole number"),
                 (("cron", "ask", "nonsense"), 2, "expected JSON"),
-                (("cron", "ask", '{"scenario":{"at":"cron"}}'), 1, 'here `at` is "seat1" or "shared"'),
-                (("cron", "ask", '{"take":{"at":"shared","message":"shared"}}'), 1, 'here `at` is "seat1"'),
-                (("cron", "ask", '{"crowd":{}}'), 1, "no command of a tab"),
+                (("cron", "ask", '{"scenario":{"at":"cron"}}'), 1, 'here `at` must be "seat1" or "shared"'),
+                (("cron", "ask", '{"take":{"at":"shared","message":"shared"}}'), 1, 'here `at` must be "seat1"'),
+                (("cron", "ask", '{"crowd":{}}'), 1, "is not a command of a tab"),
                 (("cron",), 2, "NAME and a command"), (("cron",), 2, "live/road Cron edit limit 11 5400 2"),
                 (("cron", "dance"), 2, "unknown command or wrong arguments")):
             ended, _, said = await self.road(*words)

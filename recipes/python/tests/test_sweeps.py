@@ -320,7 +320,7 @@ class Goes(Folder):
                 (["model.py:slow"], "name the points: --grid NAME=VALUES or --points FILE"),
                 (["model.py:slow", "--grid", "a"], "--grid a: write NAME=VALUES"),
                 (["model.py:slow", "--points", "none.csv"], "No such file"),
-                (["model.py:slow", *GRID, "--part", "1"], "--part K/N"), (["model.py:slow", *GRID, "--seeds", "x"], "--seeds is 1-4")):
+                (["model.py:slow", *GRID, "--part", "1"], "--part as K/N"), (["model.py:slow", *GRID, "--seeds", "x"], "--seeds as 1-4")):
             ran = self.run_command(*words)
             self.assertEqual(ran.returncode, 2, words)
             self.assertIn(said, ran.stderr)
