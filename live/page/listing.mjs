@@ -194,7 +194,7 @@ export class Words {
    * @param {Change} change
    */
   effect(change) {
-    const then = change.standing ? this.cover(change) || "In force whole."
+    const then = change.standing ? this.cover(change) || "Fully in force."
       : `Withdrawn by ${this.by(change)}.`;
     return `${this.name(change)}: ${this.text(change).replace(/^Withdrew: /, "")} \u2013 then: `
       + `${then[0].toLowerCase()}${then.slice(1)}`;

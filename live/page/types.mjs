@@ -127,7 +127,7 @@
  * @property {number[]} asked         cars that want to enter at each inlet
  * @property {number[]} entered       cars that entered at each inlet
  * @property {number[]} lost          cars of lost demand at each inlet
- * @property {number[]} scatter       cars by which the demand of each inlet varies by chance
+ * @property {number[]} scatter       the random variation of the demand of each inlet, in cars
  * @property {DetectorFigures[]} flows
  * @property {Trip[]} travel          to each detector, and last to the road's end
  * @property {Entry[]} entries        the same by the minute of entry, in their order

@@ -83,9 +83,9 @@ def entry_of(path: Path, number: int, line: bytes) -> Entry:
             raise ValueError("its checksum differs")
         entry = json.loads(text)
     except (ValueError, RecursionError) as fault:
-        raise Broken(f"{path}, line {number}, is broken ({fault}): {line[:60]!r}") from None
+        raise Broken(f"{path}, line {number}, is malformed ({fault}): {line[:60]!r}") from None
     if not isinstance(entry, dict) or [type(value) for value in entry.values()] != [dict]:
-        raise Broken(f"{path}, line {number}, is no entry: {line[:60]!r}")
+        raise Broken(f"{path}, line {number}, is not an entry: {line[:60]!r}")
     return entry
 
 

@@ -92,7 +92,7 @@ class Keeper:
         self.confirmed = self.state.shared.size
         is_new = count == 0
         if not is_new and site not in (None, self.state.site):
-            raise Broken(f"{self.folder} is of site {self.state.site}, which never changes")
+            raise Broken(f"{self.folder} belongs to site {self.state.site}, and its site never changes")
         if is_new:
             first: dict[str, Any] = {**plan(), "replicas": [self.state.replica(seat.index).at for seat in self.state.seats]}
             # A program must take it before it is written that this is the plan.
@@ -121,7 +121,7 @@ class Keeper:
         form, self._former = self._former, None
         await self.journal.write(Upgraded().written())
         await self.compact()
-        logging.warning("the journal was of form %d: it is written again, and the old one is kept as %s", form, kept)
+        logging.warning("the journal had form %d: it is rewritten, and the old one is kept as %s", form, kept)
 
     async def compact(self) -> None:
         """Shorten the journal: each operation once."""
@@ -230,7 +230,7 @@ class Keeper:
         try:
             await self.journal.mend(self.clock().written())
         except OSError as fault:
-            return f"the disk does not take it ({fault.strerror})"
+            return f"the disk does not accept it ({fault.strerror})"
         await self._upgrade()
         self._trouble = None
         self.listeners.tell("trouble")
@@ -254,7 +254,7 @@ class Keeper:
         """Forget, after a failed write, what was not confirmed, in the program too. It is done once, and what is confirmed can be
         looked at from then on, whether the disk takes more or not."""
         failures = self.journal.failures
-        logging.error("%s: back to what is written", self.journal.fault)
+        logging.error("%s: returning to what is on the disk", self.journal.fault)
         self._trouble = self.journal.fault
         self.listeners.tell("trouble")
         try:
@@ -300,7 +300,7 @@ class Keeper:
                 try:
                     return await job()
                 except ProgramExited as fault:
-                    logging.warning("%s: another is started", fault)
+                    logging.warning("%s: another one is being started", fault)
                     await self.replace(str(fault))
         except ProgramExited as fault:
             logging.error("%s", fault)
@@ -337,7 +337,7 @@ class Keeper:
                 self._screen, self.changes, self.why_changed = successor.result(), self.changes + 1, None
                 self.listeners.tell("program")
             else:
-                logging.warning("no successor: %s", successor.exception())
+                logging.warning("no program is ready to replace this one: %s", successor.exception())
         settings = self.settings
         is_late = (self.program.lines >= settings.most_lines or self.undone >= settings.most_undone
                    or self.screen.withdrawn >= settings.most_withdrawn)
@@ -376,7 +376,7 @@ class Keeper:
         async def job() -> Any:
             failures.add(self.journal.failures)
             if len(failures) > 1:
-                raise NotKept(self.journal.fault or "the disk did not take it")
+                raise NotKept(self.journal.fault or "the disk did not accept it")
             for index in replicas:
                 if not await self._bring(self.screen, index):
                     return MORE

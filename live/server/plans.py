@@ -50,9 +50,9 @@ def read_plan(path: Path) -> Any:
         value = json.loads(text)
         packed(value).encode()  # halves of signs, and NaN, can be read and not written
     except (ValueError, RecursionError) as fault:
-        raise Broken(f"{path} is no plan line, and no freeway in km: {fault}") from None
+        raise Broken(f"{path} is neither a plan line nor a freeway in km: {fault}") from None
     if type(value) is not dict:
-        raise Broken(f"{path} is no plan line, and no freeway in km: it is no object of JSON")
+        raise Broken(f"{path} is neither a plan line nor a freeway in km: it is not a JSON object")
     return value
 
 
@@ -87,7 +87,7 @@ def by_recipe(path: Path, program: str) -> Any:
                 said.append(line.strip())
         found = process.stdout.read()
     if process.returncode:
-        raise Broken(f"{path} is no plan line, and no freeway in km: {' '.join(said[-1:])}")
+        raise Broken(f"{path} is neither a plan line nor a freeway in km: {' '.join(said[-1:])}")
     for line in said:
         print(line, file=sys.stderr, flush=True)
     return json.loads(found)

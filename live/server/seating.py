@@ -92,12 +92,12 @@ class Seating:
         if not 1 <= index < SEATS or not self._state.seats[index].key:
             raise self._refused("NoSuchSeat", "nobody has this seat")
         if index in self._keeper.here:
-            raise self._refused("SeatConnected", "somebody is connected there")
+            raise self._refused("SeatConnected", "a tab is connected to this seat")
         return await self._give(index, self._state.seats[index].name)
 
     async def _new_seat(self, name: str) -> tuple[int, str]:
         if not name:
-            raise self._refused("NoName", "who are you? A name has 1 to 64 signs")
+            raise self._refused("NoName", "give a name of 1 to 64 characters")
         alike = self._alike(name)
         if alike is not None:
             looks = "" if alike == name else f", and {name} looks like it"

@@ -37,9 +37,9 @@ from .supervised import supervised
 if TYPE_CHECKING:
     import paho.mqtt.client as mqtt
 
-LONGEST_PAUSE = 300.0  # after which it is sent again at the latest
+LONGEST_PAUSE = 300.0  # seconds after which an operation is sent again at the latest
 LONGEST = 2_000_000  # bytes of a message
-LARGE = 100_000  # bytes of one that is read beside all else
+LARGE = 100_000  # bytes of a message from which on it is read in a thread
 PIECE = 500_000  # bytes, about, of operations that are sent together
 AT_ONCE = 500  # operations that are sent, and taken, without a pause
 READ_FOR = 0.02  # seconds for operations of a message, until others get their turn
@@ -47,7 +47,7 @@ TOLD, MOST_STAY = 5, 20  # sentences
 MOST_EARLY, LONGEST_EARLY = 1_000, 2_000_000  # operations that wait until their day has come, and their bytes
 SITES_TOPIC = "road/sites"
 TOTAL = "all"  # beside the numbers: of all operations
-LATE_SAID = f"Messages more than {LATE / 60:.0f} minutes old, by this site's clock, were ignored: what they say will be sent again"
+LATE_SAID = f"Messages more than {LATE / 60:.0f} minutes old by this site's clock were ignored; their changes will be sent again"
 SENDERS = {STRANGERS: "A sender that names no folder", UNSEALED: "A sender without this site's --site-key"}
 
 
@@ -123,11 +123,11 @@ class Sites:
         if self._seal.key is None:
             yield "Anybody who reaches the broker can send changes: start the sites with --site-key"
         for folder in self._floods.paused():
-            yield f"{SENDERS.get(folder) or self._peers.named(folder)} sends too much: its messages are ignored for {FLOOD:.0f} seconds"
+            yield f"{SENDERS.get(folder) or self._peers.named(folder)} sends too many messages: they are ignored for {FLOOD:.0f} seconds"
         if self._early:
             yield f"{len(self._early)} changes are dated more than a day ahead of this server's clock: they take effect at their date"
         if self._left_out:
-            yield f"{self._left_out} messages were ignored: they are not sealed with this site's --site-key"
+            yield f"{self._left_out} messages were ignored: they have no seal of this site's --site-key"
         yield from self._peers.their_state()
 
     def _say(self, sentence: str) -> None:
@@ -172,7 +172,7 @@ class Sites:
 
     def _opened(self, topic: str, payload: bytes) -> tuple[str, bytes]:
         if len(payload) > LONGEST:
-            raise InvalidMessage(f"it has {len(payload)} bytes, and {LONGEST} are the most")
+            raise InvalidMessage(f"it has {len(payload)} bytes, and the limit is {LONGEST}")
         return self._seal.opened(topic, payload)
 
     def _sender(self, folder: str) -> str:
@@ -184,7 +184,7 @@ class Sites:
     def _is_connected(self, code: int | None) -> None:
         self._connected = code == 0
         if code:
-            self._say(f"The broker does not let this site in: {connack_string(code)}")
+            self._say(f"The broker refused the connection: {connack_string(code)}")
         self._sent.clear()
         self._tell()
         if self._connected:
@@ -382,7 +382,7 @@ class Sites:
         twins = self._keeper.state.of_stamp(one.stamp)
         if len(twins) > 1:
             people = sorted({f"{each.about.who}, {each.about.note}" if each.about.note else each.about.who for each in twins})
-            self._say(f"Two changes have one stamp, {list(one.stamp)}: of {' and of '.join(people)}")
+            self._say(f"Two changes have the same stamp, {list(one.stamp)}: of {' and of '.join(people)}")
 
     async def _take_early(self) -> None:
         """Take what waited until its day has come."""
@@ -407,8 +407,8 @@ class Sites:
         if theirs == ours:
             self._pauses.pop(folder, None)
             if value.get("timeline") != await self._timeline() and self._numbers()[TOTAL] == ours:
-                self._say(f"{self._peers.named(folder)} has the same changes and another road by them: its server has another "
-                          f"version than this one. Update the older of the two")
+                self._say(f"{self._peers.named(folder)} has the same changes but derives a different road from them: its server "
+                          f"has another version. Update the older of the two")
         elif before == pair_now or folder in self._pauses and self._pauses[folder].place:
             self._tell_what_may_lack(folder, numbers, ours)
 

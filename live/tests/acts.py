@@ -504,7 +504,7 @@ class Acts(Case):
 
 
 class Previews(Case):
-    """Compare what a preview says of sharing or taking with what it then does."""
+    """Compare a preview of sharing or taking with what it then does."""
 
     async def asyncSetUp(self) -> None:
         self.a6 = self.server()

@@ -76,7 +76,7 @@ class ByCars(Case):
                     self.assertAlmostEqual(sum(sums) / 3_600, run.hours(60, 420), 9)
 
     def demand_is(self, said: Any, before: Run, after: Run, number: int) -> None:
-        """The demand equals what its chances admit in long runs, within 0.5 % and four standard errors of such a run."""
+        """Check that the demand equals what its chances admit in long runs, within 0.5 % and four standard errors of such a run."""
         for side, run in (("before", before), ("after", after)):
             for inlet, asked in enumerate(said[side]["asked"]):
                 wanted = run.asked(inlet, 0, STEPS)

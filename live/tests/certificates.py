@@ -173,7 +173,7 @@ class Certificates(Case):
         for port in ("65536", "-1"):
             self.refused(f"a port is 1 to 65535, or 0: any that is free; and not {port}", "--port", port)
         for broker in ("127.0.0.1:65536", "127.0.0.1:0", "127.0.0.1:", "127.0.0.1:x"):
-            self.refused(f"--broker is HOST:PORT, not {broker}", "--broker", broker)
+            self.refused(f"--broker must be HOST:PORT, not {broker}", "--broker", broker)
 
     def refused(self, why: str, *options: str) -> str:
         """Start a server that must fail. Return its message."""

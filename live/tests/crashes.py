@@ -132,7 +132,7 @@ class Crashes(Case):
         await self.rounds(server, engineers, kill)
 
     async def test_the_broker_is_killed(self) -> None:
-        """What was shared meanwhile still reaches the other site."""
+        """Changes that were shared meanwhile still reach the other site."""
         broker = self.broker()
         server = self.server("--broker", broker.address, plan=PLAN)
         other = self.server("--broker", broker.address, "--site", "2", plan=PLAN)

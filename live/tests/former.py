@@ -1,5 +1,5 @@
-"""A folder of the former form, whose gestures are edits alone: the same roads, row by row, after the first start, its journal
-written anew and the old one kept."""
+"""Test a folder of form 1, whose gestures are only edits: it has the same roads, row by row, after the first start, its journal
+rewritten and the old one kept."""
 from __future__ import annotations
 
 import hashlib
@@ -17,7 +17,7 @@ SEATS = ["shared", *(f"seat{index}" for index in range(1, 64))]
 
 
 class Folder:
-    """A journal of the former form, and what each replica holds by it."""
+    """A journal of form 1, and what each replica holds according to it."""
 
     def __init__(self, chance: random.Random) -> None:
         self.entries: list[Any] = [{"lab": {"plan": {**PLAN, "replicas": SEATS}, "site": 1, "folder": "f", "form": 1}},
@@ -53,7 +53,7 @@ class Folder:
         self.entries.append({"gesture": {"seat": seat, "key": f"key {number}", **gesture}})
 
     def rows(self, seat: int) -> list[str]:
-        """A replica's rows, by its edits alone."""
+        """Return the rows of a replica, from its edits alone."""
         with RoadLab(Plan(**{**PLAN, "replicas": ["A"]})) as lab:
             lab.take_in("A", [Edit.read([*edit[:3], *one["stamp"], edit[3]]) for one in self.held[seat]
                               for edit in one["edits"]])

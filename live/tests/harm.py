@@ -1,4 +1,4 @@
-"""Sites and tabs that mean harm: what they say is checked and bounded, and who floods is not heard."""
+"""Test hostile sites and tabs: what they send is checked and bounded, and a flood is ignored."""
 from __future__ import annotations
 
 import json
@@ -24,7 +24,7 @@ JUNK: list[Any] = [None, True, -1, 0, 1, 5, 119, 1 << 20, 1 << 48, 10 ** 30, 0.5
 
 
 def asked_well(number: int) -> list[tuple[str, dict[str, Any]]]:
-    """What a tab may ask."""
+    """Return valid questions of a tab."""
     made = {"key": f"{number}", "note": ""}
     former = f"{number - 1}"
     return [
@@ -41,7 +41,7 @@ def asked_well(number: int) -> list[tuple[str, dict[str, Any]]]:
 
 
 def places_in(value: Any) -> Iterator[tuple[Any, Any]]:
-    """All places in a message: the list or object, and where in it."""
+    """Yield all places in a message: the list or object, and the key or index."""
     keys: Any = value if isinstance(value, dict) else range(len(value)) if isinstance(value, list) else ()
     for key in list(keys):
         yield value, key
@@ -61,7 +61,7 @@ class Bounds(Case):
             for _ in range(30):
                 second._present()
             await bus.carry()
-            self.assertIn("Site 2 sends too much: its messages are ignored for 30 seconds", " ".join(first.state()["stays"]))
+            self.assertIn("Site 2 sends too many messages: they are ignored for 30 seconds", " ".join(first.state()["stays"]))
             await two.join("Ben")
             await two.put(1, ["limit", 2, 50, 3])
             await two.share(1)
@@ -79,7 +79,7 @@ class Bounds(Case):
             self.assertNotIn("too much", " ".join(first.state()["stays"]))
 
     async def test_who_makes_much_work_is_not_heard_for_a_while_either(self) -> None:
-        """Of 6 seconds at once, and half of the time: a second counts for 1,000 messages."""
+        """The limit is 6 seconds of work at once, and half of the time: a second counts as 1,000 messages."""
         bus = Bus()
         one, two = [await self.enterAsyncContext(Here(site=number)) for number in (1, 2)]
         first, second = bus.site(one), bus.site(two)
@@ -98,11 +98,11 @@ class Bounds(Case):
                 await bus.carry()
                 now[0] += seconds
         self.assertEqual(one.lab.state.shared.size, 4)
-        self.assertIn("Site 2 sends too much: its messages are ignored for 30 seconds", " ".join(first.state()["stays"]))
+        self.assertIn("Site 2 sends too many messages: they are ignored for 30 seconds", " ".join(first.state()["stays"]))
         self.assertEqual(second._floods.paused(), [])  # not by its own
 
     async def test_an_operation_that_a_tab_may_make_every_site_takes_and_no_other(self) -> None:
-        """One gate: a closure of 600 cells in raw edits, and the drag of its end, which withdraws them all."""
+        """One gate for all: a closure of 600 cells in raw edits, and the drag of its end, which withdraws them all."""
         bus, plan = Bus(), {**SMALL, "length": 1_300, "zone": 100, "zones": [[5, 0]] * 13, "detectors": []}
         one, two = [await self.enterAsyncContext(Here(site=number, plan=plan)) for number in (1, 2)]
         first, _ = bus.site(one), bus.site(two)
@@ -171,7 +171,7 @@ class Bounds(Case):
         self.assertEqual([one.about.who for one in here.lab.state.shared.places], ["Eve"])
 
     async def test_whatever_is_changed_in_a_message_is_taken_or_told(self) -> None:
-        """And the program takes all that the server took."""
+        """The program accepts all that the server accepted."""
         here = await self.enterAsyncContext(Here(site=1))
         site, chance = Bus().site(here), random.Random(1)
         with mock.patch("logging.error") as error, mock.patch("logging.exception", error):
@@ -193,7 +193,7 @@ class Bounds(Case):
         self.assertGreater(here.lab.state.shared.size, 10)
 
     async def test_what_lacks_is_told_when_it_was_heard_twice(self) -> None:
-        """A site that lacks operations is told them once; one whose protocol is another is told nothing."""
+        """A site that is missing operations gets them once; a site with another version of the protocol gets nothing."""
         bus = Bus()
         here = await self.enterAsyncContext(Here(site=1))
         site = bus.site(here)
@@ -237,7 +237,7 @@ class Bounds(Case):
         self.assertLess(len(json.dumps(site.state())), 100_000)
         for number in (0, -1, 1_024, True, "7", None, 1 << 70):
             await site._came("road/sites", "", json.dumps({"folder": "f", "site": number, "road": "r"}).encode())
-        self.assertIn("it says of no site who it is", told(site))
+        self.assertIn("it does not say which site sent it", told(site))
 
     async def test_what_does_not_come_back_is_sent_again_after_growing_pauses(self) -> None:
         bus = Bus()
@@ -279,7 +279,7 @@ class Bounds(Case):
 
 
 class Refusals(unittest.TestCase):
-    """One table of names, which the protocol's page, the server and the format's page have alike."""
+    """One table of names, which is the same in PROTOCOL.md, the server and FORMAT.md."""
 
     def rows(self, page: str) -> dict[str, str]:
         text = (LIVE.parent / page).read_text().partition("## Refusals\n")[2].partition("\n## ")[0]
@@ -301,7 +301,7 @@ class Refusals(unittest.TestCase):
 
 class Tabs(Case):
     async def test_whatever_a_tab_asks_is_answered_or_refused(self) -> None:
-        """By a sentence, and the program takes all that the server took."""
+        """A refusal has a sentence, and the program accepts all that the server accepted."""
         here = await self.enterAsyncContext(Here(site=1))
         chance = random.Random(1)
         await here.join("Eve")

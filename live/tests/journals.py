@@ -1,4 +1,4 @@
-"""The journal: cuts, broken lines, a full disk, one server a folder, compaction."""
+"""Test the journal: cuts, broken lines, a full disk, one server a folder, compaction."""
 from __future__ import annotations
 
 import asyncio
@@ -36,7 +36,7 @@ GESTURES = [{"gesture": {"seat": 1, "key": f"k{count}", "stamp": [count, 65], "w
 
 
 def line_of(entry: dict[str, Any], sum_as: str | None = "crc") -> bytes:
-    """As `journal.py` says; without a checksum as older journals have it."""
+    """Return a line as `journal.py` writes it; without a checksum as in older journals."""
     text = json.dumps(entry, ensure_ascii=False, separators=(",", ":")).encode()
     summed = f',"{sum_as}":"{binascii.crc32(text):08x}"}}'.encode() if sum_as else b"}"
     return text[:-1] + summed + b"\n"
@@ -48,7 +48,7 @@ class Reading(unittest.TestCase):
         self.lines = [line_of(entry) for entry in GESTURES]
 
     def test_each_cut_of_the_last_two_lines_leaves_whole_lines(self) -> None:
-        """What was confirmed before the cut is there, and nothing else."""
+        """Entries that were confirmed before the cut are there, and nothing else."""
         data = b"".join(self.lines)
         for cut in range(len(self.lines[0]), len(data) + 1):
             self.path.write_bytes(data[:cut])
@@ -74,7 +74,7 @@ class Reading(unittest.TestCase):
         self.assertEqual(read_entries(self.path), (GESTURES[:2], len(b"".join(old))))
 
     def test_what_of_a_write_is_zero_was_never_confirmed(self) -> None:
-        """A disk that lost its current may have any of the blocks of the last write: the others are zero."""
+        """After a power failure the disk may have any of the blocks of the last write: the others are zero."""
         whole, last = self.lines[0], line_of(GESTURES[1]) + line_of(GESTURES[2], "and")
         for begin in range(0, len(last), 7):
             for end in (begin + 1, begin + 40, len(last)):
@@ -88,7 +88,7 @@ class Reading(unittest.TestCase):
             read_entries(self.path)
 
     def test_10_000_operations_are_read_in_a_second(self) -> None:
-        """However long the journal is; until the shared road can be asked."""
+        """However long the journal is, until questions about the shared road can be answered."""
         size = 20_000
         entries = [{"lab": {"plan": SMALL, "site": 1, "folder": "f", "form": 3}}]
         entries += [{"made": {"seat": 1 + count % 20, "operation": {
@@ -190,7 +190,7 @@ class Writing(unittest.IsolatedAsyncioTestCase):
         self.assertEqual([one.name for one in self.path.parent.iterdir()], [self.path.name])
 
     async def test_a_shorter_journal_that_cannot_be_written_leaves_the_old_one(self) -> None:
-        """Whichever call fails in the process that writes it, or here."""
+        """Whichever call fails in the process that writes it, or in this one."""
         journal, here = Journal(self.path, 0), os.getpid()
         await journal.write(GESTURES[0])
 
@@ -206,7 +206,7 @@ class Writing(unittest.IsolatedAsyncioTestCase):
         self.assertEqual(read_entries(self.path)[0], [GESTURES[0], *[GESTURES[2]] * 4])
 
     async def test_a_shorter_journal_that_may_not_last_takes_nothing(self) -> None:
-        """Where the folder cannot be synced the old one may stand there again, without what came since."""
+        """If the folder cannot be synced, the old file may be there again later, without newer entries."""
         journal = Journal(self.path, 0)
         await journal.write(GESTURES[0])
         with Disk() as disk:
@@ -219,7 +219,7 @@ class Writing(unittest.IsolatedAsyncioTestCase):
         self.assertEqual(journal.confirmed(), GESTURES[1:])
 
     async def test_where_the_old_file_cannot_be_closed_lines_go_to_no_strangers_socket(self) -> None:
-        """Its number is free all the same, and the next socket gets it."""
+        """Its descriptor is free nevertheless, and the next socket gets it."""
         journal = Journal(self.path, 0)
         await journal.write(GESTURES[0])
 
@@ -257,7 +257,7 @@ class Writing(unittest.IsolatedAsyncioTestCase):
 
 
 def seen(state: State) -> Any:
-    """What a state says, in a form that can be compared."""
+    """Return a state in a form that can be compared."""
     return (state.plan, state.site, state.folder, state.rate, state.now, state.stop, state.bound, state.shares,
             sorted(one.stamp for one in state.unsent),
             [(seat.name, seat.key, seat.count, seat.upto, dict(seat.done), seat.used * bool(seat.key),
@@ -271,7 +271,7 @@ class Folders(Case):
         await seat.ask("gesture", key=f"g{number}", edits=[["limit", number % 6, 10 + number, number % 5]])
 
     async def test_twenty_cuts_by_a_server(self) -> None:
-        """A server starts from each, and has all lines that are whole."""
+        """A server starts from each cut, and has all complete lines."""
         server = self.server()
         async with server.seat() as seat:
             for number in range(4):
@@ -323,7 +323,7 @@ class Folders(Case):
         self.assertFalse((server.folder / "token.new").exists())
 
     async def test_a_server_starts_where_little_can_be_written(self) -> None:
-        """What is there can be looked at."""
+        """Existing roads can be viewed."""
         server = self.server()
         async with server.seat() as seat:
             await self.shared(seat, 1)
@@ -363,7 +363,7 @@ class Folders(Case):
         self.assertNotIn("Traceback", ran.stderr)
 
     async def test_a_second_server_says_so_where_the_file_lock_was_removed(self) -> None:
-        """Also after the journal was shortened, which is another file then."""
+        """Also after a compaction, which makes the journal a new file."""
         server = self.server(LIVE_MOST_JOURNAL="2000")
         path = server.folder / "journal.jsonl"
         first = path.stat().st_ino
@@ -384,7 +384,7 @@ class Folders(Case):
             await self.shared(ada, 5)
 
     async def test_a_server_starts_where_nothing_can_be_written(self) -> None:
-        """All can be looked at, and what is put is refused until the disk takes it."""
+        """All can be viewed, and changes are refused until the disk accepts them."""
         server = self.server()
         async with server.seat() as ada:
             await self.shared(ada, 1)
@@ -441,7 +441,7 @@ class Folders(Case):
             self.assertEqual((await ben.ask("scenario"))["edits"], [])
             resource.prlimit(server.process.pid, resource.RLIMIT_FSIZE, (resource.RLIM_INFINITY, resource.RLIM_INFINITY))
             self.assertEqual((await ada.ask("gesture", key="full 10", edits=[["block", 60, 10, 1]]))["stamp"], [2, 65])
-            await ada.reply("ping")  # what is told comes behind the reply
+            await ada.reply("ping")  # pushed messages come after the reply
             troubles = [one["trouble"] for one in ada.told if "trouble" in one]
             self.assertEqual([bool(one) for one in troubles][-2:], [True, False])
             held = numbers((await ada.ask("scenario"))["edits"])

@@ -1,4 +1,4 @@
-"""What a site made and makes is left out for all, by whoever has the token, and comes back."""
+"""Test excluding a site: its changes, past and future, are ignored for all, whoever excludes it, and come back."""
 from __future__ import annotations
 
 import contextlib
@@ -25,13 +25,13 @@ ORACLE = oracle_of(SMALL, 50)
 
 
 def by_shapes(operations: Iterable[Operation]) -> dict[tuple[int, int], int]:
-    """Which cells are closed at which steps, by the rules alone."""
+    """Return which cells are closed at which steps, from the rules alone."""
     values = ORACLE.painted(operations)
     return {(cell, step): values["block", cell][step] for cell in CELLS for step in range(50)}
 
 
 def closed(edits: Iterable[Any]) -> dict[tuple[int, int], int]:
-    """Which cells are closed at which steps, by what wins."""
+    """Return which cells are closed at which steps, from the edits in force."""
     puts: dict[int, dict[int, int]] = {cell: {} for cell in CELLS}
     for kind, cell, step, _, _, value in edits:
         if kind == "block" and value is not None:
@@ -41,7 +41,7 @@ def closed(edits: Iterable[Any]) -> dict[tuple[int, int], int]:
 
 
 class LeftOut(Case):
-    """What a site made and makes is left out for all, and comes back."""
+    """Three sites: one is excluded and included again."""
 
     async def asyncSetUp(self) -> None:
         self.bus = Bus()
@@ -52,7 +52,7 @@ class LeftOut(Case):
             await here.lab.timing.set_clock(to=100)
 
     async def shape(self, place: int, *shape: Any, **more: Any) -> Any:
-        """A shared gesture of a site."""
+        """Make a gesture at a site, and share it."""
         here = self.here[place]
         said = await here.ask(1, "gesture", key=secrets.token_hex(8), note="", shape=list(shape), **more)
         await self.share(place)
@@ -69,7 +69,7 @@ class LeftOut(Case):
         return rows
 
     def road(self, *edits: tuple[Any, ...]) -> list[str]:
-        """The rows of a road by these edits alone."""
+        """Return the rows of a road with only these edits."""
         with RoadLab(Plan(**{**SMALL, "replicas": ["A"]})) as lab:
             lab.take_in("A", [Edit.read([kind, index, step, 1, 64, value]) for kind, index, step, value in edits])
             lab.advance("A", 100)
@@ -114,7 +114,7 @@ class LeftOut(Case):
         await self.everywhere(self.road(limit, later, extra))
 
     async def test_who_left_a_site_out_for_all_has_the_road_without_it_after_a_start(self) -> None:
-        """It took what that site made, and not yet that it is left out on the shared road."""
+        """The seat took that site's changes, and not yet the exclusion on the shared road."""
         await self.shape(2, "block", 52, 53, 30, 45, 1)
         await self.here[1].take(1)
         await self.here[1].ask(1, "site", key="out", site=3, out=True)
@@ -127,7 +127,7 @@ class LeftOut(Case):
             self.assertEqual(await self.rows(here), rows, f"site {place}")
 
     async def test_random_histories_give_the_road_of_the_shapes_that_count(self) -> None:
-        """The same at all sites, whoever is left out when, and in whatever order that comes."""
+        """All sites have the same road, whoever is excluded when, and in whatever order messages arrive."""
         for seed in range(24 if ALL else 8):
             chance = random.Random(seed)
             for number in range(24):
@@ -152,7 +152,7 @@ class LeftOut(Case):
             self.assertEqual(numbers, [numbers[0]] * 3, seed)
 
     def starts_again(self, here: Here, what: str) -> None:
-        """By its journal the seat has the road of the shapes that count."""
+        """Read the journal again: the seat has the road of the active shapes."""
         state = State()
         for entry in here.entries():
             state.read(entry)
@@ -176,7 +176,7 @@ class LeftOut(Case):
             await here.share(1)
 
     async def numbers(self, here: Here) -> dict[tuple[int, int], int]:
-        """Which cells are closed at which steps of the shared road, by what wins in the program."""
+        """Return which cells are closed at which steps of the shared road, from the edits in force in the program."""
         reply = await here.keeper.ask(0, (0,), lambda: here.keeper.say(b'{"scenario":{"at":"shared"}}', {}))
         return closed(json.loads(reply)["edits"])
 
@@ -217,7 +217,7 @@ class LeftOut(Case):
             self.assertNotIn((9, 70), self.here[0].lab.state.by_stamp)
 
     async def test_of_two_of_one_stamp_the_same_counts_at_all_sites(self) -> None:
-        """One leaves a site out, the other lets it in; they come in one order or the other."""
+        """One twin excludes a site, the other includes it; they arrive in either order."""
         await self.shape(2, "block", 60, 60, 30, None, 1)
         stamp = [stamps.next_count(0, stamps.milliseconds(), 0), 70 * 64 + 1]
         twins = [message_of(self.sites[0], exclude((stamp[0], stamp[1]), 3, out)) for out in (True, False)]

@@ -1,4 +1,4 @@
-"""The model: what may surprise, and is settled by a rule. Each case has the name of its rule."""
+"""Test surprising cases of the model. A rule decides each case, and gives it its name."""
 from __future__ import annotations
 
 import itertools
@@ -21,7 +21,7 @@ BASE = EMPTY.adding([CLOSURE])
 
 
 def in_every_order(operations: list[Operation]) -> Road:
-    """The road of these operations, which is the same in whatever order they come."""
+    """Return the road of these operations, after checking that every order gives the same."""
     roads = [EMPTY]
     for order in itertools.islice(itertools.permutations(operations), 24):
         road = EMPTY
@@ -100,7 +100,7 @@ class Cases(unittest.TestCase):
         self.assertEqual((road.layers[LINE].first, road.layers[LINE].last), (1, 6))
 
     def test_z_says_who_changed_the_last_own_change_since(self) -> None:
-        """It is not silently the one before that is taken back."""
+        """Z does not silently undo the change before it."""
         other = put((1, BEN), WIDE)
         first, bens = change(BASE, (2, ADA), LINE, LONGER), None
         road = BASE.adding([first, other])
@@ -110,7 +110,7 @@ class Cases(unittest.TestCase):
         self.assertEqual(choices.overruling(road.adding([bens]), first), [bens])
 
     def test_z_where_an_older_change_by_another_lies_between(self) -> None:
-        """It gives what the other said, who is not undone."""
+        """Z restores the other's shape, which is not undone."""
         bens = change(BASE, (2, BEN), LINE, WIDE)
         last = change(BASE, (3, ADA), LINE, LONGER)
         road = BASE.adding([last, bens])
@@ -127,7 +127,7 @@ class Cases(unittest.TestCase):
         self.assertEqual((road.layers, choices.undoable(road, ADA).redo), ({}, adas))
 
     def test_two_who_withdraw_at_once_and_one_takes_it_back(self) -> None:
-        """The closure stays away, since the other's withdrawal still counts; and that is what Z says."""
+        """The closure stays withdrawn, since the other withdrawal is still active; Z says so."""
         adas, bens = change(BASE, (2, ADA), LINE, None), change(BASE, (2, BEN), LINE, None)
         road = in_every_order([CLOSURE, adas, bens])
         self.assertEqual(seen.lost(road, LINE), {adas: bens})
@@ -282,7 +282,7 @@ class Raw(unittest.TestCase):
         self.assertEqual(changes.operations_on(road, self.line), [self.edits, bens])
 
     def test_an_act_on_a_line_of_which_nothing_is_left(self) -> None:
-        """Raw edits that others put over all of it take its place: a change puts a shape on top, a lift lifts nothing."""
+        """Others' raw edits have replaced all of it: a change puts a shape on top, and *put on top* changes nothing."""
         others = edit((2, BEN), {**self.VALUES})
         road = self.base.adding([others])
         self.assertFalse(stands(road, self.line))
@@ -292,7 +292,7 @@ class Raw(unittest.TestCase):
         self.assertEqual(len(changed.layers), 5)
 
     def test_the_greatest_line_can_be_dragged(self) -> None:
-        """A closure of 600 cells in raw edits has 1,200, and its change withdraws them all."""
+        """A closure of 600 cells has 1,200 raw edits, and a change withdraws them all."""
         values = {("block", cell, step): value for cell in range(600) for step, value in ((5, 1), (15, 0))}
         closure = edit((1, ADA), values)
         road = EMPTY.adding([closure])
@@ -304,7 +304,7 @@ class Raw(unittest.TestCase):
 
 class Lists(unittest.TestCase):
     def test_a_line_is_told_when_what_covered_it_goes_in_what_was_never_taken(self) -> None:
-        """A puts P on top and shares; B, who has not taken that, withdraws P and shares: Q is covered no more."""
+        """A puts P on top and shares; B, who has not taken that, withdraws P and shares: Q is no longer covered."""
         below, above = put((1, ADA), SHAPE), put((2, ADA), WIDE)
         base = EMPTY.adding([below, above])
         lifted, withdrawn = lift((3, ADA), above.stamp), change(base, (3, BEN), above.stamp, None)
@@ -316,7 +316,7 @@ class Lists(unittest.TestCase):
 
 
     def test_an_older_exclusion_of_a_site_names_its_line_anew(self) -> None:
-        """The name that the line had goes."""
+        """The line loses its old name."""
         before = EMPTY.adding([exclude((8, ADA), 2, False)])
         older = exclude((4, CLEO), 2, False)
         after = before.adding([older])
@@ -326,7 +326,7 @@ class Lists(unittest.TestCase):
 
 
 class Reading(unittest.TestCase):
-    """What is written is read, and whatever else comes is refused with a sentence."""
+    """Written operations are read, and all else is refused with a sentence."""
 
     def some(self) -> list[Operation]:
         return [CLOSURE, change(BASE, (2, ADA), LINE, None), lift((3, ADA), LINE), undo((4, BEN), CLOSURE),

@@ -1,4 +1,4 @@
-"""However a server ends: nothing that it has started goes on without it."""
+"""Test that nothing that a server has started outlives it, however it ends."""
 from __future__ import annotations
 
 import asyncio
@@ -18,7 +18,7 @@ LONG = {**SMALL, "length": 2_000, "zone": 1_000, "zones": [[5, 6_554]] * 2, "exi
 
 
 def marked(mark: str) -> set[int]:
-    """The processes that have a mark among their variables, but for those that have ended."""
+    """Return the running processes that have a mark among their environment variables."""
     found = set()
     for path in Path("/proc").glob("[0-9]*"):
         with contextlib.suppress(OSError):

@@ -16,7 +16,7 @@ SEEDED = {**FREE_ROAD, "length": 200, "zone": 200, "words": 1, "zones": [[3, 6_5
 
 
 def over_days(tab: Tab, within: str) -> dict[str, list[str]]:
-    """The table over many days, once it is there: each cell with its small line."""
+    """Return the table over many days, once it is there: each cell with its small line."""
     def is_there() -> bool:
         return bool(tab.script("return document.querySelector(`${arguments[0]} .over`) !== null", within))
     for _ in range(3):  # what is nice comes late where the machine has other work
@@ -32,7 +32,7 @@ def over_days(tab: Tab, within: str) -> dict[str, list[str]]:
 
 
 def numbers(cell: str) -> list[float]:
-    """A mean, and how far its interval reaches."""
+    """Return a mean and the half-width of its interval."""
     mean, _, half = cell.split(",")[0].partition(" ± ") if "may" in cell else cell.replace(",", "").partition(" ± ")
     return [float(part.replace("−", "-").replace("+", "").replace(",", "")) for part in (mean, half)]
 
@@ -102,7 +102,7 @@ class TwoTabs(BrowserCase):
         ada.press("Over 3 days")
         ada.until(lambda: " of 3 days" in ada.text("days"), "it runs")
         ben.press("Over 3 days")
-        ben.until(lambda: "Ada asks about 3 days just now" in ben.text("said"), "he is told who asks")
+        ben.until(lambda: "Ada asks about 3 days just now" in ben.text("said"), "he sees who asks")
         self.assertEqual(ben.text("days"), "Over 3 days")
         ada.press("Stop")
         ada.until(lambda: ada.text("days") in ("Over 3 days", "One day"), "it is stopped")  # one may be done
@@ -150,5 +150,5 @@ class TwoTabs(BrowserCase):
         ada, = self.over_three(FREE_ROAD)[:1]
         self.run_a_quarter(ada)
         ada.press("Over 3 days")
-        ada.until(lambda: "it has one day" in ada.text("said"), "it is told")
+        ada.until(lambda: "it has one day" in ada.text("said"), "the page says so")
         self.assertEqual(ada.text("days"), "Over 3 days")

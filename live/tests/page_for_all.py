@@ -1,4 +1,4 @@
-"""The page for those who use no mouse, see little, or want less motion; names and tokens as they must be."""
+"""Test the page for people who use no mouse, see little, or want less motion; names and tokens as they must be."""
 from __future__ import annotations
 
 from typing import Any
@@ -129,7 +129,7 @@ class ForAll(BrowserCase):
             self.assertLess(top, 160)
 
     def test_figures_are_in_sight_beneath_a_warning(self) -> None:
-        """In what a browser's own bars leave of 1366 x 768."""
+        """On a screen of 1366 x 768 less the browser's own bars."""
         tab, = self.open(FREEWAY)
         tab.run_an_hour()
         tab.tool("block")

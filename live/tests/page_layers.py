@@ -23,7 +23,7 @@ class OneTab(BrowserCase):
         tab.in_figures(kmFrom="0.75", kmTo="4.5", timeFrom=begin, timeTo=end)
 
     def pointer(self, tab: Tab, cell: float, step: float) -> str:
-        """What the pointer looks like at a place."""
+        """Return the shape of the pointer at a place."""
         ActionChains(tab.driver, duration=0).move_to_element_with_offset(
             tab.part("diagram"), *tab.place(cell, step)).perform()
         return str(tab.script("return $('diagram').style.cursor"))
@@ -51,7 +51,7 @@ class OneTab(BrowserCase):
         tab.in_figures(kmFrom="3", kmTo="3.15", timeFrom="0:20", timeTo="0:30")
         tab.tool("look")
         self.assertEqual(self.pointer(tab, 410, 1800), "ns-resize")
-        tab.script("document.querySelector('[name=whose][value=shared]').click()")  # where nothing is closed
+        tab.script("document.querySelector('[name=whose][value=shared]').click()")  # which has no closure
         tab.settled()
         self.assertEqual(self.pointer(tab, 410, 1800), "grab")
         tab.drag((410, 1800), (410, 2400))
@@ -59,7 +59,7 @@ class OneTab(BrowserCase):
         tab.keys("z")
         tab.settled()
         said = "Undone: Closed 3–3.15 km, 0:20:00–0:30:00"
-        self.assertEqual(tab.text("said"), f"{said}, on your own road.")  # of which nothing is seen
+        self.assertEqual(tab.text("said"), f"{said}, on your own road.")  # which the picture does not show
 
     def test_one_rectangle_after_the_other_is_drawn_at_one_place(self) -> None:
         tab, = self.open(FREEWAY)
@@ -85,7 +85,7 @@ class OneTab(BrowserCase):
                                             "Demand 1,000 cars/h, at 0 km, 0:10:00–0:30:00 private"])
 
     def test_where_many_lines_are_others_at_once_all_are_told_of(self) -> None:
-        """The server tells a part with its answer, and the page asks for the rest: also after many gestures at once."""
+        """The server sends a part with its answer, and the page asks for the rest, even after many gestures at once."""
         tab, = self.open(FREEWAY)
         tab.script("""for (let put_ = 0; put_ < 120; put_++) {
             const shape = {kind: "limit", first: 0, last: 15, from: 10 * put_, to: 7200 - 10 * put_, value: put_ % 5};
@@ -105,7 +105,7 @@ class OneTab(BrowserCase):
         self.assertEqual([any(one) for one in tab.script(shown)], [False] * 120 + [True])
 
     def test_what_is_dragged_back_is_no_change(self) -> None:
-        """Else Z does nothing that is seen, and a line that is shared has something private."""
+        """Otherwise Z would change nothing visible, and a shared line would have something private."""
         tab, = self.open(FREEWAY)
         tab.run_an_hour()
         self.limit(tab, "2", "0:20", "0:30")
@@ -122,7 +122,7 @@ class OneTab(BrowserCase):
         self.assertEqual(tab.lines("own"), [])
 
     def written(self, tab: Tab) -> list[str]:
-        """The labels that are drawn."""
+        """Return the labels that are drawn."""
         found = tab.script("""
             const found = [], {prototype} = CanvasRenderingContext2D, fillText = prototype.fillText;
             prototype.fillText = function (text, ...rest) {
@@ -154,7 +154,7 @@ class OneForm(BrowserCase):
     names = ("Ada",)
 
     def closed(self, tab: Tab) -> None:
-        """A closure from 0:20 to 0:30, which is to be changed."""
+        """Put a closure from 0:20 to 0:30, and begin to change it."""
         tab.tool("block")
         tab.in_figures(kmFrom="3", kmTo="3.15", timeFrom="0:20", timeTo="0:30")
         tab.press("Change: Closed")
@@ -247,7 +247,7 @@ class TwoTabs(BrowserCase):
         self.assertEqual(covered[0], "0.75–4.5 km, 0:25:00–0:30:00 by Ben's limit of 54 km/h")
 
     def test_of_a_list_what_stays_is_not_touched(self) -> None:
-        """Else each gesture lays out all lines anew, which with a hundred takes longer than the picture."""
+        """Otherwise each gesture would lay out all lines again, which takes longer than the picture if there are a hundred."""
         ada, = self.open(FREE_ROAD, ("Ada",))
         for limit, begin, end in (("2", "0:10", "0:15"), ("1", "0:20", "0:25"), ("2", "0:30", "0:35")):
             ada.limit(limit, begin, end)

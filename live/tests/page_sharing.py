@@ -21,7 +21,7 @@ class Sharing(BrowserCase):
         ada.press("Share all")
         ada.settled()
         self.assertIn("Nothing would be covered.", ada.text("previewBody"))
-        self.assertIn("then sloweras fastthen faster", ada.text("legend"))
+        self.assertIn("slower afteras fastfaster after", ada.text("legend"))
         jam = ada.pixel(17.5, 22.5)
         ada.press("Share now")
         ben.until(lambda: "Ada shared 1 change." in ben.text("news"), "news")
@@ -35,7 +35,7 @@ class Sharing(BrowserCase):
         red, green, blue = ben.pixel(17.5, 22.5)
         self.assertTrue(green < 160 and green < blue < red, (red, green, blue))
         self.assertEqual((red, green, blue), jam)
-        self.assertIn("then sloweras fastthen faster", ben.text("legend"))
+        self.assertIn("slower afteras fastfaster after", ben.text("legend"))
         ben.press("Take now")
         ben.until(lambda: ben.text("said") == "Took 1 change from Ada. They cover nothing of yours.", "taken")
         ben.settled()
@@ -285,7 +285,7 @@ class Sharing(BrowserCase):
         self.assertEqual([text[-7:] for text in ada.lines("own") + ada.lines("held")], ["private", " shared"])
 
     def test_what_is_looked_at_before_sharing_is_what_is_shared(self) -> None:
-        """Also where it was changed, or taken back, while it was looked at."""
+        """Also if it was changed, or undone, during the preview."""
         ada, ben = self.open(FREE_ROAD)
         ada.run_an_hour()
         ada.limit("1", "0:20", "0:30")
@@ -316,7 +316,7 @@ class Sharing(BrowserCase):
         self.assertEqual(ben.lines("held"), ["27 km/h, 0–0.3 km, 0:20:00–0:35:00 shared"])
 
     def looked_at(self, tab: Tab) -> list[str]:
-        """What is looked at before it is shared or taken: how much, and what."""
+        """Return what the preview lists: how many changes, and which."""
         return [tab.text("previewTitle"), *tab.script(
             "return [...document.querySelectorAll('#previewBody > ul > li')].map((one) => one.firstChild.data)")]
 

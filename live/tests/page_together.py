@@ -16,7 +16,7 @@ ACTIVE = "const one = document.activeElement; return one.getAttribute('aria-labe
 
 
 def tab_to(tab: Tab, name: str) -> None:
-    """Moves the focus on until it is at what is called so."""
+    """Move the focus on until it is at the element with this name."""
     for _ in range(80):
         if tab.script(ACTIVE).startswith(name):
             return
@@ -30,7 +30,7 @@ def type_in(tab: Tab, *keys: str) -> None:
 
 
 class TwoTabs(BrowserCase):
-    """Two browsers, or one and who works without a browser."""
+    """Two browsers, or one and somebody without a browser."""
 
     def test_what_came_from_the_shell_is_said(self) -> None:
         ada, = self.open(FREEWAY, ("Ada",))
@@ -190,7 +190,7 @@ class TwoTabs(BrowserCase):
         ada, _ = self.open(FREE_ROAD)
         ada.run_an_hour()
         self.server.kill()
-        ada.until(lambda: ada.text("line") == "no connection, retrying", "it is told")
+        ada.until(lambda: ada.text("line") == "no connection, retrying", "the page says so")
         ada.tool("limit")
         ada.part("timeFrom").send_keys("0:20")
         ada.part("kmFrom").send_keys("0")
@@ -221,7 +221,7 @@ class TwoTabs(BrowserCase):
             ada.settled()
             self.assertEqual(ada.text("said"), wanted)
         self.server.kill()
-        ada.until(lambda: ada.text("line") == "no connection, retrying", "it is told")
+        ada.until(lambda: ada.text("line") == "no connection, retrying", "the page says so")
         ada.fill(kmFrom="0", kmTo="0.3", timeFrom="0:40", timeTo="0:50")
         ada.press_in("#apply")
         shapes = "return framesShown().map(({from, to, pending}) => [from, to, pending])"
@@ -235,7 +235,7 @@ class TwoTabs(BrowserCase):
         ada.until(lambda: ada.lines("own") == ["27 km/h, 0–0.3 km, 0:40:00–0:50:00 private"], "confirmed")
 
     def test_what_is_taken_back_or_put_again_is_named_as_it_was_done(self) -> None:
-        """A place on top, and not the change that lay there; a change with the shape that comes back."""
+        """The undo of *put on top* names that, and not the change; the undo of a change names the shape that comes back."""
         ada, _ = self.open(FREE_ROAD)
         ada.run_an_hour()
         ada.limit("1", "0:20", "0:30")
@@ -265,7 +265,7 @@ class TwoTabs(BrowserCase):
         ada.press("Share all")
         ada.settled()
         self.server.kill()
-        ada.until(lambda: ada.text("line") == "no connection, retrying", "it is told")
+        ada.until(lambda: ada.text("line") == "no connection, retrying", "the page says so")
         for name, said in (("Share now", "Nothing was shared: there is no connection. Share again once it is back."),
                            ("Run an hour", "The clock was not set: there is no connection. Try again once it is back."),
                            ("Take", "Nothing was taken: there is no connection. Take again once it is back.")):
@@ -280,9 +280,9 @@ class TwoTabs(BrowserCase):
     def test_what_is_pending_is_kept_in_the_tab(self) -> None:
         ada, _ = self.open(FREE_ROAD)
         ada.run_an_hour()
-        ada.script("store.connection.connect = () => {}")  # so that it stays away until it is loaded anew
+        ada.script("store.connection.connect = () => {}")  # so that it stays away until it is reloaded
         self.server.kill()
-        ada.until(lambda: "are stored in this tab, and sent once the connection is back" in ada.text("said"), "it is told")
+        ada.until(lambda: "are stored in this tab, and sent once the connection is back" in ada.text("said"), "the page says so")
         ada.tool("limit")
         for limit in ("1", "2"):
             ada.choose("limit", limit)
@@ -295,10 +295,10 @@ class TwoTabs(BrowserCase):
         wanted = [f"{speed} km/h, 0–0.3 km, from 0:20:00 on private" for speed in (54, 27)]
         ada.until(lambda: ada.lines("own") == wanted, "what was pending")
         ada.settled()
-        # Where nothing is kept, it is not said.
+        # If nothing is stored, the page does not claim it.
         ada.script("Storage.prototype.setItem = () => { throw new Error('full') }; store.connection.connect = () => {}")
         self.server.kill()
-        ada.until(lambda: "unless you close or reload this tab" in ada.text("said"), "it is told")
+        ada.until(lambda: "unless you close or reload this tab" in ada.text("said"), "the page says so")
         ada.tool("limit")
         for ident, text in (("kmFrom", "0"), ("kmTo", "0.3"), ("timeFrom", "0:20")):
             ada.part(ident).send_keys(text)
@@ -328,7 +328,7 @@ class TwoTabs(BrowserCase):
         ada.until(lambda: ada.text("line") == "connected, with 1 other site (messages are not authenticated)", "it is back")
         broker.say(f"road/{reference(self.server)}/operations", "good morning")
         ada.until(lambda: ada.text("said") == "A message from the broker was ignored: it is not JSON: good morning",
-                  "rubbish is told")
+                  "the page reports garbage")
 
     def test_a_seat_is_taken_over(self) -> None:
         ada, ben = self.open(FREE_ROAD, LIVE_HELLO="5")

@@ -1,4 +1,4 @@
-"""A program that ends or hangs is replaced, one that is busy is not."""
+"""Test that a program that ends or hangs is replaced, and a busy one is not."""
 from __future__ import annotations
 
 import asyncio
@@ -44,7 +44,7 @@ class Programs(Case):
             self.assertEqual((keeper.changes, keeper.why_changed), (1, "the program ended with status -9"))
 
     async def test_one_that_is_busy_is_not_replaced(self) -> None:
-        """It works for much longer than one that hangs is waited for."""
+        """It works for much longer than the server waits for one that hangs."""
         here = await start([str(program())], json.dumps({**LONG, "replicas": ["A"]}).encode())
         self.addAsyncCleanup(here.close)
         with mock.patch("server.program.HANGS", 0.2):

@@ -97,7 +97,7 @@ class Shell(Case):
         self.assertEqual((status, said.split(";")[0]), (1, "1 change has not come back"))
 
     async def test_changes_are_written_in_km_and_clock_times(self) -> None:
-        """The demand is that of the package's curve: within half a car per hour."""
+        """A demand agrees with the package's curve, within half a car per hour."""
         (self.a6.folder / "freeway.json").write_text('{"begin": "06:30"}', encoding="utf-8")
         said = [await self.road("cron", "put", *words) for words in (
             ("limit", "50", "0.2", "0.45", "6:40"), ("demand", "1200", "0", "06:45", "07:00"), ("demand", "1900", "0", "1"))]
@@ -124,7 +124,7 @@ class Shell(Case):
         self.assertEqual(sorted(json.loads(out) for _, out, _ in said), [[count, 65] for count in range(1, 7)])
 
     async def test_two_hundred_edits_after_an_advance_take_seconds(self) -> None:
-        """A long log is not run again for each command."""
+        """The program does not rerun a long log for each command."""
         await self.road("cron", "ask", '{"clock":{"to":200}}')
         await self.road("cron", "ask", '{"advance":{"to":200}}')
         async with self.a6.seat("Ada") as ada:

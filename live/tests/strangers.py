@@ -1,4 +1,4 @@
-"""Sites that have another's number, a clock that is wrong, or no key, or that play again what was sent."""
+"""Test sites with another site's number, a wrong clock or no key, and sites that replay messages."""
 from __future__ import annotations
 
 import argparse
@@ -27,7 +27,7 @@ DAY = 86_400_000  # milliseconds
 
 
 def steps(here: Here) -> list[int]:
-    """The steps of the raw edits that a shared road has."""
+    """Return the steps of the raw edits that a shared road has."""
     return sorted(name[2] for one in here.lab.state.shared.places for name in one.sets if len(name) == 3)
 
 
@@ -45,7 +45,7 @@ class Strangers(Case):
         return edits
 
     async def put(self, here: Here, *edit: Any) -> tuple[int, int]:
-        """A shared gesture."""
+        """Make a gesture, and share it."""
         if 1 not in here.keys:
             await here.join("Ada")
         stamp = await here.put(1, list(edit))
@@ -53,7 +53,7 @@ class Strangers(Case):
         return stamp
 
     def leave(self, site: Sites) -> None:
-        """It is heard no more."""
+        """Let a site fall silent."""
         self.bus.sites.remove(site)
         for one in self.bus.sites:
             one._peers.known.clear()
@@ -70,7 +70,7 @@ class Strangers(Case):
         stamp = await self.put(again, "limit", 2, 50, 3)
         await self.bus.rounds(3)
         self.assertEqual((await self.shared(one), len(other.state()["sites"])), ([], 1))
-        self.assertIn("This site's number, 2, is another folder's: nothing is sent", " ".join(other.state()["stays"]))
+        self.assertIn("This site's number, 2, belongs to another folder: nothing is sent", " ".join(other.state()["stays"]))
         self.assertEqual(first.state()["sites"], [])
         self.leave(other)
         await again.keeper.close()
@@ -121,7 +121,7 @@ class Strangers(Case):
         self.assertEqual(len(await self.shared(third)), 1)
 
     async def ask(self, here: Here, verb: str, **fields: Any) -> Any:
-        """What a person is answered."""
+        """Ask a question as a tab. Return the answer."""
         return await verbs.answer(here.lab, here.questions, 1, Asked(verb, fields), {})
 
     async def announce(self, site: Sites, folder: str, number: int, **more: Any) -> None:
@@ -129,7 +129,7 @@ class Strangers(Case):
         await self.bus.give(site, Message("road/sites", json.dumps(value).encode()))
 
     async def test_a_person_revokes_what_one_message_said_of_a_number(self) -> None:
-        """Else the site would be mute for ever; it stays so after a restart, whatever is said again."""
+        """Otherwise the site would be mute for ever. It stays revoked after a restart, whatever is sent again."""
         (one, first), (two, _) = await self.here(1), await self.here(2)
         await self.bus.rounds()
         with self.assertRaisesRegex(Refused, "NotBound"):
@@ -142,7 +142,7 @@ class Strangers(Case):
         self.assertIn({"site": 1, "folder": "nowhere"}, (await self.ask(one, "numbers"))["numbers"])
         await self.ask(one, "unbind", site=1)
         await self.announce(first, "f" * 16, 9, bound={"1": "nowhere"})
-        self.assertIn("Site 9 says that this site's number, 1, is another folder's", told(first))
+        self.assertIn("Site 9 says that this site's number, 1, belongs to another folder", told(first))
         await self.bus.rounds()
         self.assertEqual(len(await self.shared(two)), 1)
         await one.keeper.close()
@@ -171,7 +171,7 @@ class Strangers(Case):
         self.assertEqual(len((await self.ask(again, "numbers"))["numbers"]), 64)
 
     async def test_two_clones_of_a_machine_have_two_names_at_the_broker(self) -> None:
-        """Else it lets in one and then the other, neither hears of the other, and both send."""
+        """Otherwise the broker admits one and then the other, neither hears of the other, and both send."""
         first, _ = await self.here(7)
         options = argparse.Namespace(broker="127.0.0.1:1", broker_user=None, broker_authority=None, site_key=None)
         names = {Sites(first.lab, lambda: None, options)._client._client_id for _ in range(2)}
@@ -180,7 +180,7 @@ class Strangers(Case):
             self.assertIn(first.lab.state.folder.encode(), name)
 
     async def test_an_older_site_is_the_same_folder_when_it_is_new(self) -> None:
-        """It said its folder's place behind the token, which moves with the folder."""
+        """Older sites add the place of the folder to its token, which moves with the folder."""
         (one, first), (two, second) = await self.here(1), await self.here(2)
         for form, update in (({"form": 2}, "site 2"), ({"form": 4}, "this site"), ({}, "site 2")):
             older = {"folder": f"{two.lab.state.folder}-12345678", "site": 2, "road": first._road, **form}
@@ -205,16 +205,16 @@ class Strangers(Case):
         roads = [numbers(await self.shared(here)) for here, _ in sites]
         self.assertEqual(roads, [roads[0]] * 3)
         for here, site in sites:
-            self.assertIn(f"Two changes have one stamp, {stamp}: of Eva and of Eve, slow", told(site))
+            self.assertIn(f"Two changes have the same stamp, {stamp}: of Eva and of Eve, slow", told(site))
             self.assertEqual(sorted(one.about.who for one in here.lab.state.shared.places), ["Eva", "Eve"])
 
     async def test_a_gesture_is_one_message_and_then_there_is_silence(self) -> None:
-        """With five sites, of which two share at once what meets on the road."""
+        """Two of five sites share overlapping changes at once."""
         sites = [await self.here(number) for number in range(1, 6)]
         await self.bus.rounds(2)
 
         async def told() -> int:
-            """Messages with gestures until all sites have said twice what they hold."""
+            """Return the number of messages with operations until all sites have announced twice what they hold."""
             self.bus.seen.clear()
             await self.bus.carry()
             await self.bus.rounds(4)
@@ -277,7 +277,7 @@ class Strangers(Case):
     # Clocks
 
     async def test_what_is_more_than_a_day_ahead_is_told_and_taken_when_its_day_has_come(self) -> None:
-        """By all sites, whatever they hold."""
+        """All sites do so, whatever they hold."""
         now = stamps.milliseconds()
         with mock.patch("server.stamps.milliseconds", lambda: clock[0]):
             clock = [now]
@@ -307,7 +307,7 @@ class Strangers(Case):
             here, site = await self.here(1)
 
             async def comes(*some: tuple[int, int]) -> None:
-                """Operations of so many milliseconds ahead, each with a limit from a step on."""
+                """Deliver operations this many milliseconds ahead, each with a limit from a step on."""
                 await self.bus.give(site, message_of(site, *(edit((32 * (now + ahead), 70), {("limit", 2, step): 3}, About("Eve"))
                                                              for ahead, step in some)))
             for _ in range(3):
@@ -350,13 +350,13 @@ class Strangers(Case):
             self.assertEqual(sorted(each.stamp for each in again.lab.state.seats[1].own), held)
 
     async def test_a_clock_ahead_of_all_others_is_told_there(self) -> None:
-        """By more than five minutes, of those that were heard within the last one."""
+        """It is more than five minutes ahead of all sites that were heard in the last minute."""
         (_, first), (_, second), (_, third) = [await self.here(number) for number in (1, 2, 3)]
         await self.bus.rounds()
         real, steady = time.time, time.monotonic
 
         async def told_ahead(site: Sites, seconds: float) -> bool:
-            """Whether a site whose clock is so far ahead says so, and no other does."""
+            """Return whether a site whose clock is this far ahead reports it, and no other does."""
             self.bus.sites.remove(site)
             for other in self.bus.sites:
                 other._present()
@@ -385,7 +385,7 @@ class Strangers(Case):
             self.assertNotIn("ahead of all", told(first))
 
     async def test_who_is_ahead_of_all_others_stamps_by_their_clocks(self) -> None:
-        """From the greatest stamp of theirs on, so what is put here beats nothing that is put there later."""
+        """Stamps begin after the greatest one of the others, so a change made here beats no later change made there."""
         for seconds in (310, 86_000, 3 * 86_400):
             here, site = await self.here(1)
             await here.join("Ada")
@@ -463,10 +463,10 @@ class Keys(Case):
             self.assertEqual((self.held(self.two), self.second.state()["left_out"]), (1, number), payload)
         await self.bus.give(self.second, Message("road/sites", edits.payload))  # at another topic
         self.assertEqual(self.second.state()["left_out"], 10)
-        self.assertIn("10 messages were ignored: they are not sealed with this site's --site-key", " ".join(self.second.state()["stays"]))
+        self.assertIn("10 messages were ignored: they have no seal of this site's --site-key", " ".join(self.second.state()["stays"]))
 
     async def test_a_flood_without_the_seal_is_paused_and_named(self) -> None:
-        """It costs the loop nothing, and who bears the seal is heard."""
+        """It costs the event loop nothing, and sealed messages are heard."""
         now = [0.0]
         await self.bus.rounds()
         with mock.patch("server.floods.BURST", 20), mock.patch("server.floods.A_SECOND", 1):
@@ -484,7 +484,7 @@ class Keys(Case):
             self.assertNotIn("too much", told(self.second))
 
     async def test_a_flood_of_many_names_is_paused_and_named(self) -> None:
-        """Where sites have no key each message may say another name; a site that is there is heard."""
+        """If sites have no key, each message may name another folder; a known site is still heard."""
         here = await self.enterAsyncContext(Here(site=3))
         bus, now, came = Bus(), [0.0], []
         site, _ = bus.site(here), bus.site(self.one)
@@ -515,7 +515,7 @@ class Keys(Case):
         self.assertEqual((seen, self.second.state()["left_out"]), ([], 0))
 
     async def test_what_is_played_again_after_a_restart_is_left_out(self) -> None:
-        """Else an announcement of this very folder, or of another with its number, would mute it."""
+        """Otherwise an announcement of this folder, or of another with its number, would mute it."""
         with mock.patch("server.seals.AHEAD", 1):
             await self.bus.rounds(2)
             await self.share(50)
@@ -533,7 +533,7 @@ class Keys(Case):
             self.assertEqual([one["site"] for one in self.first.state()["sites"]], [2])
 
     async def test_what_is_sent_after_a_restart_is_heard_at_once(self) -> None:
-        """The server ended, or was killed; what was there before is not."""
+        """The server ended, or was killed; messages from before are not heard."""
         for is_killed in (True, False):
             with mock.patch("server.seals.AHEAD", 200 if is_killed else 3_600_000):
                 await self.bus.rounds(2)
@@ -554,7 +554,7 @@ class Keys(Case):
                 self.assertEqual(self.held(self.two), held + 1)
 
     def test_of_what_was_taken_a_number_above_it_is_on_the_disk_first(self) -> None:
-        """Whenever the server is killed; it is not written for each message."""
+        """Whenever the server is killed, although it is not written for each message."""
         path = new_folder() / "seen.json"
         for number in range(10_000, 20_000, 100):
             seals.Taken(path).take("a1", number, 9_000)
@@ -570,7 +570,7 @@ class Keys(Case):
         self.assertEqual(seals.Taken(path).bound("b2"), 0)
 
     async def test_what_is_old_is_left_out(self) -> None:
-        """A message that was caught a quarter of an hour ago, and never came."""
+        """A message was intercepted a quarter of an hour ago, and never arrived."""
         with mock.patch.object(self.first._seal, "_clock", lambda: seals.time.time() - 900):
             await self.share(50)
         self.assertEqual(self.held(self.two), 0)
@@ -579,7 +579,7 @@ class Keys(Case):
         self.assertEqual(self.held(self.two), 1)
 
     async def test_what_is_of_a_clock_far_ahead_is_left_out(self) -> None:
-        """Else it could be played again for longer."""
+        """Otherwise it could be replayed for longer."""
         with mock.patch.object(self.first._seal, "_clock", lambda: time.time() + 900):
             await self.share(50)
         self.assertEqual(self.held(self.two), 0)
@@ -616,7 +616,7 @@ class Counting(unittest.TestCase):
         self.assertLess(stamps.next_count(0, 4_102_444_800_000, 31), 1 << 48)  # in the year 2100, too
 
     def test_a_new_stamp_is_above_all_that_the_clock_allows_without_a_look_at_all(self) -> None:
-        """What is more than a day ahead does not count, until its day has come, or again if the clock goes back."""
+        """Counts more than a day ahead are ignored until their day, and again if the clock goes back."""
         class Looked(dict[Any, Any]):
             def __iter__(self) -> Iterator[Any]:
                 looks.append(True)

@@ -86,7 +86,7 @@ class Written(Case):
         self.assertEqual((await soon(self.here.take(self.ben)))["size"], 1)
 
     async def test_what_is_in_pieces_ends_where_a_write_fails(self) -> None:
-        """Each piece of it may stand on what is forgotten."""
+        """Each piece may depend on what is forgotten."""
         keeper, rounds = self.here.keeper, 0
 
         async def piece() -> Any:
@@ -100,7 +100,7 @@ class Written(Case):
         self.assertEqual(rounds, 2)
 
     async def test_nothing_is_written_upon_what_the_disk_refused(self) -> None:
-        """A job beside which a write fails may stand on that: it is refused, though the disk takes more."""
+        """A job during which a write fails may depend on it: it is refused, even if the disk accepts more."""
         keeper = self.here.keeper
 
         async def body() -> None:
@@ -112,7 +112,7 @@ class Written(Case):
         await self.here.put(self.ben, [*LIMIT, 3])
 
     async def test_what_is_on_the_disk_was_done_whatever_becomes_of_anothers_write(self) -> None:
-        """The program is given the rest of it later, by way of another."""
+        """The program gets the rest of it later, with another write."""
         keeper, is_free = self.here.keeper, asyncio.Event()
         ask_all = Program.ask_all
 
@@ -136,7 +136,7 @@ class Written(Case):
         self.assertEqual((await self.here.take(self.ben))["size"], 3)
 
     async def test_what_is_on_the_disk_was_done_though_there_is_no_program(self) -> None:
-        """It ended, and none can be started for a while: the next one is given it."""
+        """The program ended, and none can be started for a while: the next one gets it."""
         async def none(*_: Any) -> Program:
             raise ProgramExited("the program cannot be started")
         await self.here.put(self.ben, ["limit", 1, 50, 4])
@@ -367,7 +367,7 @@ class Written(Case):
 
 
     async def test_a_seat_that_was_given_while_the_disk_took_nothing_is_given_again_after_a_kill(self) -> None:
-        """By its key alone, as often as the server is killed, and to nobody by another key."""
+        """With its key, as often as the server is killed, and with no other key."""
         self.disk.is_read_only()
         self.assertEqual(await self.refused(self.here.put(self.ada, [*LIMIT, 4])), "NotWritten")
         index, key = await soon(self.here.lab.seating.join("Zoé Ü", "", None))
@@ -390,7 +390,7 @@ class Written(Case):
 
 @contextlib.contextmanager
 def counted() -> Iterator[list[Any]]:
-    """What programs that run both roads beside have computed so far."""
+    """Yield a list of what the programs that run both roads have computed so far."""
     computed: list[Any] = []
 
     def kept(does: Any) -> Any:
@@ -424,7 +424,7 @@ class Stalled(Case):
         await self.here.lab.seating.seats_kept()
 
     async def stalls(self, *names: str) -> None:
-        """From the next such call on."""
+        """Stall from the next call with such a name on."""
         held, is_stalled = self.disk.free, threading.Event()
         self.is_stalled = is_stalled
         held.clear()
@@ -442,11 +442,11 @@ class Stalled(Case):
     async def is_told(self, count: int) -> None:
         async def is_so() -> bool:
             return len(self.told) >= count
-        await until(is_so, "people are told")
+        await until(is_so, "the server reports it")
         self.assertEqual(len(self.told), count)
 
     async def looks(self, edits: int) -> None:
-        """Who reads goes on, and sees what is confirmed."""
+        """Check that readers go on, and see what is confirmed."""
         ben, ask = self.ben, self.here.ask
         self.assertEqual(len((await soon(ask(ben, "scenario", at="shared")))["edits"]), edits)
         for at in (f"seat{ben}", "shared"):

@@ -1,4 +1,4 @@
-"""The report of two roads, beside the figures that live gives of them, and as the recipe writes it."""
+"""Compare the report of two roads with the figures of live, and with the report of the recipe."""
 from __future__ import annotations
 
 import html
@@ -13,7 +13,7 @@ ASKED = {"of": "mine", "title": "The road of <Ada>: 0:01:00 to 0:10:00", "works"
 
 
 def rows_of(page: str) -> dict[str, list[str]]:
-    """The lines of its table of figures."""
+    """Return the lines of its table of figures."""
     found = re.findall(r"<tr>(<td>.*?)</tr>", page)
     return {html.unescape(cells[0]): cells[1:] for cells in (re.findall(r"<td>(.*?)</td>", line) for line in found)}
 
