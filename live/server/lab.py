@@ -302,7 +302,7 @@ class Lab:
         """Return what was shared by others and this seat has not taken."""
         seat, shared, upto = self.state.seats[index], self.state.shared, self.keeper.confirmed
         begin = max(seat.upto, upto - LOOKED_AT)  # of one who never takes not all is gone through for each news
-        fresh = [one for one in shared.order(begin, upto) if one not in seat.own]
+        fresh = [one for one in shared.operations(begin, upto) if one not in seat.own]
         shares = [one for one in self.state.shares if seat.upto < one.upto <= upto]
         lister = Lister(self.state, shared, self.keeper.road(SHARED))
         return {"size": len(fresh) + begin - seat.upto, "from": sorted({one.about.who for one in fresh})[:10],

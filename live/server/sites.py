@@ -288,7 +288,7 @@ class Sites:
         if self._counted[0] is not state:
             self._counted = state, 0, {}
         _, counted, sums = self._counted
-        for operation in state.shared.order(counted, self._keeper.confirmed):
+        for operation in state.shared.operations(counted, self._keeper.confirmed):
             one = hashlib.sha256(operation.text().encode()).hexdigest()
             for number in (str(operation.stamp[1]), TOTAL):
                 sums[number] = (sums.get(number, 0) + int(one[:16], 16)) % (1 << 64)
@@ -422,7 +422,7 @@ class Sites:
             return
         own = self._numbers()
         other = {number for number, found in own.items() if numbers.get(number) != found}
-        lacking = sorted((one for one in self._keeper.state.shared.order(0, self._keeper.confirmed)
+        lacking = sorted((one for one in self._keeper.state.shared.operations(0, self._keeper.confirmed)
                           if str(one.stamp[1]) in other), key=lambda one: one.stamp)
         logging.info("another site holds other operations: telling %d to %d of %d", place,
                      min(place + AT_ONCE, len(lacking)), len(lacking))
