@@ -172,7 +172,7 @@ class Acts(Case):
                 self.assertEqual(await numbers(self.ada), states[-1 - count if walk == "undo" else count], f"{walk} {count}")
             self.assertEqual(said[walk], line if walk == "undo" else None)
 
-    async def test_what_another_took_back_again_hinders_nobody(self) -> None:
+    async def test_a_change_that_somebody_undid_again_blocks_nobody(self) -> None:
         mine = await lay(self.ada, "1", CLOSED)
         await self.ada.ask("send", name="shared")
         await self.ben.ask("take", message="shared")
@@ -191,7 +191,7 @@ class Acts(Case):
         await self.ben.ask("take", message="shared")
         self.assertEqual(await numbers(self.ben), {})
 
-    async def test_what_is_pending_is_named_by_its_key(self) -> None:
+    async def test_a_pending_operation_is_named_by_its_key(self) -> None:
         asked = [("gesture", {"key": "a", "shape": CLOSED}), ("gesture", {"key": "b", "layer": "a", "shape": SLOW}),
                  ("gesture", {"key": "c", "layer": "a", "top": True}), ("undo", {"key": "d", "stamp": "b"}),
                  ("undo", {"key": "e", "stamp": "c"}), ("undo", {"key": "f", "stamp": "b"})]
@@ -293,7 +293,7 @@ class Acts(Case):
 
     # Sharing and taking
 
-    async def test_what_is_shared_is_taken_and_the_later_one_is_on_top(self) -> None:
+    async def test_shared_changes_are_taken_and_the_later_one_is_on_top(self) -> None:
         mine = await lay(self.ada, "1", ["limit", 2, 2, 50, 70, 1], note="mine")
         one = await lay(self.ben, "1", ["limit", 0, 0, 5, None, 4])
         other = await lay(self.ben, "2", ["limit", 2, 3, 50, 60, 3], note="his")
@@ -323,7 +323,7 @@ class Acts(Case):
         found = [(await lines(seat))[tuple(mine)]["operations"][0]["when"] for seat in (self.ada, self.ben)]
         self.assertEqual([*found, took["changes"][0]["when"]], [made] * 3)
 
-    async def test_anothers_shared_change_is_withdrawn_and_taken_back(self) -> None:
+    async def test_a_shared_change_of_another_seat_is_withdrawn_and_that_is_undone(self) -> None:
         mine = await lay(self.ada, "1", CLOSED, note="mine")
         await self.ada.ask("send", name="shared")
         await self.ben.ask("take", message="shared")
@@ -339,7 +339,7 @@ class Acts(Case):
         with self.assertRaisesRegex(RefusedReply, "Ben changed it since"):
             await self.ada.ask("undo", key="2", stamp=mine)
 
-    async def test_what_another_does_in_turn_is_not_done_at_once(self) -> None:
+    async def test_a_job_of_another_turn_does_not_run_at_once(self) -> None:
         """A seat that holds a change has seen it, however often the line is changed later; an undo alone, too."""
         line = tuple(await lay(self.ada, "1", CLOSED))
         await self.ada.ask("send", name="shared")
@@ -392,7 +392,7 @@ class Acts(Case):
         await self.ada.ask("send", name="shared", stamps=[line])
         self.assertEqual(await numbers(self.ada, "shared"), closed(60, 69, 30, 70))
 
-    async def test_what_was_taken_back_in_private_is_not_shared_and_hides_nothing(self) -> None:
+    async def test_privately_undone_changes_are_not_shared_and_hide_nothing(self) -> None:
         his = await lay(self.ben, "1", ["limit", 2, 2, 50, 80, 4])
         for count in range(3):
             await lay(self.ada, f"a{count}", ["limit", 0, 0, 5 + 10 * count, 10 + 10 * count, 3])
@@ -410,7 +410,7 @@ class Acts(Case):
                          {("limit", 2, 50): 4, ("limit", 2, 80): 5})
         self.assertEqual([one["seat"] for one in (await self.ada.say("seats"))["seats"] if one["private"]], [])
 
-    async def test_what_was_taken_back_long_ago_is_forgotten_and_never_comes_back(self) -> None:
+    async def test_changes_undone_long_ago_are_forgotten_and_never_come_back(self) -> None:
         server = self.server(LIVE_MOST_UNDONE="70")
         async with server.seat() as ada, server.seat("Ben") as ben:
             first = await lay(ada, "first", ["limit", 2, 2, 20, 60, 1])
@@ -440,7 +440,7 @@ class Acts(Case):
                 os.kill(server.program, signal.SIGKILL)  # another program: the same
             self.assertEqual((await ada.ask("send", name="shared"))["stamps"], [first, last])
 
-    async def test_what_is_forgotten_is_not_listed_any_more(self) -> None:
+    async def test_forgotten_changes_are_no_longer_listed(self) -> None:
         server = self.server(LIVE_MOST_UNDONE="30")
         async with server.seat() as ada:
             gone = await lay(ada, "gone", ["limit", 2, 2, 20, 60, 1])
@@ -474,7 +474,7 @@ class Acts(Case):
                 self.assertEqual(closed(60, 69, 30, 60).items() <= (await numbers(ada)).items(), count < 19)
             self.assertEqual((undo, await numbers(ada)), (None, {}))
 
-    async def test_a_line_is_forgotten_whole(self) -> None:
+    async def test_a_whole_line_is_forgotten(self) -> None:
         line = await lay(self.ada, "line", CLOSED, note="works")
         for count in range(20):
             await lay(self.ada, f"g{count}", ["limit", 2, 2, 20 + count, 60, 1])
@@ -488,7 +488,7 @@ class Acts(Case):
 
     # Lists
 
-    async def test_the_list_comes_in_pieces_and_what_changed_alone(self) -> None:
+    async def test_the_list_comes_in_pieces_and_only_with_changes(self) -> None:
         for count in range(3):
             await lay(self.ada, str(count), ["limit", count, count, 20, 40, 1])
         said = await self.ada.ask("layers")
@@ -536,7 +536,7 @@ class Previews(Case):
         counts = (await self.ada.ask("counts", at=at, **{"from": first, "to": 200}))["counts"]
         self.assertEqual(said[name]["detectors"], counts)
 
-    async def test_sharing_is_compared_with_what_is_shared(self) -> None:
+    async def test_a_preview_of_sharing_compares_with_the_shared_road(self) -> None:
         said = await self.ada.ask("preview", what="share")
         self.assertEqual((said["size"], said["touched"]), (2, 1))
         told = {tuple(one["name"]): (one["was"], one["shown"]) for one in said["layers"]}
@@ -559,7 +559,7 @@ class Previews(Case):
             await self.figures_are(found, "after", "shared", first)
         self.assertEqual(self.seen(await self.picture("before")), self.seen(before))  # they stay as they were
 
-    async def test_taking_is_compared_with_what_is_held(self) -> None:
+    async def test_a_preview_of_taking_compares_with_the_own_road(self) -> None:
         said = await self.ada.ask("preview", what="take")
         self.assertEqual((said["size"], said["touched"]), (1, 30))
         told = {tuple(one["name"]): (one["was"], one["shown"]) for one in said["layers"]}
@@ -574,7 +574,7 @@ class Previews(Case):
         self.assertEqual(self.seen(after), self.seen(await self.picture(self.ada.at)))
         await self.figures_are(figures, "after", self.ada.at, 0)
 
-    async def test_what_would_be_lost_is_told_with_its_shape_and_with_who_won(self) -> None:
+    async def test_a_change_that_would_be_lost_is_listed_with_its_shape_and_the_winner(self) -> None:
         """Though nothing would be other on the road."""
         await self.ada.ask("take", message="shared")
         theirs = await lay(self.ben, "3", ["block", 60, 60, 30, 95, 1], layer=self.his)
@@ -589,7 +589,7 @@ class Previews(Case):
                              [theirs, "Ben", mine, ["block", 60, 60, 30, 95, 1]])
             await self.ada.ask("send", name="shared")
 
-    async def test_mine_is_compared_with_what_is_shared(self) -> None:
+    async def test_mine_is_compared_with_the_shared_road(self) -> None:
         figures = await self.ada.ask("figures", of="mine", **{"from": 0, "to": 200})
         for name, at in (("before", "shared"), ("after", self.ada.at)):
             await self.ada.ask("advance", at=at, to=200)
@@ -600,7 +600,7 @@ class Previews(Case):
         self.assertEqual((said["size"], said["touched"]), (1, 50))
         self.assertEqual({tuple(one["name"]) for one in said["layers"]}, {tuple(self.mine), tuple(self.his)})
 
-    async def test_a_preview_is_asked_for_first(self) -> None:
+    async def test_figures_of_a_preview_need_a_preview(self) -> None:
         for verb, fields in (("cells", {"at": "after", "step": 0}), ("advance", {"at": "before", "to": 5}),
                              ("figures", {"at": self.ada.at, "of": "preview", "from": 0, "to": 5})):
             self.assertEqual((await self.ada.reply(verb, **fields))["refused"], "NoPreview")
@@ -646,7 +646,7 @@ class Seats(Case):
                     await ada.reply("ping")
                     await ada.reply("ping")
 
-    async def test_a_seat_is_taken_over_where_nobody_is_connected(self) -> None:
+    async def test_a_seat_without_a_tab_can_be_taken_over(self) -> None:
         server = self.server()
         async with server.seat("Ada") as ada, server.seat("Ben") as ben:
             await put(ada, "1", [*LIMIT, 1])

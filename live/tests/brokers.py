@@ -116,7 +116,7 @@ class Brokers(Case):
         news = next((one["news"] for one in reversed(seat.told) if "news" in one), {"shares": []})
         return bool(news["shares"]) and (news["shares"][-1]["who"], news["shares"][-1]["title"]) == ("Ada", title)
 
-    async def test_rubbish_is_left_out_and_told(self) -> None:
+    async def test_garbage_is_skipped_and_reported(self) -> None:
         broker = self.broker()
         first, second = self.site(broker, 1), self.site(broker, 2)
         topic = f"road/{reference(first)}/operations"
@@ -157,7 +157,7 @@ class Brokers(Case):
         """Return whether a permanent warning has this sentence."""
         return all(any(why in sentence for sentence in broker_of(seat).get("stays", [])) for seat in seats)
 
-    async def test_one_number_twice_is_told_and_nothing_is_mixed(self) -> None:
+    async def test_a_duplicate_number_is_reported_and_nothing_is_mixed(self) -> None:
         broker = self.broker()
         first, second = self.site(broker, 7), self.site(broker, 7)
         async with first.seat("Ada") as ada, second.seat("Sam") as sam:
@@ -171,7 +171,7 @@ class Brokers(Case):
         async with third.seat("Tom") as tom, first.seat(key=ada.key) as ada:  # once the other is gone it goes on
             await self.same(ada, tom, edits=1)
 
-    async def test_a_copied_folder_is_told(self) -> None:
+    async def test_a_copied_folder_is_reported(self) -> None:
         broker = self.broker()
         first = self.site(broker, 7)
         copy = new_folder() / "copy"
@@ -181,7 +181,7 @@ class Brokers(Case):
         async with first.seat("Ada") as ada, second.seat("Sam") as sam:
             await until(lambda: self.stays("has this site's number, 7", ada, sam), "one number twice")
 
-    async def test_another_seed_is_told(self) -> None:
+    async def test_another_seed_is_reported(self) -> None:
         broker = self.broker()
         first, second = self.site(broker, 1), self.site(broker, 2, {**SMALL, "words": 2})
         async with first.seat("Ada") as ada, second.seat("Sam") as sam:
@@ -191,7 +191,7 @@ class Brokers(Case):
             await until(lambda: self.broker_is(ada, "connected", 0), "it came back")
             self.assertEqual(await shared(sam), [])
 
-    async def test_what_has_not_come_back_is_seen(self) -> None:
+    async def test_changes_that_have_not_come_back_are_shown(self) -> None:
         broker = self.broker()
         first = self.site(broker, 1)
         async with first.seat("Ada") as ada:
@@ -209,7 +209,7 @@ class Brokers(Case):
         now = next((one["broker"] for one in reversed(seat.told) if "broker" in one), seat.welcome["broker"])
         return (now["state"], now["unsent"]) == (state, unsent)
 
-    async def test_a_broker_elsewhere_wants_a_password(self) -> None:
+    async def test_a_broker_on_another_host_requires_a_password(self) -> None:
         with self.assertRaisesRegex(RuntimeError, "wants --broker-user and --broker-password"):
             self.server("--broker", "192.0.2.1:8883")
 

@@ -34,7 +34,7 @@ class ByCars(Case):
         edits = [(await here.ask(seat, "scenario", at=at))["edits"] for at in ("shared", f"seat{seat}")]
         return [Run(here.plan, one, STEPS) for one in edits]
 
-    async def test_each_figure_is_that_of_the_cars(self) -> None:
+    async def test_each_figure_equals_that_of_the_cars(self) -> None:
         for number in range(ROADS):
             chance = random.Random(number)
             async with Here(plan=random_plan(chance)) as here:
@@ -83,7 +83,7 @@ class ByCars(Case):
                 error = math.sqrt(wanted * STEPS / LONG) if wanted else 0
                 self.assertLessEqual(abs(asked - wanted), 0.005 * wanted + 4 * error + 1e-9, (number, side, inlet, asked, wanted))
 
-    async def test_what_holds_cars_back_at_an_inlet_is_lost_demand(self) -> None:
+    async def test_cars_held_back_at_an_inlet_are_lost_demand(self) -> None:
         """Without slowing a chance q admits q / (1 + q q) cars a step, if nothing hinders a car: so the demand is known. What is put
         at the inlet holds cars back, and leaves the demand as it is; a lowered demand or a ramp that is switched off loses nothing."""
         chances, steps = (26_214, 6_554), 3_600
@@ -129,7 +129,7 @@ class ByCars(Case):
                 else:
                     self.assertEqual((asked, said["after"]["lost"][1]), (0, 0))
 
-    async def test_days_are_means_of_such_figures(self) -> None:
+    async def test_days_are_means_of_these_figures(self) -> None:
         chance = random.Random(77)
         for _ in range(2):
             plan = random_plan(chance)

@@ -82,7 +82,7 @@ class Days(Case):
                     half = T_OF[days - 1] * statistics.stdev(values) / days ** 0.5
                     self.assertAlmostEqual(one[side][1], half, 4, (one["name"], side))
 
-    async def test_means_and_intervals_are_those_of_the_days(self) -> None:
+    async def test_means_and_intervals_equal_those_of_the_days(self) -> None:
         of_days = await self.of_days(3)
         await self.change(self.here, self.ada)
         self.over(3)
@@ -92,7 +92,7 @@ class Days(Case):
         self.are_means(said, of_days)
         self.assertEqual(self.heard, [(self.ada, done, 3) for done in (1, 2, 3)])
 
-    async def test_where_it_is_stopped_the_days_that_are_done_are_told(self) -> None:
+    async def test_stopping_returns_the_days_that_are_done(self) -> None:
         """Days behind the first ones never end."""
         await self.change(self.here, self.ada)
         for days in (1, 2):
@@ -161,7 +161,7 @@ class Days(Case):
             return not any(map(runs, processes))
         await until(gone, "nothing runs for it any more", 20)
 
-    async def test_one_question_at_a_time_and_who_asks_is_told(self) -> None:
+    async def test_one_question_at_a_time_and_the_refusal_names_who_asks(self) -> None:
         question, processes = await self.asks(self.ada)
         with self.assertRaises(Refused) as caught:
             await soon(self.here.ask(self.ben, "days", of="mine", **SPAN))
@@ -174,7 +174,7 @@ class Days(Case):
         self.assertEqual(await soon(self.here.ask(self.ada, "days", of=None)), {"stopped": True})
         await self.ended(other, more)
 
-    async def test_it_ends_when_who_asks_leaves(self) -> None:
+    async def test_it_ends_when_the_asking_tab_leaves(self) -> None:
         question, processes = await self.asks(self.ada)
         self.here.questions.left(self.ben)
         self.assertFalse(question.done())

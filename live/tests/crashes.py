@@ -156,7 +156,7 @@ class Crashes(Case):
             await until(are_same, "both hold the same")
             self.assertGreater(len((await shared())[0]), ROUNDS)
 
-    async def test_a_change_of_program_is_not_felt(self) -> None:
+    async def test_nobody_notices_a_replaced_program(self) -> None:
         """Near its limit of lines the program gets a successor: no question is refused, and rows stay what they are."""
         server = self.server(plan=PLAN, LIVE_MOST_LINES="60")
         async with server.seat("Ada") as ada, server.seat("Ben") as ben:
@@ -182,7 +182,7 @@ class Crashes(Case):
     def changes(self, seat: Seat) -> int:
         return max((one["program"]["changes"] for one in seat.told if "program" in one), default=0)
 
-    async def test_it_ends_by_an_interrupt_with_tabs_open(self) -> None:
+    async def test_an_interrupt_ends_it_with_tabs_open(self) -> None:
         """One of the tabs does not read."""
         server = self.server(plan=PLAN)
         ada, deaf = [await server.seat(name).__aenter__() for name in ("Ada", "deaf")]
@@ -201,7 +201,7 @@ class Crashes(Case):
         async with server.seat(key=ada.key) as ada:
             self.assertEqual(len((await ada.ask("scenario"))["edits"]), 1)
 
-    async def test_a_program_that_cannot_go_on_is_told(self) -> None:
+    async def test_a_program_that_cannot_continue_is_reported(self) -> None:
         server = self.server(plan=PLAN)
         async with server.seat("Ada") as ada:
             await ada.ask("gesture", key="1", edits=[["block", 30, 10, 1]])

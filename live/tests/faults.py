@@ -236,7 +236,7 @@ class Faults(Case):
                 self.look(story, f"call {number} and {'all later' if lasting else 'no other'}", True)
         self.assertGreater(refused, len(some) // 3)
 
-    async def test_without_current_at_each_call_to_the_disk(self) -> None:
+    async def test_power_failure_at_each_call_to_the_disk(self) -> None:
         """After a power failure the durable part of the disk is there, and any part of the rest, or zeros."""
         moments: list[tuple[bytes, bytes, list[Any], list[Any]]] = []
         async with Story() as story:

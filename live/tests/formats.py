@@ -58,7 +58,7 @@ class Journals(unittest.TestCase):
                         compared += 1
         self.assertGreater(compared, 150)
 
-    def test_what_is_written_in_this_form_is_read(self) -> None:
+    def test_entries_of_this_form_are_read_back(self) -> None:
         """Each entry is read, and a compacted journal says the same as the longer one."""
         with gzip.open(HERE / "load.json.gz", "rt") as file:
             for kept in json.load(file):

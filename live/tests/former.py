@@ -67,7 +67,7 @@ def digest(key: str) -> str:
 
 
 class Former(Case):
-    async def test_a_folder_of_the_former_form_has_the_same_roads(self) -> None:
+    async def test_a_folder_of_form_1_has_the_same_roads(self) -> None:
         for seed in range(RUNS):
             folder, old = running.new_folder(), Folder(random.Random(seed))
             journal = folder / "journal.jsonl"
@@ -93,7 +93,7 @@ class Former(Case):
                 notes = {one["note"] for line in (await seat.ask("layers"))["layers"] for one in line.get("operations", [])}
                 self.assertTrue(notes <= {f"note {number}" for number in range(60)} and notes)
 
-    async def test_a_line_of_the_former_form_is_changed_and_withdrawn(self) -> None:
+    async def test_a_line_of_form_1_is_changed_and_withdrawn(self) -> None:
         folder = running.new_folder()
         edits = [["block", cell, step, value] for cell in range(30, 35) for step, value in ((20, 1), (40, 0))]
         entries: list[Any] = [*Folder(random.Random(0)).entries[:4], {"gesture": {

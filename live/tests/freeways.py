@@ -28,7 +28,7 @@ def value_at(edits: list[Any], plan: dict[str, Any], inlet: int, step: int) -> i
 
 
 class Freeways(Case):
-    async def test_a_freeway_in_km_is_the_recipes_road(self) -> None:
+    async def test_a_freeway_in_km_gives_the_road_of_the_recipe(self) -> None:
         """Compare its rows with those of the edits that the recipe makes from the same figures."""
         server = self.server(plan=KM)
         async with server.seat() as ada:
@@ -65,7 +65,7 @@ class Freeways(Case):
         server.start()
         self.assertIn("has another plan than", server.said())
 
-    async def test_the_demand_is_that_of_the_file_and_the_clock_is_its_day(self) -> None:
+    async def test_demand_and_clock_are_those_of_the_file(self) -> None:
         """900 cars an hour, and 600 from 7:05 on; 200 at a ramp beside them: to half a per cent, and the curve that the page asks for
         gives the ramp's demand back."""
         server = self.server(plan={**KM, "main": [["7:00", 900], ["7:05", 600]], "ramps": [[0.45, 200]], "begin": "07:00",
@@ -108,7 +108,7 @@ class Freeways(Case):
                                              if one[0] <= plan["inlets"][1][1] <= other[0])
             self.assertAlmostEqual(less + (more - less) * (plan["inlets"][1][1] - low) / (high - low), 40, delta=1)
 
-    async def test_a_freeway_that_was_not_begun_whole_is_begun_anew(self) -> None:
+    async def test_a_freeway_that_was_only_partly_set_up_is_set_up_again(self) -> None:
         """The server was killed before the works were shared."""
         folder, keys = new_folder(), dict[Path, dict[str, str]]()
         (folder / "token").write_text("a token of twenty signs")
@@ -155,7 +155,7 @@ class Freeways(Case):
         from zegdrut.freeway import make_roads
         return make_roads(FIGURES.override(path), None)[0]
 
-    def test_what_cannot_be_read_is_refused_and_leaves_nothing(self) -> None:
+    def test_an_unreadable_file_is_refused_and_leaves_nothing(self) -> None:
         free: dict[str, Any] = {**KM, "main": 0}
         for text, said in (
                 ("", "is neither a plan line nor a freeway in km"), ("[1]", "it is not a JSON object"),

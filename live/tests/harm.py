@@ -49,7 +49,7 @@ def places_in(value: Any) -> Iterator[tuple[Any, Any]]:
 
 
 class Bounds(Case):
-    async def test_who_floods_is_not_heard_for_a_while_and_named(self) -> None:
+    async def test_a_flooding_site_is_ignored_for_a_while_and_reported(self) -> None:
         bus = Bus()
         one, two = [await self.enterAsyncContext(Here(site=number)) for number in (1, 2)]
         first, second = bus.site(one), bus.site(two)
@@ -78,7 +78,7 @@ class Bounds(Case):
             self.assertEqual(one.lab.state.shared.size, 1)
             self.assertNotIn("too much", " ".join(first.state()["stays"]))
 
-    async def test_who_makes_much_work_is_not_heard_for_a_while_either(self) -> None:
+    async def test_a_site_that_makes_much_work_is_ignored_for_a_while_too(self) -> None:
         """The limit is 6 seconds of work at once, and half of the time: a second counts as 1,000 messages."""
         bus = Bus()
         one, two = [await self.enterAsyncContext(Here(site=number)) for number in (1, 2)]
@@ -101,7 +101,7 @@ class Bounds(Case):
         self.assertIn("Site 2 sends too many messages: they are ignored for 30 seconds", " ".join(first.state()["stays"]))
         self.assertEqual(second._floods.paused(), [])  # not by its own
 
-    async def test_an_operation_that_a_tab_may_make_every_site_takes_and_no_other(self) -> None:
+    async def test_every_site_accepts_exactly_the_operations_that_a_tab_may_make(self) -> None:
         """One gate for all: a closure of 600 cells in raw edits, and the drag of its end, which withdraws them all."""
         bus, plan = Bus(), {**SMALL, "length": 1_300, "zone": 100, "zones": [[5, 0]] * 13, "detectors": []}
         one, two = [await self.enterAsyncContext(Here(site=number, plan=plan)) for number in (1, 2)]
@@ -170,7 +170,7 @@ class Bounds(Case):
         await site._came(f"road/{site._road}/operations", "", body)
         self.assertEqual([one.about.who for one in here.lab.state.shared.places], ["Eve"])
 
-    async def test_whatever_is_changed_in_a_message_is_taken_or_told(self) -> None:
+    async def test_whatever_is_changed_in_a_message_is_taken_or_reported(self) -> None:
         """The program accepts all that the server accepted."""
         here = await self.enterAsyncContext(Here(site=1))
         site, chance = Bus().site(here), random.Random(1)
@@ -192,7 +192,7 @@ class Bounds(Case):
         self.assertEqual(numbers(json.loads(reply)["edits"]), numbers(rows_of(timeline(here.lab.state.shared.road))))
         self.assertGreater(here.lab.state.shared.size, 10)
 
-    async def test_what_lacks_is_told_when_it_was_heard_twice(self) -> None:
+    async def test_missing_operations_are_sent_after_a_hash_is_heard_twice(self) -> None:
         """A site that is missing operations gets them once; a site with another version of the protocol gets nothing."""
         bus = Bus()
         here = await self.enterAsyncContext(Here(site=1))
@@ -207,7 +207,7 @@ class Bounds(Case):
                 await site._came(f"road/{site._road}/sum", "f", body)
             self.assertEqual([one.topic.rpartition("/")[2] for one in bus.sent], sent)
 
-    async def test_two_that_read_the_same_changes_otherwise_say_so(self) -> None:
+    async def test_two_sites_that_derive_different_roads_from_the_same_changes_say_so(self) -> None:
         bus = Bus()
         here = await self.enterAsyncContext(Here(site=1))
         site = bus.site(here)
@@ -221,7 +221,7 @@ class Bounds(Case):
         self.assertEqual(bus.sent, [])
 
 
-    async def test_what_strangers_say_of_themselves_is_bounded(self) -> None:
+    async def test_announcements_of_strangers_are_bounded(self) -> None:
         bus = Bus()
         here = await self.enterAsyncContext(Here(site=1))
         site = bus.site(here)
@@ -239,7 +239,7 @@ class Bounds(Case):
             await site._came("road/sites", "", json.dumps({"folder": "f", "site": number, "road": "r"}).encode())
         self.assertIn("it does not say which site sent it", told(site))
 
-    async def test_what_does_not_come_back_is_sent_again_after_growing_pauses(self) -> None:
+    async def test_an_operation_that_does_not_come_back_is_resent_after_growing_pauses(self) -> None:
         bus = Bus()
         here = await self.enterAsyncContext(Here(site=1))
         site = bus.site(here)

@@ -75,7 +75,7 @@ class Frames(Case):
             self.assertIn(b" 404 ", await reader.readline(), path)
             writer.close()
 
-    async def test_the_page_is_told_to_load_nothing_from_elsewhere(self) -> None:
+    async def test_the_page_may_load_nothing_from_elsewhere(self) -> None:
         async with self.session.get(self.base + "/viewer/drawing.js") as one, self.session.get(self.base + "/") as other:
             for reply in (one, other):
                 if reply.status == 200:
@@ -85,7 +85,7 @@ class Frames(Case):
                     self.assertNotIn("unsafe", policy)
                     self.assertEqual(reply.headers["Referrer-Policy"], "no-referrer")
 
-    async def test_the_token_lets_in(self) -> None:
+    async def test_the_token_admits_a_tab(self) -> None:
         for token in ("", "wrong", self.token[:-1], self.token + "x", "\u00e9", 7, None, [self.token]):
             frame = json.dumps({"id": 1, "hello": {"token": token, "name": "x"}})
             self.assertEqual(await self.raw(frame), [1008], token)
@@ -106,7 +106,7 @@ class Frames(Case):
         self.assertEqual((await known.receive_json())["welcome"]["name"], "Ada")
         await known.close()
 
-    async def test_who_never_says_a_name_is_let_go_at_last(self) -> None:
+    async def test_a_tab_that_never_sends_a_name_is_disconnected_at_last(self) -> None:
         """Even with the token: there are 200 such sockets."""
         self.enterContext(mock.patch("server.tabs.NAMED", 0.1))
         tab = Tab(mock.Mock(**{"lab.keeper.settings.hello": 0.1}), mock.Mock(), None)
@@ -114,7 +114,7 @@ class Frames(Case):
         await asyncio.wait_for(tab._hello_in_time(), PATIENCE)
         self.assertEqual(tab.close_reason, (1008, "no hello"))
 
-    async def test_frames_that_are_none(self) -> None:
+    async def test_malformed_frames(self) -> None:
         for number, frame in enumerate((
                 "", "x", "[]", "7", "null", "[" * 60_000, '{"id":1}', '{"id":"1","ping":{}}', '{"id":1.5,"ping":{}}',
                 '{"id":true,"ping":{}}',
@@ -135,7 +135,7 @@ class Frames(Case):
         self.assertEqual((await self.raw(self.hello("c"), b"\x00binary"))[1:], [1003])
         self.assertEqual((await self.raw(self.hello("d"), *["x"] * 40))[-1], 1008)
 
-    async def test_who_sends_a_frame_without_end_is_told_and_nothing_of_it_is_kept(self) -> None:
+    async def test_an_endless_frame_is_refused_and_not_kept(self) -> None:
         host = self.base.rpartition("/")[2]
         reader, writer = await asyncio.open_connection("127.0.0.1", int(host.rpartition(":")[2]))
         writer.write((f"GET /live HTTP/1.1\r\nHost: {host}\r\nOrigin: {self.base}\r\nUpgrade: websocket\r\n"
@@ -223,7 +223,7 @@ class Frames(Case):
 class Long(Case):
     """Malformed frames of 64 KB delay nobody."""
 
-    def test_what_is_wrong_is_soon_found(self) -> None:
+    def test_faults_are_found_fast(self) -> None:
         def many(one: str) -> str:
             return "[" + ",".join([one] * (64_000 // (len(one) + 1))) + "]"
         wrong = [*map(many, ("1", "[]", "[1]", '["x",1,1,1]', '["limitt",1,1,1]', '["limit",1,1,1.5]', '["limit",1,1,1]', '"x"',
@@ -317,7 +317,7 @@ class Neighbours(Case):
         await seat.ask("advance", to=200)
         return seat
 
-    async def test_what_tabs_asked_that_have_gone_is_not_waited_for(self) -> None:
+    async def test_nobody_waits_for_questions_of_tabs_that_have_gone(self) -> None:
         """The tab of a seat is reopened again and again, and each asks questions that take long."""
         plan = {**SMALL, "length": 2_000, "zone": 1_000, "zones": [[5, 6_554]] * 2}
         server = self.server(plan=plan)

@@ -73,7 +73,7 @@ class Reading(unittest.TestCase):
         self.path.write_bytes(b"".join([*old, self.lines[2][:-9]]))
         self.assertEqual(read_entries(self.path), (GESTURES[:2], len(b"".join(old))))
 
-    def test_what_of_a_write_is_zero_was_never_confirmed(self) -> None:
+    def test_zeros_in_a_write_were_never_confirmed(self) -> None:
         """After a power failure the disk may have any of the blocks of the last write: the others are zero."""
         whole, last = self.lines[0], line_of(GESTURES[1]) + line_of(GESTURES[2], "and")
         for begin in range(0, len(last), 7):
@@ -99,7 +99,7 @@ class Reading(unittest.TestCase):
             state, _, _ = Keeper(self.path.parent, "", Settings())._read(Entries(self.path))
             self.assertEqual(len(state.shared.road.layers), size)
 
-    def test_a_folder_is_held_by_one(self) -> None:
+    def test_only_one_server_locks_a_folder(self) -> None:
         with lock(self.path.parent), self.assertRaisesRegex(Broken, "another server"), lock(self.path.parent):
             self.fail("held twice")
         with lock(self.path.parent):
@@ -148,14 +148,14 @@ class Writing(unittest.IsolatedAsyncioTestCase):
         await journal.write(GESTURES[2])
         self.assertEqual(read_entries(self.path)[0], GESTURES)
 
-    async def test_lines_of_one_write_say_so(self) -> None:
+    async def test_lines_of_one_write_are_marked(self) -> None:
         journal = Journal(self.path, 0)
         await journal.write(GESTURES[0])
         await asyncio.gather(*map(journal.write, GESTURES[1:]))
         self.assertEqual(self.path.read_bytes(),
                          b"".join(map(line_of, GESTURES, ("crc", "crc", "and"))))
 
-    async def test_compaction_loses_nothing_that_is_written_meanwhile(self) -> None:
+    async def test_compaction_loses_no_entry_that_is_written_during_it(self) -> None:
         journal = Journal(self.path, 0)
         await journal.write(GESTURES[0])
         compaction = asyncio.ensure_future(journal.compact(lambda: [GESTURES[1]]))  # replaces GESTURES[0] by GESTURES[1]
@@ -189,7 +189,7 @@ class Writing(unittest.IsolatedAsyncioTestCase):
         self.assertEqual(read_entries(self.path)[0], [GESTURES[1], *many, GESTURES[2]])
         self.assertEqual([one.name for one in self.path.parent.iterdir()], [self.path.name])
 
-    async def test_a_shorter_journal_that_cannot_be_written_leaves_the_old_one(self) -> None:
+    async def test_a_compaction_that_fails_leaves_the_old_journal(self) -> None:
         """Whichever call fails in the process that writes it, or in this one."""
         journal, here = Journal(self.path, 0), os.getpid()
         await journal.write(GESTURES[0])
@@ -205,7 +205,7 @@ class Writing(unittest.IsolatedAsyncioTestCase):
             await journal.write(GESTURES[2])
         self.assertEqual(read_entries(self.path)[0], [GESTURES[0], *[GESTURES[2]] * 4])
 
-    async def test_a_shorter_journal_that_may_not_last_takes_nothing(self) -> None:
+    async def test_a_compacted_journal_that_may_not_be_durable_takes_no_entries(self) -> None:
         """If the folder cannot be synced, the old file may be there again later, without newer entries."""
         journal = Journal(self.path, 0)
         await journal.write(GESTURES[0])
@@ -218,7 +218,7 @@ class Writing(unittest.IsolatedAsyncioTestCase):
             await journal.mend(GESTURES[2])
         self.assertEqual(journal.confirmed(), GESTURES[1:])
 
-    async def test_where_the_old_file_cannot_be_closed_lines_go_to_no_strangers_socket(self) -> None:
+    async def test_no_line_goes_to_a_strangers_socket_if_the_old_file_cannot_be_closed(self) -> None:
         """Its descriptor is free nevertheless, and the next socket gets it."""
         journal = Journal(self.path, 0)
         await journal.write(GESTURES[0])
@@ -242,7 +242,7 @@ class Writing(unittest.IsolatedAsyncioTestCase):
                 one.recv(1_000)
         self.assertEqual(read_entries(self.path)[0], GESTURES[1:])
 
-    async def test_what_is_put_in_place_is_whole_or_not_there(self) -> None:
+    async def test_a_file_is_replaced_completely_or_not_at_all(self) -> None:
         """Whichever call fails: the old file or the new one."""
         self.path.write_bytes(b"old")
         with Disk() as disk:
@@ -304,7 +304,7 @@ class Folders(Case):
                 server.start()
             self.assertEqual(path.read_bytes(), good + broken + line_of({"clock": {"rate": 0, "now": 5}}))
 
-    async def test_a_token_is_written_whole_and_one_that_is_not_lets_nobody_in(self) -> None:
+    async def test_a_token_is_written_completely_and_a_partial_one_admits_nobody(self) -> None:
         server = self.server()
         server.kill()
         path = server.folder / "token"
@@ -322,7 +322,7 @@ class Folders(Case):
         self.assertNotEqual(path.read_text(), token)
         self.assertFalse((server.folder / "token.new").exists())
 
-    async def test_a_server_starts_where_little_can_be_written(self) -> None:
+    async def test_a_server_starts_on_an_almost_full_disk(self) -> None:
         """Existing roads can be viewed."""
         server = self.server()
         async with server.seat() as seat:
@@ -362,7 +362,7 @@ class Folders(Case):
         self.assertIn("another server runs in", ran.stderr)
         self.assertNotIn("Traceback", ran.stderr)
 
-    async def test_a_second_server_says_so_where_the_file_lock_was_removed(self) -> None:
+    async def test_a_second_server_says_so_even_if_the_lock_file_was_removed(self) -> None:
         """Also after a compaction, which makes the journal a new file."""
         server = self.server(LIVE_MOST_JOURNAL="2000")
         path = server.folder / "journal.jsonl"
@@ -383,7 +383,7 @@ class Folders(Case):
                 self.assertIn("another server runs in", ran.stderr)
             await self.shared(ada, 5)
 
-    async def test_a_server_starts_where_nothing_can_be_written(self) -> None:
+    async def test_a_server_starts_on_a_read_only_disk(self) -> None:
         """All can be viewed, and changes are refused until the disk accepts them."""
         server = self.server()
         async with server.seat() as ada:
@@ -419,7 +419,7 @@ class Folders(Case):
         async with server.seat(key=ben.key) as ben:
             self.assertEqual(len((await ben.ask("scenario"))["edits"]), 1)
 
-    async def test_a_full_disk_is_told_and_what_was_not_written_is_nowhere(self) -> None:
+    async def test_a_full_disk_is_reported_and_unwritten_changes_are_nowhere(self) -> None:
         server = self.server()
         async with server.seat() as ada, server.seat("Ben") as ben:
             await ada.say("clock", to=100)
@@ -449,7 +449,7 @@ class Folders(Case):
         async with server.seat(key=ada.key) as ada:
             self.assertEqual(numbers((await ada.ask("scenario"))["edits"]), held)
 
-    async def test_a_long_journal_is_shortened_and_says_the_same(self) -> None:
+    async def test_a_long_journal_is_compacted_and_gives_the_same_state(self) -> None:
         server = self.server(LIVE_MOST_JOURNAL="6000", LIVE_DAY="40")
         async with server.seat() as ada, server.seat("Ben") as ben:
             path = server.folder / "journal.jsonl"
@@ -477,7 +477,7 @@ class Folders(Case):
             self.assertEqual([numbers(one["edits"]) for one in held], [numbers(one["edits"]) for one in now])
             self.assertEqual((await ada.ask("gesture", key="g0", edits=[["limit", 0, 1, 1]]))["stamp"], [1, 65])
 
-    async def test_the_shortened_journal_gives_the_same_state(self) -> None:
+    async def test_the_compacted_journal_gives_the_same_state(self) -> None:
         server = self.server()
         async with server.seat() as ada, server.seat("Ben") as ben:
             for number in range(6):

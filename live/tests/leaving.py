@@ -76,7 +76,7 @@ class LeftOut(Case):
             rows: list[str] = lab.diagram("A", 0, 100)
             return rows
 
-    async def test_what_a_site_made_and_makes_is_left_out_for_all_and_comes_back(self) -> None:
+    async def test_past_and_future_changes_of_a_site_are_excluded_for_all_and_come_back(self) -> None:
         limit, closure = ("limit", 1, 20, 2), (("block", 60, 30, 1), ("block", 60, 50, 0))
         later = ("block", 80, 10, 1)
         await self.shape(0, "limit", 1, 1, 20, None, 2)
@@ -113,7 +113,7 @@ class LeftOut(Case):
         await self.share(2)
         await self.everywhere(self.road(limit, later, extra))
 
-    async def test_who_left_a_site_out_for_all_has_the_road_without_it_after_a_start(self) -> None:
+    async def test_a_seat_that_excluded_a_site_has_the_road_without_it_after_a_restart(self) -> None:
         """The seat took that site's changes, and not yet the exclusion on the shared road."""
         await self.shape(2, "block", 52, 53, 30, 45, 1)
         await self.here[1].take(1)
@@ -126,7 +126,7 @@ class LeftOut(Case):
         for place, here in enumerate(self.here, 1):
             self.assertEqual(await self.rows(here), rows, f"site {place}")
 
-    async def test_random_histories_give_the_road_of_the_shapes_that_count(self) -> None:
+    async def test_random_histories_give_the_road_of_the_active_shapes(self) -> None:
         """All sites have the same road, whoever is excluded when, and in whatever order messages arrive."""
         for seed in range(24 if ALL else 8):
             chance = random.Random(seed)
@@ -180,7 +180,7 @@ class LeftOut(Case):
         reply = await here.keeper.ask(0, (0,), lambda: here.keeper.say(b'{"scenario":{"at":"shared"}}', {}))
         return closed(json.loads(reply)["edits"])
 
-    async def test_at_the_site_that_is_left_out_people_are_told_and_all_goes_on(self) -> None:
+    async def test_the_excluded_site_warns_its_users_and_goes_on(self) -> None:
         await self.shape(2, "block", 60, 60, 30, None, 1)
         await self.here[2].ask(1, "gesture", key="private", note="", shape=["limit", 1, 1, 20, None, 2])
         await self.here[0].ask(1, "site", key="out", site=3, out=True)
@@ -200,7 +200,7 @@ class LeftOut(Case):
         await self.share(2)
         await self.everywhere(self.road(("block", 60, 30, 1), ("limit", 1, 20, 2)))
 
-    async def test_who_is_left_out_lets_nobody_in(self) -> None:
+    async def test_an_excluded_site_cannot_include_anybody(self) -> None:
         await self.shape(2, "block", 60, 60, 30, None, 1)
         await self.here[0].ask(1, "site", key="out", site=3, out=True)
         await self.share(0)
@@ -216,7 +216,7 @@ class LeftOut(Case):
             await self.bus.give(self.sites[0], Message(f"road/{self.sites[0]._road}/operations", body))
             self.assertNotIn((9, 70), self.here[0].lab.state.by_stamp)
 
-    async def test_of_two_of_one_stamp_the_same_counts_at_all_sites(self) -> None:
+    async def test_all_sites_choose_the_same_of_two_twins(self) -> None:
         """One twin excludes a site, the other includes it; they arrive in either order."""
         await self.shape(2, "block", 60, 60, 30, None, 1)
         stamp = [stamps.next_count(0, stamps.milliseconds(), 0), 70 * 64 + 1]

@@ -72,12 +72,12 @@ class Orphans(Case):
     async def test_nothing_outlives_a_server_that_is_killed(self) -> None:
         await self.ends(signal.SIGKILL)
 
-    async def test_nothing_outlives_a_server_that_is_told_to_end(self) -> None:
+    async def test_nothing_outlives_a_server_that_gets_a_signal(self) -> None:
         await self.ends(signal.SIGTERM)
 
 
 class Termination(unittest.TestCase):
-    def test_a_signal_in_the_midst_of_a_task_cancels_the_start_alone(self) -> None:
+    def test_a_signal_during_a_task_cancels_only_the_start(self) -> None:
         serve = importlib.machinery.SourceFileLoader("serve", str(HERE.parent / "serve")).load_module()
 
         async def starts() -> None:

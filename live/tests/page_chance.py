@@ -53,7 +53,7 @@ class TwoTabs(BrowserCase):
         tab.tool("block")
         tab.in_figures(kmFrom="0.18", kmTo="0.19", timeFrom="0:05", timeTo="0:07")
 
-    def test_mine_beside_shared_and_what_is_looked_at_before(self) -> None:
+    def test_mine_against_shared_and_the_preview(self) -> None:
         ada, _ = self.over_three(SEEDED)
         self.run_a_quarter(ada)
         self.closed(ada)
@@ -88,7 +88,7 @@ class TwoTabs(BrowserCase):
         ada.until(lambda: ada.part("oneDay").is_displayed(), "one day")
         self.assertEqual(ada.lines("own"), ["Closed 0.18–0.188 km, 0:05:00–0:07:00 private"] * 2)
 
-    def test_it_is_stopped_and_who_asks_is_told(self) -> None:
+    def test_it_can_be_stopped_and_a_refusal_names_who_asks(self) -> None:
         """Stop many days while the third waits for a file to go."""
         folder = new_folder()
         path, file = folder / "road_lab", folder / "wait"
@@ -111,7 +111,7 @@ class TwoTabs(BrowserCase):
         ben.press("Over 3 days")
         self.assertEqual(over_days(ben, "#over")["Vehicle hours"][2], "0 the same each day")
 
-    def test_where_it_is_stopped_the_days_that_are_done_are_shown(self) -> None:
+    def test_stopping_shows_the_days_that_are_done(self) -> None:
         """The third day never ends."""
         path = new_folder() / "road_lab"
         path.write_text("#!/bin/sh\n" + PROGRAM_OF_DAYS.format(days=2, program=program()), encoding="utf-8")
@@ -130,7 +130,7 @@ class TwoTabs(BrowserCase):
         ada.press("One day", "#days")
         self.assertTrue(ada.part("oneDay").is_displayed())
 
-    def test_what_is_saved_of_both_roads_is_compared_as_it_is(self) -> None:
+    def test_saved_tables_of_both_roads_are_compared_unchanged(self) -> None:
         ada, = self.over_three(SEEDED)[:1]
         self.run_a_quarter(ada)
         self.closed(ada)

@@ -84,7 +84,7 @@ class OneFreeway(BrowserCase):
         tab.in_figures(kmFrom="3.3", kmTo="3.3")
         self.assertEqual(shapes_of(operations_of(self.server)[-1]), [["block", 440, 440, 1200, None, 1]])
 
-    def test_wrong_figures_are_told_and_change_nothing(self) -> None:
+    def test_invalid_figures_are_reported_and_change_nothing(self) -> None:
         tab, = self.open(FREEWAY)
         tab.tool("block")
         for fields, said in (
@@ -111,7 +111,7 @@ class OneFreeway(BrowserCase):
         """Wait for what is counted car by car."""
         tab.until(lambda: "…" not in tab.text("figures"), "the lost demand")
 
-    def test_lost_demand_is_counted_and_told(self) -> None:
+    def test_lost_demand_is_counted_and_shown(self) -> None:
         tab, = self.open(FREEWAY)
         tab.run_an_hour()
         self.exact(tab)
@@ -235,7 +235,7 @@ class OneFreeway(BrowserCase):
         tab.driver.refresh()
         tab.until(lambda: tab.text("me") == "Ada (seat 1)", "the same seat")
 
-    def test_an_address_without_its_token_is_told(self) -> None:
+    def test_an_address_without_its_token_gets_a_message(self) -> None:
         tab, = self.open(FREEWAY)
         tab.script("sessionStorage.clear()")
         tab.driver.get(tab.driver.current_url)  # as it was copied from the address bar
@@ -282,7 +282,7 @@ class OneFreeway(BrowserCase):
         self.assertEqual(commands[:-1], lines[0:2 * len(commands) - 2:2])  # the same road
         self.assertEqual(json.loads(commands[-1]), {"advance": {"at": "Ada", "to": 3_600}})  # up to the clock
 
-    def test_the_menu_closes_by_what_is_saved_and_by_escape(self) -> None:
+    def test_the_menu_closes_after_saving_and_on_escape(self) -> None:
         """An open menu would cover the sentence that says what was saved."""
         tab, = self.open(FREE_ROAD)
         tab.run_an_hour()
@@ -332,7 +332,7 @@ class OneFreeway(BrowserCase):
                        "<li>54 km/h, 0–0.3 km, 0:20:00–0:30:00 (new)</li>", "delay, vehicle hours"):
             self.assertIn(wanted, page)
 
-    def test_what_is_saved_waits_for_figures(self) -> None:
+    def test_saving_waits_for_figures(self) -> None:
         tab, = self.open(FREE_ROAD)
         tab.run_an_hour()
         refused = tab.driver.execute_async_script("""

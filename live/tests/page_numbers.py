@@ -24,7 +24,7 @@ class Numbers(BrowserCase):
 
     names = ("Ada",)
 
-    def test_page_and_saved_figures_are_those_of_the_cars(self) -> None:
+    def test_page_and_saved_figures_equal_those_of_the_cars(self) -> None:
         for case in range(ROADS):
             chance = random.Random(500 + case)
             plan = random_plan(chance)

@@ -32,7 +32,7 @@ def type_in(tab: Tab, *keys: str) -> None:
 class TwoTabs(BrowserCase):
     """Two browsers, or one and somebody without a browser."""
 
-    def test_what_came_from_the_shell_is_said(self) -> None:
+    def test_changes_from_the_shell_are_described(self) -> None:
         ada, = self.open(FREEWAY, ("Ada",))
         asyncio.run(self.at_night())
         ada.until(lambda: ada.text("news").startswith("Cron shared 3 changes: “night”, “works”."), "news")
@@ -57,7 +57,7 @@ class TwoTabs(BrowserCase):
             await cron.ask("gesture", key="k", edits=[["block", 100, 600, 1], ["block", 101, 600, 1], ["block", 100, 700, 0]])
             await cron.ask("send", name="shared", title="works")
 
-    def test_what_came_from_the_shell_can_be_changed(self) -> None:
+    def test_changes_from_the_shell_can_be_changed(self) -> None:
         ada, = self.open(FREEWAY, ("Ada",))
         asyncio.run(self.by_a_script())
         ada.take()
@@ -90,7 +90,7 @@ class TwoTabs(BrowserCase):
                 await cron.ask("gesture", key=f"k{number}", edits=edits)
             await cron.ask("send", name="shared")
 
-    def test_how_to_begin_is_told_to_who_comes_later_too(self) -> None:
+    def test_late_comers_see_how_to_begin_too(self) -> None:
         ada, ben = self.open(FREE_ROAD)
         self.assertTrue(ben.part("emptyHint").is_displayed())
         ada.run_an_hour()
@@ -119,7 +119,7 @@ class TwoTabs(BrowserCase):
         passed = [int(text.split()[0].replace(",", "")) for text in (mine, shared)]
         self.assertEqual(change, f"−{passed[1] - passed[0]:,}\n0 s")
 
-    def test_by_the_keyboard_alone(self) -> None:
+    def test_with_the_keyboard_alone(self) -> None:
         ada, ben = self.open(FREE_ROAD)
         tab_to(ada, "Run an hour")
         type_in(ada, Keys.ENTER)
@@ -150,14 +150,14 @@ class TwoTabs(BrowserCase):
         type_in(ada, Keys.ENTER)
         ada.until(lambda: "Withdrew: Closed" in "".join(ada.lines("own")), "withdrawn")
 
-    def test_who_withdraws_the_last_change_goes_on_at_the_diagram(self) -> None:
+    def test_withdrawing_the_last_change_moves_the_focus_to_the_diagram(self) -> None:
         ada, = self.open(FREE_ROAD, ("Ada",))
         ada.limit("2", "0:10", "0:20")
         ada.press("Withdraw: 54 km/h")
         ada.settled()
         self.assertEqual((ada.lines("own"), ada.script("return document.activeElement.id")), ([], "diagram"))
 
-    def test_who_looks_again_draws_nothing(self) -> None:
+    def test_opening_the_same_view_again_draws_nothing(self) -> None:
         ada, = self.open(FREE_ROAD, ("Ada",))
         ada.run_an_hour()
         ada.keys(Keys.HOME, "c", " ", Keys.ARROW_RIGHT, Keys.ARROW_DOWN)
@@ -211,7 +211,7 @@ class TwoTabs(BrowserCase):
         ada.until(lambda: ada.text("said") == "The connection is back.", "what was said is over")
         self.assertEqual(ada.text("line"), "connected")
 
-    def test_what_is_taken_back_and_put_again_is_said_and_drawn(self) -> None:
+    def test_undone_and_redone_changes_are_reported_and_drawn(self) -> None:
         ada, _ = self.open(FREE_ROAD)
         ada.run_an_hour()
         ada.limit("1", "0:20", "0:30")
@@ -234,7 +234,7 @@ class TwoTabs(BrowserCase):
         self.server.start()
         ada.until(lambda: ada.lines("own") == ["27 km/h, 0–0.3 km, 0:40:00–0:50:00 private"], "confirmed")
 
-    def test_what_is_taken_back_or_put_again_is_named_as_it_was_done(self) -> None:
+    def test_undo_and_redo_name_what_they_undo_and_redo(self) -> None:
         """The undo of *put on top* names that, and not the change; the undo of a change names the shape that comes back."""
         ada, _ = self.open(FREE_ROAD)
         ada.run_an_hour()
@@ -277,7 +277,7 @@ class TwoTabs(BrowserCase):
         self.assertEqual((ada.lines("own"), ada.lines("held"), ada.text("clock")),
                          (["27 km/h, 0–0.3 km, 0:20:00–0:30:00 private"], [], "1:00:00"))
 
-    def test_what_is_pending_is_kept_in_the_tab(self) -> None:
+    def test_pending_changes_are_kept_in_the_tab(self) -> None:
         ada, _ = self.open(FREE_ROAD)
         ada.run_an_hour()
         ada.script("store.connection.connect = () => {}")  # so that it stays away until it is reloaded
@@ -306,7 +306,7 @@ class TwoTabs(BrowserCase):
         self.assertIn("Pending changes are not stored in this tab.", ada.text("said"))
         ada.driver.get("about:blank")
 
-    def test_the_broker_is_told(self) -> None:
+    def test_the_state_of_the_broker_is_shown(self) -> None:
         broker = Broker()
         self.addCleanup(broker.kill)
         ada, = self.open(FREE_ROAD, ("Ada",), "--broker", broker.address)

@@ -28,7 +28,7 @@ class OneTab(BrowserCase):
         tab.fill(kmFrom="0", kmTo="0.3", timeFrom=begin, timeTo=end)
         tab.press_in("#apply")
 
-    def test_a_program_that_was_replaced_is_told_with_why_and_stands_for_a_while(self) -> None:
+    def test_a_replaced_program_is_reported_with_the_reason_for_a_while(self) -> None:
         ada, = self.open(FREE_ROAD)
         ada.run_an_hour()
         began = time.monotonic()
@@ -48,7 +48,7 @@ class OneTab(BrowserCase):
         self.assertNotIn(sentence, ada.text("stays"))
         ada.until(lambda: "restarted" not in ada.text("stays"), "it has been read")
 
-    def test_a_disk_that_does_not_answer_is_told_until_it_does(self) -> None:
+    def test_a_disk_that_does_not_answer_is_reported_until_it_does(self) -> None:
         with mock.patch.object(Server, "serve", LIVE / "tests" / "stalling.py"):
             ada, = self.open(FREE_ROAD)
         ada.run_an_hour()
@@ -66,7 +66,7 @@ class OneTab(BrowserCase):
         ada.until(lambda: ada.lines("own") == ["27 km/h, 0–0.3 km, 0:20:00–0:30:00 private"], "it is confirmed")
         ada.until(lambda: "disk" not in ada.text("stays"), "the trouble is over")
 
-    def test_what_a_disk_refused_at_last_is_neither_listed_nor_drawn(self) -> None:
+    def test_a_change_that_the_disk_refused_in_the_end_is_neither_listed_nor_drawn(self) -> None:
         """Even if the page was reloaded while it was pending."""
         with mock.patch.object(Server, "serve", LIVE / "tests" / "stalling.py"):
             ada, = self.open(FREE_ROAD)

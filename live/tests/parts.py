@@ -45,14 +45,14 @@ class Parts(Case):
         tabs._part_ended(None)
         self.assertIsNone(tabs._trouble)
 
-    async def test_what_keeps_the_clock_goes_on(self) -> None:
+    async def test_the_task_that_keeps_the_clock_goes_on(self) -> None:
         """So do compaction and the freeing of seats."""
         call = failing_once(lambda lab: None)
         with mock.patch.object(Timing, "keep", call):
             here = await self.enterAsyncContext(Here())
             await self.ends(here, call, "the clock, seats that nobody uses and a long journal")
 
-    async def test_who_asks_is_answered(self) -> None:
+    async def test_questions_are_answered(self) -> None:
         """Even the seat whose turn it was."""
         here = await self.enterAsyncContext(Here())
         ada, ben = await here.join("Ada", "Ben")

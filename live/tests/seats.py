@@ -52,7 +52,7 @@ class Seats(Case):
             self.assertIn(f"{name} looks like it", caught.exception.why)
         await self.here.join("Adam", "Zoe 1", "Zoé 2", "語", "語語", "Ad-a")
 
-    async def test_of_two_who_take_a_seat_over_one_gets_it(self) -> None:
+    async def test_one_of_two_tabs_that_take_a_seat_over_gets_it(self) -> None:
         index, = await self.here.join("Ada")
         self.here.keeper.here.discard(index)
         lab = self.here.lab
@@ -103,7 +103,7 @@ class Seats(Case):
             self.assertEqual(looks(lab, 50), "Ada")
             self.assertEqual(looks(lab, 11), "")
 
-    async def test_a_freed_seats_changes_bear_the_name_of_who_made_them(self) -> None:
+    async def test_changes_of_a_freed_seat_keep_the_name_of_their_maker(self) -> None:
         ada, = await self.here.join("Ada")
         await self.here.put(ada, ["limit", 2, 50, 3])
         await self.here.share(ada)
@@ -118,7 +118,7 @@ class Seats(Case):
             line, = (await self.here.ask(others[0], "layers", at="shared"))["layers"]
             self.assertEqual([line["who"], line["operations"][0]["who"]], ["Ada", "Ada"])
 
-    async def test_whole_lists_take_their_turn(self) -> None:
+    async def test_complete_lists_wait_for_their_turn(self) -> None:
         """Earlier questions of the seat are answered first, and so are others while it waits."""
         keeper, is_free = self.here.keeper, asyncio.Event()
         ada, ben = await self.here.join("Ada", "Ben")
@@ -132,7 +132,7 @@ class Seats(Case):
         await soon(asyncio.gather(busy, *asked))
         self.assertEqual((await self.here.ask(ben, "layers"))["layers"], [])
 
-    async def test_no_question_reaches_further_than_a_clock_may_be_set(self) -> None:
+    async def test_no_question_may_reach_beyond_the_limit_of_the_clock(self) -> None:
         ada, = await self.here.join("Ada")
         now = self.here.keeper.now()
         for verb, more in (("advance", {"to": now + 36_001}), ("transcript", {"from": 0, "to": now + 36_001}),
@@ -155,7 +155,7 @@ class Seats(Case):
                 await asyncio.sleep(0)
             return keeper.now() - before
 
-    async def test_a_clock_goes_forward_alone_and_keeps_what_others_set_at_once(self) -> None:
+    async def test_a_clock_only_goes_forward_and_keeps_what_others_set_at_once(self) -> None:
         keeper, lab, is_free = self.here.keeper, self.here.lab, asyncio.Event()
         await soon(asyncio.gather(lab.timing.set_clock(rate=60), lab.timing.set_clock(to=3_600), lab.timing.set_clock(to=3_500)))
         self.assertEqual(keeper.clock().rate, 60)
@@ -184,7 +184,7 @@ class Seats(Case):
         self.assertEqual(told[-1], {"rate": 0, "now": 12_600})
         self.assertEqual(self.here.keeper.state.rate, 0)
 
-    async def test_what_several_save_at_once_is_whole(self) -> None:
+    async def test_files_that_several_save_at_once_are_complete(self) -> None:
         """They get pieces in turn; a tab that comes too late gets `Busy`."""
         with mock.patch("server.saving.MOST_PIECE", 2_000):
             seats = await self.here.join("Ada", "Ben", "Cleo", "Dan", "Eve")

@@ -102,7 +102,7 @@ class Strangers(Case):
         every = [*before, *later, *cloned]
         self.assertEqual((len(set(every)), every), (9, sorted(every)))  # and the later one wins
 
-    async def test_two_clones_at_once_are_told_and_send_nothing(self) -> None:
+    async def test_two_running_clones_are_reported_and_send_nothing(self) -> None:
         first, one = await self.here(7)
         copy = new_folder() / "copy"
         shutil.copytree(first.folder, copy)
@@ -128,7 +128,7 @@ class Strangers(Case):
         value = {"folder": folder, "run": "r", "site": number, "road": site._road, "form": 3, **more}
         await self.bus.give(site, Message("road/sites", json.dumps(value).encode()))
 
-    async def test_a_person_revokes_what_one_message_said_of_a_number(self) -> None:
+    async def test_a_user_revokes_what_a_message_said_about_a_number(self) -> None:
         """Otherwise the site would be mute for ever. It stays revoked after a restart, whatever is sent again."""
         (one, first), (two, _) = await self.here(1), await self.here(2)
         await self.bus.rounds()
@@ -193,7 +193,7 @@ class Strangers(Case):
         await self.bus.carry()
         self.assertEqual(len(await self.shared(one)), 1)
 
-    async def test_two_gestures_of_one_stamp_are_told_and_all_have_one_road(self) -> None:
+    async def test_two_gestures_with_one_stamp_are_reported_and_all_have_one_road(self) -> None:
         sites = [await self.here(number) for number in (1, 2, 3)]
         stamp = [stamps.next_count(0, stamps.milliseconds(), 0), 70 * 64 + 1]
         messages = [message_of(sites[0][1], edit((stamp[0], stamp[1]), {("limit", 2, 50): value}, About(who, note, 1)))
@@ -235,7 +235,7 @@ class Strangers(Case):
         roads = [numbers(await self.shared(here)) for here, _ in sites]
         self.assertEqual(roads, [roads[0]] * 5)
 
-    async def test_what_was_not_sent_is_sent_after_a_start(self) -> None:
+    async def test_unsent_changes_are_sent_after_a_restart(self) -> None:
         here = await self.enterAsyncContext(Here(site=1))
         for seat, begin, end in zip(await here.join("Ada", "Ben"), (10, 20), (30, 40)):
             await here.ask(seat, "gesture", key="k", note="", shape=["block", 60, 60, begin, end, 1])
@@ -248,7 +248,7 @@ class Strangers(Case):
         message, = self.bus.sent
         self.assertEqual([tuple(one["stamp"]) for one in json.loads(message.payload)["operations"]], shared)
 
-    async def test_a_restored_folder_whose_private_change_was_shared_since_holds_it_once(self) -> None:
+    async def test_a_restored_folder_holds_a_private_change_that_was_shared_since_only_once(self) -> None:
         (one, first), (two, second) = await self.here(1), await self.here(2)
         await self.bus.rounds()
         await one.join("Ada")
@@ -276,7 +276,7 @@ class Strangers(Case):
 
     # Clocks
 
-    async def test_what_is_more_than_a_day_ahead_is_told_and_taken_when_its_day_has_come(self) -> None:
+    async def test_operations_more_than_a_day_ahead_are_reported_and_taken_on_their_day(self) -> None:
         """All sites do so, whatever they hold."""
         now = stamps.milliseconds()
         with mock.patch("server.stamps.milliseconds", lambda: clock[0]):
@@ -299,7 +299,7 @@ class Strangers(Case):
             self.assertEqual([here.lab.state.shared.size for here in (one, two)], [3, 3])
             self.assertNotIn("1 changes are dated more than a day ahead", told(first))
 
-    async def test_what_is_early_keeps_nothing_else_and_waits_once(self) -> None:
+    async def test_early_operations_hold_up_no_others_and_wait_once(self) -> None:
         """Another change of the same message is taken at once; what is sent again and again waits once, and not much waits."""
         now = stamps.milliseconds()
         clock = [now]
@@ -325,7 +325,7 @@ class Strangers(Case):
             self.assertEqual(steps(here), [1, 2])
             self.assertIn("9 changes are dated more than a day ahead", told(site))
 
-    async def test_what_a_wrong_clock_stamped_in_private_is_stamped_anew(self) -> None:
+    async def test_private_operations_stamped_by_a_wrong_clock_get_new_stamps(self) -> None:
         """Three days ahead for one gesture: all goes on, and other sites take it as soon as it is shared."""
         clock = [stamps.milliseconds()]
         with mock.patch("server.stamps.milliseconds", lambda: clock[0]):
@@ -349,7 +349,7 @@ class Strangers(Case):
             again = await self.enterAsyncContext(Here(one.folder))
             self.assertEqual(sorted(each.stamp for each in again.lab.state.seats[1].own), held)
 
-    async def test_a_clock_ahead_of_all_others_is_told_there(self) -> None:
+    async def test_a_site_reports_that_its_clock_is_ahead_of_all_others(self) -> None:
         """It is more than five minutes ahead of all sites that were heard in the last minute."""
         (_, first), (_, second), (_, third) = [await self.here(number) for number in (1, 2, 3)]
         await self.bus.rounds()
@@ -384,7 +384,7 @@ class Strangers(Case):
             later[0] += 61
             self.assertNotIn("ahead of all", told(first))
 
-    async def test_who_is_ahead_of_all_others_stamps_by_their_clocks(self) -> None:
+    async def test_a_site_ahead_of_all_others_stamps_with_their_clocks(self) -> None:
         """Stamps begin after the greatest one of the others, so a change made here beats no later change made there."""
         for seconds in (310, 86_000, 3 * 86_400):
             here, site = await self.here(1)
@@ -400,7 +400,7 @@ class Strangers(Case):
             stamp = await here.put(1, ["limit", 2, 50, 1])
             self.assertGreater(stamp[0], 32 * (stamps.milliseconds() - 300_000))
 
-    async def test_what_was_stamped_far_ahead_before_others_were_heard_is_stamped_anew(self) -> None:
+    async def test_stamps_far_ahead_from_before_others_were_heard_are_replaced(self) -> None:
         here, site = await self.here(1)
         await here.join("Ada")
         early = await here.put(1, ["limit", 1, 40, 2])
@@ -414,7 +414,7 @@ class Strangers(Case):
 
     # Roads
 
-    async def test_who_has_another_road_is_not_counted(self) -> None:
+    async def test_a_site_with_another_road_is_not_counted(self) -> None:
         (_, first), _ = await self.here(1), await self.here(2, plan={**SMALL, "words": 2})
         await self.bus.rounds()
         self.assertEqual(first.state()["sites"], [])
@@ -444,7 +444,7 @@ class Keys(Case):
     def held(self, here: Here) -> int:
         return here.lab.state.shared.size
 
-    async def test_what_bears_the_seal_is_taken_and_nothing_else(self) -> None:
+    async def test_only_sealed_messages_are_taken(self) -> None:
         await self.share(50)
         self.assertEqual(self.held(self.two), 1)
         edits = next(one for one in self.bus.seen if one.topic.endswith("/operations"))
@@ -465,7 +465,7 @@ class Keys(Case):
         self.assertEqual(self.second.state()["left_out"], 10)
         self.assertIn("10 messages were ignored: they have no seal of this site's --site-key", " ".join(self.second.state()["stays"]))
 
-    async def test_a_flood_without_the_seal_is_paused_and_named(self) -> None:
+    async def test_a_flood_without_a_seal_is_ignored_and_reported(self) -> None:
         """It costs the event loop nothing, and sealed messages are heard."""
         now = [0.0]
         await self.bus.rounds()
@@ -483,7 +483,7 @@ class Keys(Case):
             now[0] += 31
             self.assertNotIn("too much", told(self.second))
 
-    async def test_a_flood_of_many_names_is_paused_and_named(self) -> None:
+    async def test_a_flood_from_many_names_is_ignored_and_reported(self) -> None:
         """If sites have no key, each message may name another folder; a known site is still heard."""
         here = await self.enterAsyncContext(Here(site=3))
         bus, now, came = Bus(), [0.0], []
@@ -504,7 +504,7 @@ class Keys(Case):
             await bus.carry()
             self.assertEqual(self.held(here), 1)
 
-    async def test_what_is_played_again_is_left_out(self) -> None:
+    async def test_replayed_messages_are_ignored(self) -> None:
         await self.share(50)
         seen = []
         with mock.patch.object(Sites, "_came", lambda _, topic, folder, body: came(body)):
@@ -514,7 +514,7 @@ class Keys(Case):
                 await self.bus.give(self.second, message)
         self.assertEqual((seen, self.second.state()["left_out"]), ([], 0))
 
-    async def test_what_is_played_again_after_a_restart_is_left_out(self) -> None:
+    async def test_messages_replayed_after_a_restart_are_ignored(self) -> None:
         """Otherwise an announcement of this folder, or of another with its number, would mute it."""
         with mock.patch("server.seals.AHEAD", 1):
             await self.bus.rounds(2)
@@ -532,7 +532,7 @@ class Keys(Case):
             await self.bus.rounds(2)  # and it is heard
             self.assertEqual([one["site"] for one in self.first.state()["sites"]], [2])
 
-    async def test_what_is_sent_after_a_restart_is_heard_at_once(self) -> None:
+    async def test_messages_sent_after_a_restart_are_heard_at_once(self) -> None:
         """The server ended, or was killed; messages from before are not heard."""
         for is_killed in (True, False):
             with mock.patch("server.seals.AHEAD", 200 if is_killed else 3_600_000):
@@ -553,7 +553,7 @@ class Keys(Case):
                 await self.share(60 + is_killed)
                 self.assertEqual(self.held(self.two), held + 1)
 
-    def test_of_what_was_taken_a_number_above_it_is_on_the_disk_first(self) -> None:
+    def test_a_number_above_a_taken_one_is_on_the_disk_first(self) -> None:
         """Whenever the server is killed, although it is not written for each message."""
         path = new_folder() / "seen.json"
         for number in range(10_000, 20_000, 100):
@@ -569,7 +569,7 @@ class Keys(Case):
         path.write_text("[")
         self.assertEqual(seals.Taken(path).bound("b2"), 0)
 
-    async def test_what_is_old_is_left_out(self) -> None:
+    async def test_old_messages_are_ignored(self) -> None:
         """A message was intercepted a quarter of an hour ago, and never arrived."""
         with mock.patch.object(self.first._seal, "_clock", lambda: seals.time.time() - 900):
             await self.share(50)
@@ -578,14 +578,14 @@ class Keys(Case):
         await self.bus.rounds(3)  # what it told comes again
         self.assertEqual(self.held(self.two), 1)
 
-    async def test_what_is_of_a_clock_far_ahead_is_left_out(self) -> None:
+    async def test_messages_from_a_clock_far_ahead_are_ignored(self) -> None:
         """Otherwise it could be replayed for longer."""
         with mock.patch.object(self.first._seal, "_clock", lambda: time.time() + 900):
             await self.share(50)
         self.assertEqual(self.held(self.two), 0)
         self.assertIn("more than 10 minutes old, by this site's clock", told(self.second))
 
-    async def test_a_clock_days_ahead_is_told_though_what_others_send_is_old_there(self) -> None:
+    async def test_a_clock_days_ahead_is_reported_even_though_others_messages_look_old_there(self) -> None:
         self.first._present()
         clock = time.time
         with mock.patch("server.peers.time.time", lambda: clock() + 86_400), \
@@ -608,14 +608,14 @@ class Keys(Case):
 
 
 class Counting(unittest.TestCase):
-    def test_a_count_is_above_what_is_held_and_at_least_the_clocks(self) -> None:
+    def test_a_count_is_above_all_held_ones_and_at_least_the_clock(self) -> None:
         self.assertEqual(stamps.next_count(7, 0, 0), 8)
         self.assertEqual(stamps.next_count(7, 1_000, 5), 32_005)
         self.assertEqual(stamps.next_count(32_005, 1_000, 31), 32_031)
         self.assertEqual(stamps.next_count(40_000, 1_000, 31), 40_001)
         self.assertLess(stamps.next_count(0, 4_102_444_800_000, 31), 1 << 48)  # in the year 2100, too
 
-    def test_a_new_stamp_is_above_all_that_the_clock_allows_without_a_look_at_all(self) -> None:
+    def test_a_new_stamp_is_above_all_that_the_clock_allows_without_scanning_them(self) -> None:
         """Counts more than a day ahead are ignored until their day, and again if the clock goes back."""
         class Looked(dict[Any, Any]):
             def __iter__(self) -> Iterator[Any]:
@@ -634,12 +634,12 @@ class Counting(unittest.TestCase):
                 found.append((state.stamp(state.seats[1])[0], len(looks)))
         self.assertEqual(found, [(8, 0), (8, 0), (soon + 1, 0), (late + 1, 0), (soon + 1, 1), (soon + 1, 1)])
 
-    def test_clones_that_stamp_in_one_millisecond_differ_by_five_bits(self) -> None:
+    def test_clones_that_stamp_in_one_millisecond_differ_in_five_random_bits(self) -> None:
         with mock.patch("server.stamps.milliseconds", lambda: 1_000):
             counts = {stamps.StampClock().count_after(7) for _ in range(2_000)}
         self.assertEqual(counts, set(range(32_000, 32_032)))
 
-    def test_the_numbers_of_a_window_count_once(self) -> None:
+    def test_each_number_of_a_window_is_new_once(self) -> None:
         seen = seals.Seen()
         order = [*range(10, 20_000, 2), *range(19_999, 18_001, -2)]
         self.assertTrue(all(map(seen.is_new, order)))

@@ -37,7 +37,7 @@ class Watching(unittest.IsolatedAsyncioTestCase):
         self.addCleanup(watch.end)
         return said
 
-    async def test_a_long_piece_is_told_with_its_place_and_a_short_one_is_not(self) -> None:
+    async def test_a_long_piece_is_reported_with_its_place_and_a_short_one_is_not(self) -> None:
         said = self.watched()
 
         async def long() -> None:
@@ -56,7 +56,7 @@ class Watching(unittest.IsolatedAsyncioTestCase):
         await asyncio.sleep(0.01)
         self.assertIn("works", said[1])
 
-    async def test_of_a_test_only_what_the_server_does_counts(self) -> None:
+    async def test_only_the_work_of_the_server_counts_in_a_test(self) -> None:
         said = self.watched(is_of_server)
 
         async def long() -> None:
@@ -73,7 +73,7 @@ class Collections(unittest.TestCase):
     def tearDown(self) -> None:
         gc.unfreeze()
 
-    def test_what_lives_is_looked_at_once(self) -> None:
+    def test_living_objects_are_scanned_once(self) -> None:
         """Both objects that are there from the start, and so many new ones that a collection takes long."""
         held: list[Any] = []
         self.addCleanup(gc.callbacks.pop)
@@ -87,7 +87,7 @@ class Collections(unittest.TestCase):
 
 
 class Failing(Case):
-    async def test_a_test_fails_by_it(self) -> None:
+    async def test_the_watch_fails_a_test(self) -> None:
         """A server in this process, or in another one, was too slow."""
         class Example(Watched):
             def runTest(self) -> None:
@@ -120,7 +120,7 @@ class Failing(Case):
 class Pieces(Case):
     """Long work is done in pieces, and others are answered in between."""
 
-    async def test_what_comes_and_is_taken(self) -> None:
+    async def test_operations_that_arrive_and_are_taken(self) -> None:
         """Many operations of another site, and then a take of them."""
         here = await self.enterAsyncContext(Here())
         ada, = await here.join("Ada")
@@ -141,7 +141,7 @@ class Pieces(Case):
             for at in (f"seat{ada}", "shared"):
                 self.assertEqual(len((await here.ask(ada, "layers", at=at))["layers"]), 60)
 
-    async def test_what_many_tabs_are_told_is_worked_out_for_one_at_a_time(self) -> None:
+    async def test_news_for_many_tabs_is_computed_for_one_at_a_time(self) -> None:
         """When its turn comes. The message has the first step of all that the tab has not heard of."""
         here = await self.enterAsyncContext(Here())
         index, = await here.join("Ada")

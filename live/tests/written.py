@@ -53,7 +53,7 @@ class Written(Case):
             await soon(done)
         return caught.exception.text
 
-    async def test_a_gesture_that_is_sent_again_is_answered_after_its_first_write_and_as_that_ended(self) -> None:
+    async def test_a_resent_gesture_gets_the_answer_of_its_first_write(self) -> None:
         for key, fault in (("a", None), ("b", errno.EIO)):
             first = await self.start(self.here.put(self.ada, [*LIMIT, 3], key=key))
             again = asyncio.create_task(self.here.put(self.ada, [*LIMIT, 3], key=key))
@@ -85,7 +85,7 @@ class Written(Case):
         self.release_disk()
         self.assertEqual((await soon(self.here.take(self.ben)))["size"], 1)
 
-    async def test_what_is_in_pieces_ends_where_a_write_fails(self) -> None:
+    async def test_work_in_pieces_ends_if_a_write_fails(self) -> None:
         """Each piece may depend on what is forgotten."""
         keeper, rounds = self.here.keeper, 0
 
@@ -99,7 +99,7 @@ class Written(Case):
         self.assertEqual(await self.refused(keeper.ask(self.ben, (), piece)), "NotWritten")
         self.assertEqual(rounds, 2)
 
-    async def test_nothing_is_written_upon_what_the_disk_refused(self) -> None:
+    async def test_nothing_is_written_after_what_the_disk_refused(self) -> None:
         """A job during which a write fails may depend on it: it is refused, even if the disk accepts more."""
         keeper = self.here.keeper
 
@@ -111,7 +111,7 @@ class Written(Case):
         self.assertEqual(await self.refused(keeper.ask(self.ben, (), body)), "NotWritten")
         await self.here.put(self.ben, [*LIMIT, 3])
 
-    async def test_what_is_on_the_disk_was_done_whatever_becomes_of_anothers_write(self) -> None:
+    async def test_a_change_on_the_disk_was_done_even_if_another_write_fails(self) -> None:
         """The program gets the rest of it later, with another write."""
         keeper, is_free = self.here.keeper, asyncio.Event()
         ask_all = Program.ask_all
@@ -135,7 +135,7 @@ class Written(Case):
         self.release_disk()
         self.assertEqual((await self.here.take(self.ben))["size"], 3)
 
-    async def test_what_is_on_the_disk_was_done_though_there_is_no_program(self) -> None:
+    async def test_a_change_on_the_disk_was_done_even_without_a_program(self) -> None:
         """The program ended, and none can be started for a while: the next one gets it."""
         async def none(*_: Any) -> Program:
             raise ProgramExited("the program cannot be started")
@@ -151,7 +151,7 @@ class Written(Case):
         self.assertEqual(self.here.heard[-1:], [50])
         self.assertEqual((await self.edits(self.ben), len((await self.here.ask(self.ada, "scenario"))["edits"])), (1, 2))
 
-    async def test_nobody_is_told_before_it_is_on_the_disk(self) -> None:
+    async def test_nobody_hears_of_a_change_before_it_is_on_the_disk(self) -> None:
         lab, keeper = self.here.lab, self.here.keeper
         cleo, = await self.here.join("Cleo")
         await self.here.put(self.ada, [*LIMIT, 3])
@@ -180,7 +180,7 @@ class Written(Case):
                 await soon(share)
             self.assertEqual((lab.news(cleo, 9)["size"], (await soon(first))["size"], await self.edits(cleo)), (edits,) * 3)
 
-    async def test_who_goes_while_a_seat_is_given_harms_nobody(self) -> None:
+    async def test_a_tab_that_leaves_while_it_gets_a_seat_harms_nobody(self) -> None:
         """Others, who wait for the same write, are answered, and the seat can be taken over."""
         join = await self.start(self.here.lab.seating.join("Cleo", "", None))
         looks = [asyncio.create_task(self.here.lab.seating.seats_kept(turn)) for turn in (self.ben, None)]
@@ -284,7 +284,7 @@ class Written(Case):
                 self.assertEqual((before, cars["before"]), (0, [0, 0]))
             self.assertGreater(min(after, cars["after"][0]), 0)
 
-    async def test_the_roads_of_a_preview_are_asked_once_they_are_on_the_disk(self) -> None:
+    async def test_the_roads_of_a_preview_are_computed_once_they_are_on_the_disk(self) -> None:
         await self.here.put(self.ada, [*LIMIT, 3])
         for fault, size in ((errno.EIO, 0), (None, 1)):
             self.release_disk()
@@ -308,7 +308,7 @@ class Written(Case):
         """Return what `Look first` shows."""
         return await self.here.ask(seat, "preview", what="take")
 
-    async def test_a_full_disk_beside_a_running_clock_starts_one_program(self) -> None:
+    async def test_a_full_disk_with_a_running_clock_starts_one_program(self) -> None:
         lab, keeper = self.here.lab, self.here.keeper
         told: list[Any] = []
         keeper.listeners.on("trouble", lambda: told.append(keeper.trouble))
@@ -344,7 +344,7 @@ class Written(Case):
             return keeper.trouble is None
         await until(is_over, "it is found")
 
-    async def test_a_disk_that_turned_read_only_can_be_looked_at(self) -> None:
+    async def test_a_folder_on_a_read_only_disk_can_be_viewed(self) -> None:
         lab, keeper = self.here.lab, self.here.keeper
         await self.here.put(self.ada, [*LIMIT, 3])
         self.disk.is_read_only()
@@ -366,7 +366,7 @@ class Written(Case):
         self.assertEqual(kinds, ["seat", "made"])  # in this order
 
 
-    async def test_a_seat_that_was_given_while_the_disk_took_nothing_is_given_again_after_a_kill(self) -> None:
+    async def test_a_seat_given_while_the_disk_was_full_is_given_again_after_a_kill(self) -> None:
         """With its key, as often as the server is killed, and with no other key."""
         self.disk.is_read_only()
         self.assertEqual(await self.refused(self.here.put(self.ada, [*LIMIT, 4])), "NotWritten")
@@ -456,7 +456,7 @@ class Stalled(Case):
         for turn in (ben, None):
             self.assertEqual([one["name"] for one in await soon(self.here.lab.seating.seats_kept(turn))], ["Ada", "Ben"])
 
-    async def test_what_is_put_is_pending_and_all_else_goes_on(self) -> None:
+    async def test_changes_are_pending_and_all_else_goes_on(self) -> None:
         await self.here.lab.timing.set_clock(rate=60)
         for names in (("write",), ("fsync",)):
             self.told.clear()
@@ -487,7 +487,7 @@ class Stalled(Case):
             self.assertEqual(held[before:], stamps)
             self.assertEqual(self.keeper.changes, 0)  # of the program
 
-    async def test_who_reads_the_shared_road_goes_on_while_a_share_is_pending(self) -> None:
+    async def test_readers_of_the_shared_road_go_on_while_a_share_is_pending(self) -> None:
         bus = Bus()
         there = await self.enterAsyncContext(Here(site=2))
         first, second = bus.site(self.here), bus.site(there)
@@ -518,7 +518,7 @@ class Stalled(Case):
         self.assertEqual(there.lab.state.shared.size, 3)
         await self.looks(3)
 
-    async def test_a_stalled_try_of_a_disk_that_took_nothing_and_a_stalled_compaction(self) -> None:
+    async def test_a_stalled_retry_on_a_full_disk_and_a_stalled_compaction(self) -> None:
         self.disk.is_full()
         with self.assertRaises(Refused):
             await self.here.put(self.ada, [*LIMIT, 3])

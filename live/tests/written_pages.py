@@ -37,7 +37,7 @@ class Reports(Case):
             self.assertEqual(rows["delay, vehicle hours"][4], f"{figures['delay_hours']:.2f}")
             self.assertEqual(figures["after"]["flows"][2]["on"], 340)
 
-    async def test_a_report_stands_by_itself_and_has_no_marks_of_others(self) -> None:
+    async def test_a_report_is_self_contained_and_has_no_markup_of_others(self) -> None:
         async with Here() as here:
             seat, = await here.join("<b>")
             await here.lab.timing.set_clock(to=600)
@@ -49,7 +49,7 @@ class Reports(Case):
         self.assertNotIn("<b>", page)
         self.assertIsNone(re.search(r'(src|href)="(?!data:)|<script|<button', page))
 
-    async def test_what_is_no_report_is_refused(self) -> None:
+    async def test_an_invalid_report_is_refused(self) -> None:
         async with Here() as here:
             seat, = await here.join("Ada")
             for wrong, said in (({"works": "a"}, "at most 200 strings"), ({"works": [1]}, "at most 200 strings"), ({"of": "all"}, '"preview" or'),
