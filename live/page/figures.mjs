@@ -143,7 +143,7 @@ function delayRow(exact) {
 function noteText(exact) {
   if (!exact && store.clock.rate) return messages.PAUSE_FOR_FIGURES;
   const scatter = exact ? Math.hypot(...exact.after.scatter) : 0;
-  return "Lost: cars that wanted to enter minus cars that entered"
+  return "Lost: demand minus cars that entered"
     + (scatter >= 1 ? ` (\u00b1 ${whole(scatter)} by chance)` : "")
     + ". Seconds: from the inlet; on the right, delay.";
 }
