@@ -8,7 +8,7 @@ const on = (target, name, act, options) => target.addEventListener(name, act, op
 const SCALES = [1 / 32, 1 / 16, 1 / 8, 1 / 4, 1 / 2, 1, 2, 3, 4, 6, 8, 10, 12, 14, 16, 20, 24, 32];
 
 /** What is shown of the first and of the second picture, and of both. `comparison` is null if they
- * are not compared, and `whyNot` says why; `fit` says how the view was chosen, null after a zoom. */
+ * are not compared, and `whyNot` says why; `fit` says how the view was chosen (null: a zoom). */
 const shown = {pictures: [null, null], plans: [null, null], runs: [null, null], greatest: 1,
                comparison: null, whyNot: "", many: false, marksHid: false, fit: null, step: 0,
                pointed: null, saved: false};

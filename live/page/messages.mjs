@@ -203,9 +203,8 @@ export const savedScripts = (names) =>
  * @param {number} lost
  */
 export const demandLost = (place, asked, lost) =>
-  `The inlet at ${place} km admits ${whole(asked - lost)} of the ${plural(asked, "car")} that want `
-  + `to enter. The other ${whole(lost)} never enter, so counts and vehicle hours look better than they `
-  + "are.";
+  `The inlet at ${place} km admits ${whole(asked - lost)} of ${plural(asked, "car")}. The other `
+  + `${whole(lost)} never enter, so counts and vehicle hours look better than they are.`;
 
 /**
  * @param {number} cars

@@ -217,7 +217,7 @@ class Bounds(Case):
         await site._came(f"road/{site._road}/sum", "f", body)
         self.assertNotIn("another road", told(site))
         await site._came(f"road/{site._road}/sum", "f", body.replace(b'"timeline": "', b'"timeline": "x'))
-        self.assertIn("has the same changes and another road by them", told(site))
+        self.assertIn("has the same changes but derives a different road from them", told(site))
         self.assertEqual(bus.sent, [])
 
 

@@ -123,7 +123,7 @@ class OneFreeway(BrowserCase):
         # Some 1,250 cars an hour come, for 30 minutes but those that fill 300 m.
         self.assertTrue(480 <= more <= 640, more)
         self.assertAlmostEqual(more, mine - shared, delta=1)
-        self.assertRegex(tab.text("warnings"), r"The inlet at 0 km admits [\d,]+ of the [\d,]+ cars that want to enter\. The other \d+ never enter")
+        self.assertRegex(tab.text("warnings"), r"The inlet at 0 km admits [\d,]+ of [\d,]+ cars\. The other \d+ never enter")
 
     def test_figures_wait_for_the_picture(self) -> None:
         """The page asks for nothing else while visible rows are on their way, here for a second."""
