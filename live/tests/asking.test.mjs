@@ -20,13 +20,13 @@ function answering(...answers) {
   return asked;
 }
 
-const BUSY = {refused: "Busy", why: "another road is run"};
+const BUSY = {refused: "Busy", why: "another road is being simulated"};
 const settled = () => new Promise((done) => { setImmediate(done); });
 
 test("a refusal is shown", async () => {
   answering(BUSY);
   assert.deepEqual(await ask({figures: {}}), BUSY);
-  assert.deepEqual(store.message, ["another road is run", true]);
+  assert.deepEqual(store.message, ["another road is being simulated", true]);
 });
 
 test("what was asked about what is looked at no more is not told", async () => {

@@ -45,7 +45,7 @@ class Bursts(Case):
             shared = {tuple(one["stamp"]) for one in await self.operations(tom, "shared")}
         for engineer in self.engineers:
             self.assertLessEqual(engineer.shared, shared)
-        self.assertNotIn("Two changes have one stamp", self.one.said() + self.two.said())
+        self.assertNotIn("Two changes have the same stamp", self.one.said() + self.two.said())
 
     # What is done in a burst
 

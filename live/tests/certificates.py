@@ -141,7 +141,7 @@ class Certificates(Case):
             await until(is_told, "the one has the edit, the other a warning")
             kind, index, step, *_, value = (await sam.ask("scenario", at="shared"))["edits"][0]  # stamps are a server's own
             self.assertEqual((kind, index, step, value), ("limit", 1, 5, 1))
-            self.assertIn("does not let this site in", told[-1]["told"][0])
+            self.assertIn("refused the connection", told[-1]["told"][0])
             self.assertEqual((await eve.ask("scenario", at="shared"))["edits"], [])
 
     def test_without_a_certificate_other_hosts_are_refused(self) -> None:

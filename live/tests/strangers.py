@@ -163,7 +163,7 @@ class Strangers(Case):
         self.assertEqual(len(await self.shared(one)), 1)
         self.assertNotIn({"site": 900, "folder": two.lab.state.folder}, bound)
         await self.ask(one, "unbind", site=bound[0]["site"])
-        self.assertNotIn("and no more", told(first))
+        self.assertNotIn("which is the limit", told(first))
         await self.bus.rounds()
         self.assertIn({"site": 900, "folder": two.lab.state.folder}, (await self.ask(one, "numbers"))["numbers"])
         await one.keeper.close()
