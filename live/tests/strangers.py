@@ -157,7 +157,7 @@ class Strangers(Case):
             await self.announce(first, f"{number:016x}", number)
         bound = (await self.ask(one, "numbers"))["numbers"]
         self.assertEqual(len(bound), 64)
-        self.assertIn("64 numbers of sites are written down with their folders, and no more", told(first))
+        self.assertIn("64 site numbers are bound to folders, which is the limit", told(first))
         await self.put(two, "limit", 2, 50, 3)  # who came later exchanges all the same
         await self.bus.rounds(2)
         self.assertEqual(len(await self.shared(one)), 1)
