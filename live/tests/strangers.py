@@ -477,7 +477,7 @@ class Keys(Case):
                     await self.bus.give(self.second, Message("road/sites", json.dumps({"folder": f"{number:x}"}).encode()))
             self.assertLess(len(said), 30)
             self.assertEqual(self.second.state()["left_out"], 300)
-            self.assertIn("A sender without this site's --site-key sends too much", told(self.second))
+            self.assertIn("A sender without this site's --site-key sends too many messages", told(self.second))
             await self.share(50)
             self.assertEqual(self.held(self.two), 1)
             now[0] += 31
@@ -498,7 +498,7 @@ class Keys(Case):
                     await bus.give(site, Message("road/sites", json.dumps({"folder": f"{number:040x}"}).encode()
                                                  .replace(b": ", b":")))
             self.assertLess(len(came), 30)
-            self.assertIn("A sender that names no folder sends too much", told(site))
+            self.assertIn("A sender that names no folder sends too many messages", told(site))
             await self.one.put(1, ["limit", 2, 50, 3])
             await self.one.share(1)
             await bus.carry()
@@ -583,7 +583,7 @@ class Keys(Case):
         with mock.patch.object(self.first._seal, "_clock", lambda: time.time() + 900):
             await self.share(50)
         self.assertEqual(self.held(self.two), 0)
-        self.assertIn("more than 10 minutes old, by this site's clock", told(self.second))
+        self.assertIn("more than 10 minutes old by this site's clock", told(self.second))
 
     async def test_a_clock_days_ahead_is_reported_even_though_others_messages_look_old_there(self) -> None:
         self.first._present()
