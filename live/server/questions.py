@@ -329,8 +329,8 @@ class Questions:
             return {"stopped": self._chance.stop(index)}
         plan, listeners, days = self._keeper.state.plan, self._keeper.listeners, self._keeper.settings.days
         if type(plan["words"]) is not int:
-            raise Refused("OneDay", "the words of this road are steady, drawn by no seed: it has one day, and its figures are "
-                          "those of each")
+            raise Refused("OneDay", "this road has fixed random numbers (no seed), so all days are the same: the figures of "
+                          "this day are those of every day")
         question = self._chance.begin(index, days, lambda other: self._keeper.state.seats[other].name)
         try:
             asked = await self._both(index, own, of, first, last)

@@ -199,7 +199,7 @@ class Acts(Case):
         self.assertEqual([one.get("refused") for one in said], [None, None, None, None, None, "NothingToUndo"])
         self.assertIn("Ada undid it already", said[-1]["why"])
         self.assertEqual(await numbers(self.ada), closed(60, 69, 30, 60))
-        self.a6.again()
+        self.a6.restart()
         async with self.a6.seat(key=self.ada.key) as ada:  # keys are known after a restart, too
             await ada.ask("gesture", key="g", layer="a", shape=None)
             self.assertEqual(await numbers(ada), {})
@@ -466,7 +466,7 @@ class Acts(Case):
         await self.ada.ask("undo", key="undo", stamp=stamp)
         for count in range(19):
             undo = await lay(self.ada, f"g{count}", ["limit", 2, 2, 20 + count, 60, 1])
-        self.a6.again()
+        self.a6.restart()
         async with self.a6.seat(key=self.ada.key) as ada:
             for count in range(20):
                 said = await ada.ask("undo", key=f"u{count}", stamp=undo)
@@ -479,7 +479,7 @@ class Acts(Case):
         for count in range(20):
             await lay(self.ada, f"g{count}", ["limit", 2, 2, 20 + count, 60, 1])
         gone = await lay(self.ada, "gone", None, layer=line, note="open")
-        self.a6.again()
+        self.a6.restart()
         async with self.a6.seat(key=self.ada.key) as ada:
             back = await ada.ask("undo", key="back", stamp=gone)
             self.assertEqual([(one["name"], one["note"]) for one in back["layers"]], [(line, "works")])
@@ -696,7 +696,7 @@ class Seats(Case):
             new = next(seat for seat in fill if seat.at == "seat1")
             self.assertEqual(await numbers(new), {})
             self.assertGreater(await put(new, "2", [*LIMIT, 3]), [1, 65])  # no stamp is made twice
-        server.again()
+        server.restart()
         async with server.seat(key=new.key) as new:
             self.assertEqual(await numbers(new), {("limit", 2, 50): 3})
 

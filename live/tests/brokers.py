@@ -87,7 +87,7 @@ class Brokers(Case):
                     await self.same(ada, sam, edits=4)
                     broker.kill(signal.SIGTERM)
                     await put(sam, ["block", 60, 30, 1], ["block", 60, 50, 0])
-                    first.again()
+                    first.restart()
                     async with first.seat(key=ada.key) as again:
                         await put(again, ["block", 61, 30, 1])
                         broker.start()
@@ -105,7 +105,7 @@ class Brokers(Case):
                 await ada.ask("gesture", key=f"k{number}", edits=[["limit", 2, 80 + number, 1]])
                 await ada.ask("send", name="shared", title=title)
                 if number:
-                    first.again()
+                    first.restart()
                     broker.start()
                 await until(lambda: self.has_title(sam, title), title)
             news = next(one["news"] for one in reversed(sam.told) if "news" in one)
@@ -199,7 +199,7 @@ class Brokers(Case):
             broker.kill()
             await put(ada, ["limit", 2, 80, 1])
             await until(lambda: self.broker_is(ada, "away", 1), "away")
-            first.again()
+            first.restart()
         async with first.seat(key=ada.key) as ada:
             self.assertEqual(ada.welcome["broker"]["unsent"], 1)
             broker.start()

@@ -50,7 +50,7 @@ class Bursts(Case):
     # What is done in a burst
 
     async def server_is_killed(self) -> None:
-        await self.burst(self.one, lambda: self.one.again())
+        await self.burst(self.one, lambda: self.one.restart())
 
     async def program_is_killed(self) -> None:
         await self.burst(self.one, lambda: os.kill(self.one.program, signal.SIGKILL))

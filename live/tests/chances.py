@@ -123,7 +123,7 @@ class Days(Case):
             seat, = await here.join("Ada")
             with self.assertRaises(Refused) as caught:
                 await here.ask(seat, "days", of="mine", **SPAN)
-        self.assertIn("steady, drawn by no seed: it has one day", caught.exception.why)
+        self.assertIn("fixed random numbers (no seed), so all days are the same", caught.exception.why)
 
     async def test_it_is_nice_and_leaves_a_processor_free(self) -> None:
         before = self.here.keeper.path

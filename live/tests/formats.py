@@ -96,5 +96,5 @@ class Servers(Case):
                 self.assertEqual((folder / "journal.form2.jsonl").read_text(encoding="utf-8"), kept["journal"])
                 self.assertEqual(server.journal()[0]["lab"]["form"], 3)
                 self.assertTrue(any("made" in entry for entry in server.journal()))
-                server.again()
+                server.restart()
             self.addCleanup(running.end, server.process)

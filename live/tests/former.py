@@ -80,7 +80,7 @@ class Former(Case):
                 self.assertEqual((folder / "journal.form1.jsonl").read_bytes(), before)
                 self.assertEqual(server.journal()[0]["lab"]["form"], 3)
                 self.assertFalse(any("gesture" in entry for entry in server.journal()))
-                server.again()
+                server.restart()
             self.addCleanup(running.end, server.process)
 
     async def same_rows(self, server: Server, old: Folder) -> None:

@@ -284,7 +284,7 @@ class Folders(Case):
         ends = [data.index(b"\n", at) + 1 for at in gestures]
         for cut in range(gestures[-2], ends[-1] + 1, (ends[-1] - gestures[-2]) // 19):
             path.write_bytes(data[:cut])
-            server.again()
+            server.restart()
             async with server.seat(key=key) as seat:
                 held = (await seat.ask("operations"))["operations"]
                 self.assertEqual([one["stamp"][0] for one in held], list(range(1, 1 + sum(cut >= end for end in ends))))
@@ -415,7 +415,7 @@ class Folders(Case):
                     return any(entry["seat"]["name"] == "Ben" for entry in server.journal() if "seat" in entry)
                 await running.until(is_kept, "his seat is written down")
         server.prefix = []
-        server.again()
+        server.restart()
         async with server.seat(key=ben.key) as ben:
             self.assertEqual(len((await ben.ask("scenario"))["edits"]), 1)
 
@@ -445,7 +445,7 @@ class Folders(Case):
             troubles = [one["trouble"] for one in ada.told if "trouble" in one]
             self.assertEqual([bool(one) for one in troubles][-2:], [True, False])
             held = numbers((await ada.ask("scenario"))["edits"])
-        server.again()
+        server.restart()
         async with server.seat(key=ada.key) as ada:
             self.assertEqual(numbers((await ada.ask("scenario"))["edits"]), held)
 
@@ -471,7 +471,7 @@ class Folders(Case):
             held = [await seat.ask("scenario", at=at) for seat, at in ((ada, ada.at), (ben, ben.at), (ada, "shared"))]
             again = await ada.ask("gesture", key="g0", edits=[["limit", 0, 1, 1]])
             self.assertEqual((again["stamp"], again["again"]), ([1, 65], True))
-        server.again()
+        server.restart()
         async with server.seat(key=ada.key) as ada, server.seat(key=ben.key) as ben:
             now = [await seat.ask("scenario", at=at) for seat, at in ((ada, ada.at), (ben, ben.at), (ada, "shared"))]
             self.assertEqual([numbers(one["edits"]) for one in held], [numbers(one["edits"]) for one in now])

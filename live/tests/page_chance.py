@@ -150,5 +150,5 @@ class TwoTabs(BrowserCase):
         ada, = self.over_three(FREE_ROAD)[:1]
         self.run_a_quarter(ada)
         ada.press("Over 3 days")
-        ada.until(lambda: "it has one day" in ada.text("said"), "the page says so")
+        ada.until(lambda: "so all days are the same" in ada.text("said"), "the page says so")
         self.assertEqual(ada.text("days"), "Over 3 days")

@@ -207,7 +207,7 @@ class TwoTabs(BrowserCase):
         self.assertEqual(ada.lines("own")[0], "135 km/h, 0–0.3 km, from 0:20:00 on private")
         self.assertEqual(ada.value_at("limit", 0, 1200), [5])
         ada.settled()
-        self.server.again()
+        self.server.restart()
         ada.until(lambda: ada.text("said") == "The connection is back.", "what was said is over")
         self.assertEqual(ada.text("line"), "connected")
 

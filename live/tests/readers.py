@@ -216,7 +216,7 @@ class Readers(Case):
                 await self.all_have_all(readers)
 
     async def killed(self, site: Server, readers: list[Reader]) -> None:
-        site.again()
+        site.restart()
         for reader in readers:
             if reader.server is site:
                 reader.seat = await self.enterAsyncContext(site.seat(key=reader.seat.key))

@@ -106,7 +106,7 @@ class Robots(Acts):
             for number in range(ACTS):
                 await self.act(chance.choice(seats), chance, f"k{number}")
                 if number in (40, 80) and seed % 2:
-                    server.again()
+                    server.restart()
                     seats = [await self.enterAsyncContext(server.seat(key=seat.key)) for seat in seats]
             for at, seat in [("shared", seats[0]), *((seat.at, seat) for seat in seats)]:
                 await self.compare(server, seat, at)

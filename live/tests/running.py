@@ -157,7 +157,7 @@ class Server:
         self.process.send_signal(signal.SIGINT)
         return self.process.wait(PATIENCE)
 
-    def again(self) -> None:
+    def restart(self) -> None:
         """Restart the server with the same command after a kill."""
         self.kill()
         self.start()
