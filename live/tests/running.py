@@ -158,7 +158,7 @@ class Server:
         return self.process.wait(PATIENCE)
 
     def restart(self) -> None:
-        """Restart the server with the same command after a kill."""
+        """Kill the server, and start it again with the same command."""
         self.kill()
         self.start()
 
