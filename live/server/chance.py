@@ -68,7 +68,7 @@ class Question:
         return {"days": self.done, "stopped": self.done < self.days, "figures": told["figures"]}
 
     def stop(self, done: bool = False) -> None:
-        """Ends it, with all that it has started."""
+        """End the process, with all that it has started."""
         self.is_stopped = self.is_stopped or not done
         if self._process is not None:
             figures.kill(self._process)
@@ -95,7 +95,7 @@ class DayQuestions:
             self.now = None
 
     def stop(self, index: int | None = None) -> bool:
-        """Stops the question of a seat, or of any; whether there was one."""
+        """Stop the question of a seat, or of any seat. Return whether there was one."""
         now = self.now
         if now is None or index is not None and now.index != index:
             return False

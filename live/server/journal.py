@@ -223,7 +223,7 @@ class Journal:
         return self._began is not None and time.monotonic() - self._began > seconds
 
     async def settled(self) -> None:
-        """Waits until all that was written so far is on the disk; `NotWritten` where it was not taken."""
+        """Wait until all that was written so far is on the disk; `NotWritten` where it was not taken."""
         if self._last is not None:
             await asyncio.shield(self._last)
 
@@ -249,7 +249,7 @@ class Journal:
             self._writer = None
 
     async def _asks(self, does: Callable[..., None], *given: Any) -> None:
-        """Lets the disk do something, beside all else."""
+        """Let the disk do something, beside all else."""
         self._began = time.monotonic()
         try:
             await asyncio.get_running_loop().run_in_executor(None, does, *given)
@@ -282,7 +282,7 @@ class Journal:
         return read_entries(self.path, self.size)[0]
 
     async def mend(self, entry: Entry) -> None:
-        """Tries the disk by an entry, and as much more as a gesture may be: once that is there, and cut off again, all
+        """Try the disk by an entry, and as much more as a gesture may be: once that is there, and cut off again, all
         else is taken. OSError where it is not."""
         await self._asks(self._mend, entry)
         self.fault = None

@@ -1,4 +1,4 @@
-"""Keeps the journal and the program together: the journal is the truth, and a program that holds what it says answers.
+"""Keep the journal and the program together: the journal is the truth, and a program that holds what it says answers.
 
 At any time another program can take its place: it died, it has read almost all lines that it takes, or a write
 failed and it holds what is not written. A replica gets what it lacks when it is next asked, a piece at a time.

@@ -54,7 +54,7 @@ class Lab:
         self._pending: dict[tuple[int, str], list[asyncio.Future[None]]] = {}  # by seat and key: what is being written
 
     async def open(self, plan: Callable[[], dict[str, Any]], site: int | None) -> bool:
-        """Opens the keeper's folder; whether it is new."""
+        """Open the keeper's folder. Return whether it is new."""
         is_new = await self.keeper.open(plan, site)
         self._checks = Checks(self.state.plan)
         self.keeper.tasks.append(supervised("the clock, seats that nobody uses and a long journal", self._look_after,

@@ -108,7 +108,7 @@ def is_another(path: Path, plan: dict[str, Any], kept: Path) -> bool:
 
 
 async def lay(lab: Lab, road: Planned) -> None:
-    """Puts and shares what a freeway begins with, by a seat that is free again afterwards."""
+    """Put and share the works that a freeway begins with, from a seat that is freed afterwards."""
     if not road.shapes:
         return
     index, _ = await lab.seating.join(road.name, "", None)

@@ -85,7 +85,7 @@ class Questions:
         return reply
 
     async def advance(self, road: AskedRoad, _times: Times, *, to: int) -> Reply:
-        """Lets a road run so far, at most some hours past the clock."""
+        """Let a road run so far, at most some hours past the clock."""
         self._reaches(to)
         return {"horizon": await road.advance(to)}
 
@@ -194,7 +194,7 @@ class Questions:
         return found, edits
 
     async def _of_one_road(self, road: AskedRoad, found: list[Any], body: Job) -> Any:
-        """Does at leisure what adds to what is found, from the beginning where the road has become another between. Return the
+        """Do at leisure what adds to what is found, from the beginning where the road has become another between. Return the
         mark of the road."""
         marks: list[Any] = []
 

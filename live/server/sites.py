@@ -258,7 +258,7 @@ class Sites:
                 logging.warning("no announcement: %s", fault.why)
 
     async def announce(self) -> None:
-        """Says who this is and what it holds, sends what has not come back, and takes what has waited."""
+        """Announce this site and what it holds, send what has not come back, and take what has waited."""
         self._present()
         self._send_unreturned()
         if self._early and (self._taking is None or self._taking.done()):

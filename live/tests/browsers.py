@@ -186,7 +186,7 @@ class Tab:
         return " ".join(str(self.script("return document.getElementById(arguments[0]).textContent", ident)).split())
 
     def until(self, holds: Callable[[], Any], what: str) -> None:
-        """Waits until something holds."""
+        """Wait until something holds."""
         end = time.monotonic() + PATIENCE
         while time.monotonic() < end:
             if holds():
@@ -202,7 +202,7 @@ class Tab:
         return "\n".join([*seen, f"console: {console}", f"saved: {saved}"])
 
     def settled(self) -> None:
-        """Waits until all is confirmed, asked for and drawn, the figures say it, and it stays so for a moment."""
+        """Wait until all is confirmed, asked for and drawn, the figures say it, and it stays so for a moment."""
         self.until(lambda: self.driver.execute_async_script(SETTLED), "quiet")
 
     def lines(self, ident: str) -> list[str]:
@@ -231,20 +231,20 @@ class Tab:
     # What is done
 
     def press(self, name: str, within: str = "body") -> None:
-        """Presses the button that is called so, once it is there and nothing lies over it: in the page itself, where
+        """Press the button that is called so, once it is there and nothing lies over it: in the page itself, where
         nothing moves meanwhile, as it may between a look and a click from outside."""
         self.until(lambda: self.script(PRESS, name, within), f"a button {name} in {within}")
 
     def press_in(self, ident: str) -> None:
-        """Presses the only or the first button of a part, or the part where it is one."""
+        """Press the only or the first button of a part, or the part where it is one."""
         self.until(lambda: self.script(PRESS, "", ident), f"the button of {ident}")
 
     def open_part(self, ident: str) -> None:
-        """Opens what is folded."""
+        """Open what is folded."""
         self.until(lambda: self.script(PRESS, "", f"#{ident} > summary"), f"to open {ident}")
 
     def save(self, name: str, file: str) -> Path:
-        """Saves by the menu, and gives the new file whose name begins and ends as this one's; by a key, since a browser lets a
+        """Save from the menu, and return the new file whose name begins and ends as this one's; by a key, since a browser lets a
         page save once for each press."""
         before = set(self.saved(file))
         if self.part("save").get_attribute("open") is None:
@@ -256,7 +256,7 @@ class Tab:
         return path
 
     def save_both(self, name: str, file: str) -> list[Path]:
-        """Saves two files by one press: that of the own road, and that of the shared one."""
+        """Save two files by one press: that of the own road, and that of the shared one."""
         self.open_part("save")
         self.press(name, "#save")
         is_shared = lambda path: "-shared-" in path.name
@@ -272,11 +272,11 @@ class Tab:
         self.script("document.querySelector(`input[name=tool][value=${arguments[0]}]`).click()", kind)
 
     def choose(self, ident: str, value: str) -> None:
-        """Chooses from a list."""
+        """Choose from a list."""
         self.fill(**{ident: value})
 
     def fill(self, **fields: str) -> None:
-        """Writes into fields, and chooses from lists."""
+        """Write into fields, and choose from lists."""
         self.script("""
             for (const [ident, value] of Object.entries(arguments[0])) {
               $(ident).value = value;
@@ -308,7 +308,7 @@ class Tab:
         return round(x - wide / 2), round(y - high / 2)
 
     def begin_drag(self, one: tuple[float, float], other: tuple[float, float]) -> None:
-        """Presses at one place, each [cell, step], and moves to another."""
+        """Press at a place [cell, step], and move to another one."""
         self.script("$('diagram').scrollIntoView({block: 'center'})")
         (x, y), (to_x, to_y) = self.place(*one), self.place(*other)
         chain = ActionChains(self.driver, duration=20).move_to_element_with_offset(self.part("diagram"), x, y)
@@ -324,13 +324,13 @@ class Tab:
         self.drop()
 
     def in_figures(self, **fields: str) -> None:
-        """Fills the form and applies it."""
+        """Fill the form, and apply it."""
         self.fill(**fields)
         self.press_in("#apply")
         self.settled()
 
     def limit(self, limit: str, begin: str, end: str) -> None:
-        """Puts a limit on the whole of a short road."""
+        """Put a limit on the whole of a short road."""
         self.tool("limit")
         self.choose("limit", limit)
         self.in_figures(kmFrom="0", kmTo="0.3", timeFrom=begin, timeTo=end)

@@ -82,7 +82,7 @@ class Crashes(Case):
             await self.look(server, engineers)
 
     async def more(self, engineers: list[Engineer]) -> None:
-        """Waits until each has had more gestures confirmed."""
+        """Wait until each has had more gestures confirmed."""
         async def has_more() -> bool:
             return all(len(one.confirmed) > count for one, count in zip(engineers, counts))
         counts = [len(one.confirmed) + 1 for one in engineers]
