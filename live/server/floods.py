@@ -9,13 +9,14 @@ A sender is a folder, `STRANGERS` or `UNSEALED`.
 from __future__ import annotations
 
 import time
-from typing import Any, Callable
+from typing import Callable, TypeVar
 
 MOST_SENDERS = 256  # that are remembered
 BURST, A_SECOND = 6_000, 500  # messages of a sender that are taken at once, and each second
 WORK = 1_000  # messages: a second of work counts as this many
 STRANGERS, UNSEALED = "", "unsealed"  # sender names for all unknown folders, and for unsealed messages
 FLOOD = 30.0  # seconds for which a sender over its limit is ignored
+V = TypeVar("V")
 
 
 class Floods:
@@ -52,7 +53,7 @@ class Floods:
         return [sender for sender, until in list(self._until.items()) if now < until]
 
 
-def drop_oldest(entries: dict[str, Any]) -> None:
+def drop_oldest(entries: dict[str, V]) -> None:
     """Drop the oldest entry if there are too many."""
     if len(entries) > MOST_SENDERS:
         del entries[next(iter(entries))]
