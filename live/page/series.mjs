@@ -149,7 +149,7 @@ function drawLine(context, points, side) {
  * @param {number | null} flow       cars per hour; null: it was off
  * @param {number | null} speed      km/h; null: no car passed
  */
-function countText(flow, speed) {
+function detectorText(flow, speed) {
   if (flow === null) return "detector off";
   return `${whole(flow)} cars/h${speed === null ? "" : `, ${Math.round(speed)} km/h`}`;
 }
@@ -168,7 +168,7 @@ function readingText([flows, speeds]) {
   const {point, names} = store.series;
   if (point === null) return "Point at a chart, or use the arrow keys there, to read it.";
   return `${spanOf(flows, point)}: ` + [1, 0].map((side) =>
-    `${names[side]} ${countText(flows.sides[side][point], speeds.sides[side][point])}`).join("; ");
+    `${names[side]} ${detectorText(flows.sides[side][point], speeds.sides[side][point])}`).join("; ");
 }
 
 /** Write what is read of travel times.

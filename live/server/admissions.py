@@ -8,7 +8,7 @@ from __future__ import annotations
 import asyncio
 import json
 import sys
-from typing import Any
+from typing import Sequence, TypedDict
 
 from . import figures
 from .journal import packed
@@ -16,17 +16,20 @@ from .journal import packed
 NICE = 8
 POINTS = 128  # of a curve: a straight line between two is off by less than 0.1 cars per hour
 MOST_KEPT = 2_000  # curves
+Inflow = TypedDict("Inflow", {
+    "limit": int, "slowing": int, "start": "int | None", "entry": int, "cell": int, "before": Sequence["tuple[int, int]"]})
+Curve = TypedDict("Curve", {"points": Sequence["tuple[int, float]"], "capacity": float})
 
 
-class Admissions(figures.Beside):
+class Admissions(figures.Beside[Inflow, Curve]):
     """Measures curves one after the other, and keeps them."""
 
     def __init__(self) -> None:
         super().__init__(__name__, NICE)
-        self._kept: dict[str, dict[str, Any]] = {}
+        self._kept: dict[str, Curve] = {}
         self._lock = asyncio.Lock()
 
-    async def curve(self, asked: dict[str, Any], path: str) -> dict[str, Any]:
+    async def curve(self, asked: Inflow, path: str) -> Curve:
         """Return the curve of an inlet, in some seconds if it is not known yet."""
         key = packed(asked)
         async with self._lock:
@@ -39,7 +42,7 @@ class Admissions(figures.Beside):
 
 # The program
 
-def measured(asked: dict[str, Any]) -> dict[str, Any]:
+def measured(asked: Inflow) -> Curve:
     """Return the curve that a question asks for. Beside other inlets it takes fewer chances: it would take too long."""
     from zegdrut.demand import Drivers, Effort, Inlet, measure_admission
     from zegdrut.units import ALWAYS
@@ -49,7 +52,7 @@ def measured(asked: dict[str, Any]) -> dict[str, Any]:
     found = measure_admission(drivers, asked["cell"], before, effort)
     chances = [round(ALWAYS * place / POINTS) for place in range(POINTS + 1)]
     flows = [found.admitted(chance) for chance in chances]
-    points = [[chance, max(flows[:place + 1])] for place, chance in enumerate(chances)]  # (where it is full more chance admits no more)
+    points = [(chance, max(flows[:place + 1])) for place, chance in enumerate(chances)]  # (where it is full more chance admits no more)
     return {"points": points, "capacity": max(flows)}
 
 

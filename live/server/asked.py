@@ -8,13 +8,14 @@ from __future__ import annotations
 
 import unicodedata
 from itertools import islice
-from typing import Any, Callable
+from typing import Iterable, Iterator, Mapping, cast
 
-from zegdrut.grammar import GREATEST, kind, list_of, put, row_of, shown, value_of, whole
+from zegdrut.grammar import GREATEST, Part, kind, list_of, put, row_of, shown, value_of, whole
 from zegdrut.refusals import Reasons
+from zegdrut.wire import PlanLine, ReplyFields
 
 from .journal import packed
-from .model.operations import Shape, same_int
+from .model.operations import Json, Shape, Stamp, same_int
 from .refusals import NOT_A_COMMAND, Refused, not_a_command
 
 MOST_EDITS = 1_200  # of a gesture: its line is one import
@@ -23,7 +24,11 @@ TOLD = 3  # faults of a list that a refusal names
 LONG = 2_000  # bytes of a field from which on it takes long to look how its numbers were written
 
 
-def whole_or_none(value: Any) -> Any:
+RawEdit = tuple[str, int, int, "int | None"]
+"""Kind, object, step, and value."""
+
+
+def whole_or_none(value: object) -> Iterator[str]:
     return iter(()) if value is None else whole(value)
 
 
@@ -34,7 +39,7 @@ STAMP = row_of(("count", lambda value: whole(value, 1 << 48)), ("number", lambda
 PAIR = row_of(("index", whole), ("chance", whole))
 
 
-def clean_text(value: Any, most: int) -> str:
+def clean_text(value: object, most: int) -> str:
     """Return a text for one line: without control characters, marks that turn its direction, and halves of pairs."""
     begin = " ".join(str(value)[:8 * most].split())
     plain = "".join(sign for sign in begin if unicodedata.category(sign)[0] != "C")
@@ -55,10 +60,11 @@ def folded(name: str) -> str:
 class Asked:
     """The fields of a command; on leaving, those that were not asked for are refused."""
 
-    def __init__(self, verb: str, fields: Any) -> None:
-        if type(fields) is not dict:
+    def __init__(self, verb: str, fields: object) -> None:
+        if not isinstance(fields, dict):
             raise not_a_command(f"`{verb}` has an object of fields")
-        self.verb, self._fields, self._known = verb, fields, set[str]()
+        self.verb, self._known = verb, set[str]()
+        self._fields: dict[str, Json] = fields
 
     def __enter__(self) -> Asked:
         return self
@@ -72,12 +78,12 @@ class Asked:
         self._known.add(name)
         return name in self._fields
 
-    def require(self, name: str) -> Any:
+    def require(self, name: str) -> Json:
         if not self.has(name):
             raise not_a_command(f"`{self.verb}` lacks `{name}`")
         return self._fields[name]
 
-    def _checked(self, name: str, faults: Callable[[Any], Any]) -> Any:
+    def _checked(self, name: str, faults: Part) -> Json:
         value = self.require(name)
         told = list(islice(faults(value), TOLD))
         if told:
@@ -92,7 +98,7 @@ class Asked:
     def whole(self, name: str, least: int = 0, most: int = GREATEST, default: int | None = None) -> int:
         if default is not None and not self.has(name):
             return default
-        value: int = self._checked(name, whole)
+        value = cast(int, self._checked(name, whole))
         if not least <= value <= most:
             raise Refused("Range", f"`{name}` is {least} to {most}, not {value}")
         return value
@@ -108,7 +114,7 @@ class Asked:
 
     def number(self, name: str, most: float) -> float:
         value = self.require(name)
-        if type(value) not in (int, float) or not 0 <= value <= most:
+        if not isinstance(value, (int, float)) or isinstance(value, bool) or not 0 <= value <= most:
             raise Refused("Range", f"`{name}` is 0 to {most}")
         return float(value)
 
@@ -123,49 +129,54 @@ class Asked:
     def texts(self, name: str, most: int, longest: int) -> list[str]:
         """Texts that can be shown in a line each."""
         value = self.require(name)
-        if type(value) is not list or len(value) > most or any(type(one) is not str for one in value):
+        if not isinstance(value, list) or len(value) > most or any(type(one) is not str for one in value):
             raise not_a_command(f"`{name}` is a list of at most {most} strings")
         return [clean_text(one, longest) for one in value]
 
     def key(self, name: str = "key") -> str:
         """Return the key of a gesture: one that is sent again has the same."""
         value = self.require(name)
-        is_key = type(value) is str and 1 <= len(value) <= LONGEST_KEY and value.isascii() and value.isprintable()
-        if not is_key:
+        if type(value) is not str or not (1 <= len(value) <= LONGEST_KEY and value.isascii() and value.isprintable()):
             raise not_a_command(f"`{name}` is a string of 1 to {LONGEST_KEY} ASCII characters, a new one for each gesture")
-        return str(value)
+        return value
 
-    def stamp_or_key(self, name: str) -> tuple[int, int] | str:
+    def stamp_or_key(self, name: str) -> Stamp | str:
         """Return a stamp, or the key of a gesture that may not have one yet."""
         if type(self.require(name)) is str:
             return self.key(name)
-        count, number = self._checked(name, STAMP)
-        return count, number
+        return self._pair(name, STAMP)
 
-    def stamps(self) -> set[tuple[int, int]] | None:
-        if not self.has("stamps"):
-            return None
-        return {(count, number) for count, number in self._checked("stamps", list_of(STAMP, "stamp"))}
+    def stamps(self) -> set[Stamp] | None:
+        return set(self._pairs("stamps", list_of(STAMP, "stamp"))) if self.has("stamps") else None
+
+    def _pair(self, name: str, faults: Part) -> tuple[int, int]:
+        """Return two whole numbers, given the check of their list."""
+        one, other = cast("list[int]", self._checked(name, faults))
+        return one, other
+
+    def _pairs(self, name: str, faults: Part) -> Iterable[tuple[int, int]]:
+        """Return pairs of whole numbers, given the check of their list."""
+        return ((one, other) for one, other in cast("list[list[int]]", self._checked(name, faults)))
 
     def pairs(self, name: str) -> list[tuple[int, int]]:
-        """Pairs of whole numbers."""
-        return [(one, other) for one, other in self._checked(name, list_of(PAIR, "pair"))]
+        """Return pairs of whole numbers."""
+        return list(self._pairs(name, list_of(PAIR, "pair")))
 
-    def edits(self) -> list[list[Any]]:
+    def edits(self) -> list[RawEdit]:
         edits = self.require("edits")
-        if type(edits) is not list or 1 <= len(edits) <= MOST_EDITS:
-            edits = self._checked("edits", EDITS)
+        if not isinstance(edits, list) or 1 <= len(edits) <= MOST_EDITS:
+            edits = cast("list[Json]", self._checked("edits", EDITS))
         if not 1 <= len(edits) <= MOST_EDITS:
             raise Refused("TooManyEdits" if edits else NOT_A_COMMAND,
                           f"a gesture has 1 to {MOST_EDITS} edits, not {len(edits)}")
-        if len({tuple(edit[:3]) for edit in edits}) < len(edits):
+        found = [(kind_of, index, step, value) for kind_of, index, step, value in cast("list[RawEdit]", edits)]
+        if len({edit[:3] for edit in found}) < len(edits):
             raise not_a_command("an object and step stands twice in a gesture")
-        found: list[list[Any]] = edits
         return found
 
     def shape(self) -> Shape:
-        kind, first, last, begin, end, value = self._checked("shape", SHAPE)
-        return Shape(kind, same_int(first), same_int(last), same_int(begin), None if end is None else same_int(end), value)
+        kind_of, first, last, begin, end, value = cast("tuple[str, int, int, int, int | None, int]", self._checked("shape", SHAPE))
+        return Shape(kind_of, same_int(first), same_int(last), same_int(begin), None if end is None else same_int(end), value)
 
     def is_null(self, name: str) -> bool:
         return self.has(name) and self._fields[name] is None
@@ -180,17 +191,16 @@ class Asked:
         """Return the cells a to b of `cells`; None: all."""
         if not self.has("cells"):
             return None
-        first, last = self._checked("cells", row_of(("first cell", whole), ("last cell", whole)))
-        return first, last
+        return self._pair("cells", row_of(("first cell", whole), ("last cell", whole)))
 
-    def remaining(self) -> dict[str, Any]:
+    def remaining(self) -> Mapping[str, Json]:
         """Return the fields that were not asked for, and count them as asked for."""
         rest = {name: value for name, value in self._fields.items() if name not in self._known}
         self._known.update(rest)
         return rest
 
 
-def why_refused(plan: dict[str, Any], at: str, horizon: int, line: bytes, reply: dict[str, Any]) -> str:
+def why_refused(plan: PlanLine, at: str, horizon: int, line: bytes, reply: ReplyFields) -> str:
     """Return a sentence about a line that the program refused."""
     reasons = Reasons()
     reasons.hear(packed(plan).encode(), {"open": 1})

@@ -2,8 +2,8 @@
 figured the mean and its 95 % interval, before, after, and of what a day has more after than before. The figures are those of
 server.figures.
 
-As a program it reads {plan, before, after, first, last, program, days} from standard input, and prints after each day
-{"done", "figures"}, those of the days that are done, all of the steps `first` to `last` - 1; or {"fault"}.
+As a program it reads a `DaysAsked` from standard input, and prints after each day a `DaysTold`: the figures of the days that are
+done, of the steps `first` to `last` - 1; or a fault.
 """
 from __future__ import annotations
 
@@ -16,7 +16,7 @@ import os
 import signal
 import sys
 from concurrent.futures import ProcessPoolExecutor, as_completed
-from typing import TYPE_CHECKING, Any, Callable, Iterator
+from typing import TYPE_CHECKING, Callable, Iterator, Sequence, TypedDict
 
 from . import LIVE, figures
 from .journal import packed
@@ -25,10 +25,19 @@ from .refusals import Refused
 if TYPE_CHECKING:
     from zegdrut.days import Day
     from zegdrut.demand import Rates
+    from zegdrut.scripts import Script
+    from zegdrut.units import Units
+    from zegdrut.wire import PlanLine
 
 NICE = 10
 SIDES = "before", "after"
 HOURS, LOST, DELAY = "vehicle_hours", "lost", "delay"
+DaysAsked = TypedDict("DaysAsked", {"roads": figures.TwoRoads, "days": int})
+Mean = Sequence["float | None"]
+"""A mean, and how far its interval reaches to both sides; None: of one day that is not known."""
+FigureTold = TypedDict("FigureTold", {"name": str, "before": Mean, "after": Mean, "difference": Mean, "others": int})
+"""A figure over all days; `others` is the number of days whose difference has the other sign."""
+DaysTold = TypedDict("DaysTold", {"done": int, "figures": Sequence[FigureTold], "fault": str}, total=False)
 
 
 class Question:
@@ -39,17 +48,18 @@ class Question:
         self._process: asyncio.subprocess.Process | None = None
         self.is_stopped = False
 
-    async def answer(self, asked: dict[str, Any], progress: Callable[[], None]) -> dict[str, Any]:
+    async def answer(self, roads: figures.TwoRoads, progress: Callable[[], None]) -> dict[str, object]:
         """Return the figures; if it was stopped, those of the days that were done. `progress` is called after each day."""
         self._process = await asyncio.create_subprocess_exec(
             *figures.gently(__name__, NICE), stdin=asyncio.subprocess.PIPE, stdout=asyncio.subprocess.PIPE,
-            env=figures.environment(asked["program"]), start_new_session=True, cwd=LIVE)
+            env=figures.environment(roads["program"]), start_new_session=True, cwd=LIVE)
         if self.is_stopped:
             self.stop()
         assert self._process.stdin is not None and self._process.stdout is not None
-        told: dict[str, Any] = {}
+        asked: DaysAsked = {"roads": roads, "days": self.days}
+        told: DaysTold = {}
         try:
-            self._process.stdin.write(packed({**asked, "days": self.days}).encode())
+            self._process.stdin.write(packed(asked).encode())
             self._process.stdin.close()
             async for line in self._process.stdout:
                 told = json.loads(line)
@@ -108,7 +118,7 @@ class DayQuestions:
 
 def main() -> None:
     """Runs both roads by each seed, on all processors but one, and prints what it found."""
-    asked = json.load(sys.stdin)
+    asked: DaysAsked = json.load(sys.stdin)
     figures.leave_one_free()
     from zegdrut import Fault
     found: list[Day] = []
@@ -120,24 +130,26 @@ def main() -> None:
         tell({"fault": str(fault)})
 
 
-def days_of(asked: dict[str, Any]) -> Iterator[Day]:
+def days_of(asked: DaysAsked) -> Iterator[Day]:
     """Yield the days as they are done."""
     from zegdrut.days import SEEDS, run_day, unwrap_day
     from zegdrut.units import Units
-    wanted = [demands(asked, side) for side in SIDES]
-    seeds = [(asked["plan"]["words"] + one) % SEEDS for one in range(asked["days"])]
+    roads = asked["roads"]
+    wanted = [demands(roads["plan"], figures.edits_of(edits), roads["last"]) for edits in (roads["before"], roads["after"])]
+    first = int(roads["plan"]["words"])
+    seeds = [(first + one) % SEEDS for one in range(asked["days"])]
     with ProcessPoolExecutor(min(len(seeds), len(os.sched_getaffinity(0))), initializer=die_with_parent) as pool:
-        running = [pool.submit(run_day, [], None, seed, Units(), functools.partial(of_day, asked, wanted)) for seed in seeds]
+        running = [pool.submit(run_day, [], None, seed, Units(), functools.partial(of_day, roads, wanted)) for seed in seeds]
         try:
             yield from (unwrap_day(ended.result()) for ended in as_completed(running))
         finally:
             pool.shutdown(cancel_futures=True)
 
 
-def demands(asked: dict[str, Any], side: str) -> list[Rates]:
+def demands(plan: PlanLine, edits: figures.Edits, last: int) -> list[Rates]:
     """Return the demand of each inlet over time: it is the same on each day."""
     from zegdrut.lost import compute_demands
-    return compute_demands(asked["plan"], figures.given(figures.edits_of(asked[side])), asked["last"])
+    return compute_demands(plan, figures.given(edits), last)
 
 
 def die_with_parent() -> None:
@@ -145,11 +157,11 @@ def die_with_parent() -> None:
     ctypes.CDLL(None).prctl(1, signal.SIGKILL)  # PR_SET_PDEATHSIG
 
 
-def tell(value: dict[str, Any]) -> None:
+def tell(value: DaysTold) -> None:
     print(json.dumps(value), flush=True)
 
 
-def told(days: list[Day]) -> list[dict[str, Any]]:
+def told(days: list[Day]) -> list[FigureTold]:
     """Return the figures that each day has, each mean with how far its interval reaches to both sides: of one day that is not known."""
     from zegdrut.days import Day, compare_days
     names = [name for name in days[0].before if all(name in side for day in days for side in (day.before, day.after))]
@@ -162,19 +174,21 @@ def told(days: list[Day]) -> list[dict[str, Any]]:
              "others": one.others} for one in compare_days(whole)]
 
 
-def of_day(asked: dict[str, Any], wanted: list[list[Rates]], _pairs: Any, _at: str | None, seed: int, _units: Any) -> Day:
+def of_day(asked: figures.TwoRoads, wanted: list[list[Rates]], _pairs: list[tuple[str, Script]], _at: str | None, seed: int,
+           _units: Units) -> Day:
     """Return the figures of a day. Travel times that no car has are missing."""
     from zegdrut.days import Day
-    from zegdrut.trips import Window
+    from zegdrut.trips import Window, compare_trips
     window = Window(asked["first"], asked["last"])
-    plan: Any = {**asked["plan"], "words": seed}
+    plan = asked["plan"].copy()
+    plan["words"] = seed
     roads = [figures.DrivenRoad(plan) for _ in SIDES]
     try:
-        for road, side in zip(roads, SIDES):
-            road.become(figures.edits_of(asked[side]))
+        for road, edits in zip(roads, (asked["before"], asked["after"])):
+            road.become(figures.edits_of(edits))
             road.read(window.last, math.inf)
         both = [named_figures(figures.road_of(road, rates, window)) for road, rates in zip(roads, wanted)]
-        delay = figures.cost(roads[0].trips, roads[1].trips, window)["delay_hours"]
+        delay = compare_trips(roads[0].trips, roads[1].trips, window).delay_hours
         return Day(seed, *({HOURS: one[HOURS], LOST: one[LOST], DELAY: less, **one}
                            for one, less in zip(both, (0.0, delay))))
     finally:
@@ -182,7 +196,7 @@ def of_day(asked: dict[str, Any], wanted: list[list[Rates]], _pairs: Any, _at: s
             road.lab.close()
 
 
-def named_figures(found: dict[str, Any]) -> dict[str, float]:
+def named_figures(found: figures.RoadFigures) -> dict[str, float]:
     """Return the figures of a road by their names: hours, lost demand, then of each detector the cars and the seconds from the inlet."""
     times = [mean for _, mean in found["travel"]]
     return {HOURS: found["vehicle_hours"], LOST: sum(found["lost"]),

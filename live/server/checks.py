@@ -4,20 +4,19 @@ The form of an operation is checked where it is read; here it is checked against
 """
 from __future__ import annotations
 
-from typing import Any
-
 from .model.operations import SEATS, Operation, RawName, Shape, Stamp, is_raw
 from .model.reading import MOST_OBJECTS, why_too_large
 from .refusals import Refused
 
 from zegdrut.grammar import KINDS, LAST_STEP
 from zegdrut.refusals import Reasons
+from zegdrut.wire import PlanLine
 
 
 class Checks:
     """The gate of one plan."""
 
-    def __init__(self, plan: dict[str, Any]) -> None:
+    def __init__(self, plan: PlanLine) -> None:
         self._reasons = Reasons()
         self._reasons.accept(plan, {"open": 1})
 

@@ -9,9 +9,12 @@ import asyncio
 import json
 import ssl
 from types import TracebackType
-from typing import Any
+from typing import TYPE_CHECKING
 
 import aiohttp
+
+if TYPE_CHECKING:
+    from .frames import Frame, Welcome
 
 LONGEST_REPLY = 1 << 26
 PATIENCE = 120.0
@@ -20,7 +23,7 @@ PATIENCE = 120.0
 class RefusedReply(Exception):
     """The server refused; `reply` is what it said."""
 
-    def __init__(self, reply: dict[str, Any]) -> None:
+    def __init__(self, reply: Frame) -> None:
         super().__init__(f"{reply['refused']}: {reply.get('why', '')}")
         self.reply = reply
 
@@ -36,16 +39,16 @@ class Closed(ConnectionError):
 class Seat:
     """A socket, and the seat that it has."""
 
-    def __init__(self, address: str, authority: str | None = None, **hello: Any) -> None:
+    def __init__(self, address: str, authority: str | None = None, **hello: object) -> None:
         """Take the address with its token; `hello` has name, key or take."""
         self._base, _, self._token = address.strip().partition("/#")
         self._ssl = ssl.create_default_context(cafile=authority) if authority else None
         self._hello = hello
         self._number = 0
-        self._open: dict[int, asyncio.Future[dict[str, Any]]] = {}
-        self.told: list[dict[str, Any]] = []
+        self._open: dict[int, asyncio.Future[Frame]] = {}
+        self.told: list[Frame] = []
         """All that came without being asked for."""
-        self.welcome: dict[str, Any] = {}
+        self.welcome: Welcome = {}
 
     @property
     def at(self) -> str:
@@ -75,8 +78,8 @@ class Seat:
 
     async def _read(self) -> None:
         async for message in self._socket:
-            value = json.loads(message.data)
-            waiting = self._open.pop(value.get("id"), None)
+            value: Frame = json.loads(message.data)
+            waiting = self._open.pop(value["id"], None) if "id" in value else None
             if waiting is None:
                 self.told.append(value)
             elif not waiting.done():
@@ -86,12 +89,12 @@ class Seat:
                 waiting.set_exception(Closed(self._socket.close_code))
         self._open.clear()
 
-    async def reply(self, verb: str, **fields: Any) -> dict[str, Any]:
+    async def reply(self, verb: str, **fields: object) -> Frame:
         """Return the reply to a command with these fields, a refusal too."""
         if self._socket.closed or self._reader.done():
             raise Closed(self._socket.close_code)
         self._number += 1
-        waiting: asyncio.Future[dict[str, Any]] = asyncio.get_running_loop().create_future()
+        waiting: asyncio.Future[Frame] = asyncio.get_running_loop().create_future()
         waiting.add_done_callback(lambda one: one.cancelled() or one.exception())  # if the send fails nobody asks
         self._open[self._number] = waiting
         try:
@@ -101,13 +104,14 @@ class Seat:
         except TimeoutError:
             raise ConnectionError(f"the server has not answered `{verb}` for {PATIENCE:.0f} seconds") from None
 
-    async def say(self, verb: str, **fields: Any) -> dict[str, Any]:
+    async def say(self, verb: str, **fields: object) -> Frame:
         """Return the reply to a command; raise `RefusedReply` if it is refused."""
         reply = await self.reply(verb, **fields)
         if "refused" in reply:
             raise RefusedReply(reply)
         return reply
 
-    async def ask(self, verb: str, **fields: Any) -> dict[str, Any]:
+    async def ask(self, verb: str, **fields: object) -> Frame:
         """Return the reply about the own replica, or about `at`."""
-        return await self.say(verb, **{"at": self.at, **fields})
+        asked: dict[str, object] = {"at": self.at, **fields}
+        return await self.say(verb, **asked)

@@ -20,7 +20,7 @@ import logging
 import socket
 import ssl
 import time
-from typing import Any, Callable, Deque, Iterable
+from typing import Callable, Container, Deque, Iterable, Protocol
 
 MOST_WAITING = 64  # connections of an address that wait to be let in
 MOST_ADDRESSES = 256  # that have some
@@ -35,13 +35,21 @@ EVERY = 0.2  # seconds between two looks at them
 TOO_MANY = 0.5  # seconds until it is tried again where the system has no more sockets
 
 
+class Connection(Protocol):
+    """A connection, as aiohttp has it. It has no transport once it is closed."""
+
+    @property
+    def transport(self) -> asyncio.Transport | None:
+        """Return what it goes through."""
+
+
 class Doors:
     """Listening sockets, and who waits before them."""
 
-    def __init__(self, sockets: list[socket.socket], protocol: Callable[[], Any], certificate: ssl.SSLContext | None) -> None:
+    def __init__(self, sockets: list[socket.socket], protocol: Callable[[], asyncio.Protocol], certificate: ssl.SSLContext | None) -> None:
         self._sockets, self._protocol, self._certificate = sockets, protocol, certificate
         self._waiting: collections.OrderedDict[str, Deque[socket.socket]] = collections.OrderedDict()  # by address
-        self._entering: dict[asyncio.Future[Any], str] = {}  # the oldest first, and their addresses
+        self._entering: dict[asyncio.Future[None], str] = {}  # the oldest first, and their addresses
         self._come = asyncio.Event()
         self._left, self._at = float(AT_ONCE), time.monotonic()
 
@@ -110,12 +118,13 @@ class Doors:
             next(one for one, of in self._entering.items() if counts[of] == worst).cancel()
 
     async def _connect(self, connection: socket.socket) -> None:
-        tls: dict[str, Any] = {} if self._certificate is None else {
-            "ssl": self._certificate, "ssl_handshake_timeout": HANDSHAKE, "ssl_shutdown_timeout": FAREWELL}
+        has_tls = self._certificate is not None
         try:
             async with asyncio.timeout(HANDSHAKE):
                 await says_something(connection)
-            await asyncio.get_running_loop().connect_accepted_socket(self._protocol, connection, **tls)
+            await asyncio.get_running_loop().connect_accepted_socket(
+                self._protocol, connection, ssl=self._certificate, ssl_handshake_timeout=HANDSHAKE if has_tls else None,
+                ssl_shutdown_timeout=FAREWELL if has_tls else None)
         except (OSError, asyncio.TimeoutError):  # (what is wrong about keys is an OSError, too)
             connection.close()
         except asyncio.CancelledError:
@@ -158,10 +167,10 @@ def neighbourhood(address: str) -> str:
 class Strangers:
     """Looks after connections: of too many the oldest are cut, and those that last too long."""
 
-    def __init__(self, connections: Callable[[], Iterable[Any]], known: Callable[[], set[Any]]) -> None:
+    def __init__(self, connections: Callable[[], Iterable[Connection]], known: Callable[[], Container[Connection]]) -> None:
         """Take the functions that give all connections, and those that have shown the token."""
         self._connections, self._known = connections, known
-        self._since: dict[Any, float] = {}
+        self._since: dict[Connection, float] = {}
 
     async def watch(self) -> None:
         """Look for ever."""
@@ -171,15 +180,15 @@ class Strangers:
 
     def look(self, now: float) -> None:
         known = self._known()
-        there = [one for one in self._connections() if one not in known and one.transport is not None]
+        there = {one: one.transport for one in self._connections() if one not in known and one.transport is not None}
         self._since = {one: self._since.get(one, now) for one in there}
-        there.sort(key=lambda one: self._since[one])
-        counts = collections.Counter(map(address_of, there))
-        for one in there:
-            if counts[address_of(one)] > FEW or counts.total() > MANY or now - self._since[one] > SHORT:
-                counts[address_of(one)] -= 1
-                one.transport.abort()
+        addresses = {one: address_of(transport) for one, transport in there.items()}
+        counts = collections.Counter(addresses.values())
+        for one, address in sorted(addresses.items(), key=lambda pair: self._since[pair[0]]):
+            if counts[address] > FEW or counts.total() > MANY or now - self._since[one] > SHORT:
+                counts[address] -= 1
+                there[one].abort()
 
 
-def address_of(connection: Any) -> str:
-    return neighbourhood(str((connection.transport.get_extra_info("peername") or ("",))[0]))
+def address_of(transport: asyncio.Transport) -> str:
+    return neighbourhood(str((transport.get_extra_info("peername") or ("",))[0]))

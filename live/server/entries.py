@@ -10,9 +10,12 @@ import json
 import re
 import zlib
 from pathlib import Path
-from typing import Any, Iterator
+from typing import Iterator, Mapping
 
-Entry = dict[str, Any]
+from .model.operations import Json
+
+Entry = Mapping[str, Mapping[str, Json]]
+"""The kind of an entry, and its fields."""
 SUM = 18  # bytes of a checksum, at the end of a line
 SUMMED = re.compile(rb',"(crc|and)":"([0-9a-f]{8})"\}')
 
@@ -21,8 +24,8 @@ class Broken(Exception):
     """The journal has a malformed line, or the folder cannot be used. The text says so in a sentence."""
 
 
-def packed(value: Any) -> str:
-    """Compact JSON in one line."""
+def packed(value: object) -> str:
+    """Return a value as compact JSON in one line."""
     return json.dumps(value, separators=(",", ":"), ensure_ascii=False, allow_nan=False)
 
 
@@ -81,12 +84,13 @@ def entry_of(path: Path, number: int, line: bytes) -> Entry:
     try:
         if summed and zlib.crc32(text) != int(summed[2], 16):
             raise ValueError("its checksum differs")
-        entry = json.loads(text)
+        entry: Json = json.loads(text)
     except (ValueError, RecursionError) as fault:
         raise Broken(f"{path}, line {number}, is broken ({fault}): {line[:60]!r}") from None
-    if not isinstance(entry, dict) or [type(value) for value in entry.values()] != [dict]:
+    fields = {kind: value for kind, value in entry.items() if isinstance(value, dict)} if isinstance(entry, dict) else {}
+    if len(fields) != 1 or fields != entry:
         raise Broken(f"{path}, line {number}, is no entry: {line[:60]!r}")
-    return entry
+    return fields
 
 
 def begins_a_write(path: Path, line: bytes) -> bool:

@@ -2,9 +2,9 @@
 
 What each figure means is said at the head of zegdrut.trips and zegdrut.lost: nothing is computed here.
 
-As a program this module reads a question a line, {plan, before, after, first, last, slots, seconds}, and answers each in a line: the
-figures of the steps `first` to `last` - 1; or {"done": step}, if it has not read so far after `seconds`. A road stays in its slot:
-the next question about it reads what is new, or what an edit has changed.
+As a program this module reads a question a line, a `FiguresAsked`, and answers each in a line: the figures of the steps `first` to
+`last` - 1; or {"done": step}, if it has not read so far after `seconds`. A road stays in its slot: the next question about it reads
+what is new, or what an edit has changed.
 """
 from __future__ import annotations
 
@@ -16,7 +16,7 @@ import signal
 import sys
 import time
 from collections import OrderedDict
-from typing import TYPE_CHECKING, Any, AsyncIterator, Sequence
+from typing import TYPE_CHECKING, AsyncIterator, Generic, Mapping, Sequence, TypedDict, TypeVar
 
 from . import LIVE
 from .journal import packed
@@ -26,8 +26,8 @@ from .refusals import Refused
 if TYPE_CHECKING:
     from zegdrut import Edit, RoadLab
     from zegdrut.demand import Rates
-    from zegdrut.trips import Trips, TripsCompared, Window
-    from zegdrut.wire import PlanLine
+    from zegdrut.trips import DetectorCount, TravelTime, Trips, Window
+    from zegdrut.wire import PlanLine, WrittenEdit
 
 PATIENCE = 60.0  # seconds of a question; the next one goes on where it ended
 AT_ONCE = 5.0  # seconds after which a program says how far it is
@@ -42,6 +42,26 @@ GUARD = "ROAD_LAB_GUARD"  # by which a program of zegdrut ends with the process 
 SIDES = "before", "after"
 NUMBER = 64  # in the stamps of edits; no replica has it
 ENTRY = 60  # steps of entry whose travel times are told together
+Q = TypeVar("Q", bound=Mapping[str, object])
+A = TypeVar("A")
+
+
+TwoRoads = TypedDict("TwoRoads", {
+    "plan": "PlanLine", "before": "Sequence[WrittenEdit]", "after": "Sequence[WrittenEdit]", "first": int, "last": int, "program": str})
+"""A question about two roads: their plan and edits, the steps `first` to `last` - 1, and the path of road_lab."""
+FiguresAsked = TypedDict("FiguresAsked", {"roads": TwoRoads, "slots": Sequence[str], "seconds": float})
+"""Two roads, the slot of each, and the seconds that the answer may take."""
+DetectorFigures = TypedDict("DetectorFigures", {"cars": int, "speeds": int, "flow": "float | None", "speed": "float | None", "on": int})
+"""Cars, the sum of their speeds in cells per step, flow in cars per hour, speed in km/h, and the seconds on."""
+Times = Sequence[Sequence["float | None"]]
+"""For each site, and last for the road's end, the cars and their mean seconds."""
+RoadFigures = TypedDict("RoadFigures", {
+    "detectors": Sequence[Sequence[int]], "flows": Sequence[DetectorFigures], "asked": Sequence[float], "entered": Sequence[int],
+    "lost": Sequence[float], "scatter": Sequence[float], "vehicle_hours": float, "travel": Times, "travel_by_entry": Mapping[str, Times]})
+"""The figures of a road: `asked` to `scatter` in cars, for each inlet."""
+FiguresTold = TypedDict("FiguresTold", {
+    "done": int, "before": RoadFigures, "after": RoadFigures, "delay_hours": float, "delayed": int, "later": Times}, total=False)
+"""The figures of both roads and what the change costs; or how far they are computed."""
 
 
 @contextlib.asynccontextmanager
@@ -57,14 +77,14 @@ async def alone(index: int) -> AsyncIterator[None]:
         WAITING.remove(index)
 
 
-class Beside:
+class Beside(Generic[Q, A]):
     """A program of this package that answers questions line by line, for which nobody who edits waits longer."""
 
     def __init__(self, module: str, nice: int = NICE) -> None:
         self._module, self._nice, self._path = module, nice, ""
         self._process: asyncio.subprocess.Process | None = None
 
-    async def ask(self, asked: dict[str, Any], path: str) -> dict[str, Any]:
+    async def ask(self, asked: Q, path: str) -> A:
         """Return the answer to a question; `path` is that of road_lab. If nobody waits for it any more the program ends."""
         if self._process is None or self._process.returncode is not None or path != self._path:
             self.close()
@@ -86,7 +106,7 @@ class Beside:
                 self.close()
         if not line.endswith(b"\n"):
             raise Refused("Failed", "the figures failed; the server's log says why")
-        said: dict[str, Any] = json.loads(line)
+        said: A = json.loads(line)
         return said
 
     def close(self) -> None:
@@ -97,22 +117,22 @@ class Beside:
         self._process = None
 
 
-class Figures(Beside):
+class Figures(Beside[FiguresAsked, FiguresTold]):
     """The figures of two roads, for seats."""
 
     def __init__(self) -> None:
         super().__init__(__name__)
 
-    async def of(self, index: int, asked: dict[str, Any]) -> dict[str, Any]:
+    async def of(self, index: int, roads: TwoRoads, slots: Sequence[str]) -> FiguresTold:
         """Return the figures that a seat asks for. Refused: they take long, or others wait for theirs."""
         until = time.monotonic() + PATIENCE
         async with alone(index):
             while True:
-                said = await self.ask({**asked, "seconds": AT_ONCE}, asked["program"])
+                said = await self.ask({"roads": roads, "slots": slots, "seconds": AT_ONCE}, roads["program"])
                 if "done" not in said:
                     return said
                 if time.monotonic() > until:
-                    raise Refused("Busy", f"the figures are computed to step {said['done']} of {asked['last']} so far: ask again")
+                    raise Refused("Busy", f"the figures are computed to step {said['done']} of {roads['last']} so far: ask again")
 
 
 def environment(path: str) -> dict[str, str]:
@@ -155,7 +175,7 @@ class DrivenRoad:
         if not keys:
             return
         self._count += 1
-        for line in import_lines("road", [[*key, self._count, NUMBER, edits.get(key)] for key in sorted(keys)]):
+        for line in import_lines("road", [(*key, self._count, NUMBER, edits.get(key)) for key in sorted(keys)]):
             self.lab.ask(line)
         self.trips.rewind(min(step for _, _, step in keys))
         self.edits = edits
@@ -172,7 +192,7 @@ class DrivenRoad:
         from zegdrut.lost import compute_demands
         return compute_demands(self.plan, given(self.edits), last)
 
-    def counts(self, window: Window) -> list[dict[str, Any]]:
+    def counts(self, window: Window) -> list[DetectorFigures]:
         """Return what each detector counted."""
         from zegdrut.trips import DetectorCount, count_seconds_on
         found, watched = [], given(self.edits)
@@ -182,12 +202,12 @@ class DrivenRoad:
         return found
 
 
-def detector_told(one: Any) -> dict[str, Any]:
+def detector_told(one: DetectorCount) -> DetectorFigures:
     """Return a detector's count for a reply: cars, the sum of speeds, flow in cars per hour, speed in km/h, seconds on."""
     return {"cars": one.cars, "speeds": one.speeds, "flow": one.flow, "speed": one.time_mean_speed, "on": one.seconds_on}
 
 
-def edits_of(rows: Sequence[Any]) -> Edits:
+def edits_of(rows: Sequence[WrittenEdit]) -> Edits:
     """Return the edits of rows of an import that say something."""
     return {(kind, index, step): value for kind, index, step, *_, value in rows if value is not None}
 
@@ -198,12 +218,12 @@ def given(edits: Edits) -> list[Edit]:
     return [Edit((kind, index), step, Stamp(1, NUMBER), value) for (kind, index, step), value in edits.items()]
 
 
-def times_told(times: Sequence[Any]) -> list[list[float | None]]:
+def times_told(times: Sequence[TravelTime]) -> Times:
     """Return, for each site and last for the road's end, the cars and their mean seconds."""
     return [[one.cars, one.mean] for one in times]
 
 
-def road_of(road: DrivenRoad, wanted: list[Rates], window: Window) -> dict[str, Any]:
+def road_of(road: DrivenRoad, wanted: list[Rates], window: Window) -> RoadFigures:
     """Return the figures of a road."""
     from zegdrut.lost import compute_supplies
     from zegdrut.trips import compute_travel_times, compute_travel_times_by_entry, compute_vehicle_hours, count_admitted_cars
@@ -218,11 +238,12 @@ def road_of(road: DrivenRoad, wanted: list[Rates], window: Window) -> dict[str, 
             "travel_by_entry": {str(step): times_told(times) for step, times in by_entry.items()}}
 
 
-def cost(before: Trips, after: Trips, window: Window) -> dict[str, Any]:
-    """Return what the change costs: the delay in vehicle hours, the cars, and how much later they are at each detector."""
+def compared(before: Trips, after: Trips, told: Sequence[RoadFigures], window: Window) -> FiguresTold:
+    """Return the figures of both roads, and what the change costs: vehicle hours, cars, and how late these are at each detector."""
     from zegdrut.trips import compare_trips
-    found: TripsCompared = compare_trips(before, after, window)
-    return {"delay_hours": found.delay_hours, "delayed": found.cars, "later": times_told(found.at_sites)}
+    found = compare_trips(before, after, window)
+    return {"before": told[0], "after": told[1], "delay_hours": found.delay_hours, "delayed": found.cars,
+            "later": times_told(found.at_sites)}
 
 
 class Roads:
@@ -242,20 +263,20 @@ class Roads:
             self._roads.popitem(last=False)[1].lab.close()
         return road
 
-    def answer(self, asked: dict[str, Any]) -> dict[str, Any]:
+    def answer(self, asked: FiguresAsked) -> FiguresTold:
         """Return the figures of two roads, or how far they are read."""
         from zegdrut.trips import Window
-        plan, window = asked["plan"], Window(asked["first"], asked["last"])
+        both, window = asked["roads"], Window(asked["roads"]["first"], asked["roads"]["last"])
         until = time.monotonic() + asked["seconds"]
-        roads = [self.road(slot, plan) for slot in asked["slots"]]
-        for road, side in zip(roads, SIDES):
-            road.become(edits_of(asked[side]))
+        roads = [self.road(slot, both["plan"]) for slot in asked["slots"]]
+        for road, edits in zip(roads, (both["before"], both["after"])):
+            road.become(edits_of(edits))
             road.read(window.last, until)
         done = min(road.trips.horizon for road in roads)
         if done < window.last:
             return {"done": done}
-        told = {side: road_of(road, road.demands(window.last), window) for side, road in zip(SIDES, roads)}
-        return {**told, **cost(roads[0].trips, roads[1].trips, window)}
+        told = [road_of(road, road.demands(window.last), window) for road in roads]
+        return compared(roads[0].trips, roads[1].trips, told, window)
 
 
 def leave_one_free() -> None:

@@ -7,13 +7,14 @@
 from __future__ import annotations
 
 import time
-from typing import Any, Callable
+from typing import Callable, TypeVar
 
 MOST_FOLDERS = 256  # that are remembered
 BURST, A_SECOND = 6_000, 500  # messages of a site that are taken at once, and each second
 WORK = 1_000  # messages that a second of work counts for
 STRANGERS, UNSEALED = "", "unsealed"  # who sends what folders that were never heard send, and what bears no seal
 FLOOD = 30.0  # seconds for which a site that sends more is not heard
+V = TypeVar("V")
 
 
 class Floods:
@@ -50,7 +51,7 @@ class Floods:
         return [folder for folder, until in list(self._until.items()) if now < until]
 
 
-def only_newest(some: dict[str, Any]) -> None:
+def only_newest(some: dict[str, V]) -> None:
     """Drop the oldest of too many."""
     if len(some) > MOST_FOLDERS:
         del some[next(iter(some))]

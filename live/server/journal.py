@@ -15,6 +15,7 @@ import contextlib
 import ctypes
 import errno
 import fcntl
+import functools
 import gc
 import itertools
 import logging
@@ -22,7 +23,7 @@ import os
 import signal
 import time
 from pathlib import Path
-from typing import Any, Callable, Iterable, Iterator
+from typing import Callable, Iterable, Iterator, ParamSpec, TypeVar
 
 from .entries import Broken as Broken, Entries as Entries, Entry as Entry
 from .entries import journal_line as journal_line, packed as packed, read_entries as read_entries
@@ -33,6 +34,8 @@ ROOM = 262_144  # bytes
 NICE = 5  # less than who edits
 LAST_WAIT = 5.0  # seconds for the disk to answer when the server ends
 Then = Callable[[], None]
+P = ParamSpec("P")
+T = TypeVar("T")
 
 
 class NotWritten(Exception):
@@ -248,11 +251,11 @@ class Journal:
         finally:
             self._writer = None
 
-    async def _asks(self, does: Callable[..., None], *given: Any) -> None:
+    async def _asks(self, does: Callable[P, None], *given: P.args, **named: P.kwargs) -> None:
         """Lets the disk do something, beside all else."""
         self._began = time.monotonic()
         try:
-            await asyncio.get_running_loop().run_in_executor(None, does, *given)
+            await asyncio.get_running_loop().run_in_executor(None, functools.partial(does, *given, **named))
         finally:
             self._began = None
 
@@ -330,11 +333,11 @@ class Journal:
         except asyncio.CancelledError:
             os.kill(process, signal.SIGKILL)
             raise
-        return bool(status == 0)
+        return status == 0
 
-    async def _asks_beside(self, does: Callable[..., Any], *given: Any) -> Any:
+    async def _asks_beside(self, does: Callable[P, T], *given: P.args, **named: P.kwargs) -> T:
         """Let the disk do something that nobody waits for."""
-        return await asyncio.get_running_loop().run_in_executor(None, does, *given)
+        return await asyncio.get_running_loop().run_in_executor(None, functools.partial(does, *given, **named))
 
     def _copy(self, file: int, begin: int) -> int:
         """Append what was written from a byte on to another file. Return up to where."""

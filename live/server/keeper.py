@@ -14,30 +14,32 @@ import os
 import secrets
 import time
 from pathlib import Path
-from typing import Any, Awaitable, Callable, Dict, Iterable
+from typing import Awaitable, Callable, Dict, Iterable, Mapping, TypeVar, Union
 
 from zegdrut.grammar import LAST_HORIZON
+from zegdrut.wire import ReplyFields
 
 from .asked import why_refused
-from .records import JOURNAL_FORM, AnyEntry, Clock, Folder, Made, Upgraded
+from .records import JOURNAL_FORM, AnyEntry, Clock, Folder, Made, Upgraded, read_plan_line
 from .journal import Broken, Entries, Entry, Journal, NotWritten, packed, put_in_place, sync_folder
 from .listeners import Listeners
-from .model.operations import Operation
+from .model.operations import Json, Operation
 from .model.road import Road
 from .program import ProgramExited, Program, command_of, start
 from .refusals import Refused
 from .screen import Differences, Screen
 from .settings import Settings
 from .stamps import StampClock
-from .state import State
+from .state import NO_PLAN, State
 from .supervised import supervised
-from .turns import MORE, Job, Turns
+from .turns import MORE, Job, More, Turns
 
 KEPT = 20  # newest private operations of a seat, which are never forgotten
 LONGEST_PAUSE = 60.0  # seconds between two tries of a disk that took nothing
 STALLS = 5.0  # seconds without an answer of the disk, until the page says so
 A_MOMENT = 1.0  # seconds that a try of the disk may keep others waiting
 SHARED = 0
+T = TypeVar("T")
 Times = Dict[str, float]
 """Seconds that an answer took, by what took them."""
 
@@ -76,14 +78,12 @@ class Keeper:
         self.differences = Differences()
         self._screen: Screen | None = None
         self._next: asyncio.Future[Screen] | None = None
-        self.tasks: list[asyncio.Future[Any]] = []
+        self.tasks: list[asyncio.Task[None]] = []
         self.listeners = Listeners()
-        """What others want to know: `shared` edits from a step on, `seats`, the `clock`, `trouble` with the disk, another
-        `program`, a part of the server that has `ended`."""
 
     # Start
 
-    async def open(self, plan: Callable[[], dict[str, Any]], site: int | None) -> bool:
+    async def open(self, plan: Callable[[], Mapping[str, Json]], site: int | None) -> bool:
         """Read the journal, or begin one of this plan, and start the program. Return whether the journal is new. Raise `Broken`
         if it cannot be read; a program that refuses the plan leaves the folder as it was."""
         path = self.folder / "journal.jsonl"
@@ -94,12 +94,12 @@ class Keeper:
         if not is_new and site not in (None, self.state.site):
             raise Broken(f"{self.folder} is of site {self.state.site}, which never changes")
         if is_new:
-            first: dict[str, Any] = {**plan(), "replicas": [self.state.replica(seat.index).at for seat in self.state.seats]}
+            first: dict[str, Json] = {**plan(), "replicas": [self.state.replica(seat.index).at for seat in self.state.seats]}
             # A program must take it before it is written that this is the plan.
             await (await start(command_of(self.path, first), packed(first).encode())).close()
         self.journal = Journal(path, entries.size)
         if is_new:
-            await self.record(Folder(first, site or 1, secrets.token_hex(8)))
+            await self.record(Folder(read_plan_line(first), site or 1, secrets.token_hex(8)))
         elif form != JOURNAL_FORM:
             self._former = form
             await self._upgrade()
@@ -136,7 +136,7 @@ class Keeper:
                 state.read(entry)
             except Broken as fault:
                 raise Broken(f"{self.folder / 'journal.jsonl'}, line {number}: {fault}") from None
-        if number and not state.plan:
+        if number and state.plan is NO_PLAN:
             raise Broken(f"{self.folder / 'journal.jsonl'} does not begin with a plan")
         form = state.form
         state.end_reading()
@@ -145,7 +145,7 @@ class Keeper:
 
     def ended(self, sentence: str) -> None:
         """Tell people that a part of the server has ended, and is started again."""
-        self.listeners.tell("ended", sentence)
+        self.listeners.ended.tell(sentence)
 
     async def close(self) -> None:
         """End the program. What was confirmed is on the disk."""
@@ -203,7 +203,7 @@ class Keeper:
             if self.journal.waits(STALLS) != self._is_stalled:
                 self._is_stalled = not self._is_stalled
                 logging.warning("the disk %s", "does not answer" if self._is_stalled else "has answered")
-                self.listeners.tell("trouble")
+                self.listeners.trouble.tell()
 
     def _check_disk(self) -> None:
         if self.journal.fault is not None:
@@ -233,7 +233,7 @@ class Keeper:
             return f"the disk does not take it ({fault.strerror})"
         await self._upgrade()
         self._trouble = None
-        self.listeners.tell("trouble")
+        self.listeners.trouble.tell()
         return None
 
     async def until_writable(self) -> None:
@@ -256,7 +256,7 @@ class Keeper:
         failures = self.journal.failures
         logging.error("%s: back to what is written", self.journal.fault)
         self._trouble = self.journal.fault
-        self.listeners.tell("trouble")
+        self.listeners.trouble.tell()
         try:
             state, _, _ = await asyncio.to_thread(lambda: self._read(self.journal.confirmed()))
         except (OSError, Broken) as fault:
@@ -266,8 +266,8 @@ class Keeper:
         self.since = time.monotonic()
         await self.replace()
         self._forgotten = failures
-        self.listeners.tell("shared", 0)
-        self.listeners.tell("seats")
+        self.listeners.shared.tell(0)
+        self.listeners.seats.tell()
 
     @property
     def reference(self) -> str:
@@ -290,7 +290,7 @@ class Keeper:
     def program(self) -> Program:
         return self.screen.program
 
-    async def _around(self, job: Job) -> Any:
+    async def _around(self, job: Callable[[], Awaitable[T]]) -> T:
         """Do a job with a program that lives and holds nothing that is not written."""
         try:
             for _ in range(2):
@@ -314,7 +314,7 @@ class Keeper:
         self.changes += 1
         if old is not None:
             old.program.kill()
-        self.listeners.tell("program")
+        self.listeners.program.tell()
 
     def _forget(self) -> None:
         """Forget private operations that say nothing any more, but for the newest: no road differs without them."""
@@ -335,7 +335,7 @@ class Keeper:
             if successor.exception() is None:
                 asyncio.ensure_future(self.program.close())
                 self._screen, self.changes, self.why_changed = successor.result(), self.changes + 1, None
-                self.listeners.tell("program")
+                self.listeners.program.tell()
             else:
                 logging.warning("no successor: %s", successor.exception())
         settings = self.settings
@@ -369,11 +369,11 @@ class Keeper:
         to = self.wanted.get(index, 0)
         return screen.program.horizons.get(at, 0) >= to or await screen.program.advance(at, to) >= to
 
-    def ask(self, turn: int, replicas: tuple[int, ...], body: Job, at_leisure: bool = False,
-            takes_long: bool | None = None) -> asyncio.Future[Any]:
+    def ask(self, turn: int, replicas: tuple[int, ...], body: Job[T], at_leisure: bool = False,
+            takes_long: bool | None = None) -> asyncio.Future[T]:
         """Do something in the turn of a seat, when these replicas hold and have run what they shall. If a write fails before it
         has ended it is `NotKept`: what it has seen so far may not be so."""
-        async def job() -> Any:
+        async def job() -> Union[T, More]:
             failures.add(self.journal.failures)
             if len(failures) > 1:
                 raise NotKept(self.journal.fault or "the disk did not take it")
@@ -388,7 +388,7 @@ class Keeper:
         """Return whether a shared operation is on the disk."""
         return self.state.shared.places.get(one, self.confirmed) < self.confirmed
 
-    async def read_committed(self, look: Callable[[], Awaitable[Any]], may_see: str = "all") -> Any:
+    async def read_committed(self, look: Callable[[], Awaitable[T]], may_see: str = "all") -> T:
         """Return what `look` gives, once what it may have seen of others is on the disk: nothing, what was `shared`, or `all`.
         Look again if that was not taken."""
         while True:
@@ -419,7 +419,7 @@ class Keeper:
                 self.refuse(line, json.loads(reply), self.program)
         return replies
 
-    def refuse(self, line: bytes, reply: dict[str, Any], program: Program) -> None:
+    def refuse(self, line: bytes, reply: ReplyFields, program: Program) -> None:
         """Raise what a program has refused, with a sentence."""
         (_, fields), = json.loads(line).items()
         at = str(fields.get("at"))

@@ -8,13 +8,14 @@ from __future__ import annotations
 import asyncio
 import contextlib
 import time
-from typing import Any, Awaitable, Callable, TypeVar, Union
+from typing import Awaitable, Callable, Mapping, Sequence, TypedDict, TypeVar, Union
 
+from .asked import RawEdit
 from .checks import Checks
 from .keeper import SHARED, Keeper, Times
-from .lines import Lister
+from .lines import Act, Lister
 from .model.choices import overruling, sendable, undoable, would_change
-from .model.operations import (About, Operation, RawName, Shape, Stamp, edit, exclude, in_order, lift, put, stamped_anew,
+from .model.operations import (About, Json, Operation, RawName, Shape, Stamp, edit, exclude, in_order, lift, put, stamped_anew,
                                undo)
 from .model.road import Road, change, repeat, stands
 from .records import Bound, Came, CameBack, Made, Share, StampedAnew, Take, Works
@@ -31,7 +32,9 @@ LOOKED_AT = 500
 LIST_AT_ONCE = 0.02  # seconds for the lines of a reply; a page asks for the rest
 MOST_BLOCKED = 5
 
-Reply = dict[str, Any]
+Reply = Mapping[str, object]
+"""The fields of a reply to a tab."""
+NewsReply = TypedDict("NewsReply", {"size": int, "from": "list[str]", "shares": "list[dict[str, Json]]", "changes": "list[Act]"})
 Called = Union[Stamp, str]  # a stamp, or the key of an operation of the seat
 Makes = Callable[[SeatReplica, Stamp, About], Operation]  # makes an operation of this stamp
 T = TypeVar("T")
@@ -53,7 +56,7 @@ class Lab:
         self.seating, self.timing = Seating(keeper), Timing(keeper)
         self._pending: dict[tuple[int, str], list[asyncio.Future[None]]] = {}  # by seat and key: what is being written
 
-    async def open(self, plan: Callable[[], dict[str, Any]], site: int | None) -> bool:
+    async def open(self, plan: Callable[[], Mapping[str, Json]], site: int | None) -> bool:
         """Opens the keeper's folder; whether it is new."""
         is_new = await self.keeper.open(plan, site)
         self._checks = Checks(self.state.plan)
@@ -102,7 +105,7 @@ class Lab:
         return await self._make(index, key, note, times, lambda seat, stamp, about: lift(
             stamp, self._line(seat, line), about))
 
-    async def put_edits(self, index: int, times: Times, *, key: str, note: str, edits: list[Any],
+    async def put_edits(self, index: int, times: Times, *, key: str, note: str, edits: Sequence[RawEdit],
                         shape: Shape | None = None) -> Reply:
         """Put raw edits. Their shape is for the eye alone."""
         values: dict[RawName, int | None] = {(kind, thing, step): value for kind, thing, step, value in edits}
@@ -263,7 +266,7 @@ class Lab:
 
     async def share(self, index: int, times: Times, *, stamps: set[Stamp] | None, title: str) -> Reply:
         """Give own operations to the shared road."""
-        async def make(write: Write) -> Reply:
+        async def make(write: Write) -> tuple[list[Stamp], int | None]:
             seat, shared = self.seating.owned(index), self.state.shared
             if self._early(seat):
                 await write.ready()
@@ -274,12 +277,11 @@ class Lab:
             if given:
                 await write.ready()
                 write.record(Share(index, [one.stamp for one in given], seat.name, title, int(time.time())))
-            return {"message": "shared", "size": len(given), "stamps": [one.stamp for one in given],
-                    "touched": await self._touched(before, shared.road)}
-        reply = await self._write(index, make, times)
-        if reply["size"]:
-            self.keeper.listeners.tell("shared", reply["touched"])
-        return reply
+            return [one.stamp for one in given], await self._touched(before, shared.road)
+        found, touched = await self._write(index, make, times)
+        if found:
+            self.keeper.listeners.shared.tell(touched)
+        return {"message": "shared", "size": len(found), "stamps": found, "touched": touched}
 
     async def take(self, index: int, times: Times) -> Reply:
         """Take all that has been shared so far."""
@@ -298,7 +300,7 @@ class Lab:
                     "changes": [lister.operation(one, None) for one in came[-MOST_TOLD:]], **self.list_of(seat, version)}
         return await self._write(index, make, times, takes_long=True)
 
-    def news(self, index: int, most: int) -> Reply:
+    def news(self, index: int, most: int) -> NewsReply:
         """Return what was shared by others and this seat has not taken."""
         seat, shared, upto = self.state.seats[index], self.state.shared, self.keeper.confirmed
         begin = max(seat.upto, upto - LOOKED_AT)  # of one who never takes not all is gone through for each news
@@ -336,7 +338,7 @@ class Lab:
         if not is_new:
             await confirmed(self.keeper.journal.settled(), times)
             return False
-        self.keeper.listeners.tell("shared", touched)
+        self.keeper.listeners.shared.tell(touched)
         return True
 
     def check(self, one: Operation) -> None:

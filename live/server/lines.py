@@ -3,16 +3,26 @@ that was done to it."""
 from __future__ import annotations
 
 import time
-from typing import AbstractSet, Any
+from typing import AbstractSet, Sequence, TypedDict
 
 from .model.changes import operations_on
-from .model.operations import Operation, Stamp, is_line, is_raw
+from .model.operations import Name, Operation, Shape, Stamp, is_line, is_raw
 from .model.road import Road, parts_of, stands
 from .model.seen import Rectangle, lost, shown
 from .state import Replica, SeatReplica, State
 
 SITE = "site"  # the kind of a line that excludes one
 NONE: frozenset[Operation] = frozenset()
+
+Act = TypedDict("Act", {
+    "stamp": Stamp, "who": str, "note": str, "when": float, "does": str, "shared": bool, "undoes": "Stamp | None", "lost": "Stamp | None",
+    "idle": bool, "void": bool, "shape": "Shape | None"}, total=False)
+"""What an operation did to a line, as a tab gets it; `lost` is the operation that beat it."""
+Line = TypedDict("Line", {
+    "name": Stamp, "gone": bool, "kind": "str | None", "shape": "Shape | None", "who": str, "note": str, "when": float, "height": Stamp,
+    "standing": bool, "shared": bool, "shown": Sequence[Rectangle], "operations": Sequence[Act], "edits": Sequence[Sequence["str | int"]],
+    "was": "Sequence[Rectangle] | None"}, total=False)
+"""A line of a list, as a tab gets it. One that is `gone` has only its name; `was` is what it shows without a preview."""
 
 
 class Lister:
@@ -22,7 +32,7 @@ class Lister:
         self._places, self._road = state.shared.places, road or replica.road
         self._idle: AbstractSet[Operation] = replica.idle if isinstance(replica, SeatReplica) else NONE
 
-    def line(self, line: Stamp) -> dict[str, Any]:
+    def line(self, line: Stamp) -> Line:
         """Return a line of the list. One that was put in private and withdrawn again is gone."""
         road = self._road
         done = operations_on(road, line)
@@ -32,13 +42,16 @@ class Lister:
         first = next((one for one in done if one.stamp == line), done[0])
         order = {name: place for place, name in enumerate(first.sets)}
         parts = sorted(parts_of(road, line), key=lambda name: (order.get(name, len(order)), name))
-        edits = [[*name, road.layers[name].value] for name in parts]
+        edits: list[list[str | int]] = [[*name, road.layers[name].value] for name in parts]
         losses = lost(road, line)
-        said = {"name": line, "kind": self.kind(line, done), "shape": self.shape(line, done), "who": first.about.who,
-                "note": first.about.note, "when": first.about.when, "height": road.height_of(line),
-                "standing": self._is_standing(line, done), "shared": done[-1] in self._places, "shown": self.shown(line),
-                "operations": [self.operation(one, line, losses.get(one)) for one in done]}
-        return {**said, "edits": edits} if edits else said
+        said: Line = {
+            "name": line, "kind": self.kind(line, done), "shape": self.shape(line, done), "who": first.about.who,
+            "note": first.about.note, "when": first.about.when, "height": road.height_of(line),
+            "standing": self._is_standing(line, done), "shared": done[-1] in self._places, "shown": self.shown(line),
+            "operations": [self.operation(one, line, losses.get(one)) for one in done]}
+        if edits:
+            said["edits"] = edits
+        return said
 
     def shown(self, line: Stamp) -> list[Rectangle]:
         return shown(self._road, line)
@@ -59,14 +72,14 @@ class Lister:
             name == line or is_raw(name) and line in (one.stamp, one.heights.get(name)))}
         return kinds.pop() if len(kinds) == 1 else None
 
-    def shape(self, line: Stamp, done: list[Operation]) -> Any:
+    def shape(self, line: Stamp, done: list[Operation]) -> Shape | None:
         """Return the shape of a line; of raw edits how they were drawn, if all of them still stand."""
         site = self._excluded_by(done)
         if site is not None:
-            return [SITE, site, site, 0, None, 1] if self._is_standing(line, done) else None
+            return Shape(SITE, site, site, 0, None, 1) if self._is_standing(line, done) else None
         if line in self._road.layers:
             layer = self._road.layers[line]
-            return [layer.kind, layer.first, layer.last, layer.begin, self.shape_end(line), layer.value]
+            return Shape(layer.kind, layer.first, layer.last, layer.begin, self.shape_end(line), layer.value)
         put = next((one for one in done if one.stamp == line), None)
         parts = parts_of(self._road, line)
         is_whole = put is not None and parts and len(parts) == sum(shape is not None for shape in put.sets.values())
@@ -77,17 +90,20 @@ class Lister:
         shape = None if setter is None else setter.sets[line]
         return None if shape is None else shape.end
 
-    def operation(self, one: Operation, line: Stamp | None, won: Operation | None = None) -> dict[str, Any]:
+    def operation(self, one: Operation, line: Stamp | None, won: Operation | None = None) -> Act:
         """Return what an operation did to a line, or to its lines, and who made it; `won` is the operation that beat it."""
         about = one.about
-        more: dict[str, Any] = {"idle": True} if one in self._idle else {}
+        said: Act = {
+            "stamp": one.stamp, "who": about.who, "note": about.note, "when": about.when, "does": self.does(one, line),
+            "shared": one in self._places, "undoes": one.undoes,
+            "lost": None if won is None else won.stamp}
+        if one in self._idle:
+            said["idle"] = True
         if not self._road.record.counts(one):
-            more["void"] = True
+            said["void"] = True
         if won is not None and line is not None:
-            more["shape"] = one.sets.get(line)
-        return {"stamp": one.stamp, "who": about.who, "note": about.note, "when": about.when,
-                "does": self.does(one, line), "shared": one in self._places, "undoes": one.undoes,
-                "lost": won and won.stamp, **more}
+            said["shape"] = one.sets.get(line)
+        return said
 
     def does(self, one: Operation, line: Stamp | None) -> str:
         """Return what an operation did: put, change, withdraw, top, undo, redo, edits, exclude or include."""
@@ -106,10 +122,10 @@ class Lister:
             return "withdraw"
         return "top" if at in one.heights else "change"
 
-    def since(self, marks: dict[Stamp, int], version: int, seconds: float) -> tuple[list[dict[str, Any]], int | None]:
+    def since(self, marks: dict[Stamp, int], version: int, seconds: float) -> tuple[list[Line], int | None]:
         """Return the lines that were altered behind a version, the newest last, as many as are worked out in about so long;
         and the version of the last one, if there are more."""
-        found: list[dict[str, Any]] = []
+        found: list[Line] = []
         after = version
         until = time.perf_counter() + seconds
         for mark, line in sorted((mark, line) for line, mark in marks.items() if mark > version):

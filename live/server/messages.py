@@ -2,10 +2,11 @@
 from __future__ import annotations
 
 import json
-from typing import Any
+from typing import Mapping
 
 from .asked import clean_text
 from .journal import packed
+from .model.operations import Json
 
 LONGEST_HASH = 40
 NUMBERS = range(1, 1_024)
@@ -15,33 +16,32 @@ class InvalidMessage(Exception):
     """A malformed message; the text says why."""
 
 
-def read_message(body: bytes) -> Any:
+def read_message(body: bytes) -> Mapping[str, Json]:
+    """Return the fields of a message; of one that is not an object none."""
     try:
-        value = json.loads(body.decode())
+        value: Json = json.loads(body.decode())
         packed(value).encode()
     except (ValueError, RecursionError):
         raise InvalidMessage(f"it is not JSON: {clean_text(body[:60].decode(errors='replace'), 60)}") from None
-    return value
+    return value if isinstance(value, dict) else {}
 
 
-def fields_of(value: Any, *names: str) -> list[Any]:
-    return [value.get(name) if type(value) is dict else None for name in names]
-
-
-def site_of(folder: str, value: Any) -> tuple[str, str, int, str]:
+def site_of(folder: str, value: Mapping[str, Json]) -> tuple[str, str, int, str]:
     """Return folder, run, number and road of a site, from a message of this folder or one that names its folder."""
-    said, run, number, road = fields_of(value, "folder", "run", "site", "road")
+    said, run, number, road = map(value.get, ("folder", "run", "site", "road"))
     if type(said) is not str or type(number) is not int or number not in NUMBERS or type(road) is not str:
         raise InvalidMessage("it says of no site who it is")
     return token_of(folder or said), clean_text(run or "", 40), number, clean_text(road, 40)
 
 
-def sum_of(folder: str, value: Any) -> tuple[str, str, dict[str, str]]:
-    said, theirs, numbers = fields_of(value, "folder", "sum", "numbers")
-    if type(said) is not str or type(theirs) is not str or type(numbers) is not dict or not all(
-            type(one) is str and len(one) <= LONGEST_HASH for one in numbers.values()):
+def sum_of(folder: str, value: Mapping[str, Json]) -> tuple[str, str, dict[str, str]]:
+    """Return folder, hash of all operations, and the hashes by numbers, from a message."""
+    said, theirs, numbers = map(value.get, ("folder", "sum", "numbers"))
+    hashes = {name: one for name, one in numbers.items() if isinstance(one, str)} if isinstance(numbers, dict) else None
+    if type(said) is not str or type(theirs) is not str or hashes != numbers or hashes is None or any(
+            len(one) > LONGEST_HASH for one in hashes.values()):
         raise InvalidMessage("it is no hash of what a site holds")
-    return token_of(folder or said), clean_text(theirs, LONGEST_HASH), numbers
+    return token_of(folder or said), clean_text(theirs, LONGEST_HASH), hashes
 
 
 def token_of(folder: str) -> str:
@@ -49,7 +49,7 @@ def token_of(folder: str) -> str:
     return clean_text(folder, 40).partition("-")[0]
 
 
-def form_of(value: Any) -> int:
+def form_of(value: Mapping[str, Json]) -> int:
     """Return the form of a message; 0: it says none."""
-    form = value.get("form") if type(value) is dict else None
+    form = value.get("form")
     return form if type(form) is int else 0

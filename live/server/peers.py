@@ -7,11 +7,12 @@ the number is its own. It reports what others say then, and does not obey.
 from __future__ import annotations
 
 import time
-from typing import Any, Callable, Iterator, NamedTuple
+from typing import Callable, Iterator, NamedTuple, Sequence, TypedDict
 
 from .asked import clean_text
 from .floods import only_newest
 from .lab import Lab
+from .model.operations import Json
 from .refusals import Refused
 from .state import SITE_FORM, State
 
@@ -32,6 +33,14 @@ class Site(NamedTuple):
     is_silent: bool  # it sends nothing: its number is another's
     form: int  # of its protocol
     when: float
+
+
+HeardSite = TypedDict("HeardSite", {"site": int, "when": int})
+"""Another site, and when it was heard, in seconds since 1970."""
+BrokerState = TypedDict("BrokerState", {
+    "state": str, "unsent": int, "sites": Sequence[HeardSite], "told": Sequence[str], "stays": Sequence[str], "sealed": bool,
+    "left_out": int})
+"""The line to the broker, as tabs get it: `told` are sentences said once, `stays` those that are true now."""
 
 
 class Peers:
@@ -62,7 +71,7 @@ class Peers:
         least = min((ahead for when, ahead in [*self._clocks.values()] if when >= begin), default=0.0)
         return least if least > AHEAD else 0.0
 
-    async def heard(self, run: str, site: Site, bound: Any) -> None:
+    async def heard(self, run: str, site: Site, bound: Json) -> None:
         """Take the announcement of a site; `bound` are the numbers that it says are bound, and their folders."""
         if (site.folder, run) == (self._id, self._run):
             return
@@ -76,7 +85,7 @@ class Peers:
         if is_new:
             self._tell()
 
-    async def _bind(self, folder: str, number: int, told: Any) -> None:
+    async def _bind(self, folder: str, number: int, told: Json) -> None:
         """Write down whose a number is, and who this site's own one is bound to, as another site says."""
         state = self._keeper.state
         own, before = state.site, state.bound.get(number)
@@ -87,7 +96,7 @@ class Peers:
         elif before and before != folder:
             self._say(f"Number {number} is bound to another folder than the one that has it now. If this one is right: live/road "
                       f"NAME unbind {number}")
-        other = told.get(str(own)) if type(told) is dict else None
+        other = told.get(str(own)) if isinstance(told, dict) else None
         if type(other) is not str or other == self._id or self.is_anothers():
             return
         if state.bound.get(own) == self._id:

@@ -7,14 +7,15 @@ import subprocess
 import sys
 from dataclasses import dataclass, field
 from pathlib import Path
-from typing import Any
+from typing import Mapping, Sequence, TypedDict
 
 from zegdrut.clock import Clock
+from zegdrut.wire import PlanLine
 
 from .asked import LONGEST_NAME, Asked, clean_text
 from .journal import Broken, packed
 from .lab import Lab
-from .model.operations import Shape
+from .model.operations import Json, Shape
 from .refusals import Refused
 
 KEPT = "freeway.json"  # in a folder: the freeway in km that it began with
@@ -27,7 +28,7 @@ DOING = " .."  # ends a line of progress
 class Planned:
     """A plan line, what is put and shared from the first on, and who is said to have done so."""
 
-    plan: dict[str, Any]
+    plan: Mapping[str, Json]
     shapes: list[Shape] = field(default_factory=list)
     name: str = ""
 
@@ -41,22 +42,22 @@ def clock_of(folder: Path) -> Clock | None:
         return None
 
 
-def read_plan(path: Path) -> Any:
+def read_plan(path: Path) -> dict[str, Json]:
     try:
         text = path.read_bytes()
     except OSError as fault:
         raise Broken(f"no plan at {path}: {fault.strerror}") from None
     try:
-        value = json.loads(text)
+        value: Json = json.loads(text)
         packed(value).encode()  # halves of signs, and NaN, can be read and not written
     except (ValueError, RecursionError) as fault:
         raise Broken(f"{path} is no plan line, and no freeway in km: {fault}") from None
-    if type(value) is not dict:
+    if not isinstance(value, dict):
         raise Broken(f"{path} is no plan line, and no freeway in km: it is no object of JSON")
     return value
 
 
-def is_freeway(value: dict[str, Any]) -> bool:
+def is_freeway(value: Mapping[str, Json]) -> bool:
     return not OF_A_PLAN & value.keys()
 
 
@@ -73,7 +74,11 @@ def read_road(path: Path, program: str) -> Planned:
         raise Broken(f"{path}: {fault.why}") from None
 
 
-def by_recipe(path: Path, program: str) -> Any:
+Converted = TypedDict("Converted", {"plan": Mapping[str, Json], "shapes": Sequence[Json]})
+"""What the recipe prints of a freeway."""
+
+
+def by_recipe(path: Path, program: str) -> Converted:
     """Return the plan and the shapes of a freeway in km, and print what has to differ from what it says."""
     said: list[str] = []
     command = [sys.executable, str(FREEWAY), "--plan", str(path.resolve())]
@@ -90,21 +95,23 @@ def by_recipe(path: Path, program: str) -> Any:
         raise Broken(f"{path} is no plan line, and no freeway in km: {' '.join(said[-1:])}")
     for line in said:
         print(line, file=sys.stderr, flush=True)
-    return json.loads(found)
+    converted: Converted = json.loads(found)
+    return converted
 
 
-def shape_of(value: Any) -> Shape:
+def shape_of(value: Json) -> Shape:
     """Return a shape, checked as that of a tab."""
-    shape: Shape = Asked("gesture", {"shape": value}).shape()
-    return shape
+    return Asked("gesture", {"shape": value}).shape()
 
 
-def is_another(path: Path, plan: dict[str, Any], kept: Path) -> bool:
+def is_another(path: Path, plan: PlanLine, kept: Path) -> bool:
     """Return whether a file and a folder have different roads. A folder keeps a freeway in km beside its plan."""
     value = read_plan(path)
     if is_freeway(value):
-        return not kept.exists() or bool(read_plan(kept) != value)
-    return bool({**value, "replicas": 0} != {**plan, "replicas": 0})
+        return not kept.exists() or read_plan(kept) != value
+    one: dict[str, object] = {**value, "replicas": 0}
+    other: dict[str, object] = {**plan, "replicas": 0}
+    return one != other
 
 
 async def lay(lab: Lab, road: Planned) -> None:

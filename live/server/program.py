@@ -13,7 +13,9 @@ import json
 import os
 import shutil
 from pathlib import Path
-from typing import Any, Sequence
+from typing import Mapping, Sequence
+
+from zegdrut.wire import WrittenEdit
 
 from .journal import packed
 
@@ -33,9 +35,10 @@ class BadPlan(Exception):
     """The program refused the plan."""
 
 
-def command_of(path: str, plan: dict[str, Any]) -> list[str]:
+def command_of(path: str, plan: Mapping[str, object]) -> list[str]:
     """Return the command that starts the program: with threads if they pay, for one long road."""
-    pays = plan["length"] >= LONG_ROAD and (os.cpu_count() or 1) > 2
+    length = plan.get("length")
+    pays = isinstance(length, int) and length >= LONG_ROAD and (os.cpu_count() or 1) > 2
     return [path, "--workers", "2"] if pays else [path]
 
 
@@ -44,7 +47,7 @@ def dies_with_us(command: list[str]) -> list[str]:
     return [*(["setpriv", "--pdeathsig", "KILL"] if shutil.which("setpriv") else []), *command]
 
 
-def import_lines(at: str, edits: Sequence[Any]) -> list[dict[str, Any]]:
+def import_lines(at: str, edits: Sequence[WrittenEdit]) -> list[dict[str, object]]:
     """Return the lines that give a replica these edits."""
     return [{"import": {"at": at, "edits": edits[begin:begin + PIECE], "form": 2}}
             for begin in range(0, len(edits), PIECE)]

@@ -4,23 +4,25 @@ from __future__ import annotations
 import asyncio
 import json
 import time
-from typing import Any, Union, cast
+from typing import Mapping, Sequence, TypeVar, Union
 
 from zegdrut import Edit
 from zegdrut.grammar import LAST_HORIZON
 from zegdrut.lost import find_entry
 from zegdrut.rows import count_cars
 from zegdrut.trips import DetectorCount, Window, count_seconds_on
-from zegdrut.wire import PlanLine
+from zegdrut.wire import CountReply, WrittenEdit
 
 from . import admissions, chance, figures, reports, rows, saving
+from .figures import DetectorFigures, TwoRoads
 from .journal import packed
 from .keeper import SHARED, Times
 from .lab import Lab
-from .lines import Lister
+from .lab import Reply as Fields
+from .lines import Line, Lister
 from .model.changes import all_lines, altered
 from .model.choices import sendable
-from .model.operations import Operation, Stamp
+from .model.operations import Json, Operation, Stamp
 from .model.projection import Edits
 from .model.road import Road
 from .plans import clock_of
@@ -30,7 +32,7 @@ from .roads import SIDES, KeptRoad, Preview, Previews, AskedRoad, Side
 from .screen import first_step, rows_of
 from .state import Replica
 from .timing import AHEAD
-from .turns import MORE, Job
+from .turns import MORE, Job, More
 
 MOST_ROWS, MOST_BYTES = 1_024, 1_100_000  # of the rows in a reply
 MOST_COUNTS = 4_096
@@ -41,10 +43,11 @@ MOST_AGAIN = 16  # times that a question begins again since its road has changed
 PIECE_OF_LIST = 1_000_000  # bytes, about, of a list of operations
 LINES_FOR = 0.02  # seconds for lines of a preview, until others get their turn
 
-Reply = Union[bytes, "dict[str, Any]"]
+Reply = Union[bytes, Fields]
+T = TypeVar("T")
 
 
-def detector_count(said: dict[str, Any], edits: list[Edit], detector: int, window: Window) -> DetectorCount:
+def detector_count(said: CountReply, edits: list[Edit], detector: int, window: Window) -> DetectorCount:
     """Return what a detector counted, given the program's reply; the edits of detectors say for how long it was on."""
     return DetectorCount(said["cars"], said["speeds"], count_seconds_on(edits, detector, window), window.steps)
 
@@ -75,17 +78,17 @@ class Questions:
         self._chance.stop(index)
         self._saved.drop(index)
 
-    async def plain(self, road: AskedRoad, times: Times, verb: str, fields: dict[str, Any]) -> bytes:
+    async def plain(self, road: AskedRoad, times: Times, verb: str, fields: Mapping[str, Json]) -> bytes:
         """Return what the program answers."""
-        line = packed({verb: {"at": road.name, **fields}}).encode()
+        asked: Fields = {"at": road.name, **fields}
+        line = packed({verb: asked}).encode()
 
         async def body() -> bytes:
             return (await road.say_all([line], times))[0]
-        reply: bytes = await road.job(body)
-        return reply
+        return await road.job(body)
 
-    async def advance(self, road: AskedRoad, _times: Times, *, to: int) -> Reply:
-        """Lets a road run so far, at most some hours past the clock."""
+    async def advance(self, road: AskedRoad, to: int) -> Reply:
+        """Let a road run to a step, at most some hours past the clock."""
         self._reaches(to)
         return {"horizon": await road.advance(to)}
 
@@ -118,7 +121,7 @@ class Questions:
         """Return the rows of steps at equal distances. Each turn gets as many as a reply may have."""
         found: list[bytes] = []
 
-        async def body() -> Any:
+        async def body() -> More | None:
             part = steps[len(found):len(found) + self._rows_at_once()]
             found.extend(await self._piece(road, part, times))
             return MORE if len(found) < len(steps) else None
@@ -127,8 +130,7 @@ class Questions:
 
     @property
     def _length(self) -> int:
-        length: int = self._keeper.state.plan["length"]
-        return length
+        return self._keeper.state.plan["length"]
 
     def _rows_at_once(self) -> int:
         return min(MOST_ROWS, MOST_BYTES // (self._length + 3))
@@ -145,13 +147,13 @@ class Questions:
             found += rows.of_diagram((await road.say_all([line.encode()], times))[0])[::every]
         return found
 
-    async def sums(self, road: AskedRoad, times: Times, *, first: int, last: int) -> Reply:
+    async def sums(self, road: AskedRoad, times: Times, first: int, last: int) -> Reply:
         """Return for each whole minute the steps that cars spend on the road: the cars in the rows that its steps lead to."""
         if first % MINUTE or last % MINUTE or not 0 < last - first <= MOST_MINUTES * MINUTE:
             raise Refused("Range", f"1 to {MOST_MINUTES} whole minutes, `from` and `to` in steps")
         cars: list[int] = []
 
-        async def body() -> Any:
+        async def body() -> More | None:
             start = first + 1 + len(cars)
             part = await self._piece(road, list(range(start, min(last + 1, start + self._rows_at_once()))), times)
             cars.extend(count_cars(row.decode("ascii")) for row in part)
@@ -161,6 +163,13 @@ class Questions:
 
     async def counts(self, road: AskedRoad, times: Times, *, first: int, last: int, each: int | None) -> Reply:
         """Return what all detectors count, in spans of `each` steps or as a whole."""
+        spans = await self._counted(road, times, first, last, each)
+        pairs = [[[one["cars"], one["speeds"]] for one in span] for span in spans]
+        return {"counts": pairs[0], "flows": spans[0]} if each is None else {"counts": pairs, "flows": spans}
+
+    async def _counted(self, road: AskedRoad, times: Times, first: int, last: int,
+                       each: int | None) -> list[list[DetectorFigures]]:
+        """Return what each detector counts, span by span."""
         if first > last:
             raise Refused("Range", f"`from` {first} is above `to` {last}")
         starts = range(first, last, each) if each else range(first, first + 1)
@@ -173,32 +182,28 @@ class Questions:
         replies, edits = await self._lines(road, lines, times)
         watched = [Edit.read(edit) for edit in edits if edit[0] == "watch"]
         windows = [Window(start, min(last, start + each) if each else last) for start in starts]
-        flows = [figures.detector_told(detector_count(json.loads(replies[place * detectors + detector]), watched, detector, window))
-                 for place, window in enumerate(windows) for detector in range(detectors)]
-        pairs = [[one["cars"], one["speeds"]] for one in flows]
-        if each is None:
-            return {"counts": pairs, "flows": flows}
-        parts = [slice(place * detectors, (place + 1) * detectors) for place in range(len(windows))]
-        return {"counts": [pairs[part] for part in parts], "flows": [flows[part] for part in parts]}
+        return [[figures.detector_told(detector_count(json.loads(replies[place * detectors + detector]), watched, detector, window))
+                 for detector in range(detectors)] for place, window in enumerate(windows)]
 
-    async def _lines(self, road: AskedRoad, lines: list[bytes], times: Times) -> tuple[list[bytes], list[Any]]:
+    async def _lines(self, road: AskedRoad, lines: list[bytes], times: Times) -> tuple[list[bytes], Sequence[WrittenEdit]]:
         """Return the replies to lines, all of one road, and its edits as an import has them."""
         found: list[bytes] = []
 
-        async def body() -> Any:
+        async def body() -> More | None:
             if len(found) < len(lines):
                 found.extend(await road.say_all(lines[len(found):len(found) + LINES_AT_ONCE], times))
             return MORE if len(found) < len(lines) else None
         mark = await self._of_one_road(road, found, body)
-        edits: list[Any] = road.edits if isinstance(road, Side) else rows_of(await self._timeline(mark))
-        return found, edits
+        if isinstance(road, Side):
+            return found, road.edits
+        assert mark is not None  # (only the roads of a preview never change)
+        return found, rows_of(await self._timeline(mark))
 
-    async def _of_one_road(self, road: AskedRoad, found: list[Any], body: Job) -> Any:
-        """Does at leisure what adds to what is found, from the beginning where the road has become another between. Return the
-        mark of the road."""
-        marks: list[Any] = []
+    async def _of_one_road(self, road: AskedRoad, found: list[T], body: Job[None]) -> Road | None:
+        """Do at leisure what adds to what is found; begin again if the road has changed meanwhile. Return the road's mark."""
+        marks: list[Road | None] = []
 
-        async def part() -> Any:
+        async def part() -> More | None:
             if marks[-1:] != [road.mark()]:
                 if len(marks) > MOST_AGAIN:
                     raise Refused("Busy", "the road is changed all the time: ask again later")
@@ -215,8 +220,7 @@ class Questions:
         list, before a start or a failed write, the whole list."""
         async def body() -> Reply:
             return self._lab.list_of(replica, version if replica.begun <= version <= replica.version else 0)
-        reply: Reply = await self._keeper.ask(index, (replica.index,), body)
-        return reply
+        return await self._keeper.ask(index, (replica.index,), body)
 
     async def operations(self, index: int, replica: Replica, first: int) -> Reply:
         """Return a piece of what a replica holds, in the order in which it came."""
@@ -232,11 +236,11 @@ class Questions:
                 if size > PIECE_OF_LIST:
                     after, more = place, True
                     break
-                texts.append(packed({**one.written(), "shared": one in shared}))
+                written: Fields = {**one.written(), "shared": one in shared}
+                texts.append(packed(written))
                 size += len(texts[-1])
             return f'{{"operations":[{",".join(texts)}],"next":{after},"more":{packed(more)}}}'.encode()
-        reply: Reply = await self._keeper.ask(index, (), body)
-        return reply
+        return await self._keeper.ask(index, (), body)
 
     # Demand
 
@@ -246,16 +250,16 @@ class Questions:
         plan = self._keeper.state.plan
         cell = plan["inlets"][inlet][0]
         limit, slowing = plan["zones"][cell // plan["zone"]]
-        beside = sorted([plan["inlets"][one][0], chance_of] for one, chance_of in before if chance_of)
-        entry = find_entry(cast(PlanLine, plan), cell) if beside else 0
+        beside = sorted((plan["inlets"][one][0], chance_of) for one, chance_of in before if chance_of)
+        entry = find_entry(plan, cell) if beside else 0
         return await self._admissions.curve({"limit": limit, "slowing": slowing, "start": start, "entry": entry, "cell": cell if beside else 0,
                                              "before": beside}, self._keeper.path)
 
     # What would be
 
-    async def preview(self, index: int, _own: Replica, what: str | None, stamps: set[Stamp] | None) -> Reply:
+    async def preview(self, index: int, what: Json, stamps: set[Stamp] | None) -> Reply:
         """Return what sharing or taking would change: keep both roads, to be asked once they are on the disk, and tell which
-        lines would differ."""
+        lines would differ. `what` is "share", "take" or None, which drops the roads of the last one."""
         if what is None:
             self._previews.put(index, None)
             return {}
@@ -268,8 +272,7 @@ class Questions:
             return await self._previewed("share", state.shared, own.shareable() if stamps is None else sendable(
                 own.road, state.shared.road, own.number, stamps))
         fed = SHARED if what == "share" else index
-        found: tuple[Preview, Reply] = await self._keeper.read_committed(lambda: self._keeper.ask(index, (fed,), body), "shared")
-        preview, reply = found
+        preview, reply = await self._keeper.read_committed(lambda: self._keeper.ask(index, (fed,), body), "shared")
         self._previews.put(index, preview)
         return reply
 
@@ -287,17 +290,19 @@ class Questions:
         return await self._keeper.differences.between(self._keeper.state.empty, road)
 
     async def _lines_of(self, replica: Replica, before: Road, after: Road,
-                        added: set[Stamp]) -> list[dict[str, Any]]:
+                        added: set[Stamp]) -> list[Line]:
         """Return the lines that show something else on another road, or whose added operation is lost there, with what they
         showed before."""
         now, then = (Lister(self._keeper.state, replica, road) for road in (before, after))
         listed = all_lines(before)
-        found, began = [], time.perf_counter()
+        found: list[Line] = []
+        began = time.perf_counter()
         for line in sorted(altered(before, after)):
             said, was = then.line(line), now.shown(line)
             if "gone" not in said and (said["shown"] != was or any(
                     one["lost"] and one["stamp"] in added for one in said["operations"])):
-                found.append({**said, "was": was if line in listed else None})
+                said["was"] = was if line in listed else None
+                found.append(said)
             if time.perf_counter() > began + LINES_FOR:
                 await asyncio.sleep(0)
                 began = time.perf_counter()
@@ -305,36 +310,37 @@ class Questions:
 
     async def figures(self, index: int, own: Replica, of: str, first: int, last: int) -> Reply:
         """Return the figures of two roads: those of the preview, or the shared and the own one."""
-        asked = await self._both(index, own, of, first, last)
+        roads = await self._both(index, own, of, first, last)
         slots = [f"{index} before", f"{index} after"] if of == "preview" else ["shared", f"{index} own"]
-        return {"from": first, "to": last, **await self._figures.of(index, {**asked, "slots": slots})}
+        return {"from": first, "to": last, **await self._figures.of(index, roads, slots)}
 
-    async def _both(self, index: int, own: Replica, of: str, first: int, last: int) -> dict[str, Any]:
-        """Return the question to a program that runs both roads."""
+    async def _both(self, index: int, own: Replica, of: str, first: int, last: int) -> TwoRoads:
+        """Return both roads, for a program that runs them."""
         if first >= last:
             raise Refused("Range", f"`from` {first} is not below `to` {last}")
         self._reaches(last)
         state = self._keeper.state
 
-        async def body() -> dict[str, Any]:
+        async def body() -> dict[str, Sequence[WrittenEdit]]:
             return {"before": rows_of(await self._timeline(state.shared.road)), "after": rows_of(await self._timeline(own.road))}
-        edits: dict[str, Any] = self._previews.get(index).edits if of == "preview" else await self._keeper.ask(
-            index, (0, index), body)
-        return {"plan": {**state.plan, "replicas": ["road"]}, "first": first, "last": last, "program": self._keeper.path,
-                **edits}
+        edits = self._previews.get(index).edits if of == "preview" else await self._keeper.ask(index, (0, index), body)
+        plan = state.plan.copy()
+        plan["replicas"] = ["road"]
+        return {"plan": plan, "first": first, "last": last, "program": self._keeper.path, "before": edits["before"],
+                "after": edits["after"]}
 
     async def days(self, index: int, own: Replica, of: str | None, first: int, last: int) -> Reply:
         """Return the same over many days, with the mean of each figure and its interval; or end that question."""
         if of is None:
             return {"stopped": self._chance.stop(index)}
         plan, listeners, days = self._keeper.state.plan, self._keeper.listeners, self._keeper.settings.days
-        if type(plan["words"]) is not int:
+        if not isinstance(plan["words"], int):
             raise Refused("OneDay", "the words of this road are steady, drawn by no seed: it has one day, and its figures are "
                           "those of each")
         question = self._chance.begin(index, days, lambda other: self._keeper.state.seats[other].name)
         try:
-            asked = await self._both(index, own, of, first, last)
-            said = await question.answer(asked, lambda: listeners.tell("days", index, question.done, question.days))
+            roads = await self._both(index, own, of, first, last)
+            said = await question.answer(roads, lambda: listeners.days.tell(index, question.done, question.days))
         finally:
             self._chance.end(question)
         return {"from": first, "to": last, **said}
@@ -357,21 +363,20 @@ class Questions:
 
     async def report(self, index: int, own: Replica, of: str, first: int, last: int, title: str, works: list[str]) -> Reply:
         """Return the report of two roads: those of the preview, or the shared and the own one."""
-        asked = await self._both(index, own, of, first, last)
+        roads = await self._both(index, own, of, first, last)
         day, seat = clock_of(self._keeper.folder), self._keeper.state.seats[index]
         names = ["now", "then"] if of == "preview" else ["shared", seat.name or seat.at]
-        clock = (None, None, None) if day is None else (day.to_text(0), day.date and str(day.date), day.zone and str(day.zone))
-        html = await reports.make(index, {**asked, "title": title, "works": works, "names": names, "clock": clock,
-                                          "days": reports.DAYS}, self._keeper.path)
+        clock = () if day is None else (day.to_text(0), *(None if one is None else str(one) for one in (day.date, day.zone)))
+        html = await reports.make(index, {"roads": roads, "title": title, "works": works, "names": names, "clock": clock,
+                                          "days": reports.DAYS})
         return {"from": first, "to": last, "html": html}
 
     async def table_of_counts(self, road: AskedRoad, times: Times, first: int, last: int, each: int) -> Reply:
         """Return a table of what detectors count, span by span."""
-        said = await self.counts(road, times, first=first, last=last, each=each)
-        assert isinstance(said, dict)
+        spans = await self._counted(road, times, first, last, each)
         title = f"counts of {self._road_name(road.name)}, {self.say_time(first)} to {self.say_time(last)}"
         windows = [Window(start, min(last, start + each)) for start in range(first, last, each)]
-        return {"csv": saving.table_of_counts(self._keeper.state.plan, title, self.say_time, windows, said["flows"])}
+        return {"csv": saving.table_of_counts(self._keeper.state.plan, title, self.say_time, windows, spans)}
 
     def _road_name(self, at: str) -> str:
         """Return the name of a road in saved files."""

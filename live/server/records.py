@@ -9,8 +9,12 @@ An entry is a dataclass. The metadata of a field says how it is read and written
 from __future__ import annotations
 
 import dataclasses
+import json
 from dataclasses import dataclass, field
-from typing import TYPE_CHECKING, Any, Callable, ClassVar, Mapping, NamedTuple, Sequence, TypeVar
+from typing import TYPE_CHECKING, Callable, ClassVar, Generic, Mapping, NamedTuple, Sequence, TypeVar, cast
+
+from zegdrut.grammar import PLAN, check_fields
+from zegdrut.wire import PlanLine
 
 from .model.operations import Json, Operation, Stamp
 from .model.reading import GREATEST_COUNT, Malformed, read_operation, read_row, read_stamp, read_time, whole
@@ -23,27 +27,49 @@ FORMER_FORMS = (1, 2)
 MOST_SEATS = 64
 Fields = Mapping[str, Json]
 Written = dict[str, "dict[str, Json]"]
-How = Mapping[str, Any]
-"""The `read` and `write` of a field, and its `name` if that differs from the one in Python."""
 S = TypeVar("S", bound="Said")
+T = TypeVar("T")
+V = TypeVar("V", covariant=True)
+J = TypeVar("J", bound=Json)
 
 
-def how(read: Callable[[Json], Any], write: Callable[[Any], Any] = lambda value: value, name: str = "") -> How:
-    return {"read": read, "write": write, "name": name}
+@dataclass(frozen=True)
+class Codec(Generic[V]):
+    """Reads and writes a field; `name` is its written name, if that differs from the one in Python."""
+
+    read: Callable[[Json], V]
+    write: Callable[[V], Json]
+    name: str
+
+
+How = Mapping[str, Codec[object]]
+"""The metadata of a field: its codec, as `how`."""
+
+
+def how(read: Callable[[Json], T], write: Callable[[T], Json], name: str = "") -> How:
+    codec: Codec[T] = Codec(read, write, name)
+    return {"how": codec}
+
+
+def as_it_is(read: Callable[[Json], J], name: str = "") -> How:
+    """Return how a value is read that is written as it is."""
+    return how(read, lambda value: value, name)
 
 
 class Said:
-    """A value that is written as an object of JSON."""
+    """A value that is written as an object of JSON. Each subclass is a dataclass."""
+
+    __dataclass_fields__: ClassVar[dict[str, dataclasses.Field[object]]]
 
     @classmethod
     def read(cls: type[S], value: Fields) -> S:
         """Return what an object says; raise `Malformed` or KeyError if it says none."""
-        return cls(**{one.name: one.read(value[one.written]) for one in written_parts(cls)
+        return cls(**{one.name: one.codec.read(value[one.written]) for one in written_parts(cls)
                       if one.is_required or value.get(one.written) is not None})
 
     def fields(self) -> dict[str, Json]:
         values = ((one, getattr(self, one.name)) for one in written_parts(type(self)))
-        return {one.written: one.write(value) for one, value in values if one.is_required or value != one.default}
+        return {one.written: one.codec.write(value) for one, value in values if one.is_required or value != one.default}
 
 
 class Entry(Said):
@@ -66,19 +92,18 @@ class Part(NamedTuple):
     name: str
     written: str
     is_required: bool
-    default: Any
-    read: Callable[[Json], Any]
-    write: Callable[[Any], Any]
+    default: object
+    codec: Codec[object]
 
 
-PARTS: dict[Any, list[Part]] = {}
+PARTS: dict[type[Said], list[Part]] = {}
 
 
-def written_parts(kind: Any) -> list[Part]:
+def written_parts(kind: type[Said]) -> list[Part]:
     """Return the fields of a class. One whose default is made by a factory is always written."""
     if kind not in PARTS:
-        PARTS[kind] = [Part(one.name, one.metadata["name"] or one.name, one.default is dataclasses.MISSING, one.default,
-                            one.metadata["read"], one.metadata["write"]) for one in dataclasses.fields(kind)]
+        PARTS[kind] = [Part(one.name, one.metadata["how"].name or one.name, one.default is dataclasses.MISSING, one.default,
+                            one.metadata["how"]) for one in dataclasses.fields(kind)]
     return PARTS[kind]
 
 
@@ -96,6 +121,19 @@ def read_object(value: Json) -> dict[str, Json]:
     return value
 
 
+def read_plan_line(value: Json) -> PlanLine:
+    """Return a plan line; raise `Malformed` if it has other fields than one has."""
+    fault = next(check_fields(value, PLAN, "the plan"), None)
+    if fault is not None:
+        raise Malformed(fault)
+    return cast(PlanLine, value)
+
+
+def write_plan(plan: PlanLine) -> Json:
+    written: Json = json.loads(json.dumps(plan))
+    return written
+
+
 def read_number(value: Json) -> float:
     if not isinstance(value, (int, float)):
         raise Malformed(f"{str(value)[:40]} is not a number")
@@ -108,37 +146,40 @@ def form(*forms: int) -> How:
         if type(value) is not int or value not in forms:
             raise Malformed(f"the journal has form {value}, and this server reads the forms 1 to {JOURNAL_FORM}")
         return value
-    return how(read_form)
+    return as_it_is(read_form)
 
 
 def counted(most: int, what: str) -> How:
-    return how(lambda value: whole(value, most, what))
+    return as_it_is(lambda value: whole(value, most, what))
 
 
-def many(read: Callable[[Json], Any], write: Callable[[Any], Json] = list) -> How:
+def many(read: Callable[[Json], T], write: Callable[[T], Json]) -> How:
     """Return how a list is read and written, given its items."""
-    def read_all(value: Json) -> list[Any]:
+    def read_all(value: Json) -> Sequence[T]:
         if not isinstance(value, list):
             raise Malformed(f"a list was expected, not {str(value)[:40]}")
         return [*map(read, value)]
     return how(read_all, lambda some: [*map(write, some)])
 
 
-def pairs(read_key: Callable[[Json], Any], write_key: Callable[[Any], Json], name: str = "") -> How:
+def pairs(read_key: Callable[[Json], T], write_key: Callable[[T], Json]) -> How:
     """Return how a mapping to stamps is read and written: as a list of pairs."""
-    def read_all(value: Json) -> dict[Any, Stamp]:
+    def read_all(value: Json) -> Mapping[T, Stamp]:
         if not isinstance(value, list):
             raise Malformed(f"a list was expected, not {str(value)[:40]}")
         rows = (read_row(pair, 2, "a pair has two parts") for pair in value)
         return {read_key(key): read_stamp(stamp) for key, stamp in rows}
-    return how(read_all, lambda some: [[write_key(key), [*stamp]] for key, stamp in some.items()], name)
+
+    def write_all(some: Mapping[T, Stamp]) -> Json:
+        return [[write_key(key), [*stamp]] for key, stamp in some.items()]
+    return how(read_all, write_all)
 
 
-TEXT, TIME, NUMBER = how(read_string), how(read_time), how(read_number)
+TEXT, TIME, NUMBER = as_it_is(read_string), as_it_is(read_time), as_it_is(read_number)
 SEAT, SITE, STEP = counted(MOST_SEATS - 1, "seat"), counted(1_023, "site"), counted(1 << 30, "step")
 COUNT, PLACE = counted(GREATEST_COUNT, "count"), counted(1 << 40, "place")
-STAMPS = many(read_stamp)
-SHARED, UNSENT = (how(lambda value: value is True, name=name) for name in ("shared", "unsent"))
+STAMPS = many(read_stamp, lambda stamp: [*stamp])
+SHARED, UNSENT = (as_it_is(lambda value: value is True, name) for name in ("shared", "unsent"))
 
 
 # Entries
@@ -148,7 +189,7 @@ class Folder(Entry):
     """A folder's road, and its site."""
 
     kind = "lab"
-    plan: dict[str, Json] = field(metadata=how(read_object))
+    plan: PlanLine = field(metadata=how(read_plan_line, write_plan))
     site: int = field(metadata=SITE)
     folder: str = field(metadata=TEXT)
     form: int = field(default_factory=lambda: JOURNAL_FORM, metadata=form(*FORMER_FORMS, JOURNAL_FORM))
@@ -251,7 +292,7 @@ class StampedAnew(Entry):
 
     kind = "restamp"
     seat: int = field(metadata=SEAT)
-    stamps: Mapping[Stamp, Stamp] = field(metadata=pairs(read_stamp, list))
+    stamps: Mapping[Stamp, Stamp] = field(metadata=pairs(read_stamp, lambda stamp: [*stamp]))
 
     def apply(self, state: State) -> None:
         state.stamp_anew(state.seats[self.seat], self.stamps)
@@ -354,12 +395,16 @@ class News(Said):
         return {name: value for name, value in self.fields().items() if name != "upto"}
 
 
+def read_news(value: Json) -> News:
+    return News.read(read_object(value))
+
+
 @dataclass(frozen=True)
 class AllNews(Entry):
     """The last shares."""
 
     kind = "shares"
-    shares: Sequence[News] = field(metadata=many(lambda value: News.read(read_object(value)), News.fields))
+    shares: Sequence[News] = field(metadata=many(read_news, News.fields))
 
     def apply(self, state: State) -> None:
         state.shares = [*self.shares]

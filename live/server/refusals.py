@@ -6,8 +6,6 @@ What the program refuses has the names of docs/FORMAT.md. `MEANINGS` has all oth
 """
 from __future__ import annotations
 
-from typing import Any
-
 MEANINGS = {
     "AllSeatsTaken": "All 63 seats are taken: take one over",
     "Busy": "The server is at its limit: ask again later",
@@ -46,13 +44,13 @@ NOT_A_COMMAND = "not a command"
 class Refused(Exception):
     """A refusal: `text` is its name, `why` a sentence, `more` are further fields of the reply."""
 
-    def __init__(self, text: str, why: str, **more: Any) -> None:
+    def __init__(self, text: str, why: str, **more: object) -> None:
         if text not in MEANINGS and text not in OF_THE_FORMAT:
             raise ValueError(f"no refusal is named {text}")
         super().__init__(text)
         self.text, self.why, self.more = text, why, more
 
-    def reply(self) -> dict[str, Any]:
+    def reply(self) -> dict[str, object]:
         """Return the reply to a tab."""
         return {"refused": self.text, "why": self.why, **self.more}
 

@@ -1,14 +1,13 @@
 """The report of two roads in a window: the same page as `zegdrut report` writes of a freeway.
 
-As a program this module reads {plan, before, after, first, last, title, names, works, clock, days} from standard input, and prints
-the page. `names` are those of the two roads, `works` sentences of what lies on them; `clock` has begin, date and timezone of the file.
+As a program this module reads a `ReportAsked` from standard input, and prints the page.
 """
 from __future__ import annotations
 
 import asyncio
 import json
 import sys
-from typing import TYPE_CHECKING, Any, Sequence
+from typing import TYPE_CHECKING, Sequence, TypedDict
 
 from . import LIVE, figures
 from .journal import packed
@@ -19,20 +18,23 @@ if TYPE_CHECKING:
     from zegdrut.clock import Clock
     from zegdrut.demand import Rates
     from zegdrut.report import Side
-    from zegdrut.trips import Window
+    from zegdrut.wire import Fields
 
 DAYS = 5
 NICE = 8
 PATIENCE = 600.0
 MOST_DATES = 12  # of a demand over time, in a sentence
+ReportAsked = TypedDict("ReportAsked", {
+    "roads": figures.TwoRoads, "title": str, "works": Sequence[str], "names": Sequence[str], "clock": Sequence["str | None"], "days": int})
+"""Two roads with their names, sentences about the works on them, and the begin, date and time zone of the file."""
 
 
-async def make(index: int, asked: dict[str, Any], path: str) -> str:
+async def make(index: int, asked: ReportAsked) -> str:
     """Return the page that a seat asks for."""
     async with figures.alone(index):
         process = await asyncio.create_subprocess_exec(
-            *figures.gently(__name__, NICE), stdin=asyncio.subprocess.PIPE, stdout=asyncio.subprocess.PIPE, env=figures.environment(path),
-            start_new_session=True, cwd=LIVE)
+            *figures.gently(__name__, NICE), stdin=asyncio.subprocess.PIPE, stdout=asyncio.subprocess.PIPE, 
+            env=figures.environment(asked["roads"]["program"]), start_new_session=True, cwd=LIVE)
         try:
             async with asyncio.timeout(PATIENCE):
                 out, _ = await process.communicate(packed(asked).encode())
@@ -48,32 +50,38 @@ async def make(index: int, asked: dict[str, Any], path: str) -> str:
 
 # The program
 
-def sides_of(asked: dict[str, Any]) -> list[Side]:
+def sides_of(asked: ReportAsked) -> list[Side]:
     """Return the roads before and after, or the one if they are the same."""
     from zegdrut.lost import compute_demands
     from zegdrut.report import Side
     from zegdrut.scripts import Script
-    found = []
-    for side, name in zip(figures.SIDES, asked["names"]):
-        plan: Any = {**asked["plan"], "replicas": ["A"]}
-        edits = figures.edits_of(asked[side])
-        lines: list[Any] = [*import_lines("A", [[*key, 1, figures.NUMBER, value] for key, value in sorted(edits.items())]),
-                            {"advance": {"at": "A", "to": asked["last"]}}]
-        found.append(Side(name, Script(plan, lines), compute_demands(plan, figures.given(edits), asked["last"])))
-    return found if figures.edits_of(asked["before"]) != figures.edits_of(asked["after"]) else found[1:]
+    found, last = [], asked["roads"]["last"]
+    plan = asked["roads"]["plan"].copy()
+    plan["replicas"] = ["A"]
+    both = edits_of(asked["roads"])
+    for edits, name in zip(both, asked["names"]):
+        lines: list[Fields] = [*import_lines("A", [(*key, 1, figures.NUMBER, value) for key, value in sorted(edits.items())]),
+                               {"advance": {"at": "A", "to": last}}]
+        found.append(Side(name, Script(plan, lines), compute_demands(plan, figures.given(edits), last)))
+    return found if both[0] != both[1] else found[1:]
 
 
-def closures_of(asked: dict[str, Any], side: str) -> list[tuple[int, int, float, float]]:
+def edits_of(roads: figures.TwoRoads) -> list[figures.Edits]:
+    """Return the edits of both roads."""
+    return [figures.edits_of(roads["before"]), figures.edits_of(roads["after"])]
+
+
+def closures_of(edits: figures.Edits, last: int) -> list[tuple[int, int, float, float]]:
     """Return the closures of a road, as (from step, to step, from km, to km): neighbouring cells as one."""
     from zegdrut.units import to_km
     changes: dict[int, list[tuple[int, int]]] = {}
-    for (kind, cell, step), value in sorted(figures.edits_of(asked[side]).items()):
+    for (kind, cell, step), value in sorted(edits.items()):
         if kind == "block":
             changes.setdefault(cell, []).append((step, value))
     spans: dict[tuple[int, int], list[int]] = {}
     for cell, puts in changes.items():
         begin = None
-        for step, value in [*puts, (asked["last"], 0)]:
+        for step, value in [*puts, (last, 0)]:
             if value and begin is None:
                 begin = step
             elif not value and begin is not None:
@@ -94,17 +102,17 @@ def runs(cells: Sequence[int]) -> list[list[int]]:
     return found
 
 
-def facts_of(asked: dict[str, Any], side: Side, clock: Clock) -> list[str]:
+def facts_of(roads: figures.TwoRoads, side: Side, clock: Clock) -> list[str]:
     """Return length, drivers and demand, a sentence each."""
     from zegdrut.units import ALWAYS, KMH, to_km
-    plan = asked["plan"]
-    kinds = {tuple(zone) for zone in plan["zones"]}
+    plan = roads["plan"]
+    kinds = {(limit, slowing) for limit, slowing in plan["zones"]}
     (limit, slowing), *more = sorted(kinds)
     drivers = f"limit {limit * KMH:g} km/h, slowing {slowing / ALWAYS:.0%}" if not more else f"{len(kinds)} kinds of zones"
     found = [f"{to_km(plan['length']):g} km, one lane, {drivers}"]
     for (cell, _), rates in zip(plan["inlets"], side.demands):
         name = f"on-ramp at km {to_km(cell):g}" if cell else "main road"
-        found.append(f"{name}: {demand_text(rates, clock, asked['last'])} cars/h")
+        found.append(f"{name}: {demand_text(rates, clock, roads['last'])} cars/h")
     return found
 
 
@@ -117,19 +125,20 @@ def demand_text(rates: Rates, clock: Clock, last: int) -> str:
     return ", ".join(f"{rate:,} from {clock.to_text(step)}" for step, rate in dates[:MOST_DATES]) + ", .." * (len(dates) > MOST_DATES)
 
 
-def page(asked: dict[str, Any]) -> str:
+def page(asked: ReportAsked) -> str:
     """Return the page."""
     from zegdrut.clock import Clock
     from zegdrut.report import make_table, run_sides
     from zegdrut.report_page import Contents, format_page
     from zegdrut.trips import Window
-    window: Window = Window(asked["first"], asked["last"])
-    clock, seed, plan = Clock.read(*asked["clock"]), asked["plan"]["words"], asked["plan"]
+    roads = asked["roads"]
+    window, plan = Window(roads["first"], roads["last"]), roads["plan"]
+    clock, seed = Clock.read(*asked["clock"]), plan["words"]
     sides = sides_of(asked)
-    days = run_sides(sides, [seed] if type(seed) is not int else list(range(seed, seed + asked["days"])), window)
-    closed = [closures_of(asked, side) for side in figures.SIDES]
+    days = run_sides(sides, [seed] if not isinstance(seed, int) else list(range(seed, seed + asked["days"])), window)
+    closed = [closures_of(edits, window.last) for edits in edits_of(roads)]
     return format_page(Contents(
-        title=asked["title"], facts=facts_of(asked, sides[-1], clock), works=asked["works"], notes=[], clock=clock, window=window,
+        title=asked["title"], facts=facts_of(roads, sides[-1], clock), works=asked["works"], notes=[], clock=clock, window=window,
         length=plan["length"], detectors=plan["detectors"], sides=sides, days=days, rows=make_table(sides, days, window), seed=seed,
         closed=closed[-len(sides):]))
 

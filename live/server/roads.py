@@ -5,18 +5,22 @@ from __future__ import annotations
 import asyncio
 import json
 import time
-from typing import Any, Protocol
+from typing import Protocol, Sequence, TypeVar
+
+from zegdrut.wire import WrittenEdit
 
 from .journal import packed
 from .keeper import Keeper, Times
+from .model.road import Road
 from .program import ProgramExited, Program, command_of, import_lines, start
 from .refusals import Refused
-from .turns import MORE, Job
+from .turns import Job, More
 
 SIDES = ("before", "after")
 MOST_PREVIEWS = 4  # that are run; the one that was asked longest ago goes
 UNUSED = 600.0  # seconds after which one goes
 LET_GO = "the two roads were let go"
+T = TypeVar("T")
 
 
 class AskedRoad(Protocol):
@@ -24,11 +28,11 @@ class AskedRoad(Protocol):
 
     name: str
 
-    async def job(self, body: Job, at_leisure: bool = False) -> Any:
+    async def job(self, body: Job[T], at_leisure: bool = False) -> T:
         """Do a piece of work when the road has run as far as it shall; at leisure if no picture waits for it."""
 
-    def mark(self) -> Any:
-        """Return a token that changes whenever the road does."""
+    def mark(self) -> Road | None:
+        """Return the road as it is: it is changed if this is not the same object as before. None: it never changes."""
 
     async def say_all(self, lines: list[bytes], times: Times) -> list[bytes]:
         """Return the replies to lines that are sent at once; raise the first refusal."""
@@ -44,10 +48,10 @@ class KeptRoad:
         self._keeper, self._turn, self._index = keeper, turn, index
         self.name = keeper.state.replica(index).at
 
-    async def job(self, body: Job, at_leisure: bool = False) -> Any:
+    async def job(self, body: Job[T], at_leisure: bool = False) -> T:
         return await self._keeper.ask(self._turn, (self._index,), body, at_leisure)
 
-    def mark(self) -> Any:
+    def mark(self) -> Road:
         return self._keeper.road(self._index)
 
     async def say_all(self, lines: list[bytes], times: Times) -> list[bytes]:
@@ -59,14 +63,13 @@ class KeptRoad:
 
         async def body() -> int:
             return self._keeper.program.horizons.get(self.name, 0)
-        horizon: int = await self.job(body)
-        return horizon
+        return await self.job(body)
 
 
 class Preview:
     """Two roads as they were when they were compared: their edits, and a program once they are asked."""
 
-    def __init__(self, keeper: Keeper, before: list[Any], after: list[Any]) -> None:
+    def __init__(self, keeper: Keeper, before: Sequence[WrittenEdit], after: Sequence[WrittenEdit]) -> None:
         """`before` and `after` are all edits of both."""
         self._keeper, self.edits = keeper, {"before": before, "after": after}
         self.used = time.monotonic()
@@ -97,7 +100,7 @@ class Preview:
         """Start a program, which ends at once if the seat has let the two roads go meanwhile."""
         if self._is_over:
             raise ProgramExited(LET_GO)
-        plan = {**self._keeper.state.plan, "replicas": list(SIDES)}
+        plan: dict[str, object] = {**self._keeper.state.plan, "replicas": list(SIDES)}
         program = await start(command_of(self._keeper.path, plan), packed(plan).encode())
         if self._is_over:
             program.kill()
@@ -105,11 +108,11 @@ class Preview:
         self._program = program
         return program
 
-    async def job(self, side: str, body: Job) -> Any:
+    async def job(self, side: str, body: Job[T]) -> T:
         async with self._lock:
             try:
                 await self.ready(side)
-                while (said := await body()) is MORE:
+                while isinstance(said := await body(), More):
                     pass
                 return said
             except ProgramExited as fault:
@@ -150,14 +153,14 @@ class Side:
         self._preview, self.name = preview, side
 
     @property
-    def edits(self) -> list[Any]:
+    def edits(self) -> Sequence[WrittenEdit]:
         """Return its edits, as an import has them."""
         return self._preview.edits[self.name]
 
-    async def job(self, body: Job, at_leisure: bool = False) -> Any:
+    async def job(self, body: Job[T], at_leisure: bool = False) -> T:
         return await self._preview.job(self.name, body)
 
-    def mark(self) -> Any:
+    def mark(self) -> None:
         return None
 
     async def say_all(self, lines: list[bytes], times: Times) -> list[bytes]:
@@ -168,8 +171,7 @@ class Side:
 
         async def body() -> int:
             return to
-        horizon: int = await self.job(body)
-        return horizon
+        return await self.job(body)
 
 
 class Previews:

@@ -4,11 +4,13 @@ from __future__ import annotations
 import csv
 import io
 import time
-from typing import Any, Callable, Iterable, Iterator, Sequence
+from typing import Callable, Iterable, Iterator, Mapping, Sequence
 
 from zegdrut.trips import Window
 from zegdrut.units import to_km
+from zegdrut.wire import PlanLine, WrittenEdit
 
+from .figures import DetectorFigures
 from .journal import packed
 from .program import Program, command_of, import_lines, start
 from .refusals import Refused
@@ -21,7 +23,7 @@ UNUSED = 60.0  # seconds after which one that nobody fetches is dropped
 LONGEST_REPLICA = 64  # bytes of a replica's name
 
 
-def script(plan: dict[str, Any], name: str, edits: list[Any], first: int, last: int) -> Iterator[dict[str, Any]]:
+def script(plan: PlanLine, name: str, edits: Sequence[WrittenEdit], first: int, last: int) -> Iterator[Mapping[str, object]]:
     """Yield the lines that show a road from a step to another: plan, edits, rows, and counts of a minute each."""
     if (last - first + 1) * (plan["length"] + 3) > MOST:
         raise Refused("Range", f"at most {MOST // (plan['length'] + 3)} rows are saved at once")
@@ -37,14 +39,14 @@ def script(plan: dict[str, Any], name: str, edits: list[Any], first: int, last: 
             yield {"count": {"at": at, "detector": detector, "from": begin, "to": min(last, begin + EACH)}}
 
 
-def commands(plan: dict[str, Any], name: str, edits: list[Any], last: int) -> str:
+def commands(plan: PlanLine, name: str, edits: Sequence[WrittenEdit], last: int) -> str:
     """Return the script of a road: plan, edits, and that it runs to a step."""
     at = name.encode()[:LONGEST_REPLICA].decode(errors="ignore")
-    lines = [{**plan, "replicas": [at]}, *import_lines(at, edits), {"advance": {"at": at, "to": last}}]
+    lines: list[Mapping[str, object]] = [{**plan, "replicas": [at]}, *import_lines(at, edits), {"advance": {"at": at, "to": last}}]
     return "".join(packed(line) + "\n" for line in lines)
 
 
-async def transcript(path: str, plan: dict[str, Any], lines: Iterable[dict[str, Any]]) -> list[str]:
+async def transcript(path: str, plan: PlanLine, lines: Iterable[Mapping[str, object]]) -> list[str]:
     """Return lines and a program's replies, alternating, in pieces of some megabyte."""
     pieces = [""]
     program: Program | None = None
@@ -95,12 +97,12 @@ class Saved:
         self._of.pop(index, None)
 
 
-def harmless(value: Any) -> Any:
+def harmless(value: object) -> object:
     """Return a cell that no spreadsheet runs as a formula."""
     return f"'{value}" if isinstance(value, str) and value.lstrip()[:1] in ("=", "+", "-", "@") else value
 
 
-def table(head: list[str], lines: Iterable[list[Any]]) -> str:
+def table(head: list[str], lines: Iterable[Sequence[object]]) -> str:
     """Return the text of a table: its head, where it has one, and its lines."""
     text = io.StringIO()
     writer = csv.writer(text, lineterminator="\n")
@@ -110,8 +112,8 @@ def table(head: list[str], lines: Iterable[list[Any]]) -> str:
     return text.getvalue()
 
 
-def table_of_counts(plan: dict[str, Any], title: str, say_time: Callable[[int], str], windows: Sequence[Window],
-                    counts: Sequence[Sequence[dict[str, Any]]]) -> str:
+def table_of_counts(plan: PlanLine, title: str, say_time: Callable[[int], str], windows: Sequence[Window],
+                    counts: Sequence[Sequence[DetectorFigures]]) -> str:
     """Return what detectors counted, window by window. The first line is the title, the second has the units."""
     lines = [[say_time(window.first), say_time(window.last), detector, rounded(to_km(plan["detectors"][detector]), 4),
               one["cars"], rounded(one["flow"], 1), rounded(one["speed"], 1), one["on"]]

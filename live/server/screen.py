@@ -4,7 +4,9 @@ from __future__ import annotations
 import asyncio
 import collections
 import logging
-from typing import Any, Deque
+from typing import Deque
+
+from zegdrut.wire import WrittenEdit
 
 from .journal import packed
 from .model.projection import Edits, difference, difference_like
@@ -16,9 +18,9 @@ MOST_INLINE = 64  # layers of a road whose difference is worked out at once, and
 KEPT = 16  # differences
 
 
-def rows_of(edits: Edits, count: int = 1) -> list[list[Any]]:
+def rows_of(edits: Edits, count: int = 1) -> list[WrittenEdit]:
     """Return edits as an `import` has them. Their stamps say nothing outside of the program."""
-    return [[kind, index, step, count, NUMBER, value] for (kind, index, step), value in edits.items()]
+    return [(kind, index, step, count, NUMBER, value) for (kind, index, step), value in edits.items()]
 
 
 def first_step(edits: Edits) -> int | None:

@@ -23,9 +23,10 @@ import os
 import re
 import time
 from pathlib import Path
-from typing import Any, Callable, Dict
+from typing import Callable, Dict, NamedTuple
 
 from .journal import Broken, packed, put_in_place, sync_folder
+from .model.operations import Json
 
 LATE = 600.0  # seconds that a sealed message may be on its way, or two clocks apart
 AHEAD = 200  # numbers, which are milliseconds, that the bound on the disk is above what was taken
@@ -57,6 +58,15 @@ def key_of(path: Path) -> bytes:
     if len(key) < SHORTEST_KEY:
         raise Broken(f"{path} has {len(key)} bytes, and {SHORTEST_KEY} are the least for the sites' key")
     return key
+
+
+class Head(NamedTuple):
+    """The first line of a sealed message; `mac` is empty if it has none."""
+
+    folder: str
+    time: int
+    number: int
+    mac: str = ""
 
 
 class Taken:
@@ -137,8 +147,8 @@ class Seal:
             return body
         now = int(1_000 * self._clock())
         self._number = max(self._number + 1, now)
-        head = {"folder": self.folder, "time": now, "number": self._number}
-        return packed({**head, "mac": self._mac(topic, head, body)}).encode() + b"\n" + body
+        head = Head(self.folder, now, self._number)
+        return packed(head._replace(mac=self._mac(topic, head, body))._asdict()).encode() + b"\n" + body
 
     def opened(self, topic: str, payload: bytes) -> tuple[str, bytes]:
         """Return the folder that sent it, empty if it does not say, and the body. Raise `Unsealed`, `Replayed` or `Expired`."""
@@ -149,43 +159,44 @@ class Seal:
                 raise Unsealed("it bears no seal")
             self._check(topic, head, body)
         if head is not None:
-            return head["folder"], body
+            return head.folder, body
         said = FOLDER.match(payload)
         return said[1].decode() if said else "", payload
 
-    def _check(self, topic: str, head: dict[str, Any], body: bytes) -> None:
-        if not hmac.compare_digest(self._mac(topic, head, body).encode(), head["mac"].encode()):
+    def _check(self, topic: str, head: Head, body: bytes) -> None:
+        if not hmac.compare_digest(self._mac(topic, head, body).encode(), head.mac.encode()):
             raise Unsealed("its seal is not that of this site's key")
-        now, folder = self._clock(), head["folder"]
-        if abs(now - head["time"] / 1_000) > LATE:
-            raise Expired(folder, head["time"] / 1_000)
+        now, folder = self._clock(), head.folder
+        if abs(now - head.time / 1_000) > LATE:
+            raise Expired(folder, head.time / 1_000)
         seen = self._seen.pop(folder, None) or Seen(self._taken.bound(folder))
         self._seen[folder] = seen
         if len(self._seen) > MOST_FOLDERS:
             del self._seen[next(iter(self._seen))]
-        if not seen.is_new(head["number"]):
+        if not seen.is_new(head.number):
             raise Replayed
-        self._taken.take(folder, head["number"], int(1_000 * (now - LATE)))
+        self._taken.take(folder, head.number, int(1_000 * (now - LATE)))
 
     def end(self) -> None:
         """Seal and open nothing any more."""
         self._taken.end(self.folder, self._number)
 
-    def _mac(self, topic: str, head: dict[str, Any], body: bytes) -> str:
+    def _mac(self, topic: str, head: Head, body: bytes) -> str:
         assert self.key is not None
-        told = packed([topic, head["folder"], head["time"], head["number"]]).encode() + b"\n" + body
+        told = packed([topic, head.folder, head.time, head.number]).encode() + b"\n" + body
         return hmac.new(self.key, told, hashlib.sha256).hexdigest()
 
 
-def head_of(line: bytes) -> dict[str, Any] | None:
-    """Return the fields of a message's first line; None if it is malformed."""
+def head_of(line: bytes) -> Head | None:
+    """Return a message's first line; None if it is malformed."""
     try:
-        head = json.loads(line)
+        head: Json = json.loads(line)
     except (ValueError, RecursionError):
         return None
-    shape = {"folder": str, "time": int, "number": int}
-    if not isinstance(head, dict) or any(type(head.get(name)) is not kind for name, kind in shape.items()):
+    if not isinstance(head, dict):
         return None
-    is_sane = len(head["folder"]) <= 40 and 0 <= head["time"] < 1 << 53 and 0 <= head["number"] < 1 << 53
-    mac = head.get("mac", "")
-    return {**head, "mac": mac} if is_sane and type(mac) is str and mac.isascii() else None
+    folder, when, number, mac = head.get("folder"), head.get("time"), head.get("number"), head.get("mac", "")
+    if type(folder) is not str or type(when) is not int or type(number) is not int or type(mac) is not str:
+        return None
+    is_sane = len(folder) <= 40 and 0 <= when < 1 << 53 and 0 <= number < 1 << 53 and mac.isascii()
+    return Head(folder, when, number, mac) if is_sane else None

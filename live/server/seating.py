@@ -12,7 +12,7 @@ import hmac
 import logging
 import secrets
 import time
-from typing import Any, Callable
+from typing import Callable, TypedDict
 
 from .asked import folded
 from .keeper import A_MOMENT, SHARED, Keeper, NotKept
@@ -30,6 +30,10 @@ def digest(key: str) -> str:
     return hashlib.sha256(key.encode("utf-8", "replace")).hexdigest()
 
 
+ListedSeat = TypedDict("ListedSeat", {"seat": int, "at": str, "name": str, "here": bool, "private": int})
+"""A seat that somebody has, as tabs get it; `private` is how many changes it has not shared."""
+
+
 class Seating:
     """The seats of a laboratory."""
 
@@ -39,8 +43,8 @@ class Seating:
         self.steady = SteadyClock(keeper.settings.day * NOTED)
         self.secret = secrets.token_bytes(16)  # of signed keys
         self._unkept: dict[int, SeatGiven] = {}  # seats that were given while the disk took nothing
-        self._listed: list[dict[str, Any]] = []  # as it was on the disk
-        keeper.listeners.on("trouble", self._keep)
+        self._listed: list[ListedSeat] = []  # as it was on the disk
+        keeper.listeners.trouble.on(self._keep)
 
     @property
     def _state(self) -> State:
@@ -55,23 +59,26 @@ class Seating:
 
     # Lists
 
-    def seats(self) -> list[dict[str, Any]]:
+    def seats(self) -> list[ListedSeat]:
         """Return who has a seat, for people."""
         return [{"seat": seat.index, "at": seat.at, "name": seat.name, "here": seat.index in self._keeper.here,
                  "private": len(seat.shareable())} for seat in self._state.seats[1:] if seat.key]
 
-    async def seats_kept(self, turn: int | None = None) -> list[dict[str, Any]]:
+    async def seats_kept(self, turn: int | None = None) -> list[ListedSeat]:
         """Return the same, in a seat's turn or at once, when it is on the disk; while that does not answer, as it was before."""
-        async def look() -> list[dict[str, Any]]:
+        async def look() -> list[ListedSeat]:
             return self.seats()
 
-        async def in_turn() -> Any:
+        async def in_turn() -> list[ListedSeat]:
             return await (look() if turn is None else self._keeper.ask(turn, (), look))
         asked = asyncio.ensure_future(self._keeper.read_committed(in_turn))
         while not (await asyncio.wait([asked], timeout=A_MOMENT))[0]:
             if self._listed and self._keeper.journal.waits(A_MOMENT):
                 asked.cancel()
-                return [{**one, "here": one["seat"] in self._keeper.here} for one in self._listed]
+                kept = [one.copy() for one in self._listed]
+                for one in kept:
+                    one["here"] = one["seat"] in self._keeper.here
+                return kept
         self._listed = asked.result()
         return self._listed
 
@@ -172,8 +179,7 @@ class Seating:
                 raise Refused("PrivateChanges", "this seat has changes that are not shared: share them, or undo them")
             await self._keeper.writable()
             return self._free(index)
-        done: asyncio.Future[None] = await self._keeper.turns.ask(index, body)
-        await confirmed(done, {})
+        await confirmed(await self._keeper.turns.ask(index, body), {})
 
     def owned(self, index: int) -> SeatReplica:
         """Return a seat, unless it was left by what was asked before."""
@@ -199,7 +205,7 @@ class Seating:
             elif seat.used < now - day and not seat.shareable():
                 logging.info("seat %d of %s is free again", seat.index, seat.name)
                 self._free(seat.index)
-                self._keeper.listeners.tell("seats")
+                self._keeper.listeners.seats.tell()
 
 
 class SteadyClock:

@@ -15,7 +15,7 @@ import logging
 import secrets
 import time
 from types import TracebackType
-from typing import TYPE_CHECKING, Any, Callable, Deque, Iterator, NamedTuple
+from typing import TYPE_CHECKING, Callable, Deque, Iterator, Mapping, NamedTuple, Sequence
 
 from .asked import LONGEST_NAME, LONGEST_NOTE, clean_text
 from .brokers import broker_of, connack_string, new_client
@@ -24,11 +24,11 @@ from .journal import packed
 from .keeper import SHARED, Times
 from .lab import FutureStamp, Lab
 from .messages import InvalidMessage, form_of, read_message, site_of, sum_of
-from .model.operations import Operation
+from .model.operations import Json, Operation
 from .model.projection import Edits
 from .model.reading import Malformed, read_operation
 from .model.road import Road
-from .peers import EVERY, Peers, Site
+from .peers import EVERY, BrokerState, Peers, Site
 from .refusals import Refused
 from .seals import LATE, Replayed, Expired, Seal, Unsealed, key_of
 from .state import SITE_FORM, State
@@ -109,7 +109,7 @@ class Sites:
         client.on_message, client.on_connect, client.on_disconnect = self._on_message, self._on_connect, self._on_gone
         return client
 
-    def state(self) -> dict[str, Any]:
+    def state(self) -> BrokerState:
         """Return the state for tabs: the sites with which it exchanges, sentences said once, and those that stay true."""
         self._peers.forget_silent()
         return {"state": "connected" if self._connected else "away", "unsent": len(self._unreturned()),
@@ -139,15 +139,15 @@ class Sites:
 
     # What the broker's thread calls
 
-    def _on_connect(self, client: mqtt.Client, _data: Any, _flags: Any, code: int) -> None:
+    def _on_connect(self, client: mqtt.Client, _data: object, _flags: object, code: int) -> None:
         if code == 0:
             client.subscribe([(f"road/{self._road}/operations", 1), (f"road/{self._road}/sum", 0), (SITES_TOPIC, 0)])
         self._loop.call_soon_threadsafe(self._is_connected, code)
 
-    def _on_gone(self, _client: mqtt.Client, _data: Any, _code: int) -> None:
+    def _on_gone(self, _client: mqtt.Client, _data: object, _code: int) -> None:
         self._loop.call_soon_threadsafe(self._is_connected, None)
 
-    def _on_message(self, _client: mqtt.Client, _data: Any, message: mqtt.MQTTMessage) -> None:
+    def _on_message(self, _client: mqtt.Client, _data: object, message: mqtt.MQTTMessage) -> None:
         # The broker's thread acknowledges when this returns: so it waits until the edits are on the disk.
         try:
             folder, body = self._opened(message.topic, message.payload)
@@ -193,9 +193,10 @@ class Sites:
 
     # What is sent
 
-    def _publish(self, topic: str, value: Any, quality: int) -> None:
+    def _publish(self, topic: str, value: Mapping[str, object], quality: int) -> None:
         if self._connected:
-            body = packed({"folder": self._id, **value}).encode()
+            fields: Mapping[str, object] = {"folder": self._id, **value}
+            body = packed(fields).encode()
             self._client.publish(topic, self._seal.sealed(topic, body), qos=quality)
 
     def _send(self, operations: list[Operation]) -> None:
@@ -205,7 +206,7 @@ class Sites:
             self._send_titled(list(some), title)
 
     def _send_titled(self, operations: list[Operation], title: str) -> None:
-        part: list[Any] = []
+        part: list[Json] = []
         size = 0
         for one in operations:
             written = one.written()
@@ -217,7 +218,7 @@ class Sites:
         if part:
             self._send_part(part, title)
 
-    def _send_part(self, part: list[Any], title: str) -> None:
+    def _send_part(self, part: list[Json], title: str) -> None:
         more = {"title": title} if title else {}
         self._publish(f"road/{self._road}/operations", {"form": SITE_FORM, "operations": part, **more}, 1)
 
@@ -312,20 +313,22 @@ class Sites:
     def _say_left_out(self, fault: InvalidMessage | Refused) -> None:
         self._say(f"A message from the broker was ignored: {fault.why if isinstance(fault, Refused) else fault}")
 
-    async def _heard_site(self, folder: str, value: Any) -> None:
+    async def _heard_site(self, folder: str, value: Mapping[str, Json]) -> None:
         folder, run, number, road = site_of(folder, value)
         site = Site(folder, number, road, value.get("silent") is True, form_of(value), time.time())
-        if type(value.get("time")) is int and 0 <= value["time"] < 1 << 53:
-            self._peers.hear_clock(folder, value["time"] / 1_000)
+        sent = value.get("time")
+        if type(sent) is int and 0 <= sent < 1 << 53:
+            self._peers.hear_clock(folder, sent / 1_000)
         await self._peers.heard(run, site, value.get("bound"))
 
-    async def _heard(self, folder: str, value: Any) -> None:
+    async def _heard(self, folder: str, value: Mapping[str, Json]) -> None:
         """Take operations. Early ones wait, people hear of malformed ones, and neither keep others back."""
         if self._peers.twin() is not None:
             raise InvalidMessage("another folder uses this site's number: start one of the two with another --site")
-        if type(value) is not dict or value.get("form") != SITE_FORM or type(value.get("operations")) is not list:
+        operations = value.get("operations")
+        if value.get("form") != SITE_FORM or not isinstance(operations, list):
             raise InvalidMessage(f"it has no list of operations of form {SITE_FORM}")
-        good = await self._good(value["operations"])
+        good = await self._good(operations)
         title = clean_text(value.get("title") or "", LONGEST_NOTE)
         latest = self._keeper.stamps.latest_count()
         due = [one for one in good if one.stamp[0] <= latest]
@@ -337,7 +340,7 @@ class Sites:
         if early:
             raise FutureStamp(early[0])
 
-    async def _good(self, written: list[Any]) -> list[Operation]:
+    async def _good(self, written: Sequence[Json]) -> list[Operation]:
         """Return the operations of a message that every site takes; people hear of the others."""
         good: list[Operation] = []
         began = time.perf_counter()
@@ -351,7 +354,7 @@ class Sites:
                 began = time.perf_counter()
         return good
 
-    def _read(self, written: Any) -> Operation:
+    def _read(self, written: Json) -> Operation:
         one = read_operation(written)
         if any(clean_text(text, most) != text for text, most in ((one.about.who, LONGEST_NAME), (one.about.note, LONGEST_NOTE))):
             raise Malformed("`who` and `note` are texts that can be shown in a line")
@@ -395,7 +398,7 @@ class Sites:
         except (InvalidMessage, Refused) as fault:
             self._say_left_out(fault)
 
-    async def _heard_sum(self, folder: str, value: Any) -> None:
+    async def _heard_sum(self, folder: str, value: Mapping[str, Json]) -> None:
         folder, theirs, numbers = sum_of(folder, value)
         if folder == self._id or not self._peers.may_send() or form_of(value) != SITE_FORM:
             return

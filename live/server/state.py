@@ -11,7 +11,9 @@ a place, beside its own.
 from __future__ import annotations
 
 import asyncio
-from typing import Any, Iterable, Iterator, Mapping
+from typing import Iterable, Iterator, Mapping
+
+from zegdrut.wire import PlanLine
 
 from .records import (JOURNAL_FORM, AllNews, AnyEntry, Bound, Came, Clock, Fields, Folder, Keys, Made, News, SeatFreed,
                       SeatGiven, Take, Works, read_entry)
@@ -29,8 +31,11 @@ MOST_NEWS = 100
 AT_ONCE = 100  # operations that are worked out before others are heard
 MOST_ROADS = 8  # values of the shared road that are kept for those who take
 
+NO_PLAN: PlanLine = {"length": 0, "inlets": (), "zones": (), "zone": 0, "exit": 0, "detectors": (), "words": 0, "replicas": ()}
+"""The plan of a state that has read none."""
 
-def plan_value(plan: Mapping[str, Any], kind: str, index: int) -> int | None:
+
+def plan_value(plan: PlanLine, kind: str, index: int) -> int | None:
     """Return what an object is by the plan alone; None of cars that start, about which it says nothing."""
     if kind == "block":
         return 0
@@ -235,7 +240,7 @@ class State:
     def __init__(self, clock: StampClock | None = None, begun: int = 0) -> None:
         """Stamps are by `clock`; versions of lists are above `begun`."""
         self.begun = begun
-        self.plan: dict[str, Any] = {}
+        self.plan: PlanLine = NO_PLAN
         self.site, self.folder, self.form = 0, "", JOURNAL_FORM
         self.bound: dict[int, str] = {}  # by site's number the folder that had it first
         self.unsent: dict[Operation, None] = {}  # shared here, and not yet come back from the broker
@@ -271,7 +276,7 @@ class State:
         except (KeyError, IndexError, TypeError, ValueError, OverflowError) as fault:
             raise Broken(f"no entry `{kind}`: {fault}" if isinstance(fault, ValueError) else f"no entry `{kind}`: {fault!r}") from None
 
-    def begin(self, plan: dict[str, Any], site: int, folder: str, form: int) -> None:
+    def begin(self, plan: PlanLine, site: int, folder: str, form: int) -> None:
         self.plan, self.site, self.folder, self.form = plan, site, folder, form
         self._former = Former(self) if form < JOURNAL_FORM else None
 

@@ -7,18 +7,18 @@ from __future__ import annotations
 import asyncio
 import logging
 import time
-from typing import Any, Awaitable, Callable
+from typing import Awaitable, Callable
 
 PAUSE, LONGEST_PAUSE = 1.0, 60.0  # seconds until it is started again, growing while it ends at once
 
 
-def supervised(what: str, does: Callable[[], Awaitable[Any]], told: Callable[[str], None]) -> asyncio.Task[None]:
+def supervised(what: str, does: Callable[[], Awaitable[object]], told: Callable[[str], None]) -> asyncio.Task[None]:
     """Start a task that goes on until it is cancelled. `what` it looks after is for people, whom `told` tells that it has
     ended and is started again."""
     return asyncio.create_task(supervise(what, does, told))
 
 
-async def supervise(what: str, does: Callable[[], Awaitable[Any]], told: Callable[[str], None]) -> None:
+async def supervise(what: str, does: Callable[[], Awaitable[object]], told: Callable[[str], None]) -> None:
     pause = PAUSE
     while True:
         began = time.monotonic()

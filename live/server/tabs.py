@@ -14,7 +14,7 @@ import logging
 import socket as sockets
 import struct
 import time
-from typing import Any, Callable, Deque, Union
+from typing import TYPE_CHECKING, Callable, Deque, Mapping
 
 from aiohttp import WSMsgType, web
 from zegdrut.programs import describe_standing
@@ -22,13 +22,20 @@ from zegdrut.programs import describe_standing
 from . import plans, verbs
 from .asked import LONGEST_NAME, MOST_EDITS, Asked
 from .journal import packed
+from .model.operations import Json
 from .keeper import Times
 from .lab import Lab
-from .questions import MOST_BYTES, MOST_ROWS, Questions
+from .questions import MOST_BYTES, MOST_ROWS, Questions, Reply
 from .refusals import Refused, not_a_command
+from .seating import ListedSeat
 from .state import TAB_FORM
 from .supervised import supervised
 from .timing import AHEAD
+
+if TYPE_CHECKING:
+    from aiohttp.web_protocol import RequestHandler
+
+    from .peers import BrokerState
 
 LONGEST_FRAME = 65_536
 WAITING = 8  # questions of a tab that may wait
@@ -49,11 +56,11 @@ MOST_TOLD = 50
 class Tab:
     """A socket, and what goes to it: replies in their order, and of each kind of news the latest alone."""
 
-    def __init__(self, tabs: Tabs, socket: web.WebSocketResponse, connection: Any) -> None:
+    def __init__(self, tabs: Tabs, socket: web.WebSocketResponse, connection: RequestHandler) -> None:
         self._tabs, self._socket, self.connection = tabs, socket, connection
         self.index: int | None = None  # of its seat, once it has said hello
         self._replies: Deque[str] = collections.deque()
-        self._news: dict[str, Callable[[], Any]] = {}  # by kind, worked out when it is sent
+        self._news: dict[str, Callable[[], object]] = {}  # by kind, worked out when it is sent
         self.steps: list[int] = []  # from which on the shared road has changed, that it was not told of
         self._wake, self._read = asyncio.Event(), asyncio.Event()
         self._faults = 0
@@ -81,10 +88,10 @@ class Tab:
         for task in self._tasks[:2]:
             task.cancel()
 
-    def tell(self, kind: str, value: Any) -> None:
+    def tell(self, kind: str, value: object) -> None:
         self.tell_then(kind, lambda: value)
 
-    def tell_then(self, kind: str, value: Callable[[], Any]) -> None:
+    def tell_then(self, kind: str, value: Callable[[], object]) -> None:
         """Tell what is so when the tab's turn comes: for many tabs at once that would take long."""
         self._news[kind] = value
         self._wake.set()
@@ -152,7 +159,7 @@ class Tab:
             task.add_done_callback(self._asked.pop)
             await asyncio.sleep(0)  # so that what a tab asks is done in its order
 
-    async def _enter(self, number: int, verb: str, fields: Any) -> None:
+    async def _enter(self, number: int, verb: str, fields: Json) -> None:
         self._is_entering = True
         try:
             asked = Asked(verb, fields)
@@ -172,9 +179,9 @@ class Tab:
         finally:
             self._is_entering = False
 
-    async def _answered(self, index: int, number: int, verb: str, fields: Any, came: float) -> None:
+    async def _answered(self, index: int, number: int, verb: str, fields: Json, came: float) -> None:
         times: Times = {}
-        reply: Union[bytes, dict[str, Any]]
+        reply: Reply
         changes = verb in verbs.CHANGES
         self._tabs.changing[index] += changes
         try:
@@ -192,19 +199,20 @@ class Tab:
         self._replies.append(f'{{"id":{number},"us":{us}{"," if len(text) > 2 else ""}{text[1:]}')
         self._wake.set()
 
-    def _send(self, value: dict[str, Any]) -> None:
+    def _send(self, value: Mapping[str, object]) -> None:
         self._replies.append(packed(value))
         self._wake.set()
 
 
-def parse_frame(text: str) -> tuple[int, str, Any]:
+def parse_frame(text: str) -> tuple[int, str, Json]:
     """Return number, command and fields of a frame; raise ValueError if it is malformed or not UTF-8."""
     text.encode()
-    value = json.loads(text, parse_constant=no_number, parse_float=finite)
-    if type(value) is not dict or type(value.get("id")) is not int or len(value) != 2:
+    value: Json = json.loads(text, parse_constant=no_number, parse_float=finite)
+    number = value.get("id") if isinstance(value, dict) else None
+    if not isinstance(value, dict) or type(number) is not int or len(value) != 2:
         raise ValueError("no command")
     json.dumps(value, ensure_ascii=False).encode()  # half of a surrogate pair is not UTF-8
-    number = value.pop("id")
+    del value["id"]
     if not 0 <= number < 1 << 53:
         raise ValueError("no number")
     (verb, fields), = value.items()
@@ -230,21 +238,21 @@ class Tabs:
         self._all: set[Tab] = set()
         self.changing: collections.Counter[int] = collections.Counter()  # commands of a seat, also of tabs that have gone
         self._standing = describe_standing(lab.keeper.path)  # what is to be known of the program: that it is unproved
-        self._broker: Callable[[], Any] = lambda: None  # its state, for the page
+        self._broker: Callable[[], BrokerState | None] = lambda: None  # its state, for the page
         listeners, keeper = lab.keeper.listeners, lab.keeper
-        listeners.on("shared", self._news)
-        listeners.on("seats", self._seats)
-        listeners.on("clock", self._clock)
-        listeners.on("days", self._days)
-        listeners.on("trouble", self._tell_trouble)
-        listeners.on("program", lambda: self._tell_all("program", {"changes": keeper.changes, "why": keeper.why_changed}))
+        listeners.shared.on(self._news)
+        listeners.seats.on(self._seats)
+        listeners.clock.on(self._clock)
+        listeners.days.on(self._days)
+        listeners.trouble.on(self._tell_trouble)
+        listeners.program.on(lambda: self._tell_all("program", {"changes": keeper.changes, "why": keeper.why_changed}))
         self._ended: str | None = None  # what of the server has ended a moment ago, for people
-        listeners.on("ended", self._part_ended)
+        listeners.ended.on(self._part_ended)
         self._ticks = supervised("the clock that tabs see", self._tick, keeper.ended)
 
     # Coming and going
 
-    async def welcome(self, tab: Tab, asked: Asked) -> dict[str, Any]:
+    async def welcome(self, tab: Tab, asked: Asked) -> Mapping[str, object]:
         """Give a tab its seat."""
         with asked:
             name, key = asked.text("name", LONGEST_NAME, ""), asked.text("key", 100, "")
@@ -261,20 +269,22 @@ class Tabs:
         self.lab.keeper.here.add(index)
         state = self.lab.keeper.state
         seat = state.seats[index]
+        plan: Mapping[str, object] = {**state.plan, "replicas": []}
         return {"at": seat.at, "seat": index, "name": seat.name, "key": key, "number": seat.number,
-                "form": TAB_FORM, "site": state.site, "plan": {**state.plan, "replicas": []},
+                "form": TAB_FORM, "site": state.site, "plan": plan,
                 "horizon": self.lab.keeper.wanted.get(index, 0), **self.lab.keeper.clock().fields(), "ahead": AHEAD,
                 "time": round(time.time(), 3),
                 "most": {"edits": MOST_EDITS, "rows": MOST_ROWS, "bytes": MOST_BYTES,
                          "days": self.lab.keeper.settings.days}, "broker": self._broker(),
                 "trouble": self._trouble, "standing": self._standing, "day": self._day()}
 
-    def _day(self) -> dict[str, Any]:
+    def _day(self) -> Mapping[str, int | str | None]:
         """Return the clock of the day, as far as it is known: the seconds after midnight when it begins, date and time zone."""
         clock = plans.clock_of(self.lab.keeper.folder)
         if clock is None:
             return {"begin": None, "date": None, "zone": None}
-        return {"begin": clock.begin, "date": clock.date and str(clock.date), "zone": clock.zone and str(clock.zone)}
+        date, zone = (None if one is None else str(one) for one in (clock.date, clock.zone))
+        return {"begin": clock.begin, "date": date, "zone": zone}
 
     def arrived(self, tab: Tab) -> None:
         self._tell_news(tab, None)
@@ -287,7 +297,7 @@ class Tabs:
             self._questions.left(tab.index)
             self._seats()
 
-    def known(self) -> set[Any]:
+    def known(self) -> set[RequestHandler]:
         """Return the connections that have shown the token."""
         return {tab.connection for tab in self._all if tab.has_token}
 
@@ -335,7 +345,7 @@ class Tabs:
 
     # Answers
 
-    async def answer(self, tab: Tab, index: int, verb: str, fields: Any, times: Times) -> bytes | dict[str, Any]:
+    async def answer(self, tab: Tab, index: int, verb: str, fields: Json, times: Times) -> Reply:
         """Answer a seat; raise `Refused` if that cannot be done."""
         if verb == "ping":
             return {"pong": fields}
@@ -356,12 +366,12 @@ class Tabs:
 
     # News
 
-    def _tell_all(self, kind: str, value: Any) -> None:
+    def _tell_all(self, kind: str, value: object) -> None:
         for tab in self._all:
             if tab.index is not None:
                 tab.tell(kind, value)
 
-    def follow_broker(self, state: Callable[[], Any]) -> None:
+    def follow_broker(self, state: Callable[[], BrokerState]) -> None:
         """Tell tabs from now on the broker's state."""
         self._broker = state
 
@@ -400,7 +410,7 @@ class Tabs:
         with contextlib.suppress(Refused):
             self._tell_all("seats", await self.seats())
 
-    async def seats(self) -> list[dict[str, Any]]:
+    async def seats(self) -> list[ListedSeat]:
         """Return the list of who has a seat."""
         return await self.lab.seating.seats_kept()
 
@@ -416,7 +426,7 @@ class Tabs:
         tab.steps += [] if touched is None else [touched]
         tab.tell_then("news", functools.partial(self._news_of, tab, index))
 
-    def _news_of(self, tab: Tab, index: int) -> dict[str, Any]:
+    def _news_of(self, tab: Tab, index: int) -> Mapping[str, object]:
         """Steps that the tab was not told of are in it."""
         first, tab.steps = min(tab.steps, default=None), []
         return {**self.lab.news(index, MOST_TOLD), "touched": first}

@@ -3,7 +3,7 @@ from __future__ import annotations
 
 import asyncio
 import time
-from typing import Any
+from typing import Mapping
 
 from zegdrut.grammar import LAST_HORIZON
 
@@ -25,7 +25,7 @@ class Timing:
         self._setting = asyncio.Lock()
         self._waiting: set[asyncio.Future[None]] = set()  # clocks that are being written
 
-    async def set_clock(self, rate: float | None = None, to: int | None = None) -> dict[str, Any]:
+    async def set_clock(self, rate: float | None = None, to: int | None = None) -> Mapping[str, object]:
         """Let the clock go on at a rate, or set it forward. Of several who do so at once each keeps what the others set."""
         keeper = self._keeper
         now = keeper.now()
@@ -37,7 +37,7 @@ class Timing:
             step = clock.now if to is None else max(to, clock.now)
             stop = min(LAST_HORIZON, step + HOUR) if clock.rate > FAST else clock.stop
             await confirmed(self._put(Clock(clock.rate, step, stop)), {})
-        keeper.listeners.tell("clock")
+        keeper.listeners.clock.tell()
         return {"now": step}
 
     def _put(self, clock: Clock) -> asyncio.Future[None]:
@@ -63,4 +63,4 @@ class Timing:
 
     def _has_stopped(self, done: asyncio.Future[None]) -> None:
         if not done.cancelled() and done.exception() is None:
-            self._keeper.listeners.tell("clock")
+            self._keeper.listeners.clock.tell()

@@ -21,7 +21,7 @@ import contextlib
 import logging
 import math
 import time
-from typing import Any, Awaitable, Callable, Deque, Dict
+from typing import Awaitable, Callable, Deque, Dict, Generic, TypeVar, Union
 
 LONG = 0.03  # seconds of a turn that others should not wait for twice
 FORGOTTEN = 2.0  # seconds in which the time that a seat has used counts for a third
@@ -37,8 +37,24 @@ class More:
 
 
 MORE = More()
-Job = Callable[[], Awaitable[Any]]
-Queue = Deque["tuple[Job, asyncio.Future[Any], float, bool | None]"]  # with the time when it was asked, and whether it takes long
+T = TypeVar("T")
+V = TypeVar("V", covariant=True)
+Job = Callable[[], Awaitable[Union[T, More]]]
+Work = Callable[[], Awaitable[object]]
+"""A job of any kind of answer."""
+Around = Callable[[Work], Awaitable[object]]
+
+
+class Waiting(Generic[V]):
+    """A job, the time when it was asked, and whether it takes long; `answer` gets what it gives."""
+
+    def __init__(self, job: Job[V], asked: float, takes_long: bool | None) -> None:
+        self.job, self.asked, self.takes_long = job, asked, takes_long
+        self.answer: asyncio.Future[V] = asyncio.get_running_loop().create_future()
+        self.answer.add_done_callback(lambda one: one.cancelled() or one.exception())
+
+
+Queue = Deque[Waiting[object]]
 
 
 class Use:
@@ -57,7 +73,7 @@ class Use:
 class Turns:
     """The queues of all seats, and one task that works through them."""
 
-    def __init__(self, around: Callable[[Job], Awaitable[Any]], clock: Callable[[], float] = time.monotonic,
+    def __init__(self, around: Around, clock: Callable[[], float] = time.monotonic,
                  most_waited: float = MOST_WAITED, may_be_within: Callable[[], bool] = lambda: True) -> None:
         """`around` calls a job; it may mend what the job stands on, and call it again. `may_be_within` says whether a short job
         may be called within the turn of another seat, as it is."""
@@ -69,21 +85,20 @@ class Turns:
         self._uses: Dict[int, Use] = collections.defaultdict(Use)
         self._number = 0  # of the last turn of all
 
-    def ask(self, seat: int, job: Job, at_leisure: bool = False, takes_long: bool | None = None) -> asyncio.Future[Any]:
+    def ask(self, seat: int, job: Job[T], at_leisure: bool = False, takes_long: bool | None = None) -> asyncio.Future[T]:
         """Return a future with what the job gives, once it is its seat's turn. Whether it takes long is as with the seat's last
         one, if that is not said."""
-        future: asyncio.Future[Any] = asyncio.get_running_loop().create_future()
-        future.add_done_callback(lambda one: one.cancelled() or one.exception())
+        waiting: Waiting[T] = Waiting(job, self._clock(), takes_long)
         if not self._first(seat):
             self._turn.append(seat)
-        (self._later if at_leisure else self._queues)[seat].append((job, future, self._clock(), takes_long))
+        (self._later if at_leisure else self._queues)[seat].append(waiting)
         self._work.set()
-        return future
+        return waiting.answer
 
     def _first(self, seat: int) -> Queue:
         """Return the queue of the seat's next job; empty if it asks nothing."""
         queue, later = self._queues[seat], self._later[seat]
-        return later if later and (not queue or self._clock() - later[0][2] > LEISURE) else queue
+        return later if later and (not queue or self._clock() - later[0].asked > LEISURE) else queue
 
     async def run(self) -> None:
         """Do all jobs, for ever. Started again it also does those of the seat whose turn it was."""
@@ -99,7 +114,7 @@ class Turns:
 
     def _takes_long(self, seat: int) -> bool:
         """Return whether what a seat asks next takes long, as far as is known."""
-        said = self._first(seat)[0][3]
+        said = self._first(seat)[0].takes_long
         return self._uses[seat].last >= LONG if said is None else said
 
     async def _others_first(self, seat: int) -> None:
@@ -135,7 +150,7 @@ class Turns:
                 await self._work.wait()
         return self._work.is_set()
 
-    async def _with_short_ones(self, job: Job) -> Any:
+    async def _with_short_ones(self, job: Work) -> object:
         """Do a job, and while it waits the short jobs of others."""
         turn = asyncio.ensure_future(self._around(job))
         turn.add_done_callback(lambda _: self._work.set())
@@ -156,15 +171,15 @@ class Turns:
         return turn.result()
 
     def _is_short(self, seat: int) -> bool:
-        return self._first(seat)[0][3] is False
+        return self._first(seat)[0].takes_long is False
 
     async def _one_turn(self, seat: int, is_within: bool = False) -> None:
         queue = self._first(seat)
-        job, future, *_ = queue[0]
+        job, future = queue[0].job, queue[0].answer
         began = self._clock()
         try:
             if future.cancelled():
-                result: Any = MORE
+                result: object = MORE
             elif self._is_short(seat):
                 result = await (job() if is_within else self._around(job))
             else:

@@ -1,20 +1,20 @@
-"""Answer the commands of a tab. One table has for each its name, the roads that may be asked, the reader of its fields, and what
-answers it."""
+"""Answer the commands of a tab. One table has for each its name, the roads that may be asked, and the reader of its fields, which
+returns what answers it."""
 from __future__ import annotations
 
 import secrets
 from dataclasses import dataclass
-from typing import Any, Awaitable, Callable
+from typing import Awaitable, Callable, TypeVar
 
 from zegdrut.grammar import LAST_HORIZON
 
 from . import peers
-from .asked import LONGEST_NOTE, Asked
+from .asked import LONGEST_NOTE, Asked, RawEdit
 from .keeper import SHARED, Times
 from .lab import Lab
 from .questions import Questions, Reply
 from .refusals import Refused, not_a_command
-from .roads import SIDES
+from .roads import SIDES, AskedRoad
 from .state import Replica
 from .timing import FASTEST
 
@@ -45,8 +45,14 @@ class Call:
         return self.lab.state.replica(SHARED if self.at == "shared" else self.index)
 
     @property
-    def road(self) -> Any:
+    def road(self) -> AskedRoad:
         return self.questions.road(self.index, self.at)
+
+
+Does = Callable[[Call], Awaitable[Reply]]
+"""A command whose fields are read: it answers a call."""
+Reads = Callable[[Asked], Does]
+T = TypeVar("T")
 
 
 @dataclass(frozen=True)
@@ -54,8 +60,7 @@ class Verb:
     """A command. If the road is one of `lists`, the answer may show what others did. It waits until that is on the disk."""
 
     of: frozenset[str]
-    reads: Callable[[Asked], dict[str, Any]]
-    does: Callable[..., Awaitable[Reply]]
+    reads: Reads
     lists: frozenset[str] = frozenset()
 
 
@@ -66,12 +71,11 @@ async def answer(lab: Lab, questions: Questions, index: int, asked: Asked, times
     verb = VERBS[asked.verb]
     call = Call(lab, questions, index, where(lab, index, asked, verb), times)
     with asked:
-        fields = verb.reads(asked)
+        does = verb.reads(asked)
     if verb.of in (ALL, OWN) and not verb.lists:
-        return await verb.does(call, **fields)
+        return await does(call)
     may_see = "shared" if call.at in verb.lists else "nothing"
-    reply: Reply = await lab.keeper.read_committed(lambda: verb.does(call, **fields), may_see)
-    return reply
+    return await lab.keeper.read_committed(lambda: does(call), may_see)
 
 
 def where(lab: Lab, index: int, asked: Asked, verb: Verb) -> str:
@@ -87,60 +91,38 @@ def where(lab: Lab, index: int, asked: Asked, verb: Verb) -> str:
     return meant
 
 
-# What is read
+# How fields are read
 
-def no_fields(asked: Asked) -> dict[str, Any]:
-    return {}
-
-
-def read_steps(asked: Asked) -> dict[str, Any]:
-    return {"first": asked.whole("from"), "last": asked.whole("to")}
+def no_fields(does: Does) -> Reads:
+    return lambda _asked: does
 
 
-def read_gesture(asked: Asked) -> dict[str, Any]:
-    """Return what a gesture does, and its fields."""
-    fields: dict[str, Any] = {"key": asked.key(), "note": asked.text("note", LONGEST_NOTE, "")}
-    if asked.has("edits"):
-        shape = None if not asked.has("shape") or asked.is_null("shape") else asked.shape()
-        return {"does": Lab.put_edits, **fields, "edits": asked.edits(), "shape": shape}
-    if not asked.has("layer"):
-        return {"does": Lab.put_shape, **fields, "shape": asked.shape()}
-    fields["line"], top = asked.stamp_or_key("layer"), asked.flag("top")
-    if not asked.has("shape"):
-        if not top:
-            raise not_a_command("a gesture with a `layer` has a `shape`, which may be null, or `top`")
-        return {"does": Lab.lift_line, **fields}
-    return {"does": Lab.change_line, **fields, "shape": None if asked.is_null("shape") else asked.shape(), "top": top}
+def one_part(read: Callable[[Asked], T], does: Callable[[Call, T], Awaitable[Reply]]) -> Reads:
+    """Return the reader of a command whose fields are one part: a value, or a tuple."""
+    def reads(asked: Asked) -> Does:
+        part = read(asked)
+        return lambda call: does(call, part)
+    return reads
 
 
-def read_edit(asked: Asked) -> dict[str, Any]:
-    """Read the `edit` and `withdraw` of the format, as raw edits."""
-    thing = asked.require("object")
-    edit = [*(thing if type(thing) is list else [thing]), asked.require("step"),
-            asked.require("value") if asked.verb == "edit" else None]
-    edits = Asked("gesture", {"edits": [edit]}).edits()
-    if asked.verb == "edit" and edit[-1] is None:
-        raise Refused("not a command", "null is no number: `withdraw` takes an edit back")
-    return {"edits": edits}
+def read_steps(asked: Asked) -> tuple[int, int]:
+    return asked.whole("from"), asked.whole("to")
 
 
-def read_undo(asked: Asked) -> dict[str, Any]:
-    return {"key": asked.key(), "note": asked.text("note", LONGEST_NOTE, ""), "stamp": asked.stamp_or_key("stamp")}
+def read_key_and_note(asked: Asked) -> tuple[str, str]:
+    return asked.key(), asked.text("note", LONGEST_NOTE, "")
 
 
-def read_site(asked: Asked) -> dict[str, Any]:
-    return {"key": asked.key(), "note": asked.text("note", LONGEST_NOTE, ""), "site": asked.whole("site", 1, 1_023),
-            "out": asked.flag("out")}
+def read_comparison(asked: Asked) -> tuple[str, int, int]:
+    """Return which roads are compared, and the steps."""
+    of = asked.require("of")
+    if type(of) is not str or of not in ("preview", "mine"):
+        raise not_a_command('`of` is "preview" or "mine"')
+    return (of, *read_steps(asked))
 
 
-def read_share(asked: Asked) -> dict[str, Any]:
-    require_shared(asked, "name")
-    return {"stamps": asked.stamps(), "title": asked.text("title", LONGEST_NOTE, "")}
-
-
-def read_take(asked: Asked) -> dict[str, Any]:
-    require_shared(asked, "message")
-    return {}
+def read_site(asked: Asked) -> int:
+    return asked.whole("site", 1, 1_023)
 
 
 def require_shared(asked: Asked, field: str) -> None:
@@ -148,120 +130,16 @@ def require_shared(asked: Asked, field: str) -> None:
         raise Refused("not a command", f"`{field}` is \"shared\" here")
 
 
-def read_preview(asked: Asked) -> dict[str, Any]:
-    what = None if asked.is_null("what") else asked.require("what")
-    if what not in (None, "share", "take"):
-        raise not_a_command('`what` is "share" or "take", or null')
-    return {"what": what, "stamps": asked.stamps()}
-
-
-def read_comparison(asked: Asked) -> dict[str, Any]:
-    if asked.require("of") not in ("preview", "mine"):
-        raise not_a_command('`of` is "preview" or "mine"')
-    return {"of": asked.require("of"), **read_steps(asked)}
-
-
-def read_report(asked: Asked) -> dict[str, Any]:
-    """Read a comparison with its title, and sentences about the works on the roads."""
-    return {**read_comparison(asked), "title": asked.text("title", LONGEST_NOTE), "works": asked.texts("works", MOST_WORKS, LONGEST_NOTE)}
-
-
-def read_days(asked: Asked) -> dict[str, Any]:
-    """Read a comparison over many days; `of` null ends the one that runs."""
-    if asked.is_null("of"):
-        return {"of": None, "first": 0, "last": 0}
-    return read_comparison(asked)
-
-
-def read_admission(asked: Asked) -> dict[str, Any]:
-    """Read an inlet, the slow-to-start chance there, and the chances of inlets before it."""
-    inlet = asked.whole("inlet")
-    start = None if asked.is_null("start") else asked.whole("start", 0, 65_536)
-    before = asked.pairs("before")
-    return {"inlet": inlet, "start": start, "before": before}
-
-
-def read_clock(asked: Asked) -> dict[str, Any]:
-    return {"rate": asked.number("rate", FASTEST)} if asked.has("rate") else {"to": asked.whole("to")}
-
-
-def read_diagram(asked: Asked) -> dict[str, Any]:
-    return {**read_steps(asked), "every": asked.whole("every", 1, LAST_HORIZON, 1), "cells": asked.stretch()}
-
-
-def read_counts(asked: Asked) -> dict[str, Any]:
-    return {**read_steps(asked), "each": asked.whole("each", 1, LAST_HORIZON) if asked.has("each") else None}
-
-
-def read_transcript(asked: Asked) -> dict[str, Any]:
-    return {"first": asked.whole("from", default=0), "last": asked.whole("to", 0, LAST_HORIZON),
-            "piece": asked.whole("next", default=0)}
-
-
-def read_table(asked: Asked) -> dict[str, Any]:
-    if asked.require("what") != "counts":
-        raise not_a_command('`what` is "counts"')
-    return {**read_steps(asked), "each": asked.whole("each", 1, LAST_HORIZON)}
-
-
-# What is done
-
-def forward(verb: str) -> Callable[..., Awaitable[Reply]]:
-    async def does(call: Call, **fields: Any) -> Reply:
-        return await call.questions.plain(call.road, call.times, verb, fields)
-    return does
-
-
-async def run_gesture(call: Call, does: Callable[..., Awaitable[Reply]], **fields: Any) -> Reply:
-    """Do what a gesture means."""
-    return await does(call.lab, call.index, call.times, **fields)
-
-
-def of_lab(does: Callable[..., Awaitable[Reply]]) -> Callable[..., Awaitable[Reply]]:
-    """Return what does something of the lab for a seat."""
-    async def act(call: Call, **fields: Any) -> Reply:
-        return await does(call.lab, call.index, call.times, **fields)
-    return act
-
-
-def of_road(answers: Callable[..., Awaitable[Reply]]) -> Callable[..., Awaitable[Reply]]:
-    """Return what answers a question about a road."""
-    async def act(call: Call, **fields: Any) -> Reply:
-        return await answers(call.questions, call.road, call.times, **fields)
-    return act
-
-
-def of_seat(answers: Callable[..., Awaitable[Reply]]) -> Callable[..., Awaitable[Reply]]:
-    """Return what answers a question about what a seat holds."""
-    async def act(call: Call, **fields: Any) -> Reply:
-        return await answers(call.questions, call.index, call.replica, **fields)
-    return act
-
-
-async def set_clock(call: Call, **fields: Any) -> Reply:
-    return await call.lab.timing.set_clock(**fields)
-
-
-async def leave(call: Call) -> Reply:
-    await call.lab.seating.give_back(call.index)
-    return {}
-
-
-async def admission(call: Call, inlet: int, start: int | None, before: list[tuple[int, int]]) -> Reply:
-    inlets = len(call.lab.state.plan["inlets"])
-    for one, chance in [(inlet, 0), *before]:
-        if one >= inlets or chance > 65_536:
-            raise Refused("Range", f"an inlet is 0 to {inlets - 1}, and its chance 0 to 65536")
-    return await call.questions.admission(inlet, start, before)
-
-
-async def edits(call: Call, edits: list[Any]) -> Reply:
-    said = await call.lab.put_edits(call.index, call.times, key=secrets.token_hex(8), note="", edits=edits)
-    return {"stamp": said["stamp"]}
-
+# Of no road
 
 async def seats(call: Call) -> Reply:
     return {"seats": await call.lab.seating.seats_kept(call.index)}
+
+
+def clock(asked: Asked) -> Does:
+    rate = asked.number("rate", FASTEST) if asked.has("rate") else None
+    to = asked.whole("to") if rate is None else None
+    return lambda call: call.lab.timing.set_clock(rate, to)
 
 
 async def list_numbers(call: Call) -> Reply:
@@ -274,41 +152,184 @@ async def unbind(call: Call, site: int) -> Reply:
     return {}
 
 
+def admission(asked: Asked) -> Does:
+    """Read an inlet, the slow-to-start chance there, and the chances of inlets before it."""
+    inlet = asked.whole("inlet")
+    start = None if asked.is_null("start") else asked.whole("start", 0, 65_536)
+    before = asked.pairs("before")
+
+    async def does(call: Call) -> Reply:
+        inlets = len(call.lab.state.plan["inlets"])
+        for one, chance in [(inlet, 0), *before]:
+            if one >= inlets or chance > 65_536:
+                raise Refused("Range", f"an inlet is 0 to {inlets - 1}, and its chance 0 to 65536")
+        return await call.questions.admission(inlet, start, before)
+    return does
+
+
+# The own road is changed, shared, taken
+
+def gesture(asked: Asked) -> Does:
+    """Read a gesture: raw edits, a new shape, or another shape or height of a line."""
+    key, note = read_key_and_note(asked)
+    if asked.has("edits"):
+        drawn = None if not asked.has("shape") or asked.is_null("shape") else asked.shape()
+        edits = asked.edits()
+        return lambda call: call.lab.put_edits(call.index, call.times, key=key, note=note, edits=edits, shape=drawn)
+    if not asked.has("layer"):
+        new = asked.shape()
+        return lambda call: call.lab.put_shape(call.index, call.times, key=key, note=note, shape=new)
+    line, top = asked.stamp_or_key("layer"), asked.flag("top")
+    if not asked.has("shape"):
+        if not top:
+            raise not_a_command("a gesture with a `layer` has a `shape`, which may be null, or `top`")
+        return lambda call: call.lab.lift_line(call.index, call.times, key=key, note=note, line=line)
+    shape = None if asked.is_null("shape") else asked.shape()
+    return lambda call: call.lab.change_line(call.index, call.times, key=key, note=note, line=line, shape=shape, top=top)
+
+
+def read_edit(asked: Asked) -> list[RawEdit]:
+    """Read the `edit` and `withdraw` of the format, as raw edits."""
+    thing = asked.require("object")
+    edit = [*(thing if isinstance(thing, list) else [thing]), asked.require("step"),
+            asked.require("value") if asked.verb == "edit" else None]
+    edits = Asked("gesture", {"edits": [edit]}).edits()
+    if asked.verb == "edit" and edit[-1] is None:
+        raise Refused("not a command", "null is no number: `withdraw` takes an edit back")
+    return edits
+
+
+async def put_edits(call: Call, edits: list[RawEdit]) -> Reply:
+    said = await call.lab.put_edits(call.index, call.times, key=secrets.token_hex(8), note="", edits=edits)
+    return {"stamp": said["stamp"]}
+
+
+def undo(asked: Asked) -> Does:
+    key, note = read_key_and_note(asked)
+    stamp = asked.stamp_or_key("stamp")
+    return lambda call: call.lab.undo(call.index, call.times, key=key, note=note, stamp=stamp)
+
+
+def put_again(asked: Asked) -> Does:
+    key, stamp = asked.key(), asked.stamp_or_key("stamp")
+    return lambda call: call.lab.put_again(call.index, call.times, key=key, stamp=stamp)
+
+
+def exclude_site(asked: Asked) -> Does:
+    key, note = read_key_and_note(asked)
+    site, is_out = read_site(asked), asked.flag("out")
+    return lambda call: call.lab.exclude_site(call.index, call.times, key=key, note=note, site=site, out=is_out)
+
+
+def share(asked: Asked) -> Does:
+    require_shared(asked, "name")
+    stamps, title = asked.stamps(), asked.text("title", LONGEST_NOTE, "")
+    return lambda call: call.lab.share(call.index, call.times, stamps=stamps, title=title)
+
+
+async def leave(call: Call) -> Reply:
+    await call.lab.seating.give_back(call.index)
+    return {}
+
+
+# Roads are asked
+
+def forward(asked: Asked) -> Does:
+    """Give the program a command as it is."""
+    fields = asked.remaining()
+    return lambda call: call.questions.plain(call.road, call.times, asked.verb, fields)
+
+
+def diagram(asked: Asked) -> Does:
+    first, last = read_steps(asked)
+    every, cells = asked.whole("every", 1, LAST_HORIZON, 1), asked.stretch()
+    return lambda call: call.questions.diagram(call.road, call.times, first=first, last=last, every=every, cells=cells)
+
+
+def counts(asked: Asked) -> Does:
+    first, last = read_steps(asked)
+    each = asked.whole("each", 1, LAST_HORIZON) if asked.has("each") else None
+    return lambda call: call.questions.counts(call.road, call.times, first=first, last=last, each=each)
+
+
+# Lists, and what would be
+
+def preview(asked: Asked) -> Does:
+    what = None if asked.is_null("what") else asked.require("what")
+    if what not in (None, "share", "take"):
+        raise not_a_command('`what` is "share" or "take", or null')
+    stamps = asked.stamps()
+    return lambda call: call.questions.preview(call.index, what, stamps)
+
+
+def days(asked: Asked) -> Does:
+    """Read a comparison over many days; `of` null ends the one that runs."""
+    if asked.is_null("of"):
+        return lambda call: call.questions.days(call.index, call.replica, None, 0, 0)
+    of, first, last = read_comparison(asked)
+    return lambda call: call.questions.days(call.index, call.replica, of, first, last)
+
+
+# What is saved
+
+def transcript(asked: Asked) -> Does:
+    first, last = asked.whole("from", default=0), asked.whole("to", 0, LAST_HORIZON)
+    piece = asked.whole("next", default=0)
+    return lambda call: call.questions.transcript(call.index, call.replica, first, last, piece)
+
+
+def report(asked: Asked) -> Does:
+    """Read a comparison with its title, and sentences about the works on the roads."""
+    of, first, last = read_comparison(asked)
+    title, works = asked.text("title", LONGEST_NOTE), asked.texts("works", MOST_WORKS, LONGEST_NOTE)
+    return lambda call: call.questions.report(call.index, call.replica, of, first, last, title, works)
+
+
+def table_of_counts(asked: Asked) -> Does:
+    if asked.require("what") != "counts":
+        raise not_a_command('`what` is "counts"')
+    first, last = read_steps(asked)
+    each = asked.whole("each", 1, LAST_HORIZON)
+    return lambda call: call.questions.table_of_counts(call.road, call.times, first, last, each)
+
+
 VERBS: dict[str, Verb] = {
     # Of no road
-    "seats": Verb(ALL, no_fields, seats),
-    "clock": Verb(ALL, read_clock, set_clock),
-    "numbers": Verb(ALL, no_fields, list_numbers),
-    "unbind": Verb(ALL, lambda asked: {"site": asked.whole("site", 1, 1_023)}, unbind),
-    "admission": Verb(ALL, read_admission, admission),
+    "seats": Verb(ALL, no_fields(seats)),
+    "clock": Verb(ALL, clock),
+    "numbers": Verb(ALL, no_fields(list_numbers)),
+    "unbind": Verb(ALL, one_part(read_site, unbind)),
+    "admission": Verb(ALL, admission),
     # The own road is changed, shared, taken
-    "gesture": Verb(OWN, read_gesture, run_gesture),
-    "edit": Verb(OWN, read_edit, edits),
-    "withdraw": Verb(OWN, read_edit, edits),
-    "undo": Verb(OWN, read_undo, of_lab(Lab.undo)),
-    "again": Verb(OWN, lambda asked: {"key": asked.key(), "stamp": asked.stamp_or_key("stamp")}, of_lab(Lab.put_again)),
-    "site": Verb(OWN, read_site, of_lab(Lab.exclude_site)),
-    "send": Verb(OWN, read_share, of_lab(Lab.share)),
-    "take": Verb(OWN, read_take, of_lab(Lab.take)),
-    "leave": Verb(OWN, no_fields, leave),
+    "gesture": Verb(OWN, gesture),
+    "edit": Verb(OWN, one_part(read_edit, put_edits)),
+    "withdraw": Verb(OWN, one_part(read_edit, put_edits)),
+    "undo": Verb(OWN, undo),
+    "again": Verb(OWN, put_again),
+    "site": Verb(OWN, exclude_site),
+    "send": Verb(OWN, share),
+    "take": Verb(OWN, one_part(lambda asked: require_shared(asked, "message"), lambda call, _: call.lab.take(call.index, call.times))),
+    "leave": Verb(OWN, no_fields(leave)),
     # Roads are asked
-    "advance": Verb(ROADS, lambda asked: {"to": asked.whole("to")}, of_road(Questions.advance)),
-    "cells": Verb(ROADS, Asked.remaining, forward("cells")),
-    "cars": Verb(ROADS, Asked.remaining, forward("cars")),
-    "count": Verb(ROADS, Asked.remaining, forward("count")),
-    "scenario": Verb(KEPT, Asked.remaining, forward("scenario")),
-    "diagram": Verb(ROADS, read_diagram, of_road(Questions.diagram)),
-    "sums": Verb(ROADS, read_steps, of_road(Questions.sums)),
-    "counts": Verb(ROADS, read_counts, of_road(Questions.counts)),
+    "advance": Verb(ROADS, one_part(lambda asked: asked.whole("to"), lambda call, to: call.questions.advance(call.road, to))),
+    "cells": Verb(ROADS, forward),
+    "cars": Verb(ROADS, forward),
+    "count": Verb(ROADS, forward),
+    "scenario": Verb(KEPT, forward),
+    "diagram": Verb(ROADS, diagram),
+    "sums": Verb(ROADS, one_part(read_steps, lambda call, span: call.questions.sums(call.road, call.times, *span))),
+    "counts": Verb(ROADS, counts),
     # Lists, and what would be
-    "layers": Verb(KEPT, lambda asked: {"version": asked.version("from")}, of_seat(Questions.layers), SHARED_ROAD),
-    "operations": Verb(KEPT, lambda asked: {"first": asked.whole("from", default=0)}, of_seat(Questions.operations), SHARED_ROAD),
-    "preview": Verb(OWN, read_preview, of_seat(Questions.preview)),  # (which waits itself, before it keeps the two roads)
-    "figures": Verb(OWN, read_comparison, of_seat(Questions.figures), OWN),
-    "days": Verb(OWN, read_days, of_seat(Questions.days), OWN),
+    "layers": Verb(KEPT, one_part(lambda asked: asked.version("from"), lambda call, version: call.questions.layers(
+        call.index, call.replica, version)), SHARED_ROAD),
+    "operations": Verb(KEPT, one_part(lambda asked: asked.whole("from", default=0), lambda call, first: call.questions.operations(
+        call.index, call.replica, first)), SHARED_ROAD),
+    "preview": Verb(OWN, preview),  # (which waits itself, before it keeps the two roads)
+    "figures": Verb(OWN, one_part(read_comparison, lambda call, asked: call.questions.figures(call.index, call.replica, *asked)), OWN),
+    "days": Verb(OWN, days, OWN),
     # What is saved
-    "transcript": Verb(KEPT, read_transcript, of_seat(Questions.transcript), SHARED_ROAD),
-    "report": Verb(OWN, read_report, of_seat(Questions.report), OWN),
-    "script": Verb(KEPT, no_fields, of_seat(Questions.script), SHARED_ROAD),
-    "csv": Verb(KEPT, read_table, of_road(Questions.table_of_counts), SHARED_ROAD),
+    "transcript": Verb(KEPT, transcript, SHARED_ROAD),
+    "report": Verb(OWN, report, OWN),
+    "script": Verb(KEPT, no_fields(lambda call: call.questions.script(call.index, call.replica)), SHARED_ROAD),
+    "csv": Verb(KEPT, table_of_counts, SHARED_ROAD),
 }

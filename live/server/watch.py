@@ -16,7 +16,7 @@ import threading
 import time
 import traceback
 from pathlib import Path
-from typing import Any, Callable
+from typing import Callable
 
 HERE = str(Path(__file__).resolve().parent)
 CLIENT = str(Path(HERE, "client.py"))  # which is not part of a server
@@ -29,8 +29,8 @@ LONG = 0.01  # seconds of processor of a full collection of garbage
 class Watch:
     """Looks at each piece of work of the event loops in this process."""
 
-    def __init__(self, longest: float, told: Callable[[str], Any],
-                 counts: Callable[[Any], bool] = lambda callback: True) -> None:
+    def __init__(self, longest: float, told: Callable[[str], object],
+                 counts: Callable[[object], bool] = lambda callback: True) -> None:
         """`counts` says whether a piece is looked at, by its callback."""
         self._longest, self._told, self._counts = longest, told, counts
         self._piece: tuple[int, float] | None = None  # the thread that does one, and when it began
@@ -43,11 +43,12 @@ class Watch:
     def _begin(self) -> None:
         run, longest, clock = self._run, self._longest, time.thread_time
 
-        def measured(handle: Any) -> None:
-            if not self._counts(handle._callback):
+        def measured(handle: asyncio.Handle) -> None:
+            callback: object = getattr(handle, "_callback")
+            if not self._counts(callback):
                 run(handle)
                 return
-            callback, began = handle._callback, clock()
+            began = clock()
             self._piece = threading.get_ident(), time.monotonic()
             try:
                 run(handle)
@@ -61,7 +62,7 @@ class Watch:
         setattr(asyncio.Handle, "_run", measured)
         self._looker.start()
 
-    def _tell(self, took: float, callback: Any) -> None:
+    def _tell(self, took: float, callback: object) -> None:
         where = max(self._seen, key=self._seen.count, default=named(callback))
         self._told(f"{SAID} for a piece of work of {took:.2f} s: {where}")
 
@@ -83,13 +84,13 @@ class Watch:
         self._looker.join()
 
 
-def named(callback: Any) -> str:
+def named(callback: object) -> str:
     """Return what a piece does, where nobody has seen where it was."""
     task = getattr(callback, "__self__", None)
     return repr(task.get_coro()) if isinstance(task, asyncio.Task) else repr(callback)
 
 
-def is_of_server(callback: Any) -> bool:
+def is_of_server(callback: object) -> bool:
     """Return whether a piece is of this package: of a task of one of its functions, or a call of one."""
     task = getattr(callback, "__self__", None)
     does = task.get_coro() if isinstance(task, asyncio.Task) else callback

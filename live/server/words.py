@@ -9,10 +9,16 @@ from __future__ import annotations
 
 import math
 from dataclasses import dataclass
-from typing import Any, Sequence
+from typing import TYPE_CHECKING, Sequence, TypedDict
 
 from zegdrut.clock import Clock, InvalidTime
 from zegdrut.units import KMH, to_cells, to_chance, to_km, to_limit
+from zegdrut.wire import PlanLine, WrittenEdit
+
+from .model.operations import Shape
+
+if TYPE_CHECKING:
+    from .admissions import Curve
 
 HOW = {"close": "FROM_KM TO_KM BEGIN [END]", "limit": "KMH FROM_KM TO_KM BEGIN [END]", "slowing": "PERCENT FROM_KM TO_KM BEGIN [END]",
        "slow-to-start": "PERCENT FROM_KM TO_KM BEGIN [END]", "demand": "CARS_PER_HOUR INLET_KM BEGIN [END]",
@@ -28,12 +34,16 @@ class InvalidWords(ValueError):
 class WrittenChange:
     """A change: its shape, in which a demand has the value 0; the demand in cars per hour, if it is one; and a sentence of it."""
 
-    shape: list[Any]
+    shape: Shape
     demand: float | None
     sentence: str
 
 
-def read_change(words: Sequence[str], plan: dict[str, Any], clock: Clock) -> WrittenChange:
+InletState = TypedDict("InletState", {"inlet": int, "start": "int | None", "before": Sequence["tuple[int, int]"]})
+"""What the curve of an inlet depends on: the chance of standing cars, and the chances of inlets before it, in 1/65,536."""
+
+
+def read_change(words: Sequence[str], plan: PlanLine, clock: Clock) -> WrittenChange:
     """Return the change that words write. InvalidWords: they cannot be read, or the road has no such place."""
     kind = words[0] if words else ""
     if kind not in HOW:
@@ -48,7 +58,7 @@ def read_change(words: Sequence[str], plan: dict[str, Any], clock: Clock) -> Wri
     number, said = read_value(kind, value)
     first, last, where = find_places(kind, [parse_number(one, "a number of km") for one in places], plan)
     times = f"from {clock.to_text(begin)} on" if end is None else f"{clock.to_text(begin)} to {clock.to_text(end)}"
-    return WrittenChange([KIND_OF_WORD[kind], first, last, begin, end, number], float(value or 0) if kind == "demand" else None,
+    return WrittenChange(Shape(KIND_OF_WORD[kind], first, last, begin, end, number), float(value or 0) if kind == "demand" else None,
                          f"{said}, {where}, {times}")
 
 
@@ -96,13 +106,13 @@ def read_value(kind: str, text: str | None) -> tuple[int, str]:
     return to_chance(number / 100), f"{kind} {number:g} %"
 
 
-def find_places(kind: str, places: Sequence[float], plan: dict[str, Any]) -> tuple[int, int, str]:
+def find_places(kind: str, places: Sequence[float], plan: PlanLine) -> tuple[int, int, str]:
     """Return the first and the last object at places in km, and where they are in words. InvalidWords: they are not on the road."""
     end = to_km(plan["length"])
     if max(places) > end + 1e-9 or len(places) == 2 and places[0] > places[1]:
         raise InvalidWords(f"{' to '.join(f'{one:g}' for one in places)} km is not on the road: 0 to {end:g} km, the greater one second")
     if kind in ("demand", "detector"):
-        cells: list[int] = [cell for cell, _ in plan["inlets"]] if kind == "demand" else plan["detectors"]
+        cells = [cell for cell, _ in plan["inlets"]] if kind == "demand" else plan["detectors"]
         if not cells:
             raise InvalidWords("the road has no " + ("inlet" if kind == "demand" else "detector"))
         index = min(range(len(cells)), key=lambda one: abs(cells[one] - to_cells(places[0])))
@@ -118,18 +128,20 @@ def find_places(kind: str, places: Sequence[float], plan: dict[str, Any]) -> tup
     return first, last, f"km {to_km(first * zone):g} to {to_km(min((last + 1) * zone, plan['length'])):g}"
 
 
-def find_state(plan: dict[str, Any], edits: Sequence[Sequence[Any]], inlet: int, step: int) -> dict[str, Any]:
+def find_state(plan: PlanLine, edits: Sequence[WrittenEdit], inlet: int, step: int) -> InletState:
     """Return what the curve of an inlet depends on at a step, as the question `admission` has it. `edits` are those of a scenario."""
     cell = plan["inlets"][inlet][0]
 
     def find_value(kind: str, index: int, at: int, planned: int | None) -> int | None:
-        puts = sorted((edit[2], edit[-1]) for edit in edits if edit[:2] == [kind, index] and edit[-1] is not None and edit[2] <= at)
+        puts = sorted((since, value) for of, thing, since, _, _, value in edits if (of, thing) == (kind, index) and value is not None
+                      and since <= at)
         return puts[-1][1] if puts else planned
-    before = [[index, find_value("inflow", index, step, chance)] for index, (at, chance) in enumerate(plan["inlets"]) if at < cell]
-    return {"inlet": inlet, "start": find_value("start", cell // plan["zone"], 0, None), "before": [one for one in before if one[1]]}
+    before = [(index, find_value("inflow", index, step, chance)) for index, (at, chance) in enumerate(plan["inlets"]) if at < cell]
+    return {"inlet": inlet, "start": find_value("start", cell // plan["zone"], 0, None),
+            "before": [(index, chance) for index, chance in before if chance]}
 
 
-def find_chance(curve: dict[str, Any], demand: float) -> int:
+def find_chance(curve: Curve, demand: float) -> int:
     """Return the inflow chance in 1/65,536 that admits a demand in cars per hour. InvalidWords: the inlet admits less."""
     if demand > curve["capacity"]:
         raise InvalidWords(f"this inlet admits 0 to {curve['capacity']:,.0f} cars per hour here, not {demand:,.0f}")

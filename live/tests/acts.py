@@ -7,6 +7,7 @@ import signal
 from typing import Any
 
 from server.client import RefusedReply, Seat
+from server.model.operations import Stamp
 from running import SMALL, Case, descendants, until
 
 LIMIT = ["limit", 2, 50]
@@ -14,22 +15,20 @@ CLOSED = ["block", 60, 69, 30, 60, 1]
 SLOW = ["limit", 1, 3, 20, 80, 2]
 
 
-async def put(seat: Seat, key: str, *edits: list[Any], **more: Any) -> list[int]:
+async def put(seat: Seat, key: str, *edits: list[Any], **more: Any) -> Stamp:
     """Raw edits."""
-    stamp: list[int] = (await seat.ask("gesture", key=key, edits=list(edits), **more))["stamp"]
-    return stamp
+    return (await seat.ask("gesture", key=key, edits=list(edits), **more))["stamp"]
 
 
-async def lay(seat: Seat, key: str, shape: list[Any] | None, **more: Any) -> list[int]:
+async def lay(seat: Seat, key: str, shape: list[Any] | None, **more: Any) -> Stamp:
     """A shape, or what becomes of one."""
-    stamp: list[int] = (await seat.ask("gesture", key=key, shape=shape, **more))["stamp"]
-    return stamp
+    return (await seat.ask("gesture", key=key, shape=shape, **more))["stamp"]
 
 
 async def limit_at(seat: Seat, at: str = "") -> Any:
     """What the seat's replica holds for LIMIT: null for a withdrawal, "-" for nothing."""
     edits = (await seat.ask("scenario", **({"at": at} if at else {})))["edits"]
-    return next((edit[5] for edit in edits if edit[:3] == LIMIT), "-")
+    return next((edit[5] for edit in edits if [*edit[:3]] == LIMIT), "-")
 
 
 async def numbers(seat: Seat, at: str = "") -> dict[tuple[Any, ...], int]:
@@ -38,9 +37,9 @@ async def numbers(seat: Seat, at: str = "") -> dict[tuple[Any, ...], int]:
     return {tuple(edit[:3]): edit[5] for edit in edits if edit[5] is not None}
 
 
-async def lines(seat: Seat, at: str = "") -> dict[tuple[int, int], Any]:
+async def lines(seat: Seat, at: str = "") -> dict[tuple[int, ...], Any]:
     """The whole list, by names."""
-    found: dict[tuple[int, int], Any] = {}
+    found: dict[tuple[int, ...], Any] = {}
     after, more = 0, True
     while more:
         said = await seat.ask("layers", **({"at": at} if at else {}), **{"from": after})
@@ -67,8 +66,8 @@ class Acts(Case):
         stamp = said["stamp"]
         self.assertEqual((stamp[1], said["touched"]), (65, 30))
         self.assertEqual(await numbers(self.ada), closed(60, 69, 30, 60))
-        line, = said["layers"]
-        self.assertEqual(line, (await lines(self.ada))[tuple(stamp)])
+        line: Any = said["layers"][-1]
+        self.assertEqual(([line], line), (said["layers"], (await lines(self.ada))[tuple(stamp)]))
         self.assertEqual([line[name] for name in ("name", "shape", "kind", "who", "note", "standing", "shared", "height")],
                          [stamp, CLOSED, "block", "Ada", "Closed 3 km", True, False, stamp])
         self.assertEqual(line["shown"], [["block", 60, 69, 30, 60, 1, None]])
@@ -160,9 +159,12 @@ class Acts(Case):
     async def test_z_takes_back_all_that_was_done_to_one_line(self) -> None:
         line = await lay(self.ada, "under", ["limit", 2, 2, 40, 90, 1])
         states = [await numbers(self.ada)]
-        for key, fields in (("put", {"shape": ["limit", 2, 3, 20, 50, 2]}), ("change", {"shape": ["limit", 2, 3, 20, 70, 2]}),
-                            ("longer", {"shape": ["limit", 2, 3, 20, 80, 3]}), ("gone", {"shape": None}),
-                            ("back", {"shape": ["limit", 1, 3, 20, 80, 3]}), ("top", {"top": True})):
+        gestures: list[tuple[str, dict[str, Any]]] = [
+            ("put", {"shape": ["limit", 2, 3, 20, 50, 2]}), ("change", {"shape": ["limit", 2, 3, 20, 70, 2]}),
+            ("longer", {"shape": ["limit", 2, 3, 20, 80, 3]}), ("gone", {"shape": None}),
+            ("back", {"shape": ["limit", 1, 3, 20, 80, 3]}), ("top", {"top": True})]
+        said: Any = None
+        for key, fields in gestures:
             said = await self.ada.ask("gesture", key=key, **fields, **({} if key == "put" else {"layer": "put"}))
             states.append(await numbers(self.ada))
         for turn, walk in enumerate(("undo", "redo", "undo", "redo")):
@@ -192,9 +194,10 @@ class Acts(Case):
         self.assertEqual(await numbers(self.ben), {})
 
     async def test_what_is_pending_is_named_by_its_key(self) -> None:
-        asked = [("gesture", {"key": "a", "shape": CLOSED}), ("gesture", {"key": "b", "layer": "a", "shape": SLOW}),
-                 ("gesture", {"key": "c", "layer": "a", "top": True}), ("undo", {"key": "d", "stamp": "b"}),
-                 ("undo", {"key": "e", "stamp": "c"}), ("undo", {"key": "f", "stamp": "b"})]
+        asked: list[tuple[str, dict[str, Any]]] = [
+            ("gesture", {"key": "a", "shape": CLOSED}), ("gesture", {"key": "b", "layer": "a", "shape": SLOW}),
+            ("gesture", {"key": "c", "layer": "a", "top": True}), ("undo", {"key": "d", "stamp": "b"}),
+            ("undo", {"key": "e", "stamp": "c"}), ("undo", {"key": "f", "stamp": "b"})]
         said = await asyncio.gather(*(self.ada.reply(verb, at=self.ada.at, **fields) for verb, fields in asked))
         self.assertEqual([one.get("refused") for one in said], [None, None, None, None, None, "NothingToUndo"])
         self.assertIn("Ada took it back before", said[-1]["why"])
@@ -215,9 +218,11 @@ class Acts(Case):
             said = await self.ada.reply("gesture", at=self.ada.at, key="k", shape=shape)
             self.assertEqual(said.get("refused"), refusal, (shape, said))
             self.assertIn(why, said["why"])
-        for refusal, fields in (("NoSuchChange", {"layer": [7, 65], "shape": None}), ("NoSuchChange", {"layer": "x", "top": True}),
-                                ("not a command", {"layer": [7, 65]}), ("not a command", {"layer": 7, "shape": None}),
-                                ("not a command", {"layer": [7, 65], "top": 1})):
+        cases: list[tuple[str, dict[str, Any]]] = [
+            ("NoSuchChange", {"layer": [7, 65], "shape": None}), ("NoSuchChange", {"layer": "x", "top": True}),
+            ("not a command", {"layer": [7, 65]}), ("not a command", {"layer": 7, "shape": None}),
+            ("not a command", {"layer": [7, 65], "top": 1})]
+        for refusal, fields in cases:
             self.assertEqual((await self.ada.reply("gesture", at=self.ada.at, key="k", **fields))["refused"], refusal)
         self.assertEqual((await self.ada.ask("scenario"))["edits"], [])
 
@@ -274,17 +279,18 @@ class Acts(Case):
 
     async def test_refusals_have_sentences_and_change_nothing(self) -> None:
         many = [["block", cell, step, 1] for cell in range(100) for step in range(12)] + [["block", 100, 0, 1]]
-        for refusal, why, edits in (
-                ("NoObject", "no zone 99", [["limit", 99, 5, 1]]), ("ValueOutOfRange", "0 to 9", [["limit", 1, 5, 10]]),
-                ("Step", "at most 1048575", [["limit", 1, 1_048_576, 1]]),
-                ("not a command", "twice", [["limit", 1, 5, 1], ["limit", 1, 5, 2]]),
-                ("not a command", "is not a number", [["limit", {}, 5, 1]]),
-                ("not a command", "in quotes", [["limit", "1", 5, 1]]),
-                ("not a command", "without sign", [["limit", 1, 5.5, 1]]),
-                ("not a command", "is not a number", [["limit", 1, True, 1]]),
-                ("not a command", "is no", [["limit", 1, 5]]),
-                ("not a command", "use `limit`", [["limt", 1, 5, 1]]),
-                ("not a command", "1 to 1200", []), ("TooManyEdits", "not 1201", many)):
+        cases: list[tuple[str, str, list[Any]]] = [
+            ("NoObject", "no zone 99", [["limit", 99, 5, 1]]), ("ValueOutOfRange", "0 to 9", [["limit", 1, 5, 10]]),
+            ("Step", "at most 1048575", [["limit", 1, 1_048_576, 1]]),
+            ("not a command", "twice", [["limit", 1, 5, 1], ["limit", 1, 5, 2]]),
+            ("not a command", "is not a number", [["limit", {}, 5, 1]]),
+            ("not a command", "in quotes", [["limit", "1", 5, 1]]),
+            ("not a command", "without sign", [["limit", 1, 5.5, 1]]),
+            ("not a command", "is not a number", [["limit", 1, True, 1]]),
+            ("not a command", "is not [kind", [["limit", 1, 5]]),
+            ("not a command", "use `limit`", [["limt", 1, 5, 1]]),
+            ("not a command", "1 to 1200", []), ("TooManyEdits", "not 1201", many)]
+        for refusal, why, edits in cases:
             said = await self.ada.reply("gesture", at=self.ada.at, key="k", edits=edits)
             self.assertEqual(said["refused"], refusal, edits[:1])
             self.assertIn(why, said["why"])
@@ -464,6 +470,7 @@ class Acts(Case):
         line = await lay(self.ada, "line", CLOSED)
         stamp = await lay(self.ada, "change", ["block", 60, 69, 30, 70, 1], layer=line)
         await self.ada.ask("undo", key="undo", stamp=stamp)
+        undo: Stamp | None = None
         for count in range(19):
             undo = await lay(self.ada, f"g{count}", ["limit", 2, 2, 20 + count, 60, 1])
         self.a6.again()
@@ -528,7 +535,7 @@ class Previews(Case):
 
     async def figures_are(self, said: Any, name: str, at: str, first: int) -> None:
         """The figures of a road are those of the replica, by its cars."""
-        cars = [(await self.ada.ask("cars", at=at, step=step))["cars"] for step in range(first, 201)]
+        cars: list[Any] = [(await self.ada.ask("cars", at=at, step=step))["cars"] for step in range(first, 201)]
         self.assertAlmostEqual(said[name]["vehicle_hours"], sum(map(len, cars[1:])) / 3_600)
         numbers = {car[0] for row in cars for car in row if first <= car[0] // 16 < 200}
         entered = [sum(number % 16 == inlet for number in numbers) for inlet in (0, 1)]
@@ -582,6 +589,7 @@ class Previews(Case):
         mine = await lay(self.ada, "4", ["block", 60, 60, 30, 99, 1], layer=self.his)
         for is_shared in (False, True):
             said = await self.ada.ask("preview", what="take")
+            line: Any
             line, = said["layers"]
             self.assertEqual((said["size"], said["touched"], line["name"], line["shape"][4]), (1, None, self.his, 99), is_shared)
             told, = [one for one in line["operations"] if one["lost"]]
@@ -621,14 +629,14 @@ class Previews(Case):
             await lay(ada, "1", ["block", 50, 50, 60, 200, 1])  # a jam before it, to both inlets
             await lay(ada, "2", ["inflow", 1, 1, 100, 250, 65_536])
             await lay(ada, "3", ["inflow", 0, 0, 200, None, 0])
-            said = await ada.ask("figures", of="mine", **{"from": 30, "to": 290})
+            said: Any = await ada.ask("figures", of="mine", **{"from": 30, "to": 290})
             self.assertEqual(said["before"]["asked"], [(290 - 30) / 2, 0])
             self.assertEqual(said["before"]["lost"], [0, 0])
             self.assertEqual(said["after"]["asked"], [(200 - 30) / 2, (250 - 100) / 2])
             for side, at in (("before", "shared"), ("after", ada.at)):
                 await ada.ask("advance", at=at, to=290)
-                cars = {car[0] for step in range(31, 291) for car in (await ada.ask("cars", at=at, step=step))["cars"]
-                        if 30 <= car[0] // 16 < 290}
+                rows: list[Any] = [(await ada.ask("cars", at=at, step=step))["cars"] for step in range(31, 291)]
+                cars = {car[0] for row in rows for car in row if 30 <= car[0] // 16 < 290}
                 entered = [sum(number % 16 == inlet for number in cars) for inlet in (0, 1)]
                 self.assertEqual(said[side]["entered"], entered)
                 self.assertEqual(said[side]["lost"], [asked - there for asked, there in zip(said[side]["asked"], entered)])
@@ -650,10 +658,10 @@ class Seats(Case):
         server = self.server()
         async with server.seat("Ada") as ada, server.seat("Ben") as ben:
             await put(ada, "1", [*LIMIT, 1])
-            for hello, refusal in (({"take": 1}, "SeatConnected"), ({"name": "Ada"}, "NameTaken"),
-                                   ({"take": 9}, "NoSuchSeat"),
-                                   ({"key": "none"}, "UnknownKey"), ({"name": " \n"}, "NoName"),
-                                   ({"take": 0}, "NoSuchSeat")):
+            cases: list[tuple[dict[str, Any], str]] = [
+                ({"take": 1}, "SeatConnected"), ({"name": "Ada"}, "NameTaken"), ({"take": 9}, "NoSuchSeat"),
+                ({"key": "none"}, "UnknownKey"), ({"name": " \n"}, "NoName"), ({"take": 0}, "NoSuchSeat")]
+            for hello, refusal in cases:
                 with self.assertRaisesRegex(RefusedReply, refusal) as caught:
                     async with server.seat(**hello):
                         pass
@@ -695,7 +703,7 @@ class Seats(Case):
             fill = [await self.enterAsyncContext(server.seat(f"n{count}")) for count in range(61)]
             new = next(seat for seat in fill if seat.at == "seat1")
             self.assertEqual(await numbers(new), {})
-            self.assertGreater(await put(new, "2", [*LIMIT, 3]), [1, 65])  # no stamp is made twice
+            self.assertGreater([*await put(new, "2", [*LIMIT, 3])], [1, 65])  # no stamp is made twice
         server.again()
         async with server.seat(key=new.key) as new:
             self.assertEqual(await numbers(new), {("limit", 2, 50): 3})

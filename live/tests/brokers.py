@@ -6,31 +6,35 @@ import json
 import os
 import shutil
 import signal
-from typing import Any
+from typing import Any, Sequence
 
 from server.client import Seat
-from zegdrut import Edit, Plan, RoadLab
+from zegdrut import Edit, RoadLab
+from server.peers import BrokerState
 from running import SMALL, Broker, Case, Server, end, new_folder, until
+from server.records import read_plan_line
 
 TOTALS = {"from": 0, "to": 100}
 
 
-async def put(seat: Seat, *edits: list[Any]) -> list[int]:
+async def put(seat: Seat, *edits: list[Any]) -> Sequence[int]:
     """A gesture that is shared at once."""
-    stamp: list[int] = (await seat.ask("gesture", key=os.urandom(8).hex(), edits=list(edits)))["stamp"]
+    stamp: Sequence[int] = (await seat.ask("gesture", key=os.urandom(8).hex(), edits=list(edits)))["stamp"]
     await seat.ask("send", name="shared")
     return stamp
 
 
 async def shared(seat: Seat) -> list[Any]:
     """What is put on the shared road; the stamps are local to each server."""
-    edits: list[Any] = (await seat.ask("scenario", at="shared"))["edits"]
+    edits = (await seat.ask("scenario", at="shared"))["edits"]
     return [[*edit[:3], 1, 64, edit[5]] for edit in edits if edit[5] is not None]
 
 
-def broker_of(seat: Seat) -> dict[str, Any]:
-    """What the page shows of the broker."""
-    return next((one["broker"] for one in reversed(seat.told) if "broker" in one), {})
+def broker_of(seat: Seat) -> BrokerState:
+    """Return the last state of the broker that a seat has heard."""
+    told = [seat.welcome["broker"], *(one["broker"] for one in seat.told if "broker" in one)]
+    assert told[-1] is not None
+    return told[-1]
 
 
 def told(seat: Seat) -> list[str]:
@@ -56,8 +60,8 @@ class Brokers(Case):
                          (await seat.ask("counts", at="shared", **TOTALS))["counts"]))
         self.assertEqual(seen, [seen[0]] * len(seats))
         scenario = await shared(seats[0])
-        plan = {**SMALL, "replicas": ["A"]}
-        with RoadLab(Plan(**plan)) as lab:
+        plan: dict[str, Any] = {**SMALL, "replicas": ["A"]}
+        with RoadLab(read_plan_line(plan)) as lab:
             lab.advance("A", 100)
             for edit in reversed(scenario):
                 lab.take_in("A", [Edit.read(edit)])
@@ -113,8 +117,8 @@ class Brokers(Case):
 
     async def has_title(self, seat: Seat, title: str) -> bool:
         """Whether the seat is told that Ada shared something so titled, and nothing else was."""
-        news = next((one["news"] for one in reversed(seat.told) if "news" in one), {"shares": []})
-        return bool(news["shares"]) and (news["shares"][-1]["who"], news["shares"][-1]["title"]) == ("Ada", title)
+        shares = [share for one in seat.told if "news" in one for share in one["news"]["shares"]]
+        return bool(shares) and (shares[-1]["who"], shares[-1]["title"]) == ("Ada", title)
 
     async def test_rubbish_is_left_out_and_told(self) -> None:
         broker = self.broker()
@@ -201,12 +205,12 @@ class Brokers(Case):
             await until(lambda: self.broker_is(ada, "away", 1), "away")
             first.again()
         async with first.seat(key=ada.key) as ada:
-            self.assertEqual(ada.welcome["broker"]["unsent"], 1)
+            self.assertEqual(broker_of(ada)["unsent"], 1)
             broker.start()
             await until(lambda: self.broker_is(ada, "connected", 0), "it came back")
 
     async def broker_is(self, seat: Seat, state: str, unsent: int) -> bool:
-        now = next((one["broker"] for one in reversed(seat.told) if "broker" in one), seat.welcome["broker"])
+        now = broker_of(seat)
         return (now["state"], now["unsent"]) == (state, unsent)
 
     async def test_a_broker_elsewhere_wants_a_password(self) -> None:

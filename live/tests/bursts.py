@@ -137,7 +137,7 @@ class Bursts(Case):
         place = 0
         while True:
             said = await seat.ask("operations", **{"at": at, "from": place})
-            found, place = found + said["operations"], said["next"]
+            found, place = [*found, *said["operations"]], said["next"]
             if not said["more"]:
                 return found
 
@@ -155,5 +155,5 @@ class Bursts(Case):
             one, other = [{tuple(one["stamp"]) for one in await self.operations(seat, "shared")} for seat in (here, there)]
             if one != other:
                 return False
-            one, other = [numbers((await seat.ask("scenario", at="shared"))["edits"]) for seat in (here, there)]
-            return bool(one == other)
+            left, right = [numbers((await seat.ask("scenario", at="shared"))["edits"]) for seat in (here, there)]
+            return left == right

@@ -92,13 +92,14 @@ class ByCars(Case):
         part = chances[0] / 65_536
         wanted = part / (1 + part * part) * steps
         scatter = 2 * math.sqrt(wanted)
-        for shapes, asked, least, most in (
-                ([], wanted, -scatter, scatter),
-                ([["slow", 0, 0, 0, None, 49_152]], wanted, 400, 900),  # three of four cars that enter stand
-                ([["start", 0, 0, 1, None, 60_000]], wanted, 400, 1_200), ([["limit", 0, 0, 0, None, 0]], wanted, wanted - 2, wanted),
-                ([["limit", 0, 0, 0, None, 1]], wanted, -scatter, scatter),  # (at 27 km/h a car still leaves the inlet at once)
-                ([["block", 0, 5, 600, 2_400, 1]], wanted, wanted / 2 - scatter, wanted / 2 + scatter),
-                ([["inflow", 0, 0, 0, None, 0]], 0, 0, 0)):
+        cases: list[tuple[list[list[Any]], float, float, float]] = [
+            ([], wanted, -scatter, scatter),
+            ([["slow", 0, 0, 0, None, 49_152]], wanted, 400, 900),  # three of four cars that enter stand
+            ([["start", 0, 0, 1, None, 60_000]], wanted, 400, 1_200), ([["limit", 0, 0, 0, None, 0]], wanted, wanted - 2, wanted),
+            ([["limit", 0, 0, 0, None, 1]], wanted, -scatter, scatter),  # (at 27 km/h a car still leaves the inlet at once)
+            ([["block", 0, 5, 600, 2_400, 1]], wanted, wanted / 2 - scatter, wanted / 2 + scatter),
+            ([["inflow", 0, 0, 0, None, 0]], 0, 0, 0)]
+        for shapes, asked, least, most in cases:
             async with Here(plan=plan) as here:
                 seat, = await here.join("Ada")
                 await here.lab.timing.set_clock(to=steps)
@@ -146,5 +147,5 @@ class ByCars(Case):
                 for side, place in (("before", 0), ("after", 1)):
                     hours = [day[place].hours(60, 400) for day in days]
                     self.assertAlmostEqual(found["vehicle_hours"][side][0], sum(hours) / 3, 7)
-                delays = [compare(*day, 60, 400)["delay_hours"] for day in days]
+                delays = [compare(before, after, 60, 400)["delay_hours"] for before, after in days]
                 self.assertAlmostEqual(found["delay"]["difference"][0], sum(delays) / 3, 7)

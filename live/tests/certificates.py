@@ -9,6 +9,7 @@ import socket
 import ssl
 import subprocess
 import sys
+from pathlib import Path
 from typing import Any, Iterator
 
 import aiohttp
@@ -177,7 +178,7 @@ class Certificates(Case):
 
     def refused(self, why: str, *options: str) -> str:
         """A server that does not start, and says why. Return what it says."""
-        command = [sys.executable, LIVE / "serve", "--folder", new_folder(), "--port", "0", *options]
+        command: list[str | Path] = [sys.executable, LIVE / "serve", "--folder", new_folder(), "--port", "0", *options]
         ran = subprocess.run(command, capture_output=True, text=True, timeout=PATIENCE, check=False)
         self.assertNotEqual(ran.returncode, 0)
         self.assertEqual(ran.stdout, "")

@@ -34,7 +34,7 @@ class Days(Case):
     async def asyncSetUp(self) -> None:
         self.heard: list[Any] = []
         self.here = await self.enterAsyncContext(Here())
-        self.here.keeper.listeners.on("days", lambda *news: self.heard.append(news))
+        self.here.keeper.listeners.days.on(lambda *news: self.heard.append(news))
         self.ada, self.ben = await self.here.join("Ada", "Ben")
 
     def over(self, days: int) -> None:

@@ -6,18 +6,20 @@ import os
 import random
 import signal
 import time
-from typing import Any, Callable
+from typing import Any, Callable, Sequence
 
 from aiohttp import ClientError
 
 from oracle import by_rows, oracle_of
 from server.client import Seat
+from server.frames import Held
+from server.model.operations import Stamp
 from server.model.reading import read_operation
-from running import PATIENCE, SMALL, Case, Server, until
+from running import PATIENCE, SMALL, Case, Server, transport_of, until
 
 ROUNDS = 10
 LAST = 60
-PLAN = {**SMALL, "length": 60, "zones": [[5, 6_554]] * 3, "inlets": [[0, 27_918]], "detectors": [30]}
+PLAN: dict[str, Any] = {**SMALL, "length": 60, "zones": [[5, 6_554]] * 3, "inlets": [[0, 27_918]], "detectors": [30]}
 ORACLE = oracle_of(PLAN, LAST + 1)
 
 
@@ -27,7 +29,7 @@ class Engineer:
     def __init__(self, name: str, chance: random.Random) -> None:
         self.name, self.key, self._chance = name, "", chance
         self.sent: dict[str, list[Any]] = {}
-        self.confirmed: dict[str, list[int]] = {}
+        self.confirmed: dict[str, Stamp] = {}
         self.shared: set[tuple[int, ...]] = set()
 
     def seat(self, server: Server) -> Seat:
@@ -50,12 +52,12 @@ class Engineer:
             pass
 
 
-def raw_edits(operation: dict[str, Any]) -> list[list[Any]]:
+def raw_edits(operation: Held) -> list[list[Any]]:
     """The raw edits of an operation."""
-    return [[*name, value] for name, value in operation["sets"]]
+    return [[*name, value] for name, value in operation["sets"] if isinstance(name, list)]
 
 
-def numbers(scenario: list[Any]) -> dict[tuple[Any, ...], int]:
+def numbers(scenario: Sequence[Any]) -> dict[tuple[Any, ...], int]:
     """What is put in a program, whatever the stamps."""
     return {tuple(edit[:3]): edit[5] for edit in scenario if edit[5] is not None}
 
@@ -102,8 +104,8 @@ class Crashes(Case):
                 own = [stamp for stamp, one in held.items() if stamp[1] == seat.welcome["number"]]
                 self.assertEqual(len(own), len(engineer.confirmed))
                 self.assertLessEqual(engineer.shared, shared)
-                values = ORACLE.painted([read_operation({name: value for name, value in one.items() if name != "shared"})
-                                         for one in held.values()])
+                written: Any = [{name: value for name, value in one.items() if name != "shared"} for one in held.values()]
+                values = ORACLE.painted(map(read_operation, written))
                 self.assertEqual(ORACLE.by_the_program(by_rows((await seat.ask("scenario"))["edits"])), values)
 
     def engineers(self) -> list[Engineer]:
@@ -187,7 +189,7 @@ class Crashes(Case):
         server = self.server(plan=PLAN)
         ada, deaf = [await server.seat(name).__aenter__() for name in ("Ada", "deaf")]
         await ada.ask("gesture", key="1", edits=[["block", 30, 10, 1]])
-        transport = deaf._socket._response.connection.transport
+        transport = transport_of(deaf)
         transport.pause_reading()
         began = time.monotonic()
         self.assertEqual(await asyncio.get_running_loop().run_in_executor(None, server.stop), 0)

@@ -8,7 +8,10 @@ from typing import Any
 
 from faulty import Here
 from running import PATIENCE, Case
-from server.turns import MORE, Job, Turns
+from server.turns import MORE, Job, More, Turns, Work
+
+
+COUNTING: list[tuple[str, dict[str, int]]] = [("sums", {}), ("counts", {"each": 10})]
 
 
 class FairTurns(unittest.IsolatedAsyncioTestCase):
@@ -20,13 +23,13 @@ class FairTurns(unittest.IsolatedAsyncioTestCase):
     async def asyncTearDown(self) -> None:
         self.task.cancel()
 
-    async def around(self, job: Job) -> Any:
+    async def around(self, job: Work) -> object:
         return await job()
 
-    def job(self, name: str, pieces: int = 1, fault: Exception | None = None) -> Job:
+    def job(self, name: str, pieces: int = 1, fault: Exception | None = None) -> Job[str]:
         left = [pieces]
 
-        async def work() -> Any:
+        async def work() -> str | More:
             self.done.append(name)
             left[0] -= 1
             await asyncio.sleep(0)
@@ -155,7 +158,7 @@ class FairTurns(unittest.IsolatedAsyncioTestCase):
             await ends.wait()
             self.done.append("l")
 
-        def short(name: str) -> Job:
+        def short(name: str) -> Job[None]:
             async def work() -> None:
                 running.append(name)
                 await asyncio.sleep(0)
@@ -166,7 +169,7 @@ class FairTurns(unittest.IsolatedAsyncioTestCase):
 
         async def asks(seat: int, names: str) -> None:
             await asyncio.gather(*(self.turns.ask(seat, short(name), takes_long=False) for name in names))
-        asked = [self.turns.ask(1, long, takes_long=True), self.turns.ask(1, short("b"), takes_long=False)]
+        asked: list[asyncio.Future[Any]] = [self.turns.ask(1, long, takes_long=True), self.turns.ask(1, short("b"), takes_long=False)]
         await asyncio.wait_for(asyncio.gather(asks(2, "cd"), asks(3, "e")), PATIENCE)
         self.assertEqual("".join(self.done), "Lced")
         may[0] = False
@@ -207,7 +210,7 @@ class Figures(Case):
             seat, = await here.join("Ada")
             await here.lab.timing.set_clock(to=7_200)
             await here.ask(seat, "advance", to=7_200)
-            for verb, more in (("sums", {}), ("counts", {"each": 10})):
+            for verb, more in COUNTING:
                 figures = asyncio.ensure_future(here.ask(seat, verb, **{"from": 0, "to": 7_200}, **more))
                 await asyncio.sleep(0)
                 await here.ask(seat, "diagram", **{"from": 0, "to": 60})
@@ -215,7 +218,7 @@ class Figures(Case):
                 await figures
 
     async def test_figures_are_of_one_road_though_a_gesture_comes_between_their_pieces(self) -> None:
-        for verb, more in ("sums", {}), ("counts", {"each": 10}):
+        for verb, more in COUNTING:
             async with Here() as here:
                 seat, = await here.join("Ada")
                 await here.lab.timing.set_clock(to=7_200)

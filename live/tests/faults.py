@@ -63,7 +63,7 @@ class Story:
         self.bus.hears = self._hears
         self.ada, self.ben, self.cleo = await self.here.join("Ada", "Ben", "Cleo")
         await self.there.join("Sam")
-        self.here.keeper.listeners.on("shared", lambda touched: self._look())
+        self.here.keeper.listeners.shared.on(lambda touched: self._look())
         self.disk.calls.clear()
         return self
 
@@ -79,7 +79,7 @@ class Story:
     def _look(self) -> None:
         """What Cleo, who takes nothing, is told."""
         for change in self.here.lab.news(self.cleo, 1_000)["changes"]:
-            self._tells(tuple(change["stamp"]))
+            self._tells(change["stamp"])
 
     def _tells(self, stamp: tuple[int, int]) -> None:
         self.told.append(stamp)
@@ -183,7 +183,7 @@ def stamps_in(message: Message) -> list[tuple[int, int]]:
     """The stamps of a message with operations."""
     import json
     value = json.loads(message.payload)
-    return [tuple(one["stamp"]) for one in value.get("operations", [])]
+    return [(count, number) for count, number in (one["stamp"] for one in value.get("operations", []))]
 
 
 def replayed(path: Path) -> State:

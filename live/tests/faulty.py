@@ -88,7 +88,7 @@ class Here:
         self.lab = Lab(self.keeper)
         self.questions = Questions(self.lab)
         self.heard: list[Any] = []
-        self.keeper.listeners.on("shared", self.heard.append)
+        self.keeper.listeners.shared.on(self.heard.append)
         try:
             await self.lab.open(lambda: {**self.plan}, self.site)
         except BaseException:
@@ -161,7 +161,7 @@ class Bus:
         with mock.patch.object(Sites, "_new_client", lambda _: self):
             site = Sites(here.lab, lambda: None, options)
         site._loop, site._connected = asyncio.get_running_loop(), True
-        here.keeper.listeners.on("shared", lambda touched: site.shared())
+        here.keeper.listeners.shared.on(lambda touched: site.shared())
         self.sites.append(site)
         return site
 

@@ -8,9 +8,10 @@ import random
 from typing import Any
 
 import running
-from zegdrut import Edit, Plan, RoadLab
+from zegdrut import Edit, RoadLab, Stamp
 from robots import LAST, PLAN, random_edits
 from running import Case, Server
+from server.records import read_plan_line
 
 RUNS = 20 if running.ALL else 2
 SEATS = ["shared", *(f"seat{index}" for index in range(1, 64))]
@@ -54,8 +55,8 @@ class Folder:
 
     def rows(self, seat: int) -> list[str]:
         """A replica's rows, by its edits alone."""
-        with RoadLab(Plan(**{**PLAN, "replicas": ["A"]})) as lab:
-            lab.take_in("A", [Edit.read([*edit[:3], *one["stamp"], edit[3]]) for one in self.held[seat]
+        with RoadLab(read_plan_line({**PLAN, "replicas": ["A"]})) as lab:
+            lab.take_in("A", [Edit((edit[0], edit[1]), edit[2], Stamp(*one["stamp"]), edit[3]) for one in self.held[seat]
                               for edit in one["edits"]])
             lab.advance("A", LAST)
             rows: list[str] = lab.diagram("A", 0, LAST)

@@ -8,11 +8,12 @@ import shutil
 import subprocess
 import sys
 from pathlib import Path
-from typing import Any
+from typing import Any, Mapping, Sequence
 
 from crashes import numbers
 from server.client import Seat
 from running import LIVE, PATIENCE, SMALL, Case, Server, end, new_folder, program, started, until
+from zegdrut.wire import PlanLine, WrittenEdit
 
 KM: dict[str, Any] = {
     "length": 1.5, "main": 900, "ramps": [], "minutes": 15, "stretch": [0.3, 0.6], "detectors": [0.75],
@@ -20,11 +21,11 @@ KM: dict[str, Any] = {
     "stalled": [[0.6, 9, 10]]}
 
 
-def value_at(edits: list[Any], plan: dict[str, Any], inlet: int, step: int) -> int:
+def value_at(edits: Sequence[WrittenEdit], plan: PlanLine, inlet: int, step: int) -> int:
     """Return the inflow chance of an inlet at a step, by a scenario's edits."""
-    puts = sorted((edit[2], edit[-1]) for edit in edits if edit[:2] == ["inflow", inlet] and edit[2] <= step and edit[-1] is not None)
-    chance: int = puts[-1][1] if puts else plan["inlets"][inlet][1]
-    return chance
+    puts = sorted((since, value) for kind, index, since, _, _, value in edits
+                  if (kind, index) == ("inflow", inlet) and since <= step and value is not None)
+    return puts[-1][1] if puts else plan["inlets"][inlet][1]
 
 
 class Freeways(Case):
@@ -36,13 +37,14 @@ class Freeways(Case):
             await ada.say("clock", to=900)
             await ada.ask("advance", to=900)
             rows = (await ada.ask("diagram", **{"from": 0, "to": 900}))["rows"]
-            plan = {**ada.welcome["plan"], "replicas": ["A"]}
+            plan = ada.welcome["plan"].copy()
+            plan["replicas"] = ["A"]
             lines = (await ada.ask("layers", at="shared", **{"from": 0}))["layers"]
             self.assertEqual({line["who"] for line in lines}, {"plan.json"})
             self.assertEqual(len(lines), 4)
             self.assertEqual([one["name"] for one in (await ada.say("seats"))["seats"]], ["Ada"])
         puts = self.of_recipe(server.folder / "plan.json").edits
-        script = [plan, *({"edit": {"at": "A", "object": [kind, index], "step": step, "value": value}}
+        script: list[Mapping[str, object]] = [plan, *({"edit": {"at": "A", "object": [kind, index], "step": step, "value": value}}
                           for kind, index, step, value in puts),
                   {"advance": {"at": "A", "to": 900}}, {"diagram": {"at": "A", "from": 0, "to": 900}}]
         ran = subprocess.run([program()], input="".join(json.dumps(line) + "\n" for line in script).encode(),
@@ -88,9 +90,9 @@ class Freeways(Case):
             await ada.ask("advance", to=900)
             self.assertRegex((await ada.ask("csv", what="counts", each=300, **{"from": 0, "to": 900}))["csv"],
                              r"^# counts of the road of Ada, 07:00 to 07:15\nfrom,to,detector,km,cars,.*\n07:00,07:05,0,0.75,")
-            for wrong in ({"inlet": 2, "start": None, "before": []}, {"inlet": 0, "start": None, "before": [[5, 1]]},
-                          {"inlet": 0, "start": None, "before": [[0, 70_000]]}):
-                self.assertEqual((await ada.reply("admission", **wrong))["refused"], "Range")
+            for inlet, before in ((2, []), (0, [[5, 1]]), (0, [[0, 70_000]])):
+                said = await ada.reply("admission", inlet=inlet, start=None, before=before)
+                self.assertEqual(said["refused"], "Range")
 
     async def test_the_inlet_is_widened_for_its_demand(self) -> None:
         """1,750 cars an hour are more than slowed drivers admit: nobody is slowed on the first 0.3 km. The demand is that of the file, also
@@ -163,7 +165,7 @@ class Freeways(Case):
                 (json.dumps({**free, "ramps": [[7, 100]]}), "the ramp at 7 km is not on the road"),
                 (json.dumps({**free, "sections": [[1, 0.9, 4, 8, 54]]}), "it must begin before it ends"),
                 (json.dumps({**free, "sections": [[0.9, 1.2, -4, 8, 54]]}), "minute -4 to 8: it must begin before it ends"),
-                *((json.dumps({**SMALL, **wrong}), "is no plan line") for wrong in ({"words": "\ud800"}, {"length": 1e400})),
+                (json.dumps({**SMALL, "words": "\ud800"}), "is no plan line"), (json.dumps({**SMALL, "length": 1e400}), "is no plan line"),
                 (json.dumps({**SMALL, "zones": [[12, 0]]}), "the program refuses the plan")):
             folder = new_folder()
             (folder / "road.json").write_text(text, encoding="utf-8")

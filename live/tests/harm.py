@@ -5,7 +5,7 @@ import json
 import random
 import re
 import unittest
-from typing import Any, Iterator
+from typing import Any, Iterator, Mapping
 from unittest import mock
 
 from crashes import numbers
@@ -128,8 +128,10 @@ class Bounds(Case):
         await here.join("Ada")
         line = list(await here.put(1, ["limit", 1, 50, 4]))
         await here.ask(1, "gesture", key="w", layer=line, shape=None)
-        for what, why in (({"layer": line, "shape": None}, "to be withdrawn"), ({"layer": line, "top": True}, "to be put on top"),
-                          ({"edits": [["limit", 1, 50, None]]}, "to be withdrawn")):
+        cases: list[tuple[dict[str, Any], str]] = [
+            ({"layer": line, "shape": None}, "to be withdrawn"), ({"layer": line, "top": True}, "to be put on top"),
+            ({"edits": [["limit", 1, 50, None]]}, "to be withdrawn")]
+        for what, why in cases:
             with self.assertRaisesRegex(Refused, "NoEffect") as caught:
                 await here.ask(1, "gesture", key="again", **what)
             self.assertIn(why, caught.exception.why)
@@ -231,12 +233,13 @@ class Bounds(Case):
                                  (f"road/{site._road}/sum", {"form": 3, "sum": name, "numbers": {}}),
                                  (f"road/{site._road}/sum", {"form": 3, "sum": name, "numbers": {"all": name}})):
                 await site._came(topic, "", json.dumps({"folder": name, **value}).encode())
-        for kept in (site._peers.known, site._sums, site._pauses, here.lab.state.bound):
+        everything: list[Mapping[Any, object]] = [site._peers.known, site._sums, site._pauses, here.lab.state.bound]
+        for kept in everything:
             self.assertLessEqual(len(kept), 1_024)
             self.assertLess(len(str(kept)), 200_000)
         self.assertLess(len(json.dumps(site.state())), 100_000)
-        for number in (0, -1, 1_024, True, "7", None, 1 << 70):
-            await site._came("road/sites", "", json.dumps({"folder": "f", "site": number, "road": "r"}).encode())
+        for wrong in (0, -1, 1_024, True, "7", None, 1 << 70):
+            await site._came("road/sites", "", json.dumps({"folder": "f", "site": wrong, "road": "r"}).encode())
         self.assertIn("it says of no site who it is", told(site))
 
     async def test_what_does_not_come_back_is_sent_again_after_growing_pauses(self) -> None:
@@ -246,8 +249,8 @@ class Bounds(Case):
         await here.join("Ada")
         await here.put(1, ["limit", 2, 50, 3])
         sent = []
+        now = [1_000.0]
         with mock.patch("server.sites.time.monotonic", lambda: now[0]):
-            now = [1_000.0]
             await here.share(1)
             for _ in range(1_000):
                 site._send_unreturned()

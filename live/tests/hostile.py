@@ -17,7 +17,7 @@ from server.refusals import Refused
 from server.client import Seat
 from server.doors import Strangers, neighbourhood
 from server.tabs import Tab, parse_frame
-from running import PATIENCE, SMALL, Case, Server, until
+from running import PATIENCE, SMALL, Case, Server, transport_of, until
 from working import takes_at_most
 
 
@@ -109,7 +109,7 @@ class Frames(Case):
     async def test_who_never_says_a_name_is_let_go_at_last(self) -> None:
         """Though it has shown the token: there are 200 such sockets."""
         self.enterContext(mock.patch("server.tabs.NAMED", 0.1))
-        tab = Tab(mock.Mock(**{"lab.keeper.settings.hello": 0.1}), mock.Mock(), None)
+        tab = Tab(mock.Mock(**{"lab.keeper.settings.hello": 0.1}), mock.Mock(), mock.Mock())
         tab.has_token = True
         await asyncio.wait_for(tab._hello_in_time(), PATIENCE)
         self.assertEqual(tab.close_reason, (1008, "no hello"))
@@ -241,14 +241,15 @@ class Long(Case):
                 read(Asked(verb, fields))
 
 
-class Connection:
+class Connection(asyncio.Transport):
     """One from an address, until it is cut."""
 
     def __init__(self, address: str) -> None:
+        super().__init__()
         self.transport: Connection | None = self
         self._address = address
 
-    def get_extra_info(self, _name: str) -> tuple[str, int]:
+    def get_extra_info(self, name: str, default: object = None) -> tuple[str, int]:
         return self._address, 50_000
 
     def abort(self) -> None:
@@ -341,7 +342,7 @@ class Neighbours(Case):
         server = self.server()
         good = await self.ready(server, "good")
         flood, deaf = await self.ready(server, "flood"), await self.ready(server, "deaf")
-        transport = deaf._socket._response.connection.transport
+        transport = transport_of(deaf)
         transport.pause_reading()
 
         said: set[Any] = set()

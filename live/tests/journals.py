@@ -29,7 +29,7 @@ from running import LIVE, SMALL, Case
 from server.state import State
 from working import takes_at_most
 
-GESTURES = [{"gesture": {"seat": 1, "key": f"k{count}", "stamp": [count, 65], "who": "Ada", "when": 1,
+GESTURES: list[Any] = [{"gesture": {"seat": 1, "key": f"k{count}", "stamp": [count, 65], "who": "Ada", "when": 1,
                          "note": "Closed é €",
                          "edits": [["block", 60, 20 * count, 1], ["block", 60, 20 * count + 9, 0]]}}
             for count in range(1, 4)]
@@ -180,7 +180,7 @@ class Writing(unittest.IsolatedAsyncioTestCase):
         short = asyncio.ensure_future(journal.compact(entries))
         await asyncio.sleep(0)
         held.append(GESTURES[0])
-        many = [{"gesture": {"note": "x" * 60_000, "number": number}} for number in range(20)]
+        many: list[Any] = [{"gesture": {"note": "x" * 60_000, "number": number}} for number in range(20)]
         for entry in many:
             await journal.write(entry)
         self.assertFalse(short.done())
@@ -287,7 +287,7 @@ class Folders(Case):
             path.write_bytes(data[:cut])
             server.again()
             async with server.seat(key=key) as seat:
-                held = (await seat.ask("operations"))["operations"]
+                held: Any = (await seat.ask("operations"))["operations"]
                 self.assertEqual([one["stamp"][0] for one in held], list(range(1, 1 + sum(cut >= end for end in ends))))
                 await self.shared(seat, 9)
                 await seat.ask("undo", stamp=[len(held) + 1, 65], key="u")
@@ -401,7 +401,7 @@ class Folders(Case):
             self.assertEqual(said["refused"], "NotWritten")
             self.assertIn("Read-only file system", said["why"])
             trouble = ada.welcome["trouble"] or next(one["trouble"] for one in reversed(ada.told) if "trouble" in one)
-            self.assertIn("Read-only file system", trouble)
+            self.assertIn("Read-only file system", str(trouble))
             async with server.seat("Ben") as ben:  # who comes now looks, too
                 self.assertEqual((await ben.ask("scenario"))["edits"], [])
                 said = await ben.reply("gesture", at=ben.at, key="x", edits=[["limit", 2, 50, 1]])
@@ -437,8 +437,7 @@ class Folders(Case):
             self.assertTrue(all("could not be kept" in one["why"] for one in said))
             self.assertEqual((server.folder / "journal.jsonl").stat().st_size, size)
             after = await ada.ask("diagram", **{"from": 0, "to": 60}), await ada.ask("scenario")
-            self.assertEqual([one["rows" if "rows" in one else "edits"] for one in before],
-                             [one["rows" if "rows" in one else "edits"] for one in after])
+            self.assertEqual([one.get("rows") or one["edits"] for one in before], [one.get("rows") or one["edits"] for one in after])
             self.assertEqual((await ben.ask("scenario"))["edits"], [])
             resource.prlimit(server.process.pid, resource.RLIMIT_FSIZE, (resource.RLIM_INFINITY, resource.RLIM_INFINITY))
             self.assertEqual((await ada.ask("gesture", key="full 10", edits=[["block", 60, 10, 1]]))["stamp"], [2, 65])

@@ -9,7 +9,7 @@ from typing import Any, Iterable
 
 from faulty import Bus, Here, Message, message_of
 from oracle import oracle_of
-from zegdrut import Edit, Plan, RoadLab
+from zegdrut import Edit, RoadLab
 from running import ALL, SMALL, Case
 from server import stamps
 from server.refusals import Refused
@@ -17,6 +17,7 @@ from server.model.operations import Operation, Shape, exclude, put
 from server.model.projection import timeline
 from server.screen import rows_of
 from server.state import State
+from server.records import read_plan_line
 
 CELLS, STEPS = range(50, 56), range(0, 30, 5)
 
@@ -70,8 +71,8 @@ class LeftOut(Case):
 
     def road(self, *edits: tuple[Any, ...]) -> list[str]:
         """The rows of a road by these edits alone."""
-        with RoadLab(Plan(**{**SMALL, "replicas": ["A"]})) as lab:
-            lab.take_in("A", [Edit.read([kind, index, step, 1, 64, value]) for kind, index, step, value in edits])
+        with RoadLab(read_plan_line({**SMALL, "replicas": ["A"]})) as lab:
+            lab.take_in("A", [Edit.read((kind, index, step, 1, 64, value)) for kind, index, step, value in edits])
             lab.advance("A", 100)
             rows: list[str] = lab.diagram("A", 0, 100)
             return rows

@@ -8,7 +8,7 @@ import unittest
 from painted import EMPTY
 from working import takes_at_most
 from server.model import changes, choices, seen
-from server.model.operations import About, Operation, Shape, Stamp, edit, exclude, lift, put, undo
+from server.model.operations import About, Json, Operation, Shape, Stamp, edit, exclude, lift, put, undo
 from server.model.projection import difference, timeline
 from server.model.reading import Malformed, read_operation
 from server.model.road import Road, change, stands
@@ -347,7 +347,7 @@ class Reading(unittest.TestCase):
             read_operation({**value, "colour": "r" * 1_000})
 
     def test_whatever_is_changed_in_one_is_read_or_refused(self) -> None:
-        strange = [None, True, -1, 1 << 60, "x", "x" * 300, [], [1], {}, 0.5, [[1, 2], 3], [[1, ADA], "x"]]
+        strange: list[Json] = [None, True, -1, 1 << 60, "x", "x" * 300, [], [1], {}, 0.5, [[1, 2], 3], [[1, ADA], "x"]]
         for one in self.some():
             value = json.loads(json.dumps(one.written()))
             for name in [*value, "sets", "heights", "undoes", "seen", "excludes", "who", "note", "when", "shape"]:
@@ -360,7 +360,9 @@ class Reading(unittest.TestCase):
                         timeline(EMPTY.adding([found]) if name == "who" else EMPTY)
 
     def test_an_operation_refers_to_older_ones_alone(self) -> None:
-        for more in ({"undoes": [2, ADA]}, {"seen": [3, ADA]}, {"heights": [[[1, ADA], [3, ADA]]]}, {"sets": [[[3, ADA], None]]}):
+        cases: list[dict[str, Json]] = [
+            {"undoes": [2, ADA]}, {"seen": [3, ADA]}, {"heights": [[[1, ADA], [3, ADA]]]}, {"sets": [[[3, ADA], None]]}]
+        for more in cases:
             with self.assertRaisesRegex(Malformed, "older ones"):
                 read_operation({"stamp": [2, ADA], **more})
 

@@ -9,6 +9,7 @@ from __future__ import annotations
 from typing import Any, Callable, Iterable, Mapping
 
 from server.model.operations import Operation, Shape, Stamp, is_raw, line_of
+from server.records import read_plan_line
 from server.state import plan_value
 
 Values = dict[tuple[str, int], list[Any]]
@@ -109,8 +110,9 @@ class Oracle:
 
 def oracle_of(plan: dict[str, Any], last: int) -> Oracle:
     """The oracle of a plan line, for the steps before `last`."""
+    line = read_plan_line(plan)
     there = {kind: plan[name] if kind == "block" else len(plan[name]) for kind, name in COUNTED.items()}
-    return Oracle(there, lambda kind, index: plan_value(plan, kind, index), last)
+    return Oracle(there, lambda kind, index: plan_value(line, kind, index), last)
 
 
 def by_rows(edits: Iterable[Any]) -> dict[tuple[str, int], dict[int, tuple[int, Any]]]:

@@ -9,12 +9,14 @@ import secrets
 import signal
 import unittest
 from pathlib import Path
+from typing import Any
 
 from running import PATIENCE, SMALL, Case, descendants, until
+from server.client import Seat
 
 HERE = Path(__file__).resolve().parent
 
-LONG = {**SMALL, "length": 2_000, "zone": 1_000, "zones": [[5, 6_554]] * 2, "exit": 1}
+LONG: dict[str, Any] = {**SMALL, "length": 2_000, "zone": 1_000, "zones": [[5, 6_554]] * 2, "exit": 1}
 
 
 def marked(mark: str) -> set[int]:
@@ -51,10 +53,11 @@ class Orphans(Case):
             for seat in (ada, ben, cleo):
                 await seat.ask("gesture", key="k", note="", shape=["limit", 1, 1, 60, None, 2])
             await ada.ask("preview", what="share")
-            asked = [asyncio.ensure_future(seat.reply(verb, at=at, **more)) for seat, verb, at, more in (
+            questions: list[tuple[Seat, str, str, dict[str, Any]]] = [
                 (ada, "advance", "before", {"to": 30_000}), (ada, "figures", ada.at, {"of": "mine", "from": 0, "to": 30_000}),
                 (ben, "days", ben.at, {"of": "mine", "from": 0, "to": 7_000}),
-                (cleo, "transcript", cleo.at, {"from": 0, "to": 30_000}))]
+                (cleo, "transcript", cleo.at, {"from": 0, "to": 30_000})]
+            asked = [asyncio.ensure_future(seat.reply(verb, at=at, **more)) for seat, verb, at, more in questions]
             await until(lambda: self.are(8), "all is under way")
             await asyncio.sleep(0.5)
             for process in descendants(self.a6.process.pid):

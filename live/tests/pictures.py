@@ -6,7 +6,7 @@ import io
 import json
 import subprocess
 import unittest
-from typing import Any
+from typing import Any, Sequence
 
 from server import saving
 from server.program import LONG_ROAD, command_of
@@ -32,9 +32,12 @@ class Pictures(Case):
         await self.ada.ask("advance", to=LAST)
         self.picture = [(await self.ada.ask("cells", step=step))["cells"] for step in range(LAST + 1)]
 
-    async def diagram(self, **fields: Any) -> list[str]:
-        found: list[str] = (await self.ada.ask("diagram", **fields))["rows"]
-        return found
+    async def diagram(self, **fields: Any) -> Sequence[str]:
+        return (await self.ada.ask("diagram", **fields))["rows"]
+
+    async def counts(self, **fields: int) -> Any:
+        """Return the counts of detectors: pairs, for each span if there are spans."""
+        return (await self.ada.ask("counts", **fields))["counts"]
 
     async def test_every_so_manieth_row_and_stretches(self) -> None:
         self.assertEqual(await self.diagram(**{"from": 0, "to": LAST}), self.picture)
@@ -50,12 +53,12 @@ class Pictures(Case):
         self.assertEqual((await self.ada.ask("sums", **{"from": 60, "to": 120}))["sums"], wanted[1:])
 
     async def test_counts(self) -> None:
-        found = (await self.ada.ask("counts", **{"from": 10, "to": 130, "each": 50}))["counts"]
+        found = await self.counts(**{"from": 10, "to": 130, "each": 50})
         for span, (first, last) in zip(found, ((10, 60), (60, 110), (110, 130))):
             for detector, pair in enumerate(span):
                 one = await self.ada.ask("count", detector=detector, **{"from": first, "to": last})
                 self.assertEqual(pair, [one["cars"], one["speeds"]])
-        whole = (await self.ada.ask("counts", **{"from": 10, "to": 130}))["counts"]
+        whole = await self.counts(**{"from": 10, "to": 130})
         self.assertEqual(whole, [[sum(part) for part in zip(*pairs)] for pairs in zip(*found)])
 
     async def test_a_transcript_is_run_again_by_the_program(self) -> None:
@@ -72,7 +75,7 @@ class Pictures(Case):
     async def test_tables(self) -> None:
         said = await self.ada.ask("csv", what="counts", each=50, **{"from": 0, "to": 100})
         table = list(csv.reader(io.StringIO(said["csv"])))
-        counts = (await self.ada.ask("counts", **{"from": 0, "to": 100, "each": 50}))["counts"]
+        counts = await self.counts(**{"from": 0, "to": 100, "each": 50})
         self.assertEqual(table[0], ["# counts of the road of Ada", " 0:00:00 to 0:01:40"])
         self.assertEqual(table[1], ["from", "to", "detector", "km", "cars", "flow in cars/h", "time-mean speed in km/h", "seconds on"])
         wanted = [(f"0:0{50 * span // 60}:{50 * span % 60:02}", f"0:0{(50 * span + 50) // 60}:{(50 * span + 50) % 60:02}",

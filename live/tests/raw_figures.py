@@ -6,8 +6,10 @@ from typing import Any, Sequence
 
 import numpy as np
 
+from server.records import read_plan_line
 from zegdrut import RoadLab
 
+Array = np.ndarray[Any, Any]
 STEPS = 420
 LONG = 200_000  # steps of a run that shows what a chance admits
 
@@ -42,11 +44,11 @@ class Run:
 
     def __init__(self, plan: dict[str, Any], edits: Sequence[Any], steps: int) -> None:
         self.plan, self.edits = plan, edits
-        with RoadLab(plan) as lab:
+        with RoadLab(read_plan_line(plan)) as lab:
             if edits:
                 lab.ask({"import": {"at": "road", "edits": list(edits), "form": 2}})
             lab.command("advance", "road", to=steps)
-            rows = [lab.command("cars", "road", step=step)["cars"] for step in range(steps + 1)]
+            rows: list[Any] = [lab.command("cars", "road", step=step)["cars"] for step in range(steps + 1)]
         numbers = sorted({number for row in rows for number, _, _ in row})
         self.numbers = np.array(numbers, dtype=int)
         place = {number: index for index, number in enumerate(numbers)}
@@ -60,24 +62,27 @@ class Run:
         starts = np.array([cell for cell, _ in plan["inlets"]])[self.inlets] if len(numbers) else self.inlets
         self.before[self.entries, np.arange(len(numbers))] = starts
 
-    def left(self) -> np.ndarray:
+    def left(self) -> Array:
         """The step in which each car leaves, or a step that never comes."""
         gone = (self.cells[:-1] >= 0) & (self.cells[1:] < 0)
-        return np.where(gone.any(axis=0), gone.argmax(axis=0), 1 << 30)
+        found: Array = np.where(gone.any(axis=0), gone.argmax(axis=0), 1 << 30)
+        return found
 
-    def passed(self, site: int) -> np.ndarray:
+    def passed(self, site: int) -> Array:
         """The step in which each car passes a cell, or a step that never comes."""
         now = np.where((self.before >= 0) & (self.cells[1:] < 0), 1 << 20, self.cells[1:])
         crossed = (self.before >= 0) & (self.before < site) & (now >= site)
-        return np.where(crossed.any(axis=0), crossed.argmax(axis=0), 1 << 30)
+        found: Array = np.where(crossed.any(axis=0), crossed.argmax(axis=0), 1 << 30)
+        return found
 
-    def arrivals(self) -> list[np.ndarray]:
+    def arrivals(self) -> list[Array]:
         return [*map(self.passed, self.plan["detectors"]), self.left()]
 
-    def on(self, detector: int, first: int, last: int) -> np.ndarray:
+    def on(self, detector: int, first: int, last: int) -> Array:
         """Whether a detector is on in each step of a window."""
         watch = sorted((edit[2], edit[-1]) for edit in self.edits if edit[:2] == ["watch", detector] and edit[-1] is not None)
-        return np.array([next((value for begin, value in reversed(watch) if begin <= step), 1) for step in range(first, last)], dtype=bool)
+        found: Array = np.array([next((value for begin, value in reversed(watch) if begin <= step), 1) for step in range(first, last)], dtype=bool)
+        return found
 
     def detector(self, detector: int, first: int, last: int) -> dict[str, Any]:
         """What a detector counts in a window."""
@@ -133,7 +138,7 @@ def flow(plan: dict[str, Any], chances: tuple[int, ...], inlet: int, start: int 
         length = cells[inlet] + 150
         road = {**plan, "length": length, "zone": length, "zones": plan["zones"][:1], "words": 4_321, "replicas": ["A"],
                 "inlets": [[cells[one], chances[one]] for one in range(inlet + 1)], "detectors": [cells[inlet] + 50, *cells[1:inlet + 1]]}
-        with RoadLab(road) as lab:
+        with RoadLab(read_plan_line(road)) as lab:
             if start is not None:
                 lab.edit("A", ("start", 0), 0, start)
             lab.command("advance", "A", to=1_000 + LONG)

@@ -41,7 +41,7 @@ opened = builtins.open
 refuse("open", opens_to_write)
 for changes in ("rename", "replace", "unlink", "mkdir", "remove", "rmdir"):
     refuse(changes, lambda *_, **__: True)
-builtins.open = open_here
+setattr(builtins, "open", open_here)
 sys.argv[:] = sys.argv[3:]
 sys.path[0] = str(Path(sys.argv[0]).parent)
 runpy.run_path(sys.argv[0], run_name="__main__")

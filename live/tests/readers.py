@@ -7,17 +7,18 @@ from __future__ import annotations
 
 import asyncio
 import random
-from typing import Any, Callable
+from typing import Any, Callable, Sequence
 
 from crashes import numbers
 from oracle import counting_operations
 from server.client import RefusedReply, Seat
-from server.model.operations import Operation, Shape, Stamp
-from zegdrut import Plan, RoadLab
+from server.model.operations import Operation, Shape, Stamp, is_line
+from zegdrut import RoadLab
 from running import ALL, SMALL, Case, Server, until
+from server.records import read_plan_line
 
 LAST = 80
-PLAN = {**SMALL, "length": 60, "zones": [[4, 9_000]] * 3, "inlets": [[0, 30_000], [25, 9_000]], "detectors": [20, 45]}
+PLAN: dict[str, Any] = {**SMALL, "length": 60, "zones": [[4, 9_000]] * 3, "inlets": [[0, 30_000], [25, 9_000]], "detectors": [20, 45]}
 BASE = {"block": 0, "limit": 4}
 THERE = {"block": 60, "limit": 3}
 HOURS, ROUNDS = (12 if ALL else 1), (20 if ALL else 6)
@@ -43,10 +44,12 @@ class Reader:
         heights: dict[Stamp, Stamp] = {}
         for one in counting_operations(self.made[stamp] for stamp in self.held):
             for name, shape in one.sets.items():
-                shapes.setdefault(name[:2], shape)
+                if is_line(name):
+                    shapes.setdefault(name, shape)
             for name, height in one.heights.items():
-                heights.setdefault(name[:2], height)
-        names = {name[:2] for stamp in self.held for name in self.made[stamp].names}
+                if is_line(name):
+                    heights.setdefault(name, height)
+        names = {name for stamp in self.held for name in self.made[stamp].names if is_line(name)}
         return {name: (heights.get(name, name), shapes.get(name)) for name in names}
 
     def standing(self) -> list[tuple[Stamp, Stamp, Shape]]:
@@ -64,7 +67,7 @@ class Reader:
                     shape = self.shape()
                     await self.makes("gesture", lambda stamp: Operation(stamp, {stamp: Shape(*shape)}), shape=shape)
                 elif what < 0.75:
-                    await self.acts_on(self.chance.choice([*self.layers()] or [None]))
+                    await self.acts_on([*self.layers()])
                 elif what < 0.87:
                     await self.shares()
                 else:
@@ -97,10 +100,11 @@ class Reader:
         """Whether a line may be forgotten, since it was put in private and withdrawn long ago; or an operation."""
         return stamp in self.old if name is None else name in self.old and self.layers()[name][1] is None
 
-    async def acts_on(self, name: Stamp | None) -> None:
+    async def acts_on(self, some: Sequence[Stamp]) -> None:
         """Something that is done to what is there."""
-        if name is None:
+        if not some:
             return
+        name = self.chance.choice(some)
         _, shape = self.layers()[name]
         what = self.chance.choice(["change", "change", "top", "withdraw", "withdraw", "undo", "again"])
         if what == "change":
@@ -126,7 +130,7 @@ class Reader:
     async def sends(self, **some: Any) -> int:
         """How many operations were shared."""
         said = await self.seat.ask("send", name="shared", **some)
-        given = set(map(tuple, said["stamps"]))
+        given = {(count, number) for count, number in said["stamps"]}
         self.private = [stamp for stamp in self.private if stamp not in given]
         return len(given)
 
@@ -137,14 +141,13 @@ class Reader:
             after = await self.rows("after")
         said = await self.seat.ask("take", message="shared")
         assert said["size"] == len(said["changes"]), "all that was taken is told"
-        self.held.update(tuple(one["stamp"]) for one in said["changes"])
+        self.held.update((count, number) for count, number in (one["stamp"] for one in said["changes"]))
         if looked is not None and looked == said["size"]:
             assert await self.rows(self.seat.at) == after, "the road is not what was looked at first"
 
-    async def rows(self, at: str) -> list[str]:
+    async def rows(self, at: str) -> Sequence[str]:
         await self.seat.ask("advance", at=at, to=LAST)
-        rows: list[str] = (await self.seat.ask("diagram", at=at, **{"from": 0, "to": LAST}))["rows"]
-        return rows
+        return (await self.seat.ask("diagram", at=at, **{"from": 0, "to": LAST}))["rows"]
 
     # What is so
 
@@ -157,7 +160,7 @@ class Reader:
         self.standing_now = self.standing()
         tops = {(kind, index, step): self.covering(kind, index, step) for kind, there in THERE.items() for index in range(there)
                 for step in range(LAST + 1)}
-        with RoadLab(Plan(**{**PLAN, "replicas": ["A"]})) as lab:
+        with RoadLab(read_plan_line({**PLAN, "replicas": ["A"]})) as lab:
             for (kind, index, step), top in tops.items():
                 value = top[1][5] if top else BASE[kind]
                 before = tops.get((kind, index, step - 1)) if step else None
@@ -183,7 +186,7 @@ class Reader:
         place, more = 0, True
         while more:
             said = await self.seat.ask("layers", **{"from": place})
-            found, place, more = found + said["layers"], said["next"], said["more"]
+            found, place, more = [*found, *said["layers"]], said["next"], said["more"]
         return found
 
 

@@ -12,7 +12,7 @@ from faulty import Here, soon
 from running import SMALL, Case, program
 from server.program import start
 
-LONG = {**SMALL, "length": 8_000, "zone": 1_000, "zones": [[5, 6_554]] * 8}
+LONG: dict[str, Any] = {**SMALL, "length": 8_000, "zone": 1_000, "zones": [[5, 6_554]] * 8}
 
 
 def state_of(process: int) -> str:
@@ -27,7 +27,7 @@ class Programs(Case):
             ada, = await here.join("Ada")
             await here.put(ada, ["limit", 2, 50, 3])
             told: list[Any] = []
-            keeper.listeners.on("program", lambda: told.append((keeper.changes, keeper.why_changed)))
+            keeper.listeners.program.on(lambda: told.append((keeper.changes, keeper.why_changed)))
             os.kill(keeper.program._process.pid, signal.SIGSTOP)
             with mock.patch("server.program.HANGS", 1.0):
                 reply = await soon(keeper.ask(ada, (ada,), lambda: keeper.say(b'{"scenario":{"at":"seat1"}}', {})))

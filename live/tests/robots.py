@@ -8,15 +8,16 @@ from typing import Any
 from server.client import RefusedReply, Seat
 from server.model.operations import Operation
 from server.model.reading import read_operation
-from zegdrut import Plan, RoadLab
+from zegdrut import RoadLab
 from oracle import oracle_of
 from running import ALL, SMALL, Case, Server, until
+from server.records import read_plan_line
 
 LAST = 80
 ROBOTS = 4
 RUNS, ACTS = (20 if ALL else 3), 100
 SITES = 12 if ALL else 3  # runs of several servers
-PLAN = {**SMALL, "length": 60, "zones": [[4, 9_000]] * 3, "inlets": [[0, 30_000], [25, 9_000]], "detectors": [20, 45]}
+PLAN: dict[str, Any] = {**SMALL, "length": 60, "zones": [[4, 9_000]] * 3, "inlets": [[0, 30_000], [25, 9_000]], "detectors": [20, 45]}
 OBJECTS = [("limit", 3, 5), ("slow", 3, 40_000), ("block", 60, 1), ("inflow", 2, 65_536), ("watch", 2, 1),
            ("start", 3, 50_000)]
 ORACLE = oracle_of(PLAN, LAST + 1)
@@ -66,26 +67,26 @@ class Acts(Case):
         held = (await seat.ask("layers"))["layers"]
         if not held:
             return
-        line = chance.choice(held)
+        line = chance.choice([*held])
         what = chance.choice(["change", "change", "top", "withdraw", "undo", "again"])
         if what in ("undo", "again"):
-            stamp = chance.choice(line.get("operations", [{"stamp": [1, 1]}]))["stamp"]
+            stamp = chance.choice([one["stamp"] for one in line.get("operations", [])] or [(1, 1)])
             await seat.ask(what, key=key, stamp=stamp)
         else:
-            fields = {"change": {"shape": random_shape(chance)}, "top": {"top": True}, "withdraw": {"shape": None}}[what]
-            await seat.ask("gesture", key=key, layer=line["name"], **fields)
+            of: dict[str, dict[str, Any]] = {"change": {"shape": random_shape(chance)}, "top": {"top": True}, "withdraw": {"shape": None}}
+            await seat.ask("gesture", key=key, layer=line["name"], **of[what])
 
     async def compare(self, server: Server, seat: Seat, at: str) -> list[str]:
         """A road beside one of the journal's operations alone: who holds what is worked out here again. Gives its rows."""
         await seat.ask("advance", at=at, to=LAST)
         values = {(*thing, step): value for thing, line in ORACLE.painted(operations(server.journal(), at)).items()
                   for step, value in enumerate(line)}
-        with RoadLab(Plan(**{**PLAN, "replicas": ["A"]})) as lab:
+        with RoadLab(read_plan_line({**PLAN, "replicas": ["A"]})) as lab:
             for (kind, index, step), value in values.items():
                 if step == 0 or values[kind, index, step - 1] != value:
                     lab.edit("A", (kind, index), step, value)
             lab.advance("A", LAST)
-            rows: list[str] = (await seat.ask("diagram", at=at, **{"from": 0, "to": LAST}))["rows"]
+            rows = [*(await seat.ask("diagram", at=at, **{"from": 0, "to": LAST}))["rows"]]
             self.assertEqual(rows, lab.diagram("A", 0, LAST), at)
             counts = (await seat.ask("counts", at=at, **{"from": 0, "to": LAST}))["counts"]
             self.assertEqual(counts, [list(lab.count("A", detector, 0, LAST)) for detector in range(2)])

@@ -46,6 +46,13 @@ DIES_WITH_PARENT, GETS_ORPHANS = 1, 36  # PR_SET_PDEATHSIG, PR_SET_CHILD_SUBREAP
 ctypes.CDLL(None).prctl(GETS_ORPHANS, 1)
 
 
+def transport_of(seat: Seat) -> asyncio.Transport:
+    """Return what the socket of a seat goes through."""
+    connection = seat._socket._response.connection
+    assert connection is not None and connection.transport is not None
+    return connection.transport
+
+
 def dies_with_us(by: int = signal.SIGKILL) -> None:
     ctypes.CDLL(None).prctl(DIES_WITH_PARENT, by)
 

@@ -123,8 +123,7 @@ class Seats(Case):
         keeper, is_free = self.here.keeper, asyncio.Event()
         ada, ben = await self.here.join("Ada", "Ben")
         busy = keeper.turns.ask(ada, is_free.wait)
-        asked = [asyncio.create_task(self.here.ask(ada, verb, **more)) for verb, more in (
-            ("layers", {}), ("operations", {}), ("scenario", {}))]
+        asked = [asyncio.create_task(self.here.ask(ada, verb)) for verb in ("layers", "operations", "scenario")]
         asked.append(asyncio.create_task(verbs.answer(self.here.lab, self.here.questions, ada, Asked("seats", {}), {})))
         await asyncio.sleep(0.2)
         self.assertEqual([one for one in asked if one.done()], [])
@@ -135,8 +134,10 @@ class Seats(Case):
     async def test_no_question_reaches_further_than_a_clock_may_be_set(self) -> None:
         ada, = await self.here.join("Ada")
         now = self.here.keeper.now()
-        for verb, more in (("advance", {"to": now + 36_001}), ("transcript", {"from": 0, "to": now + 36_001}),
-                           ("figures", {"of": "mine", "from": 0, "to": now + 36_001})):
+        cases: list[tuple[str, dict[str, Any]]] = [
+            ("advance", {"to": now + 36_001}), ("transcript", {"from": 0, "to": now + 36_001}),
+            ("figures", {"of": "mine", "from": 0, "to": now + 36_001})]
+        for verb, more in cases:
             with self.assertRaisesRegex(Refused, "TooFarAhead"):
                 await self.here.ask(ada, verb, **more)
         with self.assertRaisesRegex(Refused, "Range"):
@@ -176,7 +177,7 @@ class Seats(Case):
 
     async def test_a_fast_clock_stops_in_an_hour_and_says_so(self) -> None:
         told: list[Any] = []
-        self.here.keeper.listeners.on("clock", lambda: told.append(self.here.keeper.clock().fields()))
+        self.here.keeper.listeners.clock.on(lambda: told.append(self.here.keeper.clock().fields()))
         self.assertEqual(await self.clock(60, 100), 6_000)
         self.assertEqual(await self.clock(600, 5), 3_000)
         self.assertEqual(told[-1], {"rate": 600, "now": 6_000, "stop": 9_600})

@@ -7,10 +7,16 @@ import os
 import re
 import sys
 import unittest
+from typing import Any
 
 from running import LIVE, PATIENCE, SMALL, Broker, Case, Server, new_folder
+from server.admissions import Curve
+from server.records import read_plan_line
 from server.words import InvalidWords, find_chance, find_state, read_change
 from zegdrut.clock import Clock
+from zegdrut.wire import WrittenEdit
+
+PLAN = read_plan_line(SMALL)
 
 
 class Written(unittest.TestCase):
@@ -26,8 +32,8 @@ class Written(unittest.TestCase):
                  "slow-to-start 50 %, km 0 to 0.9, 06:31 to 06:32"),
                 (("detector", "off", "0.5", "06:45"), ["watch", 1, 1, 900, None, 0], "detector off, at km 0.525, from 06:45 on"),
                 (("demand", "1200.5", "0.2", "06:45"), ["inflow", 1, 1, 900, None, 0], "1200.5 cars/h, at km 0.3, from 06:45 on")):
-            written = read_change(words, SMALL, clock)
-            self.assertEqual((written.shape, written.sentence), (shape, said))
+            written = read_change(words, PLAN, clock)
+            self.assertEqual(([*written.shape], written.sentence), (shape, said))
         self.assertEqual(written.demand, 1_200.5)
 
     def test_what_is_written_wrongly_is_told(self) -> None:
@@ -38,23 +44,24 @@ class Written(unittest.TestCase):
                            (("close", "0", "0.1", "soon"), "BEGIN: 'soon' is not a time"), (("close", "0", "0.1", "9", "8"), "not later than"),
                            ((), "'' is not a change")):
             with self.assertRaisesRegex(InvalidWords, re.escape(why)):
-                read_change(words, SMALL, Clock())
+                read_change(words, PLAN, Clock())
 
     def test_a_curve_is_read_back(self) -> None:
-        curve = {"points": [[0, 0.0], [1_000, 100.0], [2_000, 150.0], [3_000, 150.0]], "capacity": 150.0}
+        curve: Curve = {"points": [(0, 0.0), (1_000, 100.0), (2_000, 150.0), (3_000, 150.0)], "capacity": 150.0}
         self.assertEqual([find_chance(curve, cars) for cars in (0, 50, 100, 125, 150)], [0, 500, 1_000, 1_500, 2_000])
         with self.assertRaisesRegex(InvalidWords, "admits 0 to 150 cars"):
             find_chance(curve, 151)
-        edits = [["inflow", 0, 60, 1, 64, 7], ["inflow", 0, 90, 1, 64, None], ["start", 2, 0, 1, 64, 99], ["start", 2, 5, 1, 64, 98]]
-        self.assertEqual(find_state(SMALL, edits, 1, 59), {"inlet": 1, "start": 99, "before": [[0, 27_918]]})
-        self.assertEqual(find_state(SMALL, edits, 1, 90), {"inlet": 1, "start": 99, "before": [[0, 7]]})
+        edits: list[WrittenEdit] = [("inflow", 0, 60, 1, 64, 7), ("inflow", 0, 90, 1, 64, None), ("start", 2, 0, 1, 64, 99),
+                                    ("start", 2, 5, 1, 64, 98)]
+        self.assertEqual(find_state(PLAN, edits, 1, 59), {"inlet": 1, "start": 99, "before": [(0, 27_918)]})
+        self.assertEqual(find_state(PLAN, edits, 1, 90), {"inlet": 1, "start": 99, "before": [(0, 7)]})
 
 
 class Shell(Case):
     def setUp(self) -> None:
-        self.broker = Broker()
-        self.addCleanup(lambda: self.broker.kill())
-        self.a6: Server = self.server("--broker", self.broker.address)
+        self.here = Broker()
+        self.addCleanup(lambda: self.here.kill())
+        self.a6: Server = self.server("--broker", self.here.address)
 
     async def road(self, *words: str, **environment: str) -> tuple[int, str, str]:
         process = await asyncio.create_subprocess_exec(
@@ -91,10 +98,10 @@ class Shell(Case):
         self.assertEqual([status for status, _, _ in said], [0, 0, 1])
         self.assertIn("1 is this site", said[2][2])
         self.assertEqual((await self.road("cron", "tell"))[:2], (0, "all came back"))
-        self.broker.kill()
+        self.here.kill()
         await self.road("cron", "share")
-        status, _, said = await self.road("cron", "tell", PATIENCE="1")
-        self.assertEqual((status, said.split(";")[0]), (1, "1 change has not come back"))
+        status, _, why = await self.road("cron", "tell", PATIENCE="1")
+        self.assertEqual((status, why.split(";")[0]), (1, "1 change has not come back"))
 
     async def test_changes_are_written_in_km_and_clock_times(self) -> None:
         """The demand is that of the package's curve: within half a car per hour."""
@@ -106,7 +113,7 @@ class Shell(Case):
         self.assertIn("this inlet admits 0 to 1,7", said[2][2])
         async with self.a6.seat("Ada") as ada:
             await self.road("cron", "share")
-            shapes = {line["kind"]: line["shape"] for line in (await ada.ask("layers", at="shared", **{"from": 0}))["layers"]}
+            shapes: dict[str | None, Any] = {line["kind"]: line["shape"] for line in (await ada.ask("layers", at="shared", **{"from": 0}))["layers"]}
         chance = shapes.pop("inflow")[5]
         self.assertEqual(shapes, {"limit": ["limit", 1, 2, 600, None, 2]})
         from zegdrut.demand import Drivers, measure_admission

@@ -18,8 +18,9 @@ from server import seals, stamps, verbs
 from server.asked import Asked
 from server.refusals import Refused
 from server.floods import Floods
-from server.model.operations import About, Shape, edit, put
-from server.records import Came, Folder
+from server.journal import Broken
+from server.model.operations import About, Shape, edit, is_raw, put
+from server.records import Came, Folder, read_plan_line
 from server.sites import Sites
 from server.state import State
 
@@ -28,7 +29,7 @@ DAY = 86_400_000  # milliseconds
 
 def steps(here: Here) -> list[int]:
     """The steps of the raw edits that a shared road has."""
-    return sorted(name[2] for one in here.lab.state.shared.places for name in one.sets if len(name) == 3)
+    return sorted(name[2] for one in here.lab.state.shared.places for name in one.sets if is_raw(name))
 
 
 class Strangers(Case):
@@ -78,7 +79,7 @@ class Strangers(Case):
         here = await self.enterAsyncContext(Here(again.folder))
         silent = Bus().site(here)
         silent._send_unreturned()
-        self.assertEqual((silent._client.sent, silent.state()["unsent"]), ([], 1))
+        self.assertEqual((getattr(silent._client, "sent"), silent.state()["unsent"]), ([], 1))
         self.assertIn("nothing is sent", " ".join(silent.state()["stays"]))
         # The folder that had it goes on, wherever it stands.
         moved = new_folder() / "moved"
@@ -174,7 +175,7 @@ class Strangers(Case):
         """Else it lets in one and then the other, neither hears of the other, and both send."""
         first, _ = await self.here(7)
         options = argparse.Namespace(broker="127.0.0.1:1", broker_user=None, broker_authority=None, site_key=None)
-        names = {Sites(first.lab, lambda: None, options)._client._client_id for _ in range(2)}
+        names = {getattr(Sites(first.lab, lambda: None, options)._client, "_client_id") for _ in range(2)}
         self.assertEqual(len(names), 2)
         for name in names:
             self.assertIn(first.lab.state.folder.encode(), name)
@@ -182,7 +183,8 @@ class Strangers(Case):
     async def test_an_older_site_is_the_same_folder_when_it_is_new(self) -> None:
         """It said its folder's place behind the token, which moves with the folder."""
         (one, first), (two, second) = await self.here(1), await self.here(2)
-        for form, update in (({"form": 2}, "site 2"), ({"form": 4}, "this site"), ({}, "site 2")):
+        cases: list[tuple[dict[str, Any], str]] = [({"form": 2}, "site 2"), ({"form": 4}, "this site"), ({}, "site 2")]
+        for form, update in cases:
             older = {"folder": f"{two.lab.state.folder}-12345678", "site": 2, "road": first._road, **form}
             await self.bus.give(first, Message("road/sites", json.dumps(older).encode()))
             self.assertIn(f"Nothing is exchanged with site 2, whose server has another version: update {update}", told(first))
@@ -278,9 +280,8 @@ class Strangers(Case):
 
     async def test_what_is_more_than_a_day_ahead_is_told_and_taken_when_its_day_has_come(self) -> None:
         """By all sites, whatever they hold."""
-        now = stamps.milliseconds()
+        clock = [now := stamps.milliseconds()]
         with mock.patch("server.stamps.milliseconds", lambda: clock[0]):
-            clock = [now]
             (one, first), (two, second) = await self.here(1), await self.here(2)
             await self.put(two, "limit", 1, 40, 2)
             for ahead, count in ((DAY, 1), (DAY + 2_000, 1)):
@@ -338,7 +339,7 @@ class Strangers(Case):
             held = sorted(each.stamp for each in one.lab.state.seats[1].own)
             self.assertFalse(any(count > one.keeper.stamps.latest_count() for count, _ in held))
             line, = (await one.ask(1, "layers"))["layers"][-1:]
-            self.assertEqual((line["shape"], [each["does"] for each in line["operations"]]),
+            self.assertEqual(([*line["shape"]], [each["does"] for each in line["operations"]]),
                              (["block", 60, 60, 20, 50, 1], ["put", "change"]))
             self.assertEqual((await one.ask(1, "gesture", key="ahead", note="", shape=["block", 1, 1, 1, 2, 1]))["stamp"], held[0])
             await one.share(1)
@@ -369,8 +370,8 @@ class Strangers(Case):
             await self.bus.carry()
             self.assertNotIn("ahead of all", told(second) + told(third))
             return f"This server's clock is {seconds / 60:.0f} minutes ahead of all other sites'" in said
+        later = [0.0]
         with mock.patch("server.peers.time.monotonic", lambda: steady() + later[0]):
-            later = [0.0]
             for seconds, is_told in ((290, False), (310, True), (3 * 86_400, True), (0, False)):
                 later[0] += 61
                 self.assertEqual(await told_ahead(first, seconds), is_told, seconds)
@@ -471,7 +472,7 @@ class Keys(Case):
         await self.bus.rounds()
         with mock.patch("server.floods.BURST", 20), mock.patch("server.floods.A_SECOND", 1):
             self.second._floods = Floods(lambda: now[0])
-            said = []
+            said: list[str] = []
             with mock.patch.object(self.second, "_say", said.append):
                 for number in range(300):
                     await self.bus.give(self.second, Message("road/sites", json.dumps({"folder": f"{number:x}"}).encode()))
@@ -571,7 +572,7 @@ class Keys(Case):
 
     async def test_what_is_old_is_left_out(self) -> None:
         """A message that was caught a quarter of an hour ago, and never came."""
-        with mock.patch.object(self.first._seal, "_clock", lambda: seals.time.time() - 900):
+        with mock.patch.object(self.first._seal, "_clock", lambda: time.time() - 900):
             await self.share(50)
         self.assertEqual(self.held(self.two), 0)
         self.assertIn("more than 10 minutes old", told(self.second))
@@ -603,7 +604,7 @@ class Keys(Case):
 
     def test_a_key_that_is_too_short_is_refused(self) -> None:
         self.key.write_text(" 15 bytes, here \n")
-        with self.assertRaisesRegex(seals.Broken, "has 14 bytes, and 16 are the least"):
+        with self.assertRaisesRegex(Broken, "has 14 bytes, and 16 are the least"):
             seals.key_of(self.key)
 
 
@@ -624,7 +625,7 @@ class Counting(unittest.TestCase):
         clock, looks, soon, late = [0], list[bool](), 32 * DAY // 2, 32 * 3 * DAY
         with mock.patch("server.stamps.milliseconds", lambda: clock[0]), mock.patch("server.stamps.some_bits", lambda: 0):
             state = State(stamps.StampClock())
-            Folder(SMALL, 1, "f").apply(state)
+            Folder(read_plan_line(SMALL), 1, "f").apply(state)
             state.by_stamp = Looked()
             found = []
             for count, now in ((7, 0), (late, 0), (soon, 0), (0, 2 * DAY), (0, DAY // 4), (0, DAY // 4)):

@@ -6,7 +6,7 @@ import gc
 import json
 import time
 import unittest
-from typing import Any
+from typing import Any, Callable
 from unittest import mock
 
 from faulty import Here
@@ -77,7 +77,8 @@ class Collections(unittest.TestCase):
         """When it is there from the start, and when so much has come since that a collection took long."""
         held: list[Any] = []
         self.addCleanup(gc.callbacks.pop)
-        for collects in (keep_collections_short, gc.collect, gc.collect):
+        some: list[Callable[[], object]] = [keep_collections_short, gc.collect, gc.collect]
+        for collects in some:
             held.append([[number] for number in range(300_000)])
             collects()
             self.assertLess(len(gc.get_objects()), 290_000)
@@ -92,7 +93,9 @@ class Failing(Case):
         class Example(Watched):
             def runTest(self) -> None:
                 HELD_UP.extend(f"{SAID} for a piece of work of {seconds} s: x" for seconds in said)
-        for said, slowness, fails in (([], 1.0, 0), (["0.20"], 1.0, 0), (["0.21"], 1.0, 1), (["0.29"], 1.5, 0), (["0.31"], 1.5, 1)):
+        cases: list[tuple[list[str], float, int]] = [
+            ([], 1.0, 0), (["0.20"], 1.0, 0), (["0.21"], 1.0, 1), (["0.29"], 1.5, 0), (["0.31"], 1.5, 1)]
+        for said, slowness, fails in cases:
             result = unittest.TestResult()
             with mock.patch("working.slowness", lambda now=slowness: now):
                 Example().run(result)
@@ -163,7 +166,7 @@ class Pieces(Case):
         with mock.patch.object(here.lab, "news", slowly):
             with takes_at_most(0.1):
                 for step in (70, 50, 60):
-                    here.keeper.listeners.tell("shared", step)
+                    here.keeper.listeners.shared.tell(step)
             writers = [asyncio.create_task(tab._writer()) for tab in several]
 
             async def all_are_told() -> bool:

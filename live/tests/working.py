@@ -24,7 +24,7 @@ def work() -> None:
     """Do a fixed piece of work such as a server does."""
     for _ in range(40):
         found = {tuple(one["stamp"]): one for one in json.loads(json.dumps(VALUE))["operations"]}
-        sorted(found, key=lambda name: -name[0])
+        sorted(found, key=lambda name: -int(name[0]))
 
 
 def slowness() -> float:

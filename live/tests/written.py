@@ -162,8 +162,8 @@ class Written(Case):
             await keeper.until_writable()
             self.here.heard.clear()
             share = await self.begun(self.here.share(self.ada))
-            looks = [asyncio.create_task(self.here.ask(cleo, verb, at="shared", **more)) for verb, more in (
-                ("layers", {}), ("operations", {}), ("transcript", {"from": 0, "to": 0}))]
+            questions: list[tuple[str, dict[str, Any]]] = [("layers", {}), ("operations", {}), ("transcript", {"from": 0, "to": 0})]
+            looks = [asyncio.create_task(self.here.ask(cleo, verb, at="shared", **more)) for verb, more in questions]
             self.assertEqual((lab.news(cleo, 9)["size"], lab.news(cleo, 9)["shares"][1:]), (1, []))
             first = asyncio.create_task(self.first(cleo))
             self.assertEqual(await self.edits(cleo), 1)  # the road is asked, and is what is there
@@ -311,7 +311,7 @@ class Written(Case):
     async def test_a_full_disk_beside_a_running_clock_starts_one_program(self) -> None:
         lab, keeper = self.here.lab, self.here.keeper
         told: list[Any] = []
-        keeper.listeners.on("trouble", lambda: told.append(keeper.trouble))
+        keeper.listeners.trouble.on(lambda: told.append(keeper.trouble))
         await lab.timing.set_clock(rate=60)
         await self.here.put(self.ada, [*LIMIT, 3])
         self.disk.is_full()
@@ -415,7 +415,7 @@ class Stalled(Case):
         self.here = await self.enterAsyncContext(Here(site=1))
         self.keeper = self.here.keeper
         self.told: list[Any] = []
-        self.keeper.listeners.on("trouble", lambda: self.told.append(self.keeper.trouble))
+        self.keeper.listeners.trouble.on(lambda: self.told.append(self.keeper.trouble))
         self.ada, self.ben = await self.here.join("Ada", "Ben")
         await self.here.put(self.ben, ["limit", 1, 50, 4])
         await self.here.share(self.ben)
@@ -468,8 +468,9 @@ class Stalled(Case):
             self.assertIn("the disk has not answered for", self.told[0])
             now = self.keeper.now()
             await self.looks(1)
-            for verb, fields in (("layers", {"at": "shared"}), ("preview", {"what": "share"}), ("figures", {
-                    "of": "mine", "from": 0, "to": 9})):
+            questions: list[tuple[str, dict[str, Any]]] = [
+                ("layers", {"at": "shared"}), ("preview", {"what": "share"}), ("figures", {"of": "mine", "from": 0, "to": 9})]
+            for verb, fields in questions:
                 await soon(self.here.ask(self.ben, verb, **fields))
             self.assertEqual((await soon(self.here.take(self.ben)))["size"], 0)
             await asyncio.sleep(3)

@@ -3,12 +3,13 @@ from __future__ import annotations
 
 import html
 import re
+from typing import Any
 
 from faulty import Here, soon
 from running import SMALL, Case
 from server.refusals import Refused
 
-SPAN = {"from": 60, "to": 600}
+SPAN: dict[str, Any] = {"from": 60, "to": 600}
 ASKED = {"of": "mine", "title": "The road of <Ada>: 0:01:00 to 0:10:00", "works": ["Closed 0.45–0.458 km, 0:02:00–0:05:00", "a & b"]}
 
 
@@ -52,8 +53,10 @@ class Reports(Case):
     async def test_what_is_no_report_is_refused(self) -> None:
         async with Here() as here:
             seat, = await here.join("Ada")
-            for wrong, said in (({"works": "a"}, "at most 200 strings"), ({"works": [1]}, "at most 200 strings"), ({"of": "all"}, '"preview" or'),
-                                ({"to": 5}, "not below")):
+            cases: list[tuple[dict[str, Any], str]] = [
+                ({"works": "a"}, "at most 200 strings"), ({"works": [1]}, "at most 200 strings"), ({"of": "all"}, '"preview" or'),
+                ({"to": 5}, "not below")]
+            for wrong, said in cases:
                 with self.assertRaises(Refused) as caught:
                     await here.ask(seat, "report", **{**ASKED, **SPAN, **wrong})
                 self.assertIn(said, caught.exception.why)

@@ -74,8 +74,8 @@ class Model:
                               for sign in ((-1,) if place % 2 else (1,)))]
 
     @property
-    def steps(self) -> int:
-        """Return the number of steps of the window."""
+    def window_steps(self) -> int:
+        """Return the number of steps of the window, without those before it."""
         return self.measured.intervals * self.measured.interval
 
 
@@ -155,7 +155,7 @@ def simulate_day(model: Model, seed: int, with_rows: bool = False, with_entries:
     with RoadLab(make_plan(model.road, model.chances, seed)) as lab:
         for line in edits:
             lab.ask(line)
-        lab.command("advance", "A", to=model.warm + model.steps)
+        lab.command("advance", "A", to=model.warm + model.window_steps)
         day: Day = []
         for detector in model.detectors:
             passed = []
@@ -164,7 +164,7 @@ def simulate_day(model: Model, seed: int, with_rows: bool = False, with_entries:
                 found = lab.count("A", detector, first, first + model.measured.interval)
                 passed.append(Passed(found.cars, found.speeds))
             day.append(passed)
-        rows = lab.diagram("A", model.warm, model.warm + model.steps - 1) if with_rows else []
+        rows = lab.diagram("A", model.warm, model.warm + model.window_steps - 1) if with_rows else []
         admitted = 0
         for sign, detector in model.gates if with_entries else ():
             admitted += sign * lab.count("A", detector, 0, model.road.steps).cars

@@ -41,7 +41,7 @@ class SideDay:
     rows: list[str]
 
 
-def run_side(side: Side, seed: int, window: Window, with_rows: bool) -> SideDay:
+def run_side(side: Side, seed: int | str, window: Window, with_rows: bool) -> SideDay:
     """Run a day of a road, and count in a window."""
     plan, steps = side.script.plan, window.last
     with RoadLab(side.script.with_seed(seed).plan) as lab:
@@ -61,7 +61,7 @@ def split_window(window: Window) -> list[Window]:
     return [Window(first, min(first + PERIOD, window.last)) for first in range(window.first, window.last, PERIOD)]
 
 
-def run_sides(sides: Sequence[Side], seeds: Sequence[int], window: Window,
+def run_sides(sides: Sequence[Side], seeds: Sequence[int | str], window: Window,
               progress: Callable[[int, int], None] | None = None) -> list[list[SideDay]]:
     """Run each side on each day, side by side; the first day keeps its rows."""
     jobs = [(side, seed, place == 0) for place, seed in enumerate(seeds) for side in sides]

@@ -24,8 +24,8 @@ class Script(NamedTuple):
         """Return all lines, the plan first."""
         return [{**self.plan}, *self.commands]
 
-    def with_seed(self, seed: int) -> Script:
-        """Return the script with another seed of the random numbers."""
+    def with_seed(self, seed: int | str) -> Script:
+        """Return the script with another seed of the random numbers, or "steady"."""
         plan = self.plan.copy()
         plan["words"] = seed
         return Script(plan, self.commands)

@@ -121,14 +121,14 @@ def report_progress(doing: str) -> None:
 def format_window(model: Model) -> str:
     """Return the window for names of files: 0630-0930."""
     clock = model.measured.clock
-    return f"{clock.to_file_text(0)}-{clock.to_file_text(model.steps)}"
+    return f"{clock.to_file_text(0)}-{clock.to_file_text(model.window_steps)}"
 
 
 def make_title(model: Model) -> str:
     """Return the title of tables and pictures: the road and the window."""
     clock = model.measured.clock
     date = f" on {clock.date}" if clock.date else ""
-    return f"{model.name}, {clock.to_text(0)} to {clock.to_text(model.steps)}{date}, per lane"
+    return f"{model.name}, {clock.to_text(0)} to {clock.to_text(model.window_steps)}{date}, per lane"
 
 
 def format_number(value: float | None, digits: int = 1) -> str:
@@ -191,7 +191,7 @@ def make_comparison_charts(model: Model, days: Sequence[Day]) -> list[Chart]:
         middles = [(place + 0.5) * measured.interval for place in range(measured.intervals)]
         for what, unit, names in (("Flow", "cars/h per lane", ("measured cars/h/lane", "simulated cars/h/lane", "± cars/h/lane")),
                                   ("Time-mean speed", "km/h", ("measured time-mean km/h", "simulated time-mean km/h", ""))):
-            chart = Chart(f"{what}, station {series.station.name}, km {places[series.station.name]}", unit, measured.clock, 0, model.steps)
+            chart = Chart(f"{what}, station {series.station.name}, km {places[series.station.name]}", unit, measured.clock, 0, model.window_steps)
             simulated, half = [row[names[1]] for row in rows], [row.get(names[2]) for row in rows]
             pairs = [(mean, width) for mean, width in zip(simulated, half) if mean is not None and width is not None]
             has_band = len(pairs) == len(rows) and len(days) >= FEW_DAYS
@@ -222,10 +222,10 @@ def draw_space_time(model: Model) -> str:
     _, rows, _ = simulate_day(model, model.seed, with_rows=True)
     clock, km = model.measured.clock, model.road.length / (1_000 / 7.5)
     simulated = make_speed_field(rows, A_MINUTE, CELLS_A_PIECE)
-    drawn = [draw_field(simulated, f"Simulated space-mean speed, seed {model.seed}", clock, 0, model.steps, km)]
+    drawn = [draw_field(simulated, f"Simulated space-mean speed, seed {model.seed}", clock, 0, model.window_steps, km)]
     if any(speed is not None for one in model.measured.main for speed in one.speeds):
         measured = make_measured_field(model, len(simulated[0]))
-        drawn.insert(0, draw_field(measured, "Measured time-mean speed, nearest station", clock, 0, model.steps, km))
+        drawn.insert(0, draw_field(measured, "Measured time-mean speed, nearest station", clock, 0, model.window_steps, km))
     return stack_drawings([*drawn, draw_scale()])
 
 

@@ -1,0 +1,42 @@
+"""The frames that a tab gets, as types; live/PROTOCOL.md describes them. A list of JSON is a tuple here if its parts differ."""
+from __future__ import annotations
+
+from typing import Mapping, Sequence, TypedDict
+
+from zegdrut.wire import PlanLine, WrittenEdit
+
+from .chance import FigureTold
+from .figures import DetectorFigures, RoadFigures, Times
+from .lines import Act, Line
+from .model.operations import Json, Shape, Stamp
+from .peers import BrokerState
+from .seating import ListedSeat
+
+Day = TypedDict("Day", {"begin": "int | None", "date": "str | None", "zone": "str | None"})
+"""The clock of the day: the seconds after midnight at step 0, date and time zone, as far as they are known."""
+Welcome = TypedDict("Welcome", {
+    "at": str, "seat": int, "name": str, "key": str, "number": int, "form": int, "site": int, "plan": PlanLine, "horizon": int, "rate": float,
+    "now": int, "stop": int, "ahead": int, "time": float, "most": Mapping[str, int], "broker": "BrokerState | None",
+    "trouble": "str | None", "standing": "str | None", "day": Day}, total=False)
+Bound = TypedDict("Bound", {"site": int, "folder": str})
+"""A site's number, and the folder that it is bound to."""
+Blocked = TypedDict("Blocked", {"stamp": Stamp, "by": Sequence[str]})
+"""An own operation that cannot be undone, and who changed it since."""
+News = TypedDict("News", {
+    "size": int, "from": Sequence[str], "shares": Sequence[Mapping[str, Json]], "changes": Sequence[Act], "touched": "int | None"})
+"""What others shared, and the first step that changed."""
+Held = TypedDict("Held", {
+    "stamp": Stamp, "sets": Sequence[Sequence[Json]], "heights": Sequence[Sequence[Json]], "undoes": Stamp, "excludes": Sequence[Json],
+    "seen": Stamp, "who": str, "note": str, "when": float, "shape": Shape, "shared": bool}, total=False)
+"""An operation that a replica holds."""
+Frame = TypedDict("Frame", {
+    "id": int, "us": Mapping[str, int], "refused": str, "why": str, "seats": Sequence[ListedSeat], "welcome": Welcome,
+    "stamp": Stamp, "touched": "int | None", "again": bool, "layers": Sequence[Line], "since": int, "next": int, "more": bool,
+    "undo": "Stamp | None", "redo": "Stamp | None", "blocked": Sequence[Blocked], "size": int, "stamps": Sequence[Stamp],
+    "changes": Sequence[Act], "operations": Sequence[Held], "horizon": int, "cells": str, "rows": Sequence[str],
+    "cars": Json, "speeds": int, "edits": Sequence[WrittenEdit], "sums": Sequence[int], "flows": Sequence[DetectorFigures],
+    "counts": Json, "from": int, "to": int, "before": RoadFigures, "after": RoadFigures, "delay_hours": float,
+    "delayed": int, "later": Times, "days": int, "stopped": bool, "figures": Sequence[FigureTold], "lines": str, "html": str, "csv": str,
+    "own": int, "numbers": Sequence[Bound], "points": Sequence["tuple[int, float]"], "capacity": float, "now": int, "news": News, "pong": Json,
+    "broker": BrokerState, "trouble": "str | None", "program": Mapping[str, int]}, total=False)
+"""The fields of all replies and news: each frame has some of them."""
