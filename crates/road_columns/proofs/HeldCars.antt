@@ -1,11 +1,10 @@
 -- The road that columns hold.
 use Rattle.std.specs.Prelude.{◌≡◌, ℕ, suc, ◌+◌, ◌-◌, ◌<◌, ◌≤◌, List, [], ◌∷◌, ◌++◌, length, slice_index, slice_range}
 use Rattle.std.proofs.Common.{sym, ap, ◌∙◌, arith, refl}
-use Rattle.std.proofs.lemmas.List.{ext_get_or}
 use Rattle.std.specs.List.{All}
 use Rattle.std.specs.declared.option.Option.{Option}
 use Rattle.road_plan.specs.Plan.{Plan, exit_start}
-use Rattle.road_cells.specs.Array.{Array, Vehicle, vehicle_at, array}
+use Rattle.road_cells.specs.Array.{Vehicle, vehicle_at, array}
 use Rattle.road_cells.specs.Cars.{AreRising, array_of, car_of, cars_of, cell_at, end_of, vehicle_among}
 use Rattle.road_cells.specs.declared.car.Car.{Car}
 use Rattle.road_cells.proofs.ArrayPlaces.{array-same}
@@ -16,7 +15,7 @@ use Rattle.road_columns.specs.Private.CarsAt.{AreCarsAt, from_place}
 use Rattle.road_columns.specs.Private.Held.{cars_held, road_in}
 use Rattle.road_columns.specs.Private.LooseWords.{AreFalling}
 use Rattle.road_columns.specs.Private.Step.{AreCarsInColumn}
-use Rattle.road_columns.proofs.HeldLists.{car_held, held, many_held, rise_held, same_roads}
+use Rattle.road_columns.proofs.HeldLists.{held, many_held, rise_held, same_roads}
 use Rattle.road_columns.proofs.ColumnPlaces.{cars_of_ranges, range_at, range_long, ranges_of_cars}
 
 -- cells that fall, by their places from the first on
@@ -53,34 +52,11 @@ held_is n f cells speeds numbers head tail within falling columns =
     (same_roads (from_place cells head) (from_place speeds head) (from_place numbers head) (road_in cells speeds numbers head tail) (array n f) (tail - head)
     (cars_of_held cells speeds numbers head tail falling) (cars_of_ranges (array n f) cells speeds numbers head tail within columns))
 
--- the cars that columns hold, one by one
-module _ (cells speeds numbers : List ℕ) (head tail : ℕ) (falling : AreFalling cells head tail) where
-  abbrev list : List Car
-  list = cars_held (from_place cells head) (from_place speeds head) (from_place numbers head) (tail - head)
-
-  abbrev car_in : ℕ → Car
-  car_in k = record {
-    number = from_place numbers head (mirrored (tail - head) k);
-    cell = from_place cells head (mirrored (tail - head) k);
-    speed = from_place speeds head (mirrored (tail - head) k);
-  }
-
-  held_list : (a : Array) → road_in cells speeds numbers head tail ≡ a → cars_of a ≡ list
-  held_list a is = ap cars_of (sym is) ∙ cars_of-array_of list (held_rise cells speeds numbers head tail falling)
-
-  pub as_many_held : (a : Array) (cars : List Car) → cars ≡ cars_of a → road_in cells speeds numbers head tail ≡ a → length cars ≡ tail - head
-  as_many_held a cars all is = ap length (all ∙ held_list a is) ∙ many_held (from_place cells head) (from_place speeds head) (from_place numbers head) (tail - head)
-
-  pub each_held : (a : Array) (cars : List Car) → cars ≡ cars_of a → road_in cells speeds numbers head tail ≡ a → (k : ℕ) → k < tail - head → nth_car cars k ≡ car_in k
-  each_held a cars all is k below = ap (λ xs. nth_car xs k) (all ∙ held_list a is) ∙ car_held (from_place cells head) (from_place speeds head) (from_place numbers head) (tail - head) k below
-
-  -- if these are the cars of a road, it is the one that the columns hold
-  pub same_held : (a : Array) (cars : List Car) → array_of cars ≡ a → length cars ≡ tail - head → ((k : ℕ) → k < tail - head → nth_car cars k ≡ car_in k) → road_in cells speeds numbers head tail ≡ a
-  same_held a cars is many each =
-      let size = many_held (from_place cells head) (from_place speeds head) (from_place numbers head) (tail - head) in
-      ap array_of (sym (ext_get_or (record { number = 0; cell = 0; speed = 0 }) cars list (many ∙ sym size) (λ k below.
-      each k (omega arith) ∙ sym (car_held (from_place cells head) (from_place speeds head) (from_place numbers head) (tail - head) k (omega arith)))))
-      ∙ is
+-- as many cars are on the road as the columns hold
+pub many_cars : (cells speeds numbers : List ℕ) (head tail : ℕ) → AreFalling cells head tail → length (cars_of (road_in cells speeds numbers head tail)) ≡ tail - head
+many_cars cells speeds numbers head tail falling =
+    ap length (cars_of-array_of (cars_held (from_place cells head) (from_place speeds head) (from_place numbers head) (tail - head)) (held_rise cells speeds numbers head tail falling))
+    ∙ many_held (from_place cells head) (from_place speeds head) (from_place numbers head) (tail - head)
 
 -- cars that are written into columns, the last one first
 module _ (cars : List Car) (cells speeds numbers : List ℕ) (head tail : ℕ) (rise : AreRising cars) (many : tail ≡ head + length cars) (within : tail ≤ length cells)

@@ -36,12 +36,11 @@ pub record CanRun (lo hi exit : ℕ) (car : Car) : Type 0 where
 abbrev pub IsRunnable : ℕ → ℕ → Plan → Array → Type 0
 IsRunnable lo hi p a = All (CanRun lo hi (exit_start p)) (cars_of a)
 
--- a run is on the whole road of its plan, before this step, with this road
-pub record IsAt (t : ℕ) (a : Array) (run : UnderWay) : Type 0 where
+-- a run is on the whole road of its plan, before this step
+pub record IsAt (t : ℕ) (run : UnderWay) : Type 0 where
   pub step : run.step ≡ t
   pub lo : run.lo ≡ 0
   pub hi : run.hi ≡ run.plan.cells
-  pub road : run.road ≡ a
 
 -- the input of the next step of a run: the cells of its road, with the cars that enter there
 abbrev pub next_input : UnderWay → StepInput

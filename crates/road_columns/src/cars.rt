@@ -3,7 +3,7 @@
 ghost use Rattle.std.specs.Prelude.{◌≡◌, ◌↔◌, ◌<◌, ◌≤◌, ◌+◌, ◌-◌, ◌^◌, ℕ, length, slice_index, IfOk, IsTrue, OnOk};
 ghost use Rattle.std.specs.List.{All, slice_index_or};
 ghost use Rattle.road_plan.specs.Plan.{Plan, exit_start};
-ghost use Rattle.road_cells.specs.Cars.{AreRising, array_of};
+ghost use Rattle.road_cells.specs.Cars.{AreRising, array_of, cars_of};
 ghost use Rattle.road_columns.specs.Private.CarsAt.{IsPlaceAt, from_place};
 ghost use Rattle.road_columns.specs.Private.Entering.{ArePlacesFrom, IsPutIn, place_beside, place_on};
 ghost use Rattle.road_columns.specs.Private.LooseWords.{AreFalling};
@@ -11,7 +11,7 @@ ghost use Rattle.road_columns.specs.Private.Step.{AreCarsInColumn, LetsLeave};
 
 use crate::cutting::NOWHERE;
 use crate::finding::cars_past;
-use crate::holding::{is_held, road_held};
+use crate::holding::road_held;
 use crate::shifting::FIRST;
 use road_cells::{Car, Road};
 use road_ends::OutOfMemory;
@@ -114,19 +114,12 @@ impl CarColumns {
         )
     }
 
-    /// Return whether these are exactly the cars of a road. It takes no memory.
-    pub fn are_of(&self, road: &Road) -> bool
+    /// Return how many cars there are.
+    pub fn count(&self) -> usize
         requires falling { AreFalling self.now.cells.items self.now.head self.now.tail }
-        ensures { IsTrue result ↔ (road_of self.now ≡ road.now) }
+        ensures { result ≡ length (cars_of (road_of self.now)) }
     {
-        is_held(
-            road,
-            &self.cells,
-            &self.speeds,
-            &self.numbers,
-            self.head,
-            self.tail,
-        )
+        self.tail - self.head
     }
 
     /// Find the place of the first car before each site.

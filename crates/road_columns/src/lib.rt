@@ -27,6 +27,7 @@ mod motion;
 mod passing;
 mod pieces;
 mod regions;
+mod road_or_run;
 mod room;
 mod row_text;
 mod shifting;
@@ -37,4 +38,5 @@ mod turning;
 mod under_way;
 mod words;
 
+pub use road_or_run::{RanSpan, RoadOrRun};
 pub use under_way::{UnderWay, is_runnable};

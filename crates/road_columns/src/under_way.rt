@@ -8,7 +8,7 @@ ghost use Rattle.std.specs.String.{string_bytes};
 ghost use Rattle.road_plan.specs.Plan.{exit_start};
 ghost use Rattle.road_plan.specs.Settings.{Fits};
 ghost use Rattle.road_words.specs.Words.{word};
-ghost use Rattle.road_cells.specs.Cars.{AreRising, array_of};
+ghost use Rattle.road_cells.specs.Cars.{AreRising, array_of, cars_of};
 ghost use Rattle.road_plan.specs.declared.limits.TheConstants.{GREATEST_HORIZON};
 ghost use Rattle.road_ends.specs.Row.{row_of};
 ghost use Rattle.road_detector.specs.Passes.{no_totals};
@@ -261,6 +261,13 @@ impl UnderWay {
         self.cars.road(alloc)
     }
 
+    /// Return how many cars are on the road before the next step.
+    pub fn car_count(&self) -> usize
+        ensures { result ≡ length (cars_of self.now.road) }
+    {
+        self.cars.count()
+    }
+
     /// Return the road before the next step as a row of text, with the blocked cells of its settings.
     ///
     /// # Errors
@@ -298,15 +305,11 @@ impl UnderWay {
         is_same_plan(&self.plan, plan)
     }
 
-    /// Return whether the run is on the whole road of its plan, before this step, with exactly this road. It takes no
-    /// memory.
-    pub fn is_at(&self, step: u32, road: &Road) -> bool
-        ensures { IsTrue result ↔ IsAt step road.now self.now }
+    /// Return whether the run is on the whole road of its plan, before this step. It takes no memory.
+    pub fn is_at(&self, step: u32) -> bool
+        ensures { IsTrue result ↔ IsAt step self.now }
     {
-        self.step == step
-            && self.stretch.first == 0
-            && self.stretch.end == self.plan.length()
-            && self.cars.are_of(road)
+        self.step == step && self.stretch.first == 0 && self.stretch.end == self.plan.length()
     }
 
     /// Return whether its next step is under these settings. It takes no memory.

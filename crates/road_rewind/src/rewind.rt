@@ -2,22 +2,24 @@
 
 ghost use Rattle.std.specs.Prelude.{◌≡◌, ◌≤◌, ◌-◌, max, IfOk, OnOk};
 ghost use Rattle.road_plan.specs.declared.limits.TheConstants.{GREATEST_HORIZON};
+ghost use Rattle.road_columns.specs.RoadOrRun.{road_now};
 ghost use Rattle.road_scenario.specs.Faults.{AreInRange};
 ghost use Rattle.road_scenario.specs.Winners.{join};
 ghost use Rattle.road_sheet.specs.Drafts.{draft_start};
-ghost use Rattle.road_sheet.specs.Sheets.{IsAtMost};
+ghost use Rattle.road_sheet.specs.Sheets.{IsAtMost, state_of};
 ghost use Rattle.road_sheet.specs.Spans.{IsNextSpan, sheet_after_span};
 ghost use Rattle.road_rewind.specs.Growth.{grown_sheet, touched_step, kept_step, most_steps, meter_after, CountsGone};
 ghost use Rattle.road_rewind.specs.Growth.{TicksAtMost};
 
 use crate::GrownFault;
 use crate::outcome::Grown;
+use road_columns::{RanSpan, RoadOrRun};
 use road_ends::laws::cars_stay_on_road;
 use road_ends::{Meter, OutOfMemory, Span};
 use road_scenario::Scenario;
 use road_scenario::laws::winners_agree;
-use road_sheet::{Draft, Sheet};
-use road_workers::{Crew, KeptRun};
+use road_sheet::{Draft, Sheet, SpanDraft};
+use road_workers::Crew;
 use std::alloc::Global;
 
 /// Join a scenario into a sheet and simulate at least up to the step `to`: the new sheet is that of the joined scenario,
@@ -60,10 +62,10 @@ pub fn grown<C: Crew>(
     ensures gone { CountsGone result (C.times_gone crew.old) (C.times_gone crew.new) }
 {
     winners_agree();
-    let (mut draft, touched) = start_draft(alloc, sheet, scenario)?;
-    simulate(alloc, &mut draft, sheet.horizon().max(to), crew, meter)?;
+    let (draft, touched) = start_draft(alloc, sheet, scenario)?;
+    let simulated = simulate(alloc, draft, sheet.horizon().max(to), crew, meter)?;
     Ok(Grown {
-        sheet: draft.sheet(),
+        sheet: simulated,
         touched,
     })
 }
@@ -100,55 +102,59 @@ fn kept_step(horizon: u32, touched: Option<u32>) -> u32
     }
 }
 
-// Simulate a draft up to a step, by runs of no more steps than the crew is to run at once. The meter counts the steps of
-// each run once the draft has them, and none of a run that is refused.
+// Simulate a draft up to a step, by runs of no more steps than the crew is to run at once, and return its sheet. The meter
+// counts the steps of each run once the draft has them, and none of a run that is refused.
 fn simulate<C: Crew>(
     alloc: Global,
-    draft: &mut Draft,
+    draft: Draft,
     to: u32,
     crew: &mut C,
     meter: &mut Meter,
-) -> Result<(), GrownFault>
-    requires before { draft.old.horizon ≤ to }
+) -> Result<Sheet, GrownFault>
+    requires before { draft.horizon ≤ to }
     requires within_limit { to ≤ GREATEST_HORIZON }
-    ensures simulated { OnOk result (draft.new ≡ record draft.old { horizon = to }) }
-    ensures steps { OnOk result (meter.new ≡ meter_after meter.old (to - draft.old.horizon)) }
-    ensures few { TicksAtMost (to - draft.old.horizon) meter.old meter.new }
+    ensures simulated { IfOk result (λ sheet. sheet ≡ record draft { horizon = to }) }
+    ensures steps { OnOk result (meter.new ≡ meter_after meter.old (to - draft.horizon)) }
+    ensures few { TicksAtMost (to - draft.horizon) meter.old meter.new }
     ensures gone { CountsGone result (C.times_gone crew.old) (C.times_gone crew.new) }
 {
-    let mut kept = KeptRun::none();
-    let mut step = draft.horizon();
+    let (mut so_far, at_horizon) = draft.by_spans();
+    let mut road = RoadOrRun::Road(at_horizon);
+    let mut step = so_far.horizon();
     while step < to {
         let end = to.min(step.saturating_add(crew.most_steps()));
-        let span = draft.next_span(alloc, end)?;
-        simulate_span(alloc, draft, &span, crew, &mut kept, meter)?;
+        let span = so_far.next_span(alloc, end)?;
+        road = simulate_span(alloc, &mut so_far, road, &span, crew, meter)?;
         step += span.steps();
     }
-    Ok(())
+    Ok(so_far.sheet(alloc, road)?)
 }
 
-// Simulate the next steps of a draft by a run of the crew. The meter counts all of them once the draft has them, and
-// none if the run or its taking is refused.
+// Simulate the next steps of a draft by a run of the crew, from the road at its horizon, and return the road after them.
+// The meter counts all of them once the draft has them, and none if the run or its taking is refused.
 fn simulate_span<C: Crew>(
     alloc: Global,
-    draft: &mut Draft,
+    draft: &mut SpanDraft,
+    road: RoadOrRun,
     span: &Span,
     crew: &mut C,
-    kept: &mut KeptRun,
     meter: &mut Meter,
-) -> Result<(), GrownFault>
+) -> Result<RoadOrRun, GrownFault>
     requires next { IsNextSpan draft.old span.now }
+    requires road { road_now road ≡ state_of draft.old draft.old.horizon }
     ensures simulated { OnOk result (draft.new ≡ sheet_after_span span.now draft.old) }
+    ensures road { IfOk result (λ after. road_now after ≡ state_of draft.new draft.new.horizon) }
     ensures steps { OnOk result (meter.new ≡ meter_after meter.old span.now.steps) }
     ensures few { TicksAtMost span.now.steps meter.old meter.new }
     ensures gone { CountsGone result (C.times_gone crew.old) (C.times_gone crew.new) }
 {
     let steps = span.steps();
     cars_stay_on_road(span.plan());
-    let Some(ran) = crew.run(alloc, span, draft.road(), kept)? else {
+    let Some(ran) = crew.run(alloc, span, road)? else {
         unreachable!();
     };
-    draft.push_span(alloc, span, ran)?;
+    draft.push_span(alloc, span, &ran)?;
     meter.count(steps);
-    Ok(())
+    let RanSpan { road, .. } = ran;
+    Ok(road)
 }

@@ -1,5 +1,5 @@
 -- Steps under the same settings: the run over them, and what the detectors count in them.
-use Rattle.std.proofs.Common.{◌≡◌, ◌≤◌, ◌<◌, ◌+◌, ◌-◌, ◌∙◌, ℕ, zero, suc, length, map, ap, subst, sym, arith, refl}
+use Rattle.std.proofs.Common.{◌≡◌, ◌≤◌, ◌<◌, ◌+◌, ◌-◌, ◌∙◌, ℕ, List, zero, suc, length, map, ap, subst, sym, arith, refl}
 use Rattle.std.specs.List.{range_with_len}
 use Rattle.std.proofs.lemmas.List.FromFn.{get_or-map-range_with_len, length-map-range_with_len}
 use Rattle.road_plan.specs.Plan.{IsWithinLimits, Plan}
@@ -62,7 +62,7 @@ road_after s span is =
     ∙ runs_on s.plan (settings_of s.plan s.edits) span.settings s.horizon span.steps (in_force s span is)
 
 -- what the detectors count in it is what they count in the run
-pub totals_in : (s : Sheet) (span : Span) → IsNextSpan s span → AreTotals s.plan s.edits s.horizon (s.horizon + span.steps) (span_totals span (state_of s s.horizon))
+totals_in : (s : Sheet) (span : Span) → IsNextSpan s span → AreTotals s.plan s.edits s.horizon (s.horizon + span.steps) (span_totals span (state_of s s.horizon))
 totals_in s span is =
     let at : Plan → ℕ → ℕ → Totals = λ p t d. total_from p (λ _. span.settings) t span.steps (state_of s s.horizon) d in
     let many = ap (λ (p : Plan). length p.detectors) is.plan in
@@ -73,6 +73,15 @@ totals_in s span is =
           ∙ ap (λ (p : Plan). at p span.step d) is.plan ∙ ap (λ (t : ℕ). at s.plan t d) is.step
           ∙ counts_on s.plan (settings_of s.plan s.edits) span.settings s.horizon span.steps d (in_force s span is);
     }
+
+-- the same, up to the step after it
+pub road_to : (s : Sheet) (span : Span) (end : ℕ) → IsNextSpan s span → end ≡ s.horizon + span.steps → span_road span (state_of s s.horizon) ≡ state_of s end
+road_to s span end is same = road_after s span is ∙ ap (state_of s) (sym same)
+
+pub totals_to : (s : Sheet) (span : Span) (end : ℕ) (totals : List Totals) → IsNextSpan s span → end ≡ s.horizon + span.steps → totals ≡ span_totals span (state_of s s.horizon) → AreTotals s.plan s.edits s.horizon end totals
+totals_to s span end totals is same counted =
+    subst (AreTotals s.plan s.edits s.horizon end) (sym counted)
+    (subst (λ (n : ℕ). AreTotals s.plan s.edits s.horizon n (span_totals span (state_of s s.horizon))) (sym same) (totals_in s span is))
 
 -- it can be run from the road at the horizon
 pub next_runnable : (s : Sheet) (span : Span) → IsNextSpan s span → IsWithinLimits span.plan → span.step + span.steps ≤ GREATEST_HORIZON → StayOnRoad span.plan

@@ -25,11 +25,13 @@ mod sheet;
 mod shelf;
 mod shown_run;
 pub mod simulation;
+mod span_draft;
 
 pub use draft::Draft;
 pub use faults::SheetFault;
 pub use interval::{INTERVAL_STEPS, Interval};
 pub use query_cache::QueryCache;
 pub use sheet::Sheet;
+pub use span_draft::SpanDraft;
 /// Out of memory: an allocation failed.
 pub use std::alloc::AllocError as OutOfMemory;

@@ -73,7 +73,7 @@ impl SettingsCache {
         SettingsCache { last: None }
     }
 
-    // Return the settings of a sheet's step: the cached ones if no edit is dated since, and else new ones.
+    // Return the settings of a sheet's step.
     pub(crate) fn at(
         &mut self,
         alloc: Global,
@@ -86,10 +86,28 @@ impl SettingsCache {
         ensures fits { IfOk result (λ settings. Fits sheet.now.plan (arc_value settings)) }
         ensures cached { AreCached sheet.now.plan sheet.now.edits self.new }
     {
+        self.at_step(alloc, sheet.plan(), sheet.scenario(), step)
+    }
+
+    // Return the settings of a step under a scenario: the cached ones if no edit is dated since, and else new ones.
+    pub(crate) fn at_step(
+        &mut self,
+        alloc: Global,
+        plan: &Arc<Plan>,
+        scenario: &Scenario,
+        step: u32,
+    ) -> Result<Arc<Settings>, OutOfMemory>
+        requires fits { AreInRange (arc_value plan.now) scenario.now }
+        requires cached { AreCached (arc_value plan.now) scenario.now self.old }
+        ensures settings { IfOk result (λ settings.
+            arc_value settings ≡ settings_of (arc_value plan.now) scenario.now step) }
+        ensures fits { IfOk result (λ settings. Fits (arc_value plan.now) (arc_value settings)) }
+        ensures cached { AreCached (arc_value plan.now) scenario.now self.new }
+    {
         if let Some(settings) = self.cached(step)? {
             return Ok(settings);
         }
-        self.renew(alloc, sheet.plan(), sheet.scenario(), step)
+        self.renew(alloc, plan, scenario, step)
     }
 
     // Return whether the cached settings are in force at two steps.

@@ -6,18 +6,16 @@ ghost use Rattle.std.specs.Arc.{arc_value};
 ghost use Rattle.road_plan.specs.Plan.{IsWithinLimits};
 ghost use Rattle.road_plan.specs.declared.limits.TheConstants.{GREATEST_HORIZON};
 ghost use Rattle.road_cells.specs.Cars.{cars_of};
-ghost use Rattle.road_detector.specs.Passes.{no_totals, span_totals};
+ghost use Rattle.road_detector.specs.Passes.{no_totals};
 ghost use Rattle.road_ends.specs.Input.{input_speeds};
-ghost use Rattle.road_ends.specs.Span.{span_road};
 ghost use Rattle.road_scenario.specs.Faults.{AreInRange};
 ghost use Rattle.road_scenario.specs.Touched.{first_touched_step};
 ghost use Rattle.road_scenario.specs.Winners.{AreWinners, join};
 ghost use Rattle.road_sheet.specs.Drafts.{IsUpTo, draft_start};
 ghost use Rattle.road_sheet.specs.Private.Checkpoints.{AreSmall};
-ghost use Rattle.road_sheet.specs.Private.Intervals.{AreTotals, GiveSameRun, IsInterval, IsWithinInterval};
+ghost use Rattle.road_sheet.specs.Private.Intervals.{GiveSameRun, IsInterval, IsWithinInterval};
 ghost use Rattle.road_sheet.specs.Sheets.{IsSheet, opening_sheet, state_of, total_of, next_input, sheet_after_step};
 ghost use Rattle.road_sheet.specs.Sheets.{AreWholeIntervals, IsRefusalBy, state_fault, totals_fault};
-ghost use Rattle.road_sheet.specs.Spans.{IsNextSpan, sheet_after_span};
 
 use crate::checkpoint::Checkpoint;
 use crate::draft::Draft;
@@ -27,13 +25,14 @@ use crate::query_cache::QueryCache;
 use crate::settings_cache::SettingsCache;
 use crate::shared_intervals::SharedIntervals;
 use crate::simulation::State;
+use crate::span_draft::SpanDraft;
 use lattice_core::both::Both;
 use lattice_core::greatest::Greatest;
 use road_cells::Road;
+use road_detector::Totals;
 use road_detector::laws::{cars_pass_one_by_one, totals_are_bounded};
-use road_detector::{SpanResult, Totals};
 use road_ends::laws::{cars_stay_on_road, runs_depend_on_earlier_settings};
-use road_ends::{Span, StepInput, enter};
+use road_ends::{StepInput, enter};
 use road_plan::{OutOfMemory, Plan};
 use road_scenario::Scenario;
 use road_scenario::laws::{scenarios_hold_winners, settings_stay_before_touched};
@@ -48,13 +47,13 @@ use std::sync::Arc;
 /// counts in it. Sheets share the whole intervals, so that to resume a run costs no more at a far horizon.
 #[derive(Drop)]
 pub struct Sheet {
-    plan: Arc<Plan>,
-    known: Both<Scenario, Greatest<u32>>,
-    intervals: SharedIntervals,
+    pub(crate) plan: Arc<Plan>,
+    pub(crate) known: Both<Scenario, Greatest<u32>>,
+    pub(crate) intervals: SharedIntervals,
     // The interval that the horizon cuts.
-    open_interval: Interval,
+    pub(crate) open_interval: Interval,
     // The road at the horizon.
-    at_horizon: Road,
+    pub(crate) at_horizon: Road,
 }
 
 impl Model for Sheet {
@@ -80,8 +79,6 @@ impl Model for Sheet {
 }
 
 impl Sheet {
-    ghost use Rattle.road_sheet.specs.SettingsCaches.{AreCached};
-
     /// Make the sheet without edits and without a simulated step.
     ///
     /// # Errors
@@ -271,8 +268,7 @@ impl Sheet {
         } else {
             self.resume_at_checkpoint(alloc, joined, keep / INTERVAL_STEPS)?
         };
-        let settings = SettingsCache::none();
-        Ok(Draft { sheet, settings })
+        Ok(Draft { sheet })
     }
 
     // Replace the edits by others, which give the same run up to the horizon.
@@ -360,26 +356,28 @@ impl Sheet {
         &self.at_horizon
     }
 
-    // Find the next steps under the same settings, up to a step at most.
-    pub(crate) fn next_span(
-        &self,
-        alloc: Global,
-        cache: &mut SettingsCache,
-        to: u32,
-    ) -> Result<Span, OutOfMemory>
-        requires before { self.now.horizon < to }
-        requires within_limit { to ≤ GREATEST_HORIZON }
-        requires cached { AreCached self.now.plan self.now.edits cache.old }
-        ensures next { IfOk result (λ span. IsNextSpan self.now span) }
-        ensures before { IfOk result (λ span. self.now.horizon + span.steps ≤ to) }
-        ensures cached { AreCached self.now.plan self.now.edits cache.new }
+    // Go on by spans, apart from the road at the horizon.
+    pub(crate) fn by_spans(self) -> (SpanDraft, Road)
+        ensures draft { result.0 ≡ self }
+        ensures road { result.1 ≡ state_of self self.horizon }
     {
-        let first = self.horizon();
-        let end = (first - first % INTERVAL_STEPS + INTERVAL_STEPS).min(to);
-        let settings = cache.at(alloc, self, first)?;
-        let until = cache.until(first, end);
-        let plan = Arc::try_clone(&self.plan)?;
-        Ok(Span::new(plan, settings, first, until - first))
+        let horizon = self.horizon();
+        let Sheet {
+            plan,
+            known,
+            intervals,
+            open_interval,
+            at_horizon,
+        } = self;
+        let draft = SpanDraft {
+            plan,
+            scenario: known.first,
+            horizon,
+            intervals,
+            open_interval,
+            settings: SettingsCache::none(),
+        };
+        (draft, at_horizon)
     }
 
     // Add one more step, whose road is made already. What can fail for memory is done before the sheet is changed.
@@ -454,56 +452,6 @@ impl Sheet {
         let mut ended = self.open_interval.copied()?;
         ended.count(input, speeds);
         self.end_interval(alloc, self.horizon() + 1, ended, road)
-    }
-
-    // Add the steps of a span, from the road after it and what each detector counts in it.
-    pub(crate) fn extend_by(
-        &mut self,
-        alloc: Global,
-        span: &Span,
-        ran: SpanResult,
-    ) -> Result<(), OutOfMemory>
-        requires next { IsNextSpan self.old span.now }
-        requires road { ran.road ≡ span_road span.now (state_of self.old self.old.horizon) }
-        requires totals { ran.totals.items ≡ span_totals span.now (state_of self.old self.old.horizon) }
-        ensures grown { OnOk result (self.new ≡ sheet_after_span span.now self.old) }
-        ensures unchanged { OnErr result (self.new ≡ self.old) }
-    {
-        let end = self.horizon() + span.steps();
-        if end % INTERVAL_STEPS == 0 {
-            return self.span_to_end(alloc, end, ran);
-        }
-        self.span_within(end, ran);
-        Ok(())
-    }
-
-    // Add the steps up to one that does not end the interval.
-    fn span_within(&mut self, end: u32, ran: SpanResult)
-        requires within { IsWithinInterval self.old end }
-        requires within_interval { end % INTERVAL_STEPS ≢ 0 }
-        requires road { ran.road ≡ state_of self.old end }
-        requires totals { AreTotals self.old.plan self.old.edits self.old.horizon end ran.totals.items }
-        ensures { self.new ≡ record self.old { horizon = end } }
-    {
-        totals_are_bounded(&self.plan);
-        self.open_interval.add(&ran.totals);
-        self.at_horizon = ran.road;
-        self.known.second = Greatest::Of(end);
-    }
-
-    // Add the steps up to the end of the interval.
-    fn span_to_end(&mut self, alloc: Global, end: u32, ran: SpanResult) -> Result<(), OutOfMemory>
-        requires within { IsWithinInterval self.old end }
-        requires at_end { end % INTERVAL_STEPS ≡ 0 }
-        requires road { ran.road ≡ state_of self.old end }
-        requires totals { AreTotals self.old.plan self.old.edits self.old.horizon end ran.totals.items }
-        ensures grown { OnOk result (self.new ≡ record self.old { horizon = end }) }
-        ensures unchanged { OnErr result (self.new ≡ self.old) }
-    {
-        totals_are_bounded(&self.plan);
-        let mut ended = self.open_interval.copied()?;
-        ended.add(&ran.totals);
-        self.end_interval(alloc, end, ended, ran.road)
     }
 
     // End the interval at a step, from the interval up to there and the road there. What can fail for memory is done

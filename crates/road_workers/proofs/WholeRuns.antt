@@ -1,6 +1,8 @@
 -- A run that goes on with the whole road makes the steps of a span.
-use Rattle.std.specs.Prelude.{◌≡◌, ℕ, zero, suc, ◌+◌, ◌<◌, length, refl}
-use Rattle.std.proofs.Common.{ap, ◌∙◌, arith}
+use Rattle.std.specs.Prelude.{◌≡◌, ℕ, zero, suc, ◌+◌, ◌<◌, length, refl, IfSome}
+use Rattle.std.specs.declared.option.Option.{Option}
+use Rattle.std.specs.declared.option.Option.TheVariants.{Some}
+use Rattle.std.proofs.Common.{ap, ◌∙◌, arith, subst, sym}
 use Rattle.std.proofs.Math.Numerals.{add-one}
 use Rattle.std.proofs.lemmas.List.FromFn.{fill_by_all, get_or-map-range_with_len, length-map-range_with_len}
 use Rattle.road_plan.specs.Plan.{Plan}
@@ -16,7 +18,7 @@ use Rattle.road_workers.specs.Private.Stretches.{road_after}
 use Rattle.road_workers.proofs.StretchTotals.{step_input}
 
 -- no step is made yet
-pub whole_ready : (span : Span) (a : Array) (run : UnderWay) → IsReady 0 span.plan.cells span a run → IsWhole span 0 a (uncounted run)
+whole_ready : (span : Span) (a : Array) (run : UnderWay) → IsReady 0 span.plan.cells span a run → IsWhole span 0 a (uncounted run)
 whole_ready span a run is =
     let long = length-map-range_with_len (λ d. no_totals) 0 (length run.plan.detectors) in
     record {
@@ -58,9 +60,15 @@ whole_more span k a run is =
     }
 
 -- several steps
-pub whole_after : (span : Span) (k : ℕ) (a : Array) (run : UnderWay) → IsWhole span 0 a run → IsWhole span k a (after_steps k run)
+whole_after : (span : Span) (k : ℕ) (a : Array) (run : UnderWay) → IsWhole span 0 a run → IsWhole span k a (after_steps k run)
 whole_after span zero a run is = is
 whole_after span (suc k) a run is = whole_more span k a (after_steps k run) (whole_after span k a run is)
+
+-- a run that is ready, after the steps of the span
+pub whole_run : (span : Span) (a : Array) (ready : Option UnderWay) (run later : UnderWay) → IfSome ready (IsReady 0 span.plan.cells span a) → ready ≡ Some run → later ≡ after_steps span.steps (uncounted run) → IsWhole span span.steps a later
+whole_run span a ready run later is here made =
+    let begun = subst (λ (o : Option UnderWay). IfSome o (IsReady 0 span.plan.cells span a)) here is in
+    subst (IsWhole span span.steps a) (sym made) (whole_after span span.steps a (uncounted run) (whole_ready span a run begun))
 
 -- then all is counted
 pub all_counted : (span : Span) (a : Array) (run : UnderWay) → IsWhole span span.steps a run → run.totals ≡ span_totals span a

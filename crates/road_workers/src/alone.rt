@@ -5,15 +5,14 @@ ghost use Rattle.std.specs.Arc.{arc_value};
 ghost use Rattle.road_ends.specs.Input.{input_speeds};
 ghost use Rattle.road_ends.specs.Span.{span_road};
 ghost use Rattle.road_detector.specs.Passes.{span_totals};
+ghost use Rattle.road_columns.specs.RoadOrRun.{road_now};
 ghost use Rattle.road_workers.specs.Crews.{CanBeRun, gone_after};
 ghost use Rattle.road_workers.specs.declared.faults.CrewFault.TheVariants.{WorkersGone};
 
 use crate::crew::Crew;
 use crate::faults::CrewFault;
-use crate::kept_run::KeptRun;
 use crate::whole::run_alone;
-use road_cells::Road;
-use road_detector::SpanResult;
+use road_columns::{RanSpan, RoadOrRun};
 use road_ends::{Span, StepInput};
 use road_plan::limits::GREATEST_HORIZON;
 use std::alloc::Global;
@@ -46,16 +45,17 @@ impl Crew for Alone {
         &mut self,
         alloc: Global,
         span: &Span,
-        road: &Road,
-        kept: &mut KeptRun,
-    ) -> Result<Option<SpanResult>, CrewFault>
-        ensures road { IfOk result (λ done. IfSome done (λ ran. ran.road ≡ span_road span.now road.now)) }
-        ensures totals { IfOk result (λ done. IfSome done (λ ran. ran.totals.items ≡ span_totals span.now road.now)) }
-        ensures some { IfOk result (λ done. CanBeRun span.now road.now → IsSome done) }
+        road: RoadOrRun,
+    ) -> Result<Option<RanSpan>, CrewFault>
+        ensures road { IfOk result (λ done. IfSome done (λ ran. road_now ran.road
+            ≡ span_road span.now (road_now road))) }
+        ensures totals { IfOk result (λ done. IfSome done (λ ran. ran.totals.items
+            ≡ span_totals span.now (road_now road))) }
+        ensures some { IfOk result (λ done. CanBeRun span.now (road_now road) → IsSome done) }
         ensures gone { ⟦<Alone as Crew>⟧.times_gone self.new
             ≡ gone_after result (⟦<Alone as Crew>⟧.times_gone self.old) }
         ensures memory_at_most { result ≢ Err WorkersGone }
     {
-        Ok(run_alone(alloc, span, road, kept)?)
+        Ok(run_alone(alloc, span, road)?)
     }
 }

@@ -5,13 +5,13 @@ ghost use Rattle.std.specs.Arc.{arc_value};
 ghost use Rattle.road_ends.specs.Input.{input_speeds};
 ghost use Rattle.road_ends.specs.Span.{span_road};
 ghost use Rattle.road_detector.specs.Passes.{span_totals};
+ghost use Rattle.road_columns.specs.RoadOrRun.{road_now};
 ghost use Rattle.road_workers.specs.Crews.{CanBeRun, gone_after};
 
 use crate::faults::CrewFault;
-use crate::kept_run::KeptRun;
 use crate::step_by_step::{count_passes, enter_step};
-use road_cells::Road;
-use road_detector::{SpanResult, Totals};
+use road_columns::{RanSpan, RoadOrRun};
+use road_detector::Totals;
 use road_ends::{Span, StepInput, finish};
 use std::alloc::Global;
 use std::sync::Arc;
@@ -40,8 +40,8 @@ pub trait Crew {
     }
 
     /// Run all steps of a span from the road before them. A crew without its own way computes the speeds of one step
-    /// after another. A crew that runs several steps at once may go on with the run that is lent to it, and leave
-    /// another there. None if the span has no step, or the road has a car that no run can have.
+    /// after another. A crew that runs several steps at once may go on with a run that has come to this road, and give
+    /// it on. None if the span has no step, or the road has a car that no run can have.
     ///
     /// # Errors
     ///
@@ -50,25 +50,26 @@ pub trait Crew {
         &mut self,
         alloc: Global,
         span: &Span,
-        road: &Road,
-        _kept: &mut KeptRun,
-    ) -> Result<Option<SpanResult>, CrewFault>
-        ensures road { IfOk result (λ done. IfSome done (λ ran. ran.road ≡ span_road span.now road.now)) }
-        ensures totals { IfOk result (λ done. IfSome done (λ ran. ran.totals.items ≡ span_totals span.now road.now)) }
-        ensures some { IfOk result (λ done. CanBeRun span.now road.now → IsSome done) }
+        road: RoadOrRun,
+    ) -> Result<Option<RanSpan>, CrewFault>
+        ensures road { IfOk result (λ done. IfSome done (λ ran. road_now ran.road
+            ≡ span_road span.now (road_now road))) }
+        ensures totals { IfOk result (λ done. IfSome done (λ ran. ran.totals.items
+            ≡ span_totals span.now (road_now road))) }
+        ensures some { IfOk result (λ done. CanBeRun span.now (road_now road) → IsSome done) }
         ensures gone { times_gone self.new ≡ gone_after result (times_gone self.old) }
     {
         let detectors = span.plan().detectors().len();
         let mut totals = vec![in alloc; Totals { cars: 0, speeds: 0 }; detectors]?;
-        let mut before = road.copied()?;
+        let mut before = road.into_road(alloc)?;
         for made in 0..span.steps() {
             let input = enter_step(alloc, span, made, &before)?;
             let speeds = self.speeds(alloc, &input)?;
             count_passes(&mut totals, &input, &speeds);
             before = finish(alloc, &input, &speeds)?;
         }
-        Ok(Some(SpanResult {
-            road: before,
+        Ok(Some(RanSpan {
+            road: RoadOrRun::Road(before),
             totals,
         }))
     }

@@ -33,6 +33,5 @@ pub use alone::Alone;
 pub use crew::Crew;
 pub use faults::CrewFault;
 pub use gate::{Gate, NoGate};
-pub use kept_run::KeptRun;
 pub use pool::Pool;
 pub use scoped::{Scoped, SharedGate};

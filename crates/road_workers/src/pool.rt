@@ -6,6 +6,7 @@ ghost use Rattle.road_plan.specs.declared.limits.TheConstants.{MOST_WORKERS};
 ghost use Rattle.road_ends.specs.Input.{input_speeds};
 ghost use Rattle.road_ends.specs.Span.{span_road};
 ghost use Rattle.road_detector.specs.Passes.{span_totals};
+ghost use Rattle.road_columns.specs.RoadOrRun.{road_now};
 ghost use Rattle.road_workers.specs.Crews.{CanBeRun, gone_after};
 ghost use Rattle.road_workers.specs.declared.faults.CrewFault.TheVariants.{WorkersGone};
 
@@ -30,8 +31,7 @@ use crate::pool::spin::{Lookout, processors_of};
 use crate::pool::stepping::speeds_by;
 use crate::pool::working::{Ends, work};
 use crossbeam_channel::{Sender, bounded};
-use road_cells::Road;
-use road_detector::SpanResult;
+use road_columns::{RanSpan, RoadOrRun};
 use road_ends::{OutOfMemory, Span, StepInput};
 use road_plan::limits::GREATEST_HORIZON;
 use std::alloc::Global;
@@ -59,6 +59,8 @@ pub struct Pool<R> {
     inbox: Inbox,
     // How many processors its threads have.
     processors: u32,
+    // The memory of the caller's own stretches.
+    kept: KeptRun,
     // How often it has answered `WorkersGone`. After the first time no worker is asked.
     gone: u64,
 }
@@ -151,6 +153,7 @@ impl<R: Threads + Wait + Clone + Drop + Send + 'static> Pool<R> {
             workers: started,
             inbox,
             processors,
+            kept: KeptRun::none(),
             gone: 0,
         })
     }
@@ -202,12 +205,13 @@ impl<R: Wait> Crew for Pool<R> {
         &mut self,
         alloc: Global,
         span: &Span,
-        road: &Road,
-        kept: &mut KeptRun,
-    ) -> Result<Option<SpanResult>, CrewFault>
-        ensures road { IfOk result (λ done. IfSome done (λ ran. ran.road ≡ span_road span.now road.now)) }
-        ensures totals { IfOk result (λ done. IfSome done (λ ran. ran.totals.items ≡ span_totals span.now road.now)) }
-        ensures some { IfOk result (λ done. CanBeRun span.now road.now → IsSome done) }
+        road: RoadOrRun,
+    ) -> Result<Option<RanSpan>, CrewFault>
+        ensures road { IfOk result (λ done. IfSome done (λ ran. road_now ran.road
+            ≡ span_road span.now (road_now road))) }
+        ensures totals { IfOk result (λ done. IfSome done (λ ran. ran.totals.items
+            ≡ span_totals span.now (road_now road))) }
+        ensures some { IfOk result (λ done. CanBeRun span.now (road_now road) → IsSome done) }
         ensures gone { ⟦<Pool<R> as Crew>⟧.times_gone self.new
             ≡ gone_after result (⟦<Pool<R> as Crew>⟧.times_gone self.old) }
         ensures stays_gone { 0 < ⟦<Pool<R> as Crew>⟧.times_gone self.old → result ≡ Err WorkersGone }
@@ -216,7 +220,7 @@ impl<R: Wait> Crew for Pool<R> {
         let done = if self.gone > 0 {
             Err(CrewFault::WorkersGone)
         } else {
-            self.run_spans(alloc, span, road, kept)
+            self.run_spans(alloc, span, road)
         };
         self.gone = gone_after(&done, self.gone);
         done

@@ -1,48 +1,50 @@
 //! A span of the whole road, run by one thread alone.
 
-ghost use Rattle.std.specs.Prelude.{◌≡◌, ◌+◌, ◌≤◌, IfOk, IfSome, IsSome, IsSomeAnd, IsTrue, OnOk, Some};
+ghost use Rattle.std.specs.Prelude.{◌≡◌, ◌↔◌, ◌+◌, ◌≤◌, IfOk, IfSome, IsSome, IsTrue, OnOk, Some};
 ghost use Rattle.std.specs.Arc.{arc_value};
 ghost use Rattle.road_plan.specs.Plan.{Plan};
 ghost use Rattle.road_plan.specs.declared.limits.TheConstants.{GREATEST_HORIZON};
 ghost use Rattle.road_ends.specs.Span.{span_road};
 ghost use Rattle.road_detector.specs.Passes.{span_totals};
-ghost use Rattle.road_columns.specs.UnderWay.{IsAt, IsRunnable};
+ghost use Rattle.road_columns.specs.RoadOrRun.{road_now};
+ghost use Rattle.road_columns.specs.UnderWay.{IsAt, IsRunnable, UnderWay as Running};
+ghost use Rattle.road_columns.specs.declared.road_or_run.RoadOrRun.TheVariants.{Run};
 ghost use Rattle.road_workers.specs.Crews.{CanBeRun};
-ghost use Rattle.road_workers.specs.Private.RunsUnderWay.{IsReady, after_steps, uncounted};
+ghost use Rattle.road_workers.specs.Private.RunsUnderWay.{IsReady, IsRunAt, after_steps, uncounted};
 
-use crate::kept_run::KeptRun;
 use road_cells::Road;
-use road_columns::UnderWay;
-use road_detector::SpanResult;
+use road_columns::{RanSpan, RoadOrRun, UnderWay};
 use road_ends::{OutOfMemory, Span, Stretch};
 use road_plan::limits::GREATEST_HORIZON;
 use std::alloc::Global;
 use std::sync::Arc;
 
-// Run the whole road for the steps of a span, and keep the run. None if the span has no step, or runs cannot have a
-// car of the road.
+// Run the whole road for the steps of a span, in a run that is given on. None if the span has no step, or runs cannot
+// have a car of the road.
 pub(crate) fn run_alone(
     alloc: Global,
     span: &Span,
-    road: &Road,
-    kept: &mut KeptRun,
-) -> Result<Option<SpanResult>, OutOfMemory>
-    ensures road { IfOk result (λ done. IfSome done (λ ran. ran.road ≡ span_road span.now road.now)) }
-    ensures totals { IfOk result (λ done. IfSome done (λ ran. ran.totals.items ≡ span_totals span.now road.now)) }
-    ensures some { IfOk result (λ done. CanBeRun span.now road.now → IsSome done) }
-    ensures kept { IfOk result (λ done. IfSome done
-        (λ ran. IsSomeAnd kept.new.run (IsAt (span.now.step + span.now.steps) ran.road))) }
+    road: RoadOrRun,
+) -> Result<Option<RanSpan>, OutOfMemory>
+    ensures road { IfOk result (λ done. IfSome done (λ ran. road_now ran.road ≡ span_road span.now (road_now road))) }
+    ensures totals { IfOk result (λ done. IfSome done (λ ran. ran.totals.items
+        ≡ span_totals span.now (road_now road))) }
+    ensures some { IfOk result (λ done. CanBeRun span.now (road_now road) → IsSome done) }
+    ensures given_on { IfOk result (λ done. IfSome done
+        (λ ran. IsRunAt (span.now.step + span.now.steps) ran.road)) }
 {
     if span.steps() == 0 {
         return Ok(None);
     }
-    let kept_run = reusable_run(span, kept.run.take());
-    let Some(mut run) = ready_run(alloc, span, road, kept_run)? else {
+    let Some(mut run) = ready_run(alloc, span, road)? else {
         return Ok(None);
     };
-    let ran = continue_run(alloc, span, road, &mut run)?;
-    kept.run = Some(run);
-    Ok(Some(ran))
+    make_steps(alloc, span, &mut run)?;
+    let totals = run.totals(alloc)?;
+    Ok(Some(RanSpan {
+        road: RoadOrRun::Run(run),
+        totals,
+    }))
 }
 
 // Return the run that is kept, if it is of a span's plan.
@@ -56,26 +58,45 @@ pub(crate) fn reusable_run(span: &Span, kept: Option<UnderWay>) -> Option<UnderW
     }
 }
 
-// Return a run that stands before the steps of a span on the whole road, under its settings: this one of its plan, or
-// else a new one. None if it cannot have a car of the road.
-fn ready_run(
-    alloc: Global,
-    span: &Span,
-    road: &Road,
-    kept: Option<UnderWay>,
-) -> Result<Option<UnderWay>, OutOfMemory>
-    requires { IfSome kept (λ run. run.plan ≡ span.now.plan) }
-    ensures ready { IfOk result (λ run. IfSome run (IsReady 0 span.now.plan.cells span.now road.now)) }
-    ensures some { IfOk result (λ run. IsRunnable 0 span.now.plan.cells span.now.plan road.now → IsSome run) }
+// Return a run that stands before the steps of a span on the whole road, under its settings: one that has come to the
+// road there goes on, and else a new one begins. None if it cannot have a car of the road.
+fn ready_run(alloc: Global, span: &Span, road: RoadOrRun) -> Result<Option<UnderWay>, OutOfMemory>
+    ensures ready { IfOk result (λ run. IfSome run (IsReady 0 span.now.plan.cells span.now (road_now road))) }
+    ensures some { IfOk result (λ run. IsRunnable 0 span.now.plan.cells span.now.plan (road_now road) → IsSome run) }
+    ensures goes_on { (run : Running) → road ≡ Run run → run.plan ≡ span.now.plan → IsAt span.now.step run
+        → IfOk result (λ ready. ready ≡ Some (record run { settings = span.now.settings })) }
 {
-    let Some(mut run) = kept else {
-        let end = span.plan().length();
-        return start_run(alloc, span, Stretch { first: 0, end }, road);
-    };
-    if !make_ready(alloc, span, road, &mut run)? {
-        return Ok(None);
+    let end = span.plan().length();
+    let whole = Stretch { first: 0, end };
+    match road {
+        RoadOrRun::Road(road) => start_run(alloc, span, whole, &road),
+        RoadOrRun::Run(run) => {
+            if is_before(&run, span) {
+                return Ok(Some(put_under(alloc, span, run)?));
+            }
+            let road = run.road(alloc)?;
+            start_run(alloc, span, whole, &road)
+        }
     }
-    Ok(Some(run))
+}
+
+// Return whether a run is of a span's plan and stands before its steps on the whole road.
+fn is_before(run: &UnderWay, span: &Span) -> bool
+    ensures { IsTrue result ↔ ((run.now.plan ≡ span.now.plan) × IsAt span.now.step run.now) }
+{
+    run.is_of(span.plan()) && run.is_at(span.step())
+}
+
+// Put a run of a span's plan under the settings of the span.
+fn put_under(alloc: Global, span: &Span, run: UnderWay) -> Result<UnderWay, OutOfMemory>
+    requires { run.plan ≡ span.now.plan }
+    ensures { IfOk result (λ under. under ≡ record run { settings = span.now.settings }) }
+{
+    let mut run = run;
+    if !run.is_under(span.settings()) {
+        run.change(alloc, Arc::try_clone(span.settings())?)?;
+    }
+    Ok(run)
 }
 
 // Begin a run on the cells of a stretch, before the steps of a span and under its settings. None if it cannot have a
@@ -96,30 +117,6 @@ pub(crate) fn start_run(
     UnderWay::start_on(alloc, plan, settings, span.step(), stretch, road)
 }
 
-// Make a run stand before the steps of a span, under its settings: if it does not go on, it takes the road up.
-// Return whether it does; else it cannot have a car of the road.
-fn make_ready(
-    alloc: Global,
-    span: &Span,
-    road: &Road,
-    run: &mut UnderWay,
-) -> Result<bool, OutOfMemory>
-    requires { run.old.plan ≡ span.now.plan }
-    ensures ready { IfOk result (λ is. IsTrue is → IsReady 0 span.now.plan.cells span.now road.now run.new) }
-    ensures some { IfOk result (λ is. IsRunnable 0 span.now.plan.cells span.now.plan road.now → IsTrue is) }
-    ensures goes_on { IsAt span.now.step road.now run.old
-        → OnOk result (run.new ≡ record run.old { settings = span.now.settings }) }
-{
-    if !run.is_at(span.step(), road) {
-        let end = span.plan().length();
-        return take_up(alloc, span, Stretch { first: 0, end }, road, run);
-    }
-    if !run.is_under(span.settings()) {
-        run.change(alloc, Arc::try_clone(span.settings())?)?;
-    }
-    Ok(true)
-}
-
 // Make a run take a road up on the cells of a stretch, before the steps of a span. Return whether it did; else it cannot
 // have a car of the road.
 pub(crate) fn take_up(
@@ -137,25 +134,6 @@ pub(crate) fn take_up(
     prove!(span.steps() <= GREATEST_HORIZON);
     let settings = Arc::try_clone(span.settings())?;
     run.restart_on(alloc, settings, span.step(), stretch, road)
-}
-
-// Go on with a run for the steps of a span.
-fn continue_run(
-    alloc: Global,
-    span: &Span,
-    road: &Road,
-    run: &mut UnderWay,
-) -> Result<SpanResult, OutOfMemory>
-    requires { IsReady 0 span.now.plan.cells span.now road.now run.old }
-    ensures road { IfOk result (λ ran. ran.road ≡ span_road span.now road.now) }
-    ensures totals { IfOk result (λ ran. ran.totals.items ≡ span_totals span.now road.now) }
-    ensures at { IfOk result (λ ran. IsAt (span.now.step + span.now.steps) ran.road run.new) }
-{
-    make_steps(alloc, span, run)?;
-    Ok(SpanResult {
-        road: run.road(alloc)?,
-        totals: run.totals(alloc)?,
-    })
 }
 
 // Make the steps of a span, and count in them alone.

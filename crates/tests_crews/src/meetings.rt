@@ -5,8 +5,9 @@ ghost use Rattle.road_ends.specs.Input.{input_speeds};
 
 use crate::rows::{compare_plan_rows, shared_plan};
 use crate::spans::{is_run_of_one, span_of};
+use road_columns::RoadOrRun;
 use road_ends::{OutOfMemory, StepInput};
-use road_workers::{Crew, CrewFault, Gate, KeptRun, Pool, Scoped};
+use road_workers::{Crew, CrewFault, Gate, Pool, Scoped};
 use std::alloc::Global;
 use std::process::Abort;
 use std::sync::{Arc, Wait};
@@ -64,9 +65,8 @@ fn lasting_workers_meet(rt: HostRuntime) -> Result<(), Fail> {
 fn run_twice<C: Crew>(rt: &impl Abort, alloc: Global, crew: &mut C) -> Result<(), Fail> {
     let road = queue(alloc, 4_096)?;
     let span = span_of(alloc, &shared_plan(alloc, &LONG)?, 0, 0, 64)?;
-    let mut kept = KeptRun::none();
     for _ in 0..2 {
-        let ran = crew.run(alloc, &span, &road, &mut kept)?;
+        let ran = crew.run(alloc, &span, RoadOrRun::Road(road.copied()?))?;
         assert!(rt; is_run_of_one(alloc, &span, &road, &ran)?);
     }
     Ok(())

@@ -7,10 +7,11 @@ ghost use Rattle.road_plan.specs.Settings.{Fits};
 use crate::holds;
 use crate::rows::shared_plan;
 use road_cells::Road;
+use road_columns::{RanSpan, RoadOrRun};
 use road_detector::{SpanResult, Totals, passes};
 use road_ends::{Meter, Span, step_alone};
 use road_plan::{Plan, Settings};
-use road_workers::{Alone, Crew, KeptRun, Pool};
+use road_workers::{Alone, Crew, Pool};
 use std::alloc::Global;
 use std::process::Abort;
 use std::sync::{Arc, Wait};
@@ -68,18 +69,34 @@ pub(crate) fn is_run_of_one(
     alloc: Global,
     span: &Span,
     road: &Road,
-    ran: &Option<SpanResult>,
+    ran: &Option<RanSpan>,
 ) -> Result<bool, Fail> {
-    match (ran, Alone.run(alloc, span, road, &mut KeptRun::none())?) {
-        (Some(ran), Some(wanted)) => Ok(are_same(ran, &wanted)),
+    match (
+        ran,
+        Alone.run(alloc, span, RoadOrRun::Road(road.copied()?))?,
+    ) {
+        (Some(ran), Some(alone)) => {
+            let RanSpan { road, totals } = alone;
+            let road = road.into_road(alloc)?;
+            is_result(alloc, ran, &SpanResult { road, totals })
+        }
         (None, None) => Ok(true),
         _ => Ok(false),
     }
 }
 
-// Return whether two runs have the same result.
-fn are_same(ran: &SpanResult, other: &SpanResult) -> bool {
-    ran.road.cars() == other.road.cars() && ran.totals == other.totals
+// Return whether a crew's result for a span is the expected one.
+fn is_result(alloc: Global, ran: &RanSpan, wanted: &SpanResult) -> Result<bool, Fail> {
+    let road = road_of(alloc, &ran.road)?;
+    Ok(road.cars() == wanted.road.cars() && ran.totals == wanted.totals)
+}
+
+// Copy the road that a crew gives.
+fn road_of(alloc: Global, given: &RoadOrRun) -> Result<Road, Fail> {
+    match given {
+        RoadOrRun::Road(road) => Ok(road.copied()?),
+        RoadOrRun::Run(run) => Ok(run.road(alloc)?),
+    }
 }
 
 // Compute one step, and add the counts of the detectors. Return the road after it.
@@ -185,43 +202,42 @@ pub(crate) fn run_course<'a>(
     Ok(course)
 }
 
-// Compare the result of a crew for a span with the expected one. Return the road after it.
+// Compare the result of a crew for a span with the expected one. Return the road after it, as the crew gives it.
 fn compare_span<C: Crew>(
     rt: &impl Abort,
     alloc: Global,
     crew: &mut C,
     span: &Span,
-    road: &Road,
+    road: RoadOrRun,
     wanted: &SpanResult,
-    kept: &mut KeptRun,
-) -> Result<Road, Fail> {
-    let Some(ran) = crew.run(alloc, span, road, kept)? else {
+) -> Result<RoadOrRun, Fail> {
+    let Some(ran) = crew.run(alloc, span, road)? else {
         return Err(Fail::new("a crew that does not run a span"));
     };
-    holds(rt, span.steps() as usize, are_same(&ran, wanted));
-    Ok(ran.road)
+    holds(rt, span.steps() as usize, is_result(alloc, &ran, wanted)?);
+    let RanSpan { road, .. } = ran;
+    Ok(road)
 }
 
-// Compare the results of a crew for these spans, in the run that is lent to it.
+// Compare the results of a crew for these spans: each gets the road as the crew gave it after the one before.
 fn compare_course<C: Crew>(
     rt: &impl Abort,
     alloc: Global,
     crew: &mut C,
     plan: &Arc<Plan>,
     course: &Course<'_>,
-    kept: &mut KeptRun,
-) -> Result<(), Fail> {
-    let mut road = course.queue.copied()?;
+) -> Result<RoadOrRun, Fail> {
+    let mut road = RoadOrRun::Road(course.queue.copied()?);
     let mut step = 0_u32;
     for ((kind, steps), wanted) in course.spans.iter().zip(course.ran.iter()) {
         let span = span_of(alloc, plan, *kind, step, *steps)?;
-        road = compare_span(rt, alloc, crew, &span, &road, wanted, kept)?;
+        road = compare_span(rt, alloc, crew, &span, road, wanted)?;
         step = step.saturating_add(*steps);
     }
-    Ok(())
+    Ok(road)
 }
 
-// Compare the results of a crew for courses, in one run that is kept.
+// Compare the results of a crew for courses.
 fn compare_courses<C: Crew>(
     rt: &impl Abort,
     alloc: Global,
@@ -229,9 +245,8 @@ fn compare_courses<C: Crew>(
     plan: &Arc<Plan>,
     courses: &[Course<'_>],
 ) -> Result<(), Fail> {
-    let mut kept = KeptRun::none();
     for course in courses {
-        compare_course(rt, alloc, crew, plan, course, &mut kept)?;
+        compare_course(rt, alloc, crew, plan, course)?;
     }
     Ok(())
 }
@@ -343,30 +358,38 @@ fn courses_of(
     Ok(courses)
 }
 
-// Let one caller run courses, in a run that is kept, and in a new one for each; between them a road of another plan.
-fn one_runs(
-    rt: &impl Abort,
-    alloc: Global,
-    plan: &Arc<Plan>,
-    courses: &[Course<'_>],
-) -> Result<(), Fail> {
-    let other = shared_plan(alloc, &FREE)?;
-    let free = run_course(alloc, &other, 0, &[(0, 64), (0, 1)])?;
-    let mut kept = KeptRun::none();
-    for course in courses {
-        compare_course(rt, alloc, &mut Alone, plan, course, &mut kept)?;
-        compare_course(rt, alloc, &mut Alone, plan, course, &mut KeptRun::none())?;
-        compare_course(rt, alloc, &mut Alone, &other, &free, &mut kept)?;
-    }
-    Ok(())
-}
-
 #[test]
 fn one_runs_spans_as_they_are_one_by_one(rt: HostRuntime) -> Result<(), Fail> {
     let alloc = rt.alloc();
     let plan = shared_plan(alloc, &LONG)?;
     let courses = courses_of(alloc, &plan, &[0, 200, 8_000], SPANS)?;
-    one_runs(&rt, alloc, &plan, &courses)
+    compare_courses(&rt, alloc, &mut Alone, &plan, &courses)
+}
+
+// Give one caller a run that stands before a later step, and one of another plan: it starts from their roads.
+fn starts_from_the_roads_of_other_runs(
+    rt: &impl Abort,
+    alloc: Global,
+    free: &Arc<Plan>,
+    long: &Arc<Plan>,
+) -> Result<(), Fail> {
+    let course = run_course(alloc, free, 0, &[(0, 64), (0, 1)])?;
+    for plan in [free, long] {
+        let run = compare_course(rt, alloc, &mut Alone, free, &course)?;
+        let road = road_of(alloc, &run)?;
+        let wanted = run_one_by_one(alloc, plan, 0, 0, 64, &road)?;
+        let span = span_of(alloc, plan, 0, 0, 64)?;
+        compare_span(rt, alloc, &mut Alone, &span, run, &wanted)?;
+    }
+    Ok(())
+}
+
+#[test]
+fn one_starts_from_the_road_of_a_run_that_stands_elsewhere(rt: HostRuntime) -> Result<(), Fail> {
+    let alloc = rt.alloc();
+    let free = shared_plan(alloc, &FREE)?;
+    let long = shared_plan(alloc, &LONG)?;
+    starts_from_the_roads_of_other_runs(&rt, alloc, &free, &long)
 }
 
 #[test]
@@ -377,7 +400,7 @@ fn a_crew_that_computes_speeds_runs_spans_one_step_after_another(
     let plan = shared_plan(alloc, &LONG)?;
     let course = run_course(alloc, &plan, 200, SPANS)?;
     let mut crew = Counting { calls: 0 };
-    compare_course(&rt, alloc, &mut crew, &plan, &course, &mut KeptRun::none())?;
+    compare_course(&rt, alloc, &mut crew, &plan, &course)?;
     assert!(rt; crew.calls == 310 && crew.most_steps() == 1);
     Ok(())
 }
@@ -420,9 +443,8 @@ fn runs_nothing<C: Crew>(alloc: Global, crew: &mut C, plan: &Arc<Plan>) -> Resul
         span_of(alloc, plan, 0, 0, 64)?,
     );
     let (road, full) = (queue(alloc, 4_096)?, queue(alloc, plan.length())?);
-    let mut kept = KeptRun::none();
-    let by_none = crew.run(alloc, &none, &road, &mut kept)?;
-    let from_full = crew.run(alloc, &span, &full, &mut kept)?;
+    let by_none = crew.run(alloc, &none, RoadOrRun::Road(road))?;
+    let from_full = crew.run(alloc, &span, RoadOrRun::Road(full))?;
     Ok(by_none.is_none() && from_full.is_none())
 }
 

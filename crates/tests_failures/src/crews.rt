@@ -3,9 +3,10 @@
 use crate::roads::shared_plan;
 use crate::verdict::{Call, Refusal, Until, Verdict, Wrong, try_call, verdict_of};
 use road_cells::Road;
+use road_columns::RoadOrRun;
 use road_ends::{Span, StepInput, enter};
 use road_plan::{Plan, Settings};
-use road_workers::{Alone, Crew, CrewFault, KeptRun, NoGate, Pool, Scoped};
+use road_workers::{Alone, Crew, CrewFault, NoGate, Pool, Scoped};
 use std::alloc::Global;
 use std::sync::{Arc, Wait};
 use std::thread::Threads;
@@ -86,7 +87,7 @@ fn runs<C: Crew>(
     gate: &Counter,
 ) -> Result<bool, CrewFault> {
     let before = gate.passed();
-    let ran = crew.run(alloc, span, road, &mut KeptRun::none())?;
+    let ran = crew.run(alloc, span, RoadOrRun::Road(road.copied()?))?;
     Ok(ran.is_some() && gate.passed() == before.saturating_add(WORKERS))
 }
 

@@ -3,10 +3,9 @@
 ghost use Rattle.std.specs.Prelude.{◌≡◌};
 ghost use Rattle.road_workers.specs.Crews.{gone_after};
 
-use road_cells::Road;
-use road_detector::SpanResult;
+use road_columns::{RanSpan, RoadOrRun};
 use road_ends::{Span, StepInput};
-use road_workers::{Crew, CrewFault, KeptRun};
+use road_workers::{Crew, CrewFault};
 use std::alloc::Global;
 use std::sync::Arc;
 
@@ -150,12 +149,11 @@ impl<C: Crew> Crew for Running<C> {
         &mut self,
         alloc: Global,
         span: &Span,
-        road: &Road,
-        kept: &mut KeptRun,
-    ) -> Result<Option<SpanResult>, CrewFault> {
+        road: RoadOrRun,
+    ) -> Result<Option<RanSpan>, CrewFault> {
         let answer = match self.fault_of_run() {
             Some(fault) => Err(fault),
-            None => self.crew.run(alloc, span, road, kept),
+            None => self.crew.run(alloc, span, road),
         };
         if let Ok(Some(_)) = &answer {
             self.steps = self.steps.saturating_add(u64::from(span.steps()));

@@ -5,7 +5,9 @@ use Rattle.road_cells.specs.declared.car.TheConstants.{GREATEST_SPEED}
 use Rattle.road_ends.specs.Laws.{AgreeNear}
 use Rattle.road_ends.specs.Span.{Span}
 use Rattle.road_detector.specs.Passes.{no_totals, total_from}
-use Rattle.road_columns.specs.UnderWay.{UnderWay, zero_counts, run_after_step}
+use Rattle.road_columns.specs.UnderWay.{IsAt, UnderWay, zero_counts, run_after_step}
+use Rattle.road_columns.specs.declared.road_or_run.RoadOrRun.{RoadOrRun}
+use Rattle.road_columns.specs.declared.road_or_run.RoadOrRun.TheVariants.{Road, Run}
 use Rattle.road_workers.specs.Private.Stretches.{has_site, road_after, total_on}
 
 -- a run stands before the steps of a span, under its settings, on the cells from lo to before hi, with this road
@@ -16,6 +18,11 @@ pub record IsReady (lo hi : ℕ) (span : Span) (a : Array) (run : UnderWay) : Ty
   pub from : run.lo ≡ lo
   pub to : run.hi ≡ hi
   pub road : run.road ≡ a
+
+-- it is a run, and stands on the whole road of its plan before this step
+abbrev pub IsRunAt : ℕ → RoadOrRun → Type 0
+IsRunAt t (Road a) = ⊥
+IsRunAt t (Run run) = IsAt t run
 
 -- a run whose counts are set to zero
 abbrev pub uncounted : UnderWay → UnderWay

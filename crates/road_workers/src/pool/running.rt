@@ -5,6 +5,7 @@ ghost use Rattle.road_plan.specs.declared.limits.TheConstants.{GREATEST_LENGTH, 
 ghost use Rattle.road_cells.specs.Cars.{cars_of};
 ghost use Rattle.road_ends.specs.Span.{span_road};
 ghost use Rattle.road_detector.specs.Passes.{span_totals};
+ghost use Rattle.road_columns.specs.RoadOrRun.{road_now};
 ghost use Rattle.road_columns.specs.UnderWay.{IsRunnable};
 ghost use Rattle.road_workers.specs.Crews.{CanBeRun};
 ghost use Rattle.road_workers.specs.Private.Gathered.{AreRun, AreThere};
@@ -22,9 +23,7 @@ use crate::pool::{Pool, Worker};
 use crate::stretch::joining::{Joined, join_first, join_none, whole_run};
 use crate::stretch::{road_near, run_stretch, stretch_at};
 use crate::whole::run_alone;
-use road_cells::Road;
-use road_columns::is_runnable;
-use road_detector::SpanResult;
+use road_columns::{RanSpan, RoadOrRun, is_runnable};
 use road_ends::{OutOfMemory, Span, Stretch};
 use std::alloc::Global;
 use std::sync::Wait;
@@ -35,43 +34,44 @@ impl<R: Wait> Pool<R> {
         &mut self,
         alloc: Global,
         span: &Span,
-        road: &Road,
-        kept: &mut KeptRun,
-    ) -> Result<Option<SpanResult>, CrewFault>
-        ensures road { IfOk result (λ done. IfSome done (λ ran. ran.road ≡ span_road span.now road.now)) }
-        ensures totals { IfOk result (λ done. IfSome done (λ ran. ran.totals.items ≡ span_totals span.now road.now)) }
-        ensures some { IfOk result (λ done. CanBeRun span.now road.now → IsSome done) }
+        road: RoadOrRun,
+    ) -> Result<Option<RanSpan>, CrewFault>
+        ensures road { IfOk result (λ done. IfSome done (λ ran. road_now ran.road
+            ≡ span_road span.now (road_now road))) }
+        ensures totals { IfOk result (λ done. IfSome done (λ ran. ran.totals.items
+            ≡ span_totals span.now (road_now road))) }
+        ensures some { IfOk result (λ done. CanBeRun span.now (road_now road) → IsSome done) }
         ensures unchanged { self.new ≡ self.old }
     {
         if span.steps() == 0 {
             return Ok(None);
         }
-        let (cars, cells) = (road.cars().len(), span.plan().length());
+        let (cars, cells) = (road.car_count(), span.plan().length());
         let workers = self.workers.len() as u32;
         let own = u32::from(workers < self.processors);
         if workers > self.processors || !is_shared(cars, cells, span.steps(), own + workers) {
-            return Ok(run_alone(alloc, span, road, kept)?);
+            return Ok(run_alone(alloc, span, road)?);
         }
         let whole = Stretch {
             first: 0,
             end: cells,
         };
-        if !is_runnable(span.plan(), whole, road) {
+        let road = road.into_road(alloc)?;
+        if !is_runnable(span.plan(), whole, &road) {
             return Ok(None);
         }
-        let shares = Shares { span, road, own };
-        let joined = self.run_side_by_side(alloc, shares, kept)?;
-        Ok(Some(whole_run(span, road, cells, joined)))
+        let shares = Shares {
+            span,
+            road: &road,
+            own,
+        };
+        let joined = self.run_side_by_side(alloc, shares)?;
+        Ok(Some(whole_run(span, &road, cells, joined)))
     }
 
     // Run a span by the stretches of all workers, and the caller's own.
     #[tactic(auto, using(crate::proofs::OneMore::missing_right))]
-    fn run_side_by_side(
-        &mut self,
-        alloc: Global,
-        shares: Shares,
-        kept: &mut KeptRun,
-    ) -> Result<Joined, CrewFault>
+    fn run_side_by_side(&mut self, alloc: Global, shares: Shares) -> Result<Joined, CrewFault>
         requires own { shares.own ≤ 1 }
         requires runnable { IsRunnable 0 shares.span.now.plan.cells shares.span.now.plan shares.road.now }
         ensures joined { IfOk result
@@ -85,7 +85,7 @@ impl<R: Wait> Pool<R> {
         let (jobs, sent) = send_each(count, |worker| {
             send_stretch(rt, alloc, shares, workers, worker)
         });
-        let front = run_own_stretch(alloc, shares, count, kept);
+        let front = run_own_stretch(alloc, shares, count, &mut self.kept);
         let taken = take_stretches(rt, &mut self.inbox, &mut places, jobs, shares);
         let front = check_answers(taken, sent, front)?;
         Ok(put_side_by_side(shares, front, places)?)
@@ -129,8 +129,8 @@ fn send_stretch<R: Wait>(
     result_of_send(jobs.send(rt, Job::Stretch(job)))
 }
 
-// Run the caller's stretch, in front of those of the workers, in the run that is lent to it. If the caller has none,
-// return no cars and no counts.
+// Run the caller's stretch, in front of those of the workers, in the memory of a run that is kept. If the caller has
+// none, return no cars and no counts.
 fn run_own_stretch(
     alloc: Global,
     shares: Shares,

@@ -6,9 +6,11 @@ ghost use Rattle.road_plan.specs.Plan.{IsWithinLimits};
 ghost use Rattle.road_cells.specs.Array.{Array};
 ghost use Rattle.road_ends.specs.Span.{Span, span_road};
 ghost use Rattle.road_detector.specs.Passes.{no_totals, plus, span_totals};
+ghost use Rattle.road_columns.specs.RoadOrRun.{road_now};
 ghost use Rattle.road_workers.specs.Private.Stretches.{IsJoined, IsRunOf};
 
 use road_cells::{Car, Road};
+use road_columns::{RanSpan, RoadOrRun};
 use road_detector::{SpanResult, Totals};
 use road_ends::{OutOfMemory, Span, Stretch};
 use std::alloc::Global;
@@ -93,17 +95,17 @@ fn add(totals: &mut Vec<Totals>, others: &[Totals])
 }
 
 // Make the road of what all its stretches come to, after a step at least.
-pub(crate) fn whole_run(span: &Span, road: &Road, cells: u32, joined: Joined) -> SpanResult
+pub(crate) fn whole_run(span: &Span, road: &Road, cells: u32, joined: Joined) -> RanSpan
     requires some { 0 < span.now.steps }
     requires cells { cells ≡ span.now.plan.cells }
     requires within { IsWithinLimits span.now.plan }
     requires joined { IsJoined cells span.now road.now joined }
-    ensures road { result.road ≡ span_road span.now road.now }
+    ensures road { road_now result.road ≡ span_road span.now road.now }
     ensures totals { result.totals.items ≡ span_totals span.now road.now }
 {
     let Joined { cars, totals } = joined;
-    SpanResult {
-        road: Road::of(cars),
+    RanSpan {
+        road: RoadOrRun::Road(Road::of(cars)),
         totals,
     }
 }

@@ -8,27 +8,28 @@ use Rattle.road_rewind.proofs.rewind.simulate.Goals as goal
 
 pub loop-step-preserved : goal.loop-step-preserved
 loop-step-preserved g c =
-    let start = c.args.draft.now in
+    let start = c.args.draft in
     let step = c.loop-step.step in
     let span = c.in_ok-span.span in
     let invariant = c.loop-step.invariant in
-    let here : c.loop-step.draft.horizon ≡ step = ap (λ (x : Sheet). x.horizon) invariant.draft in
-    let steps = c.steps-step.ensures.steps in
-    let count : step - start.horizon + span.steps ≡ step + c.steps-step.result - start.horizon = omega (arith, invariant.after, steps) in
+    let here : c.loop-step.so_far.horizon ≡ step = ap (λ (x : Sheet). x.horizon) invariant.draft in
+    let steps = c.steps.ensures.steps in
+    let count : step - start.horizon + span.steps ≡ step + c.steps.result - start.horizon = omega (arith, invariant.after, steps) in
     record {
       after = omega (arith, invariant.after);
       before = omega (arith, c.in_ok-span.ensures.before, here, steps, c.min-end.ensures);
-      draft = c.in_ok-simulate_span.ensures.simulated ∙ ap (λ (x : Sheet). sheet_after_span span x) (c.in_ok-span.ensures.unchanged ∙ invariant.draft)
+      draft = c.in_ok-road.ensures.simulated ∙ ap (λ (x : Sheet). sheet_after_span span x) (c.in_ok-span.ensures.unchanged ∙ invariant.draft)
           ∙ ap (λ (n : ℕ). let later : Sheet = record { plan = start.plan; edits = start.edits; horizon = step + n } in later) (sym steps);
-      meter = c.in_ok-simulate_span.ensures.steps ∙ ap (λ (m : ℕ). meter_after m span.steps) invariant.meter
+      road = c.in_ok-road.ensures.road;
+      meter = c.in_ok-road.ensures.steps ∙ ap (λ (m : ℕ). meter_after m span.steps) invariant.meter
           ∙ more_ticks_after c.args.meter.now (step - start.horizon) span.steps ∙ ap (meter_after c.args.meter.now) count;
-      gone = c.in_ok-simulate_span.ensures.gone ∙ invariant.gone;
+      gone = c.in_ok-road.ensures.gone ∙ invariant.gone;
     }
 
-pub returns-in_err-simulate_span-clause-few : goal.returns-in_err-simulate_span-clause-few
-returns-in_err-simulate_span-clause-few g c =
+pub returns-in_err-road-clause-few : goal.returns-in_err-road-clause-few
+returns-in_err-road-clause-few g c =
     let step = c.loop-step.step in
     let invariant = c.loop-step.invariant in
-    let here : c.loop-step.draft.horizon ≡ step = ap (λ (x : Sheet). x.horizon) invariant.draft in
-    few_after c.args.meter.now (step - c.args.draft.now.horizon) c.in_ok-span.span.steps (c.args.to - c.args.draft.now.horizon) c.loop-step.meter c.simulate_span.new.meter invariant.meter
+    let here : c.loop-step.so_far.horizon ≡ step = ap (λ (x : Sheet). x.horizon) invariant.draft in
+    few_after c.args.meter.now (step - c.args.draft.horizon) c.in_ok-span.span.steps (c.args.to - c.args.draft.horizon) c.loop-step.meter c.simulate_span.new.meter invariant.meter
     (omega (arith, invariant.after, here, c.in_ok-span.ensures.before, c.min-end.ensures)) c.simulate_span.ensures.few
