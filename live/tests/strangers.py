@@ -604,7 +604,7 @@ class Keys(Case):
 
     def test_a_key_that_is_too_short_is_refused(self) -> None:
         self.key.write_text(" 15 bytes, here \n")
-        with self.assertRaisesRegex(Broken, "has 14 bytes, and 16 are the least"):
+        with self.assertRaisesRegex(Broken, "has 14 bytes, but the key of the sites must have at least 16"):
             seals.key_of(self.key)
 
 
