@@ -31,7 +31,7 @@ test("values", () => {
   assert.equal(text("start", 32768), "Slow to start 50 %");
 });
 
-test("a demand is told by what its inlet admits then; until that is known, as a chance", () => {
+test("a demand is written as what its inlet admits then; until that is known, as a chance", () => {
   assert.equal(shapeText(ROAD, decodeShape(["inflow", 0, 0, 600, 1200, 38535])),
                "Demand 1,250 cars/h, at 0 km, 0:10:00\u20130:20:00");
   assert.equal(shapeText(ROAD, decodeShape(["inflow", 0, 0, 599, 1200, 38535])),
@@ -51,7 +51,7 @@ test("a shape in a few words", () => {
 
 const editsOf = (...edits) => decodeChange({name: [1, 65], shown: [], operations: [], edits}).edits;
 
-test("edits without a note are told by the first ones, and how many more there are", () => {
+test("edits without a note are described by the first ones, and how many more there are", () => {
   assert.equal(editsText(ROAD, editsOf(["limit", 11, 5400, null])),
                "Limit withdrawn, 4.125\u20134.5 km, from 1:30:00 on");
   const edits = editsOf(["block", 100, 600, 1], ["block", 101, 600, 1], ["block", 100, 700, 0]);
