@@ -31,7 +31,7 @@ from typing import Sequence
 from ..bars import Bar
 from ..clock import InvalidTime
 from ..control import RampMeter, measure_queue, run_control
-from ..demand import Admission, AdmissionByFlow, Drivers, Inlet, count_demand, measure_admission, thread_count, find_rate
+from ..demand import Admission, AdmissionByFlow, count_demand, measure_by_flow, thread_count, find_rate
 from ..errors import Fault, LabError
 from ..freeway import Figures, Road, measure_chances, make_road, widen_inlet
 from ..freeway_files import is_number, check_names
@@ -126,12 +126,11 @@ def make_site(name: str, figures: Figures, control: Control) -> Site:
     road.detectors += [wanted, wanted + 1]
     report_progress("measuring the inflow chances for the demand")
     chances = measure_chances(road)
-    main = [rate for _, rate in road.inlets[0][1]]
-    nodes = []
-    for flow in sorted({min(main), (min(main) + max(main)) / 2, max(main)}) if max(main) > min(main) else [0.0, max(main) / 2, max(main)]:
-        first = measure_admission(road.drivers, demands=[flow]).chance(flow)
-        nodes.append((flow, measure_admission(road.drivers, wanted, [Inlet(0, first)] if first else [], demands=[control.most])))
-    return Site(name, figures, road, chances, inlet, to_cells(control.detector), control, AdmissionByFlow(tuple(nodes)))
+    before = road.inlets[:inlet]
+    states = [tuple(find_rate(demand, step) for _, demand in before) for step in sorted({step for _, demand in before for step, _ in demand})]
+    # All chances are measured, so that a day without control does not depend on the control.
+    admissions = measure_by_flow([cell for cell, _ in before], wanted, states, road.drivers)
+    return Site(name, figures, road, chances, inlet, to_cells(control.detector), control, admissions)
 
 
 # Days
@@ -206,7 +205,7 @@ def format_minutes(site: Site, meters: Sequence[RampMeter]) -> list[str]:
     lines = ["time,no control: occupancy %,no control: queue cars,ALINEA: occupancy %,ALINEA: rate cars/h,ALINEA: queue cars"]
     clock = site.figures.clock
     for (step, plain, _, waiting), (_, occupancy, rate, queue) in zip(*(meter.rates for meter in meters)):
-        lines.append(f"{clock.to_text(step)},{plain:.1f},{waiting:.1f},{occupancy:.1f},{rate:.0f},{queue:.1f}")
+        lines.append(f"{clock.to_text(step)},{plain:.1f},{waiting:.1f},{occupancy:.1f},{'' if math.isinf(rate) else f'{rate:.0f}'},{queue:.1f}")
     return lines
 
 
