@@ -20,6 +20,8 @@ from .units import HOUR, count_things
 
 SUSPICIOUS = 10
 """A zero between two intervals with at least this many cars per lane is a fault of the detector."""
+MOST_FLOW = 3_000.0
+"""The greatest flow in cars per hour and lane that is believed."""
 COUNTING_ERROR = 0.05
 """The share of the flow that counting errors may lose between two stations."""
 
@@ -48,6 +50,8 @@ class Measured:
     main: list[Series]
     ramps: list[Series]
     notes: list[str] = field(default_factory=list)
+    cut: str = ""
+    """Why stations downstream of the last one are not compared, if there are any."""
 
     @property
     def intervals(self) -> int:
@@ -145,11 +149,12 @@ def put_on_road(counts: Counts, clock: Clock, seconds: int, origin: float | None
     if len(lanes_differ) > 1:
         notes.append(f"the stations have {' and '.join(map(str, lanes_differ))} lanes: the model has one lane, so it cannot show how the flow "
                      "per lane changes with the number of lanes")
-    upstream, downstream = cut_at_exit(lines, ramps, notes)
+    upstream, cut = cut_at_exit(lines, ramps)
+    notes += [cut] if cut else []
     joining = [one for one in ramps if one.station.km < upstream[-1].station.km]
     for one in (upstream[0], *joining):
         note_interpolated(one, clock, interval, notes)
-    return Measured(clock, interval, upstream, joining, [*counts.notes, *notes])
+    return Measured(clock, interval, upstream, joining, [*counts.notes, *notes], cut)
 
 
 def note_interpolated(series: Series, clock: Clock, interval: int, notes: list[str]) -> None:
@@ -196,7 +201,7 @@ def make_series(counts: Counts, station: Station, rows: list[PlacedRow], lanes: 
     cars: list[float | None] = [None] * number
     speeds: list[float | None] = [None] * number
     lines = [0] * number
-    odd = []
+    odd, high, told = [], [], set[int]()
     for row, step in rows:
         if not 0 <= step < seconds:
             continue
@@ -204,9 +209,18 @@ def make_series(counts: Counts, station: Station, rows: list[PlacedRow], lanes: 
             odd.append(row.line)
             continue
         place = step // interval
-        cars[place] = row.cars / lanes * (interval / HOUR if counts.are_per_hour else 1)
-        speeds[place], lines[place] = row.speed, row.line
+        lines[place] = row.line
+        count = None if row.cars is None else row.cars * (interval / HOUR if counts.are_per_hour else 1)
+        if count is None or count > MOST_FLOW * station.lanes * interval / HOUR:
+            told.add(place)
+            if count is not None:
+                high.append(row.line)
+            continue
+        cars[place] = count / lanes
+        speeds[place] = row.speed
     own = replace(counts, notes=[])
+    note_lines(own, high, *(f"{what} more than {MOST_FLOW:,.0f} cars per hour and lane: treated as missing" for what in
+                            (f"row of station {station.name} has", f"rows of station {station.name} have")))
     note_lines(own, odd, *(f"{what} at a whole interval of {count_things(interval // 60, 'minute')}: ignored"
                            for what in (f"row of station {station.name} does not begin", f"rows of station {station.name} do not begin")))
     zero = [place for place, count in enumerate(cars) if count == 0]
@@ -217,7 +231,7 @@ def make_series(counts: Counts, station: Station, rows: list[PlacedRow], lanes: 
                                                           (f"row of station {station.name} has", f"rows of station {station.name} have")))
     for place in faulty:
         cars[place] = speeds[place] = None
-    missing = [place for place, count in enumerate(cars) if count is None and place not in faulty]
+    missing = [place for place, count in enumerate(cars) if count is None and place not in faulty and place not in told]
     if missing:
         times = ", ".join(clock.to_text(place * interval) for place in missing[:5]) + (", .." if len(missing) > 5 else "")
         after = max((line for place, line in enumerate(lines) if line and place < missing[0]), default=0)
@@ -246,8 +260,8 @@ def check_clock_changes(counts: Counts, clock: Clock, seconds: int, notes: list[
                         + ("comes twice; without an offset from UTC the first row of a time belongs to the first hour" if is_back else "is skipped"))
 
 
-def cut_at_exit(lines: list[Series], ramps: list[Series], notes: list[str]) -> tuple[list[Series], list[Series]]:
-    """Split the stations where the flow first falls by more than counting error, and add a note. Return both parts."""
+def cut_at_exit(lines: list[Series], ramps: list[Series]) -> tuple[list[Series], str]:
+    """Return the stations up to the first one after which the flow falls by more than counting error, and a sentence if there is one."""
     for place, (one, following) in enumerate(zip(lines, lines[1:])):
         both = [index for index, (before, after) in enumerate(zip(one.cars, following.cars)) if before is not None and after is not None]
         before = math.fsum(one.cars[index] or 0 for index in both)
@@ -256,8 +270,8 @@ def cut_at_exit(lines: list[Series], ramps: list[Series], notes: list[str]) -> t
                             if one.station.km <= ramp.station.km < following.station.km)
         expected = before + joining
         if expected - after > max(COUNTING_ERROR * expected, 3 * math.sqrt(expected)):
-            notes.append(f"from station {one.station.name} (km {one.station.km:g}) to {following.station.name} (km {following.station.km:g}) "
-                        f"the flow per lane falls from {expected:.0f} to {after:.0f} cars, as at an off-ramp, which the model does not have. "
-                        f"Only stations up to {one.station.name} are compared")
-            return lines[:place + 1], lines[place + 1:]
-    return lines, []
+            return lines[:place + 1], (
+                f"from station {one.station.name} (km {one.station.km:g}) to {following.station.name} (km {following.station.km:g}) "
+                f"the flow per lane falls from {expected:.0f} to {after:.0f} cars, as at an off-ramp, which the model does not have. "
+                f"Only stations up to {one.station.name} are compared")
+    return lines, ""
