@@ -232,7 +232,7 @@ class Reader:
             with open(path, newline="", encoding="utf-8") as file:
                 rows = list(csv.DictReader(file))
         except OSError as fault:
-            raise Fault(f"{self.path}: {name}: {path}: {fault.strerror}") from None
+            raise Fault(f"{self.path}: {name}: {path}: {fault.strerror}: check the path") from None
         header = list(rows[0]) if rows else []
         times = value.get("time", header[0] if header else "")
         for column in (times, title):

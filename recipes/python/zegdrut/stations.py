@@ -122,7 +122,7 @@ def read_table(path: Path) -> tuple[list[tuple[int, list[str]]], list[str]]:
     try:
         text = path.read_text(encoding="utf-8-sig")
     except OSError as fault:
-        raise Fault(f"{path}: {fault.strerror}") from None
+        raise Fault(f"{path}: {fault.strerror}: check the path") from None
     except UnicodeDecodeError:
         raise Fault(f"{path} is not text in UTF-8") from None
     first = text.split("\n", 1)[0]
@@ -181,7 +181,7 @@ def read_lanes(path: Path, number: int, header: list[str], line: list[str], plac
 
 @dataclass
 class Doubts:
-    """The lines whose count or speed is missing, because it is no possible value. Codes such as -1 and -999 are none."""
+    """The lines whose count or speed is missing, because such a value does not exist. Codes such as -1 and -999 are among them."""
 
     counts: list[int] = field(default_factory=list)
     no_speeds: list[int] = field(default_factory=list)

@@ -25,9 +25,10 @@ from ..bars import Bar
 from ..calibration import NAMES, Bounds, Calibration, Point, Search, Trial, calibrate, is_congested, make_calibrated
 from ..demand import BeyondCapacity
 from ..comparison import with_measured_demand
-from ..errors import Fault, LabError
+from ..errors import Fault, LabError, describe_error
 from ..freeway import Figures, make_road, measure_chances
 from ..freeway_files import write_road
+from ..outputs import prepare_folder
 from ..pictures import draw_points, stack_drawings
 from .measured import add_data_arguments, report_progress, read_data, print_lines
 
@@ -90,6 +91,8 @@ def run_calibration(given: argparse.Namespace, out: Path) -> None:
         raise Fault("--points must be 10 or more, and --days 1 or more")
     bounds = read_bounds(given.bounds)
     figures, measured = read_data(given)
+    name, folder = given.road.stem, given.out or out / given.road.stem
+    prepare_folder(folder)
     print_lines(measured.notes)
     search = dataclasses.replace(Search(), points=given.points, days=given.days, elite=max(given.points // 4, 4))
     point = Point(figures.slowing, figures.start or 0.0, 1.0)
@@ -102,8 +105,6 @@ def run_calibration(given: argparse.Namespace, out: Path) -> None:
     bar = Bar("points", in_log=True)
     found = calibrate(given.road.stem, figures, measured, bounds, search, lambda done, total, best: bar.show(done, total, describe_best(best)))
     bar.end()
-    name, folder = given.road.stem, given.out or out / given.road.stem
-    folder.mkdir(parents=True, exist_ok=True)
     if not found.is_fitted:
         print_lines([NO_MINIMUM])
     print("quantity,found,spread of the best points")
@@ -134,6 +135,6 @@ def main(words: Sequence[str] | None = None, out: Path = Path("out")) -> int:
     try:
         run_calibration(given, out)
     except (LabError, BeyondCapacity, OSError) as fault:
-        print(fault, file=sys.stderr)
+        print(describe_error(fault), file=sys.stderr)
         return 1
     return 0

@@ -29,11 +29,12 @@ from ..bars import Bar
 from ..comparison import (Day, Hour, Model, compare_hours, compare_speeds, list_left_out, make_model, make_interval_records, compute_total_rmse, compute_share_below,
                           simulate_day, simulate_days, with_measured_demand, with_stations)
 from ..demand import BeyondCapacity
-from ..errors import Fault, LabError
+from ..errors import Fault, LabError, describe_error
 from ..freeway import Figures, make_road, widen_inlet
 from ..freeway_files import write_road
 from ..intervals import FEW_DAYS, warn_few_days
 from ..measured import Measured, put_on_road
+from ..outputs import prepare_file, prepare_folder
 from ..pictures import MEASURED, SIMULATED, Chart, Field, Line, draw_field, draw_scale, stack_drawings, make_speed_field
 from ..stations import Counts, read_counts, read_stations
 from ..units import HOUR, count_things, format_fixed, format_km
@@ -236,6 +237,11 @@ def compare(given: argparse.Namespace, out: Path) -> None:
     """Read the data, simulate, compare, and write the results."""
     check_days(given.days, 1)
     figures, measured = read_data(given)
+    folder = given.out or out / given.road.stem
+    if given.write_road is None:
+        prepare_folder(folder)
+    else:
+        prepare_file(given.write_road, "--write-road FILE")
     print_lines([*measured.notes, *warn_few_days(given.days)])
     if given.write_road is not None:
         write_measured_road(given, figures, measured)
@@ -250,8 +256,6 @@ def compare(given: argparse.Namespace, out: Path) -> None:
     days = simulate_days(model, given.days, bar.show)
     bar.end()
     hours = compare_hours(measured, days)
-    folder = given.out or out / given.road.stem
-    folder.mkdir(parents=True, exist_ok=True)
     tables = {"hours": format_hours(model, hours), "speeds": format_speeds(model, days)}
     for name, lines in tables.items():
         write_table(folder, name, model, lines)
@@ -304,6 +308,6 @@ def main(words: Sequence[str] | None = None, out: Path = Path("out")) -> int:
     try:
         compare(given, out)
     except (LabError, BeyondCapacity, OSError) as fault:
-        print(fault, file=sys.stderr)
+        print(describe_error(fault), file=sys.stderr)
         return 1
     return 0

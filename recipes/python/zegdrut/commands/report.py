@@ -22,10 +22,11 @@ from typing import Any, Sequence
 from ..bars import Bar
 from ..comparison import Model, compare_hours, list_left_out, make_model, simulate_days
 from ..demand import BeyondCapacity
-from ..errors import Fault, LabError
+from ..errors import Fault, LabError, describe_error
 from ..freeway import Figures, Road, measure_chances, make_roads, warm_up_minutes, widen_inlets, with_warm_up
 from ..intervals import warn_few_days
 from ..measured import Measured
+from ..outputs import format_window, make_title as make_csv_title, prepare_file
 from ..report import PERIOD, Row, Side, SideDay, make_flow_series, make_records, make_speed_series, make_table, run_sides
 from ..report_page import Contents, format_page
 from ..road_scripts import make_script
@@ -214,6 +215,9 @@ def write_report(given: argparse.Namespace, out: Path) -> None:
     """Read, run, and write the report."""
     request = read_request(given)
     figures, window, clock = request.figures, request.window, request.figures.clock
+    times = format_window(clock, window.steps)
+    path = given.out or out / f"report-{given.road.stem}-{times}.html"
+    prepare_file(path, "--out FILE.html")
     print("".join(f"{one}\n" for one in warn_few_days(given.days)), end="", file=sys.stderr, flush=True)
     model = None
     if request.measured is not None:
@@ -225,12 +229,8 @@ def write_report(given: argparse.Namespace, out: Path) -> None:
     days = run_sides(sides, range(figures.seed, figures.seed + given.days), window, bar.show)
     bar.end()
     rows = make_table(sides, days, window)
-    times = f"{clock.to_file_text(0)}-{clock.to_file_text(window.steps)}"
-    path = given.out or out / f"report-{given.road.stem}-{times}.html"
-    path.parent.mkdir(parents=True, exist_ok=True)
     path.write_text(make_page(given, request, roads, sides, days, rows, model), encoding="utf-8")
-    date = f" on {clock.date}" if clock.date else ""
-    title = f"{given.road.stem}, {clock.to_text(0)} to {clock.to_text(window.steps)}{date}, mean of {count_things(given.days, 'day')}"
+    title = f"{make_csv_title(given.road.stem, clock, window.steps)}, mean of {count_things(given.days, 'day')}"
     write_table(path.with_name(f"figures-{given.road.stem}-{times}.csv"), title, make_records(sides, rows))
     series = make_series_records(request, sides, roads, days)
     if series:
@@ -244,6 +244,6 @@ def main(words: Sequence[str] | None = None, out: Path = Path("out")) -> int:
     try:
         write_report(given, out)
     except (LabError, BeyondCapacity, OSError) as fault:
-        print(fault, file=sys.stderr)
+        print(describe_error(fault), file=sys.stderr)
         return 1
     return 0
