@@ -30,6 +30,10 @@ NARROW = 500
 LEAST_CLOSURE = 6.0
 """The least height and width of a closure in a space-time diagram, so that it is seen."""
 NO_CAR = (245, 245, 245)
+NO_DATA = math.nan
+"""The value of a piece of a measured space-time diagram for which there are no data. It is hatched."""
+HATCH = ('<pattern id="no-data" width="6" height="6" patternUnits="userSpaceOnUse" patternTransform="rotate(45)"><rect width="6" height="6" '
+         'fill="#fff"/><rect width="2" height="6" fill="#888"/></pattern>')
 BLOCKED = (0, 0, 0)
 Colour = tuple[int, int, int]
 
@@ -181,7 +185,7 @@ def encode_png(rows: Sequence[Sequence[Colour]]) -> bytes:
 
 
 Field = Sequence[Sequence["float | None"]]
-"""Speeds in km/h for each period and each piece of the road, from km 0 on; None without a car."""
+"""Speeds in km/h for each period and each piece of the road, from km 0 on; None without a car, and NO_DATA without data."""
 
 
 def draw_field(speeds: Field, title: str, clock: Clock, first: int, last: int, kilometres: float, width: int = WIDTH,
@@ -189,7 +193,7 @@ def draw_field(speeds: Field, title: str, clock: Clock, first: int, last: int, k
     """Return a space-time diagram as SVG: time to the right, km upwards, speeds in the colour scale.
 
     closed: closures as (from step, to step, from km, to km), drawn in black."""
-    columns = [[NO_CAR if speed is None else find_colour(speed) for speed in reversed(one)] for one in speeds]
+    columns = [[NO_CAR if speed is None or math.isnan(speed) else find_colour(speed) for speed in reversed(one)] for one in speeds]
     rows: list[list[Colour]] = [list(row) for row in zip(*columns)]
     inner, depth = width - LEFT - RIGHT, height - TOP - BOTTOM
     data = base64.b64encode(encode_png(rows)).decode()
@@ -205,6 +209,7 @@ def draw_field(speeds: Field, title: str, clock: Clock, first: int, last: int, k
         place = TOP + depth * (1 - km / kilometres)
         parts.append(f'<line x1="{LEFT - 4}" x2="{LEFT}" y1="{place:.1f}" y2="{place:.1f}" stroke="#333"/>'
                      f'<text x="{LEFT - 6}" y="{place + 4:.1f}" text-anchor="end">{km:.3g}</text>')
+    parts += draw_no_data(speeds, inner, depth)
     for begin, end, low, high in closed:
         left, right = (LEFT + inner * (min(max(date, first), last) - first) / (last - first) for date in (begin, end))
         up, down = (TOP + depth * (1 - km / kilometres) for km in (high, low))
@@ -216,12 +221,28 @@ def draw_field(speeds: Field, title: str, clock: Clock, first: int, last: int, k
     return "".join(parts)
 
 
-def draw_scale(width: int = WIDTH) -> str:
-    """Return the colour scale as SVG."""
+def draw_no_data(speeds: Field, inner: int, depth: int) -> list[str]:
+    """Return a hatched rectangle for each period and each run of pieces without data, as SVG."""
+    parts = []
+    for place, column in enumerate(speeds):
+        is_missing = [speed is not None and math.isnan(speed) for speed in column]
+        begins = [piece for piece, is_so in enumerate(is_missing) if is_so and not (piece and is_missing[piece - 1])]
+        for begin in begins:
+            end = next((piece for piece in range(begin, len(column)) if not is_missing[piece]), len(column))
+            parts.append(f'<rect class="no-data" x="{LEFT + inner * place / len(speeds):.1f}" y="{TOP + depth * (1 - end / len(column)):.1f}" '
+                         f'width="{inner / len(speeds):.1f}" height="{depth * (end - begin) / len(column):.1f}" fill="url(#no-data)"/>')
+    return [HATCH, *parts] if parts else []
+
+
+def draw_scale(width: int = WIDTH, has_no_data: bool = False) -> str:
+    """Return the colour scale as SVG. has_no_data: the diagrams may have pieces without data."""
     steps = 68
     inner = (width - LEFT - RIGHT) * 0.6
     parts = [f'<svg xmlns="http://www.w3.org/2000/svg" class="scale" viewBox="0 0 {width} 34" width="{width}" height="34" font-family="sans-serif" '
              f'font-size="11"><text x="{LEFT + inner + 12:.0f}" y="12">km/h (white: no car, black: closed)</text>']
+    if has_no_data:
+        parts.append(f'{HATCH}<rect x="{LEFT + inner + 12:.0f}" y="18" width="22" height="11" fill="url(#no-data)" stroke="#888" stroke-width="0.5"/>'
+                     f'<text x="{LEFT + inner + 39:.0f}" y="28">no data</text>')
     for number in range(steps):
         red, green, blue = find_colour(135 * (number + 0.5) / steps)
         parts.append(f'<rect x="{LEFT + inner * number / steps:.1f}" y="2" width="{inner / steps + 0.5:.1f}" height="12" '

@@ -35,9 +35,9 @@ from ..freeway_files import write_road
 from ..intervals import FEW_DAYS, warn_few_days
 from ..measured import Measured, put_on_road
 from ..outputs import prepare_file, prepare_folder
-from ..pictures import MEASURED, SIMULATED, Chart, Field, Line, draw_field, draw_scale, stack_drawings, make_speed_field
+from ..pictures import MEASURED, NO_DATA, SIMULATED, Chart, Field, Line, draw_field, draw_scale, stack_drawings, make_speed_field
 from ..stations import Counts, read_counts, read_stations
-from ..units import HOUR, count_things, format_fixed, format_km
+from ..units import CELLS_A_KM, HOUR, count_things, format_fixed, format_km
 from ..wire import Record
 from .freeway import FIGURES
 
@@ -205,30 +205,25 @@ def make_comparison_charts(model: Model, days: Sequence[Day]) -> list[Chart]:
 
 
 def make_measured_field(model: Model, pieces: int) -> Field:
-    """Return measured speeds as a field. Each piece of the road has the speed of the nearest station with a speed."""
+    """Return measured speeds as a field. Each piece of the road has the speed of the nearest station: NO_DATA if it has none then, and None
+    if it counted no car."""
     measured = model.measured
-    last = model.road.length / (1_000 / 7.5)
-    field = []
-    for place in range(measured.intervals):
-        column: list[float | None] = []
-        for piece in range(pieces):
-            km = (piece + 0.5) * last / pieces
-            near = sorted((abs(one.station.km - km), one.speeds[place]) for one in measured.main if one.speeds[place] is not None)
-            column.append(near[0][1] if near else None)
-        field.append(column)
-    return field
+    last = model.road.length / CELLS_A_KM
+    nearest = [min(measured.main, key=lambda one: abs(one.station.km - (piece + 0.5) * last / pieces)) for piece in range(pieces)]
+    return [[NO_DATA if one.speeds[place] is None and one.cars[place] != 0 else one.speeds[place] for one in nearest]
+            for place in range(measured.intervals)]
 
 
 def draw_space_time(model: Model) -> str:
     """Return the measured and the simulated space-time diagram with the same colour scale, as SVG."""
     _, rows, _ = simulate_day(model, model.seed, with_rows=True)
-    clock, km = model.measured.clock, model.road.length / (1_000 / 7.5)
+    clock, km = model.measured.clock, model.road.length / CELLS_A_KM
     simulated = make_speed_field(rows, A_MINUTE, CELLS_A_PIECE)
     drawn = [draw_field(simulated, f"Simulated space-mean speed, seed {model.seed}", clock, 0, model.window_steps, km)]
     if any(speed is not None for one in model.measured.main for speed in one.speeds):
         measured = make_measured_field(model, len(simulated[0]))
         drawn.insert(0, draw_field(measured, "Measured time-mean speed, nearest station", clock, 0, model.window_steps, km))
-    return stack_drawings([*drawn, draw_scale()])
+    return stack_drawings([*drawn, draw_scale(has_no_data=len(drawn) > 1)])
 
 
 # The command
