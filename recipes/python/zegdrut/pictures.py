@@ -18,6 +18,8 @@ from .clock import Clock
 
 MEASURED, SIMULATED, BEFORE, AFTER = "#000000", "#d55e00", "#0072b2", "#d55e00"
 """Colours that also differ for colour-blind readers."""
+INLETS = ("#000000", "#0072b2", "#d55e00", "#009e73", "#cc79a7")
+"""The colours of the demands of inlets, from km 0 on."""
 WIDTH, HEIGHT = 640, 190
 LEFT, RIGHT, TOP, BOTTOM = 58, 12, 26, 34
 SPEEDS = ((0, (120, 0, 30)), (27, (215, 48, 39)), (54, (252, 141, 89)), (81, (254, 224, 139)), (108, (145, 207, 96)), (135, (26, 152, 80)))
@@ -49,7 +51,6 @@ class Line(NamedTuple):
     colour: str
     low: Sequence[float | None] | None = None
     high: Sequence[float | None] | None = None
-    has_steps: bool = False
     is_dashed: bool = False
 
 
@@ -241,8 +242,8 @@ def draw_scale(width: int = WIDTH, has_no_data: bool = False) -> str:
     parts = [f'<svg xmlns="http://www.w3.org/2000/svg" class="scale" viewBox="0 0 {width} 34" width="{width}" height="34" font-family="sans-serif" '
              f'font-size="11"><text x="{LEFT + inner + 12:.0f}" y="12">km/h (white: no car, black: closed)</text>']
     if has_no_data:
-        parts.append(f'{HATCH}<rect x="{LEFT + inner + 12:.0f}" y="18" width="22" height="11" fill="url(#no-data)" stroke="#888" stroke-width="0.5"/>'
-                     f'<text x="{LEFT + inner + 39:.0f}" y="28">no data</text>')
+        parts.append(f'{HATCH}<rect x="{LEFT + inner + 18:.0f}" y="18" width="22" height="11" fill="url(#no-data)" stroke="#888" stroke-width="0.5"/>'
+                     f'<text x="{LEFT + inner + 45:.0f}" y="28">no data</text>')
     for number in range(steps):
         red, green, blue = find_colour(135 * (number + 0.5) / steps)
         parts.append(f'<rect x="{LEFT + inner * number / steps:.1f}" y="2" width="{inner / steps + 0.5:.1f}" height="12" '

@@ -60,6 +60,8 @@ class Contents:
     """For each side its closures, as (from step, to step, from km, to km)."""
     more: str = ""
     """Further HTML behind the charts."""
+    demand: str = ""
+    """A chart of the demand over time as SVG."""
 
 
 def format_number(value: float | None, digits: int = 1) -> str:
@@ -136,6 +138,7 @@ def format_page(contents: Contents) -> str:
     few = "".join(f'<p class="warning">{escape(one)}.</p>' for one in warn_few_days(days))
     parts = [
         f"<h1>{escape(contents.title)}</h1>", f'<p class="window">{escape(describe_window(contents))}</p>', few, make_list_html(contents.facts),
+        contents.demand,
         "<h2>Works</h2>" + make_list_html(contents.works or ["none"]),
         f'<p class="note">Rounded to the model: {escape("; ".join(contents.notes))}.</p>' if contents.notes else "",
         f"<h2>Space-time diagrams</h2>{make_fields_html(contents)}",
