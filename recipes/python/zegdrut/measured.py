@@ -124,6 +124,8 @@ def put_on_road(counts: Counts, clock: Clock, seconds: int, origin: float | None
     Fault: the counts do not fit the run, or nothing is left to compare."""
     check_one_day(counts, clock)
     interval = find_interval(counts, clock)
+    if seconds < interval:
+        raise Fault(f"minutes: the run of {seconds / 60:g} minutes is shorter than an interval of the counts, {interval / 60:g} minutes")
     if seconds % interval:
         raise Fault(f"the run of {seconds / 60:g} minutes does not consist of whole intervals of {interval / 60:g} minutes: change `minutes`")
     sign = -1 if is_reversed else 1
@@ -136,6 +138,7 @@ def put_on_road(counts: Counts, clock: Clock, seconds: int, origin: float | None
     for placed_row in place_rows(counts, clock, notes):
         placed[placed_row.row.station].append(placed_row)
     check_clock_changes(counts, clock, seconds, notes)
+    check_window(counts, clock, seconds, placed)
     found: list[Series] = []
     for station in counts.stations.values():
         here = station._replace(km=round(sign * (station.km - start), 4))
@@ -157,13 +160,30 @@ def put_on_road(counts: Counts, clock: Clock, seconds: int, origin: float | None
     return Measured(clock, interval, upstream, joining, [*counts.notes, *notes], cut)
 
 
+def check_window(counts: Counts, clock: Clock, seconds: int, placed: dict[str, list[PlacedRow]]) -> None:
+    """Check that a row is in the window. Fault: none is. The message has the times of the window and of the rows."""
+    steps = sorted(one.step for rows in placed.values() for one in rows)
+    if steps and not any(0 <= step < seconds for step in steps):
+        first, last = (clock.to_date_text(step) for step in (steps[0], steps[-1]))
+        raise Fault(f"{counts.path}: no row is in the window of the road, {clock.to_date_text(0)} to {clock.to_date_text(seconds)}: the rows are "
+                    f"from {first} to {last}. Change date, begin or minutes of the road")
+
+
 def note_interpolated(series: Series, clock: Clock, interval: int, notes: list[str]) -> None:
     """Add a note if a station that gives a demand has missing intervals, whose demand `make_rates` interpolates."""
-    missing = [place for place, cars in enumerate(series.cars) if cars is None]
-    if missing and len(missing) < len(series.cars):
+    known = [place for place, cars in enumerate(series.cars) if cars is not None]
+    if not known:
+        return
+    missing = [place for place in range(known[0], known[-1]) if series.cars[place] is None]
+    if missing:
         times = ", ".join(clock.to_text(place * interval) for place in missing[:MOST_TOLD]) + (", .." if len(missing) > MOST_TOLD else "")
         notes.append(f"the demand of station {series.station.name} is interpolated in {count_things(len(missing), 'interval')} without a "
                      f"count, at {times}")
+    for number, first, which in ((known[0], 0, "first"), (len(series.cars) - 1 - known[-1], known[-1] + 1, "last")):
+        if number:
+            notes.append(f"the demand of station {series.station.name} is unknown in {count_things(number, 'interval')}, "
+                         f"{clock.to_text(first * interval)} to {clock.to_text((first + number) * interval)}: it is assumed to be that of its "
+                         f"{which} count. Choose the window of the counts")
 
 
 def place_rows(counts: Counts, clock: Clock, notes: list[str]) -> list[PlacedRow]:

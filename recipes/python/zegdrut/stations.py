@@ -236,6 +236,8 @@ def read_counts(path: Path, stations: Mapping[str, Station] | None = None, colum
         if stations is None:
             raise Fault(f"{path} is station data without a header: give a table of its stations with km or miles, and lanes "
                         "(--stations TABLE.csv)")
+        if columns or units:
+            raise Fault(f"{path} is station data without a header, whose columns and units are known: leave out --column and --unit")
         return check_rows(read_five_minutes(path, [(1, header), *lines], stations))
     return check_rows(read_with_header(path, header, lines, stations, columns or {}, units or {}))
 
@@ -288,6 +290,8 @@ def read_with_header(path: Path, header: list[str], lines: list[tuple[int, list[
                     f"{', '.join(header)}; choose one with `--column count=NAME`")
     if place == "station" and stations is None and "km" not in columns and "miles" not in columns:
         raise Fault(f"{path} does not contain the km of its stations: give a table with km or miles, and lanes (--stations TABLE.csv)")
+    if "speed" in units and "speed" not in columns:
+        raise Fault(f"{path}: no column is named speed, so --unit speed={units['speed']} has no effect: choose one with `--column speed=NAME`")
     speeds = find_speed_unit(path, header[columns["speed"]], units) if "speed" in columns else 1.0
     is_of_interval = re.search(r"min|interval", header[columns[what]].lower()) is not None  # ("flow veh/5min")
     counts = Counts({}, [], str(path), are_per_hour=what == "flow" and not is_of_interval)

@@ -36,8 +36,8 @@ from ..intervals import FEW_DAYS, warn_few_days
 from ..measured import Measured, put_on_road
 from ..outputs import prepare_file, prepare_folder
 from ..pictures import MEASURED, NO_DATA, SIMULATED, Chart, Field, Line, draw_field, draw_scale, stack_drawings, make_speed_field
-from ..stations import Counts, read_counts, read_stations
-from ..units import CELLS_A_KM, HOUR, count_things, format_fixed, format_km
+from ..stations import HEADERS, Counts, read_counts, read_stations
+from ..units import CELLS_A_KM, HOUR, count_things, format_fixed, format_km, to_km
 from ..wire import Record
 from .freeway import FIGURES
 
@@ -80,11 +80,14 @@ def add_count_options(parser: argparse.ArgumentParser) -> None:
     parser.add_argument("--unit", action="append", default=[], metavar="speed=UNIT", help="unit of the speeds: km/h, mph or m/s")
 
 
-def read_pairs(given: list[str], word: str, example: str) -> dict[str, str]:
-    """Read arguments such as speed=mph into a dictionary. Fault: one has no =."""
+def read_pairs(given: list[str], word: str, example: str, known: Sequence[str]) -> dict[str, str]:
+    """Read arguments such as speed=mph into a dictionary. Fault: one has no =, or its quantity is unknown."""
     found = dict(one.partition("=")[::2] for one in given)
     if "" in found.values() or any("=" not in one for one in given):
         raise Fault(f"--{word} must be QUANTITY={word.upper()}, such as {example}, not {' '.join(given)}")
+    for name in found:
+        if name not in known:
+            raise Fault(f"--{word} {name}={found[name]}: unknown quantity {name!r}: it must be {' or '.join(known)}")
     return found
 
 
@@ -94,8 +97,8 @@ def read_data(given: argparse.Namespace) -> tuple[Figures, Measured]:
     if figures.begin is None:
         raise Fault(f'{given.road} has no begin: add the clock time at which the window begins, such as "begin": "06:30"')
     table = read_stations(given.stations) if given.stations else None
-    counts = read_counts(given.counts, table, read_pairs(given.column, "column", "speed=v_mean"),
-                         read_pairs(given.unit, "unit", "speed=mph"))
+    counts = read_counts(given.counts, table, read_pairs(given.column, "column", "speed=v_mean", list(HEADERS)),
+                         read_pairs(given.unit, "unit", "speed=mph", ["speed"]))
     figures = with_date_of(figures, counts)
     measured = put_on_road(counts, figures.clock, round(figures.minutes * 60), given.origin, given.reverse)
     make_road(with_measured_demand(with_stations(figures, measured), measured)[0])
@@ -219,11 +222,12 @@ def draw_space_time(model: Model) -> str:
     _, rows, _ = simulate_day(model, model.seed, with_rows=True)
     clock, km = model.measured.clock, model.road.length / CELLS_A_KM
     simulated = make_speed_field(rows, A_MINUTE, CELLS_A_PIECE)
-    drawn = [draw_field(simulated, f"Simulated space-mean speed, seed {model.seed}", clock, 0, model.window_steps, km)]
+    ramps, stations = [to_km(cell) for cell, _ in model.road.inlets[1:]], [min(max(one.station.km, 0.0), km) for one in model.measured.main]
+    drawn = [draw_field(simulated, f"Simulated space-mean speed, seed {model.seed}", clock, 0, model.window_steps, km, ramps=ramps, detectors=stations)]
     if any(speed is not None for one in model.measured.main for speed in one.speeds):
         measured = make_measured_field(model, len(simulated[0]))
-        drawn.insert(0, draw_field(measured, "Measured time-mean speed, nearest station", clock, 0, model.window_steps, km))
-    return stack_drawings([*drawn, draw_scale(has_no_data=len(drawn) > 1)])
+        drawn.insert(0, draw_field(measured, "Measured time-mean speed, nearest station", clock, 0, model.window_steps, km, ramps=ramps, detectors=stations))
+    return stack_drawings([*drawn, draw_scale(has_no_data=len(drawn) > 1, has_ramps=bool(ramps), has_detectors=True)])
 
 
 # The command
@@ -293,8 +297,8 @@ def format_shares(measured: Measured, hours: Sequence[Hour]) -> list[str]:
     if not hours:
         return [*found, "so there is no GEH: it needs whole hours without a missing row"]
     one, every = [hour.geh for hour in hours], [hour.geh_all_lanes for hour in hours]
-    return [*found, f"GEH below 5: {compute_share_below(one):.0%} of {count_things(len(hours), 'compared station hour')} per lane, "
-            f"{compute_share_below(every):.0%} of all lanes (guidelines require 85 % of the links)"]
+    return [*found, f"GEH below 5 in {100 * compute_share_below(one):.0f} % of {count_things(len(hours), 'compared station hour')} by the flow per "
+            f"lane, and in {100 * compute_share_below(every):.0f} % by the flow of all lanes (guidelines require 85 % of the links)"]
 
 
 def main(words: Sequence[str] | None = None, out: Path = Path("out")) -> int:

@@ -30,7 +30,7 @@ from ..measured import Measured
 from ..outputs import format_window, make_title as make_csv_title, prepare_file
 from ..pictures import INLETS, Chart, Line
 from ..report import PERIOD, Row, Side, SideDay, make_flow_series, make_records, make_speed_series, make_table, run_sides
-from ..report_page import Contents, format_page
+from ..report_page import Contents, format_page, make_list_html
 from ..road_scripts import make_script
 from ..trips import Window
 from ..units import CELLS_A_KM, HOUR, KMH, count_things, format_km, to_steps
@@ -56,7 +56,7 @@ def read_arguments(words: Sequence[str] | None) -> argparse.Namespace:
     add_demand_argument(parser)
     parser.add_argument("--warm-up", type=float, metavar="MINUTES", help="minutes of the run before the window (default: twice the free "
                         "travel time, rounded up to five minutes; 0: the road is empty at the begin)")
-    parser.add_argument("--title", help="title of the report")
+    parser.add_argument("--title", help="title of the report (default: the names of the files)")
     parser.add_argument("--out", type=Path, metavar="FILE.html", help="file of the report")
     return parser.parse_args(words)
 
@@ -72,6 +72,7 @@ class Request:
     names: tuple[str, str]
     warm: float
     measured: Measured | None
+    title: str
 
     @property
     def window(self) -> Window:
@@ -83,6 +84,11 @@ class Request:
 def read_request(given: argparse.Namespace) -> Request:
     """Read and check everything. Fault: a file is invalid, or the two files describe different roads or times."""
     check_days(given.days, 1)
+    if given.counts is None:
+        used = [f"--{name}" for name in ("stations", "origin", "reverse", "column", "unit") if getattr(given, name) not in (None, False, [])]
+        used += ["--demand"] if given.demand != "counts" else []
+        if used:
+            raise Fault(f"{used[0]} has no effect without counts: add --counts CSV, or leave it out")
     if given.warm_up is not None and not 0 <= given.warm_up <= MOST_WARM_UP:
         raise Fault(f"--warm-up must be 0 to {MOST_WARM_UP:,} minutes, not {given.warm_up:g}")
     figures = FIGURES.override(given.road)
@@ -106,7 +112,8 @@ def read_request(given: argparse.Namespace) -> Request:
         dated, measured = read_data(given)
         figures = dataclasses.replace(figures, date=dated.date)
         other = None if other is None else dataclasses.replace(other, date=dated.date)
-    return Request(figures, other, names, warm_up_minutes(figures) if given.warm_up is None else given.warm_up, measured)
+    return Request(figures, other, names, warm_up_minutes(figures) if given.warm_up is None else given.warm_up, measured,
+                   given.road.stem if given.against is None else f"{given.road.stem} compared with {given.against.stem}")
 
 
 def make_sides(request: Request) -> tuple[list[Road], list[Side]]:
@@ -208,11 +215,12 @@ def make_counts_html(given: argparse.Namespace, model: Model) -> str:
     """Return the part that compares the road with measured counts, as HTML."""
     measured, days = model.measured, simulate_days(model, given.days)
     hours = compare_hours(measured, days)
-    told = "".join(f"<li>{escape(one)}</li>" for one in measured.notes)
+    told = make_list_html(measured.notes) if measured.notes else ""
     whose = "the measured demand" if given.demand == "counts" else f"the demand of {given.road.name}"
+    only = f" Only {given.road.name} is compared with the counts, with its works." if given.against or model.figures.sections else ""
     shares = "; ".join(format_shares(measured, hours)) + "."
-    return (f"<h2>Comparison with measured counts</h2><p>{escape(make_title(model))}, mean of {count_things(given.days, 'day')} with {escape(whose)}. "
-            f"{escape(shares)}</p>" + (f"<ul>{told}</ul>" if told else "") + make_lines_html(format_hours(model, hours))
+    return (f"<h2>Comparison with measured counts</h2><p>{escape(make_title(model))}, mean of {count_things(given.days, 'day')} with {escape(whose)}."
+            f"{escape(only)} {escape(shares)}</p>" + told + make_lines_html(format_hours(model, hours))
             + make_lines_html(format_speeds(model, days))
             + f'<div class="pairs">{"".join(f"<div>{one.draw(470, 175)}</div>" for one in make_comparison_charts(model, days))}</div>')
 
@@ -222,7 +230,7 @@ def make_page(given: argparse.Namespace, request: Request, roads: Sequence[Road]
     """Return the report as HTML."""
     figures, road, window = request.figures, roads[-1], request.window
     clock = with_warm_up(figures, request.warm).clock
-    title = given.title or given.road.stem
+    title = given.title or request.title
     drivers = f"limit {road.limit * KMH:g} km/h, slowing {figures.slowing:.0%}" + (
         f", slow-to-start {figures.start:.0%}" if figures.start is not None else "")
     closed = [[(window.first + to_steps(one.begin), window.first + to_steps(one.end), one.at, one.at) for one in side.stalled]
