@@ -53,7 +53,7 @@ QUANTITIES = ("slowing chance", "slow-to-start chance", "demand factor")
 def list_warnings(found: Calibration, bounds: Bounds) -> list[str]:
     """Return a sentence if the road fits the counts badly, and for each result at or near the bound of its range."""
     warnings = []
-    least = min((one.error for one in found.tried), default=math.inf)
+    least = min(one.error for one in found.best_ten())
     if least > MOST_ERROR:
         warnings.append(f"the least error is {least:.1f}, and about {CHANCE_ERROR} is as good as chance allows: the calibrated road does not fit "
                         f"these counts. Compare it with them before you use it, and check the counts and the road")

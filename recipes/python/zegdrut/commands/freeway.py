@@ -239,6 +239,7 @@ def write_tables(folder: Path, before_name: str, tables: dict[str, Lines]) -> No
 def run_freeway(figures: Figures, folder: Path, then: Figures | None = None) -> None:
     """Run a freeway, without its works and with its later changes too, and write everything into the folder."""
     road, turned = make_roads(figures, then)
+    prepare_folder(folder)
     print_lines(road.notes)
     changed = find_changes(road, turned) if turned else []
     if turned:

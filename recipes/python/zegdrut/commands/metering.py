@@ -32,7 +32,7 @@ from typing import Sequence
 from ..bars import Bar
 from ..clock import InvalidTime
 from ..control import RampMeter, measure_queue, run_control
-from ..demand import Admission, AdmissionByFlow, count_demand, measure_by_flow, thread_count, find_rate
+from ..demand import Admission, AdmissionByFlow, BeyondCapacity, count_demand, measure_by_flow, thread_count, find_rate
 from ..errors import Fault, LabError, describe_error
 from ..freeway import Figures, Road, measure_chances, make_road, widen_inlet
 from ..freeway_files import is_number, check_names
@@ -126,7 +126,7 @@ def read_control(path: Path, figures: Figures) -> Control:
     if control.least > control.most:
         raise Fault(f"{path}: least: {control.least:g} is above most, which is {control.most:g} cars per hour")
     if not 0 <= control.begin < to_steps(figures.minutes):
-        raise Fault(f"{path}: begin: {json.dumps(given['begin'])} is not in the run, which lasts from {figures.clock.to_text(0)} to "
+        raise Fault(f"{path}: begin: {json.dumps(given.get('begin', 0))} is not in the run, which lasts from {figures.clock.to_text(0)} to "
                     f"{figures.clock.to_text(to_steps(figures.minutes))}")
     return control
 
@@ -291,7 +291,7 @@ def main(words: Sequence[str] | None = None, out: Path = Path("out")) -> int:
     given = read_arguments(words)
     try:
         compare(given, out)
-    except (LabError, InvalidTime, OSError) as fault:
+    except (LabError, BeyondCapacity, InvalidTime, OSError) as fault:
         print(describe_error(fault), file=sys.stderr)
         return 1
     return 0
