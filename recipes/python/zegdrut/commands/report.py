@@ -65,14 +65,15 @@ def read_arguments(words: Sequence[str] | None) -> argparse.Namespace:
 
 @dataclass(frozen=True)
 class Request:
-    """Hold what was read: the road, the road before it with both names, the minutes before the window, and the measured counts."""
+    """Hold what was read: the road, the road before it with both names, the minutes before the window, the measured counts and the usual
+    title."""
 
     figures: Figures
     other: Figures | None
     names: tuple[str, str]
     warm: float
     measured: Measured | None
-    title: str
+    title: str = ""
 
     @property
     def window(self) -> Window:
