@@ -17,10 +17,8 @@ It writes the tables hours-, speeds- and intervals-NAME-0630-0930.csv, and the p
 from __future__ import annotations
 
 import argparse
-import csv
 import dataclasses
 import datetime
-import io
 import sys
 from pathlib import Path
 from typing import Optional, Sequence, cast
@@ -34,7 +32,7 @@ from ..freeway import Figures, make_road, widen_inlet
 from ..freeway_files import write_road
 from ..intervals import FEW_DAYS, warn_few_days
 from ..measured import Measured, put_on_road
-from ..outputs import prepare_file, prepare_folder
+from ..outputs import format_csv, prepare_file, prepare_folder
 from ..pictures import MEASURED, NO_DATA, SIMULATED, Chart, Field, Line, draw_field, draw_scale, stack_drawings, make_speed_field
 from ..stations import HEADERS, Counts, read_counts, read_stations
 from ..units import CELLS_A_KM, HOUR, count_things, format_fixed, format_km, to_km
@@ -148,30 +146,27 @@ def find_places(model: Model) -> dict[str, str]:
 
 def format_hours(model: Model, hours: Sequence[Hour]) -> list[str]:
     """Return the table of stations and hours."""
-    lines = ["station,km,from,to,measured cars/h/lane,simulated cars/h/lane,± cars/h/lane,GEH per lane,lanes,GEH all lanes"]
+    rows = ["station,km,from,to,measured cars/h/lane,simulated cars/h/lane,± cars/h/lane,GEH per lane,lanes,GEH all lanes".split(",")]
     clock, lanes = model.measured.clock, {one.station.name: one.station.lanes for one in model.measured.main}
     places = find_places(model)
     for one in hours:
-        lines.append(f"{one.station},{places[one.station]},{clock.to_text(one.first)},{clock.to_text(one.first + HOUR)},{one.measured:.1f},"
-                     f"{one.simulated:.1f},{format_number(one.half)},{one.geh:.2f},{lanes[one.station]},{one.geh_all_lanes:.2f}")
-    return lines
+        rows.append([one.station, places[one.station], clock.to_text(one.first), clock.to_text(one.first + HOUR), f"{one.measured:.1f}",
+                     f"{one.simulated:.1f}", format_number(one.half), f"{one.geh:.2f}", str(lanes[one.station]), f"{one.geh_all_lanes:.2f}"])
+    return format_csv(rows)
 
 
 def format_speeds(model: Model, days: Sequence[Day]) -> list[str]:
     """Return the table of speeds by station and for all stations."""
     errors, places = compare_speeds(model.measured, days), find_places(model)
-    lines = ["station,km,intervals,RMSE of time-mean speed km/h,simulated minus measured km/h"]
-    lines += [f"{one.station},{places[one.station]},{one.intervals},{format_number(one.rmse)},{format_number(one.bias)}" for one in errors]
-    return [*lines, f"all,,{sum(one.intervals for one in errors)},{format_number(compute_total_rmse(errors))},"]
+    rows = ["station,km,intervals,RMSE of time-mean speed km/h,simulated minus measured km/h".split(",")]
+    rows += [[one.station, places[one.station], str(one.intervals), format_number(one.rmse), format_number(one.bias)] for one in errors]
+    return format_csv([*rows, ["all", "", str(sum(one.intervals for one in errors)), format_number(compute_total_rmse(errors)), ""]])
 
 
-def format_csv(records: Sequence[Record]) -> list[str]:
+def format_records(records: Sequence[Record]) -> list[str]:
     """Return records as the lines of a CSV file."""
-    text = io.StringIO()
-    writer = csv.DictWriter(text, list(records[0]), lineterminator="\n")
-    writer.writeheader()
-    writer.writerows(records)
-    return text.getvalue().splitlines()
+    names = list(records[0])
+    return format_csv([names, *([record[name] for name in names] for record in records)])
 
 
 def write_table(folder: Path, name: str, model: Model, lines: Sequence[str]) -> None:
@@ -259,7 +254,7 @@ def compare(given: argparse.Namespace, out: Path) -> None:
     for name, lines in tables.items():
         write_table(folder, name, model, lines)
         print(f"\n{make_title(model)}\n" + "\n".join(lines))
-    write_table(folder, "intervals", model, format_csv(make_interval_records(model, days)))
+    write_table(folder, "intervals", model, format_records(make_interval_records(model, days)))
     print()
     print_lines(format_shares(measured, hours))
     window = format_window(model)

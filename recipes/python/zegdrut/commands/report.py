@@ -207,7 +207,7 @@ def list_demands(request: Request) -> list[tuple[str, Figures]]:
 
 def make_lines_html(lines: Sequence[str]) -> str:
     """Return the lines of a CSV table as HTML."""
-    head, *rows = [line.split(",") for line in lines]
+    head, *rows = csv.reader(lines)
     return ("<table><thead><tr>" + "".join(f"<th>{escape(cell)}</th>" for cell in head) + "</tr></thead><tbody>"
             + "".join("<tr>" + "".join(f"<td>{escape(cell)}</td>" for cell in row) + "</tr>" for row in rows) + "</tbody></table>")
 
