@@ -30,7 +30,7 @@ function stateOf(road, inlet, step) {
  * @returns {Promise<Curve | null>}
  */
 async function fetchCurve(key, state) {
-  const said = await ask({admission: state}, {quiet: ["Failed"]});
+  const said = await ask({admission: state}, {turn: "last", quiet: ["Failed"]});
   if (!said || "refused" in said) {
     store.curves.delete(key);
     return null;

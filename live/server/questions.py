@@ -14,7 +14,7 @@ from zegdrut.trips import DetectorCount, Window, count_seconds_on
 from zegdrut.wire import CountReply, WrittenEdit
 
 from . import admissions, chance, figures, reports, rows, saving
-from .figures import DetectorFigures, TwoRoads
+from .figures import DetectorFigures, TwoDemands, TwoRoads
 from .journal import packed
 from .keeper import SHARED, Times
 from .lab import Lab
@@ -22,6 +22,7 @@ from .lab import Reply as Fields
 from .lines import Line, Lister
 from .model.changes import all_lines, altered
 from .model.choices import sendable
+from .model.demands import asked_demands
 from .model.operations import Json, Operation, Stamp
 from .model.projection import Edits
 from .model.road import Road
@@ -283,7 +284,8 @@ class Questions:
         edits = await self._keeper.differences.between(before, after)
         sides = [await self._timeline(road) for road in (before, after)]
         lines = await self._lines_of(replica, before, after, {one.stamp for one in added})
-        return Preview(self._keeper, *map(rows_of, sides)), {"what": what, "size": len(added), "layers": lines,
+        was, will_be = map(rows_of, sides)
+        return Preview(self._keeper, was, will_be, self._demands(before, after)), {"what": what, "size": len(added), "layers": lines,
                                                             "touched": first_step(edits)}
 
     async def _timeline(self, road: Road) -> Edits:
@@ -321,13 +323,25 @@ class Questions:
         self._reaches(last)
         state = self._keeper.state
 
-        async def body() -> dict[str, Sequence[WrittenEdit]]:
-            return {"before": rows_of(await self._timeline(state.shared.road)), "after": rows_of(await self._timeline(own.road))}
-        edits = self._previews.get(index).edits if of == "preview" else await self._keeper.ask(index, (0, index), body)
+        async def body() -> tuple[dict[str, Sequence[WrittenEdit]], TwoDemands]:
+            before, after = state.shared.road, own.road
+            edits: dict[str, Sequence[WrittenEdit]] = {
+                "before": rows_of(await self._timeline(before)), "after": rows_of(await self._timeline(after))}
+            return edits, self._demands(before, after)
+        if of == "preview":
+            preview = self._previews.get(index)
+            edits, demands = preview.edits, preview.demands
+        else:
+            edits, demands = await self._keeper.ask(index, (0, index), body)
         plan = state.plan.copy()
         plan["replicas"] = ["road"]
         return {"plan": plan, "first": first, "last": last, "program": self._keeper.path, "before": edits["before"],
-                "after": edits["after"]}
+                "after": edits["after"], "demands": demands}
+
+    def _demands(self, before: Road, after: Road) -> TwoDemands:
+        """Return the demands that somebody has asked for on two roads."""
+        inlets = len(self._keeper.state.plan["inlets"])
+        return {"before": asked_demands(before, inlets), "after": asked_demands(after, inlets)}
 
     async def days(self, index: int, own: Replica, of: str | None, first: int, last: int) -> Reply:
         """Return the same over many days, with the mean of each figure and its interval; or end that question."""

@@ -59,10 +59,11 @@ def sides_of(asked: ReportAsked) -> list[Side]:
     plan = asked["roads"]["plan"].copy()
     plan["replicas"] = ["A"]
     both = edits_of(asked["roads"])
-    for edits, name in zip(both, asked["names"]):
+    known = asked["roads"]["demands"]
+    for edits, name, demands in zip(both, asked["names"], (known["before"], known["after"])):
         lines: list[Fields] = [*import_lines("A", [(*key, 1, figures.NUMBER, value) for key, value in sorted(edits.items())]),
                                {"advance": {"at": "A", "to": last}}]
-        found.append(Side(name, Script(plan, lines), compute_demands(plan, figures.given(edits), last)))
+        found.append(Side(name, Script(plan, lines), compute_demands(plan, figures.given(edits), last, asked=demands)))
     return found if both[0] != both[1] else found[1:]
 
 
