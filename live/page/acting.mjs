@@ -40,7 +40,8 @@ const LONGEST_NOTE = 200;
 export function put({shape, note, taken = "", old}) {
   const first = Math.min(shape.from, old?.shape?.from ?? shape.from);
   const layer = old ? {layer: encodeStamp(old.name)} : {};
-  act({gesture: {note, shape: encodeShape(shape), ...layer}}, {note, shape, taken, first});
+  const demand = shape.demand === undefined ? {} : {demand: shape.demand};
+  act({gesture: {note, shape: encodeShape(shape), ...demand, ...layer}}, {note, shape, taken, first});
 }
 
 /** @type {(what: string, change: Change) => string} */

@@ -63,6 +63,27 @@ export function curveAt(road, inlet, step) {
   return entry && "points" in entry ? entry : null;
 }
 
+/** Return how many curves are measured, of how many that were asked for.
+ * @returns {[done: number, all: number]}
+ */
+export const countCurves = () =>
+  [[...store.curves.values()].filter((one) => "points" in one).length, store.curves.size];
+
+/** Wait until what the inlets of a road admit is measured, as far as nobody has said for which
+ * demand a chance is. Call a function before each.
+ * @param {Layers} road
+ * @param {(done: number, all: number) => void} progress
+ */
+export async function measureDemands(road, progress) {
+  const unsaid = [...road.changes.values()].filter(({standing}) => standing)
+    .flatMap(({shape}) => (shape?.kind === "inflow" && shape.demand === undefined ? [shape] : []));
+  for (const [done, {first, from}] of unsaid.entries()) {
+    if (curveAt(road, first, from)) continue;
+    progress(done, unsaid.length);
+    await curveSoon(road, first, from);
+  }
+}
+
 /** Return the same once it is measured; null if the server does not say.
  * @param {Layers} road
  * @param {number} inlet

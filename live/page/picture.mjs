@@ -209,8 +209,8 @@ export const areOfSeveral = (frames) => new Set(frames.map(({by}) => by.name.num
  * @param {Drawn} frame
  * @param {boolean} named    with whose change it is
  */
-export function labelOf({kind, first, from, value, pending, by}, named) {
-  const text = valueText(layersShown(), kind, value, first, from).toLowerCase();
+export function labelOf({kind, first, from, value, demand, pending, by}, named) {
+  const text = valueText(layersShown(), kind, value, first, from, demand).toLowerCase();
   return text + (pending ? " (pending)" : "") + (named ? `, ${wordsShown().name(by)}` : "");
 }
 

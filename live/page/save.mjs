@@ -4,6 +4,7 @@
 import {EMPTY, drawLegend, pen} from "../../viewer/drawing.mjs";
 import {ask, askUntilFree} from "./asking.mjs";
 import {comparedNow, daysShown} from "./days.mjs";
+import {measureDemands} from "./demand.mjs";
 import {withoutCursor} from "./drafting.mjs";
 import {$, activeIn, closest, download, on} from "./elements.mjs";
 import {Words, newestFirst} from "./listing.mjs";
@@ -204,17 +205,20 @@ const MOST_SIGNS = 200;         // of a line
  * @param {Layers} layers
  */
 const textsOf = (layers) => newestFirst([...layers.changes.values()]
-  .filter(({standing, site}) => standing && site === null)).reverse()
+  .filter(({standing, site, planned}) => standing && site === null && !planned)).reverse()
   .map((change) => new Words(layers, -1).text(change));
 
 /** Return what is in force on the roads that are compared, in sentences: on the later one, then
  * what the other one has alone.
  */
-function worksText() {
+async function worksText() {
   const isPreview = comparedNow() === "preview";
-  const [one, other] = isPreview ? [layersOf("after"), layersOf(need("preview").takes ? "mine" : "shared")]
+  const both = isPreview ? [layersOf("after"), layersOf(need("preview").takes ? "mine" : "shared")]
     : [layersOf("mine"), layersOf("shared")];
-  const [after, before] = [one, other].map(textsOf);
+  for (const one of both) {
+    await measureDemands(one, (done, all) => tell(messages.measuringDemands(done, all)));
+  }
+  const [after, before] = both.map(textsOf);
   const gone = before.filter((text) => !after.includes(text));
   const fresh = after.map((text) => (before.includes(text) ? text : `${text} (new)`));
   return [...fresh, ...gone.map((text) => `${text} (before alone)`)].slice(0, MOST_WORKS)
@@ -233,8 +237,9 @@ async function saveReport() {
   const date = day?.date ? `, ${day.date}` : "";
   const title = `${of === "preview" ? "A road, now and then" : `The road of ${name}, and the shared one`}: `
     + `${store.day.timeText(from)} to ${store.day.timeText(to)}${date}`;
+  const works = await worksText();
   tell(messages.MAKING_REPORT);
-  const said = await askUntilFree({report: {at, of, from, to, title, works: worksText()}});
+  const said = await askUntilFree({report: {at, of, from, to, title, works}});
   if (!said || "refused" in said) return;
   const whose = of === "preview" ? "now-then" : `${name}-shared`;
   const saved = saveAs("report.html", [said.html], "text/html", whose, [from, to]);

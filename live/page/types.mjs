@@ -10,8 +10,9 @@
  * @typedef {"block" | "limit" | "slow" | "start" | "inflow" | "watch"} Kind
  *
  * Objects `first` to `last` have the value from step `from` until step `to`; `to` null: for ever.
+ * `demand` is what an inflow is for, in cars per hour, if that was said.
  * @typedef {{kind: Kind, first: number, last: number, from: number, to: number | null,
- *            value: number}} Shape
+ *            value: number, demand?: number}} Shape
  *
  * A part of a change; `by` names the change that covers it there, null: it is in force.
  * @typedef {Shape & {by: Stamp | null}} Rectangle
@@ -85,6 +86,7 @@
  * @property {boolean} isRaw          it was made of raw edits alone
  * @property {number | null} site     the site that it excludes
  * @property {Rectangle[] | null} [was]
+ * @property {boolean} [planned]      it is the demand of the road's file
  */
 
 /**
@@ -330,12 +332,12 @@
  *
  * @typedef {Omit<Operation, "stamp" | "undoes" | "lost" | "shape">
  *   & {stamp: ToldStamp, undoes?: ToldStamp | null, lost: ToldStamp | null,
- *      shape?: ToldShape | null}} ToldOperation
+ *      shape?: ToldShape | null, demand?: unknown}} ToldOperation
  *
  * Another site may have made shapes, parts and edits: they may be anything.
  * @typedef {Omit<Change, "name" | "shape" | "shown" | "operations" | "edits" | "isRaw" | "site" | "was">
  *   & {name: ToldStamp, shape: unknown, shown: unknown, operations: ToldOperation[], edits?: unknown,
- *      was?: unknown}} ToldChange
+ *      was?: unknown, demand?: unknown}} ToldChange
  * @typedef {{name: ToldStamp, gone: true}} ToldGone
  *
  * @typedef {object} ToldLayers
