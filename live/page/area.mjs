@@ -1,7 +1,6 @@
 // What a rectangle would do, in words, before it is done, and why it cannot be done. It reads the
 // store.
 
-import {countCurves} from "./demand.mjs";
 import {MOST_OBJECTS, isTooLate} from "./geometry.mjs";
 import * as messages from "./messages.mjs";
 import {placesText, shapeText, takenZonesText, valueText} from "./sentences.mjs";
@@ -12,6 +11,12 @@ import {LAST_STEP, chanceText, kmText, limitText} from "./units.mjs";
 /** @typedef {import("./types.mjs").Change} Change */
 /** @typedef {import("./types.mjs").Kind} Kind */
 /** @typedef {import("./types.mjs").Shape} Shape */
+
+/** Return how many curves of inlets are measured, of how many that were asked for.
+ * @returns {[done: number, all: number]}
+ */
+export const countCurves = () =>
+  [[...store.curves.values()].filter((one) => "points" in one).length, store.curves.size];
 
 /** Say in a sentence why a value is invalid.
  * @param {Kind} kind

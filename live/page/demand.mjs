@@ -63,12 +63,6 @@ export function curveAt(road, inlet, step) {
   return entry && "points" in entry ? entry : null;
 }
 
-/** Return how many curves are measured, of how many that were asked for.
- * @returns {[done: number, all: number]}
- */
-export const countCurves = () =>
-  [[...store.curves.values()].filter((one) => "points" in one).length, store.curves.size];
-
 /** Wait until what the inlets of a road admit is measured, as far as nobody has said for which
  * demand a chance is. Call a function before each.
  * @param {Layers} road

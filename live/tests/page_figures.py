@@ -89,7 +89,7 @@ class OneFreeway(BrowserCase):
         self.assertRegex(tab.text("toolHint"), r"^What this inlet admits is being measured, \d+ of \d+\. Try again")
 
     def test_a_demand_is_shown_as_it_was_asked_for(self) -> None:
-        """Of a file the road has a demand, which is no change: it is a table, and no line of the lists and the report."""
+        """Show the demand of the road's file as a table, and not as lines of the lists and the report; that of a person as it was typed."""
         tab, = self.tabs
         self.server = free_server({"length": 1.5, "limit": 135, "slowing": 0.2, "main": [["7:00", 900], ["7:05", 612.3]],
                                    "ramps": [[0.45, [["7:00", 200], ["7:10", 310.5]]]], "minutes": 15, "begin": "07:00",

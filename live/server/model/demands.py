@@ -42,7 +42,7 @@ def demand_of(road: Road, line: Stamp) -> float | None:
 
 
 def kept_demand(road: Road, line: Stamp, shape: Shape) -> float | None:
-    """Return the demand of a line that gets another shape: that which it had, if its chance stays the same."""
+    """Return the demand of a line that gets another shape: the one it had, if its chance stays the same."""
     layer = road.layers.get(line)
     is_same = layer is not None and (layer.kind, layer.first, layer.last, layer.value) == (
         shape.kind, shape.first, shape.last, shape.value)
