@@ -59,7 +59,7 @@ class Questions:
     def __init__(self, lab: Lab) -> None:
         self._lab, self._keeper = lab, lab.keeper
         self._previews, self._chance, self._figures = Previews(), chance.DayQuestions(), figures.Figures()
-        self._saved, self._admissions = saving.Saved(), admissions.Admissions()
+        self._saved, self._admissions = saving.Saved(), admissions.Admissions(lab.keeper.folder)
 
     def road(self, index: int, at: str) -> AskedRoad:
         """Return the road that a seat means: its own or the shared one, or one of its preview."""

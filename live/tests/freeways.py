@@ -108,6 +108,23 @@ class Freeways(Case):
                                              if one[0] <= plan["inlets"][1][1] <= other[0])
             self.assertAlmostEqual(less + (more - less) * (plan["inlets"][1][1] - low) / (high - low), 40, delta=1)
 
+    async def test_what_an_inlet_admits_is_measured_once(self) -> None:
+        """Ask for one curve twice, from two tabs, and once more after a restart: the folder keeps it in a line, also beside a line that was
+        not written whole."""
+        server = self.server()
+        asked: dict[str, Any] = {"inlet": 0, "start": None, "before": []}
+        path = server.folder / "admissions.jsonl"
+        async with server.seat() as ada, server.seat("Ben") as ben:
+            curve, other = await asyncio.gather(ada.say("admission", **asked), ben.say("admission", **asked))
+            self.assertEqual(curve["points"], other["points"])
+        (key, kept), = map(json.loads, path.read_text(encoding="ascii").splitlines())
+        self.assertEqual(kept, {"points": curve["points"], "capacity": curve["capacity"]})
+        path.write_text(f'{json.dumps([key, {**kept, "capacity": 1_234.5}])}\n["half", {{"poi', encoding="ascii")
+        server.again()
+        async with server.seat("Cleo") as cleo:
+            again = await cleo.say("admission", **asked)
+            self.assertEqual((again["points"], again["capacity"]), (curve["points"], 1_234.5))
+
     async def test_the_demand_is_what_was_asked_for(self) -> None:
         """Compare list and figures with the demand of the file and with what people put and change: on the own road, the shared one and
         in a preview, before and after a restart. Only the demand of a chance for which nobody has said one is measured."""
