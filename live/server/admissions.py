@@ -36,7 +36,7 @@ class Admissions(figures.Beside[Inflow, Curve]):
 
     async def curve(self, asked: Inflow, path: str) -> Curve:
         """Return the curve of an inlet, in some seconds if it is not known yet."""
-        key = packed({"measure": MEASURE, **asked})
+        key = packed([MEASURE, asked])
         if key not in self._kept:
             async with self._lock:
                 if key not in self._kept:
