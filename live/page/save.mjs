@@ -31,7 +31,8 @@ const roadShown = () => (store.whose === "shared" ? "shared" : need("me").at);
 /** Return what a road is called in the name of a file. */
 const fileRoad = (at = roadShown()) => (at === "shared" ? "shared" : need("me").name);
 
-/** Return a name that no other save has: what it is, whose road, and from when to when.
+/** Return a name that no other save has: what it is, the road's file, whose road, and from when to
+ * when.
  * @param {string} what      with an ending
  * @param {string} whose
  * @param {Span} period      steps
@@ -40,7 +41,8 @@ function nameFile(what, whose, period) {
   const dot = what.lastIndexOf(".");
   const [stem, ending] = [what.slice(0, dot), what.slice(dot)];
   const times = period.map((step) => store.day.fileText(Math.round(step)));
-  const parts = [stem, whose, ...times].map((part) => part.replace(/[^\p{L}\p{M}\p{N}_]+/gu, "-"));
+  const road = need("me").road?.replace(/\.[^.]*$/, "") ?? "";
+  const parts = [stem, road, whose, ...times].filter(Boolean).map((part) => part.replace(/[^\p{L}\p{M}\p{N}_]+/gu, "-"));
   return claimFileName(parts.join("-"), ending);
 }
 
@@ -141,6 +143,10 @@ async function saveScripts() {
   tell(messages.savedScripts(saved));
 }
 
+/** Write the name of the road's file and its date, as far as they are known. */
+const fileAndDate = () => [need("me").road, need("me").day?.date].filter(Boolean)
+  .map((one) => `, ${one}`).join("");
+
 /** Return what a table of the two roads is of.
  * @param {number} from      step
  * @param {number} to
@@ -148,7 +154,7 @@ async function saveScripts() {
 function comparedText(from, to) {
   const of = comparedNow() === "preview" ? "the road now, and then"
     : `the road of ${need("me").name} and the shared one`;
-  return `${of}, ${store.day.timeText(from)} to ${store.day.timeText(to)}`;
+  return `${of}${fileAndDate()}, ${store.day.timeText(from)} to ${store.day.timeText(to)}`;
 }
 
 /** Save the figures of the roads that are compared: those of many days if these are shown. */
@@ -252,7 +258,7 @@ const roadText = () => (roadShown() === "shared" ? "the shared road" : `the road
 /** Save all that was done: who did what and when, where it is in force, and what covers it. */
 function saveChanges() {
   const layers = layersOf(roadShown() === "shared" ? "shared" : "mine");
-  saveLines(`changes of ${roadText()}, up to ${store.day.timeText(now())}`, tableOfChanges(layers), "changes.csv",
+  saveLines(`changes of ${roadText()}${fileAndDate()}, up to ${store.day.timeText(now())}`, tableOfChanges(layers), "changes.csv",
     fileRoad(), [0, now()]);
 }
 

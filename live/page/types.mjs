@@ -184,6 +184,7 @@
  * @property {Broker | null} broker
  * @property {string} [standing]
  * @property {ToldDay | null} [day]
+ * @property {string} [road]          the name of the road's file
  */
 
 /**

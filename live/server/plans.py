@@ -21,6 +21,7 @@ from .model.operations import END, Json, Shape
 from .refusals import Refused
 
 KEPT = "freeway.json"  # in a folder: the freeway in km that it began with
+NAME = "road.name"  # in a folder: the name of the file that it began with
 FREEWAY = Path(__file__).resolve().parents[2] / "recipes" / "freeway" / "run"
 OF_A_PLAN = {"zones", "inlets"}  # that no freeway in km has
 DOING = " .."  # ends a line of progress
@@ -43,6 +44,14 @@ def clock_of(folder: Path) -> Clock | None:
         return Clock.read(*(value.get(name) for name in ("begin", "date", "timezone"))) if value.get("begin") is not None else None
     except (OSError, ValueError, AttributeError):  # (an InvalidTime is a ValueError)
         return None
+
+
+def name_of(folder: Path) -> str:
+    """Return the name of the file of a folder's road; "" if it is not known."""
+    try:
+        return clean_text((folder / NAME).read_text(encoding="utf-8", errors="replace"), LONGEST_NAME)
+    except OSError:
+        return ""
 
 
 def read_plan(path: Path) -> dict[str, Json]:

@@ -26,7 +26,7 @@ from .model.demands import asked_demands
 from .model.operations import Json, Operation, Stamp
 from .model.projection import Edits
 from .model.road import Road
-from .plans import clock_of
+from .plans import clock_of, name_of
 from .program import LONG_ROAD
 from .refusals import Refused
 from .roads import SIDES, KeptRoad, Preview, Previews, AskedRoad, Side
@@ -388,7 +388,7 @@ class Questions:
     async def table_of_counts(self, road: AskedRoad, times: Times, first: int, last: int, each: int) -> Reply:
         """Return a table of what detectors count, span by span."""
         spans = await self._counted(road, times, first, last, each)
-        title = f"counts of {self._road_name(road.name)}, {self.say_time(first)} to {self.say_time(last)}"
+        title = f"counts of {self._road_name(road.name)}{self._file_and_date()}, {self.say_time(first)} to {self.say_time(last)}"
         windows = [Window(start, min(last, start + each)) for start in range(first, last, each)]
         return {"csv": saving.table_of_counts(self._keeper.state.plan, title, self.say_time, windows, spans)}
 
@@ -398,6 +398,13 @@ class Questions:
             return "the shared road"
         name = next((seat.name for seat in self._keeper.state.seats if seat.at == at), "")
         return f"the road of {saving.harmless(name) or at}"
+
+    def _file_and_date(self) -> str:
+        """Return the name of the road's file and the date of its begin, as far as they are known."""
+        folder = self._keeper.folder
+        day = clock_of(folder)
+        parts = [saving.harmless(name_of(folder)), "" if day is None or day.date is None else str(day.date)]
+        return "".join(f", {one}" for one in parts if one)
 
     def say_time(self, step: int) -> str:
         """Return a time of the road's clock: of the day, if it has one."""

@@ -320,6 +320,8 @@ class OneFreeway(BrowserCase):
         text = path.read_text(encoding="utf-8")
         self.assertIn("'=1+1,Ada", text)
         self.assertIn("54 km/h, 0–0.375 km, from 0:20:00 on", text)
+        self.assertIn("# changes of the road of =1+1,Ada, plan.json, up to 0:00:00\n", text)
+        self.assertRegex(text, r",20\d\d-\d\d-\d\d \d\d:\d\d:\d\d,put,")
 
     def test_the_transcript_runs_again(self) -> None:
         tab, = self.open(FREE_ROAD)
@@ -348,7 +350,7 @@ class OneFreeway(BrowserCase):
         names = {tab.save("Counts", "counts.csv").name for _ in range(3)}  # none in the place of another
         self.assertEqual(len(names), 3)
         for name in names:
-            self.assertRegex(name, r"^counts-Ada-0000-0100(-\d)?\.csv$")
+            self.assertRegex(name, r"^counts-plan-Ada-0000-0100(-\d)?\.csv$")
         for press in (None, Keys.ESCAPE):
             if press:
                 tab.open_part("save")
@@ -375,9 +377,9 @@ class OneFreeway(BrowserCase):
         tab.in_figures(timeFrom="soon")
         self.assertEqual(tab.text("said"), "A time is written as 7:00, 07:00:30 or, in minutes after 06:30, 20.")
         path = tab.save("Counts", "counts.csv")
-        self.assertEqual(path.name, "counts-Ada-0630-0730.csv")
+        self.assertEqual(path.name, "counts-plan-Ada-0630-0730.csv")
         head, names, first, *_ = path.read_text(encoding="utf-8").splitlines()
-        self.assertEqual(head, "# counts of the road of Ada, 06:30 to 07:30")
+        self.assertEqual(head, "# counts of the road of Ada, plan.json, 2026-03-02, 06:30 to 07:30")
         self.assertTrue(first.startswith("06:30,06:35,0,0.21,"), first)
 
     def test_the_report_is_saved(self) -> None:
@@ -385,7 +387,7 @@ class OneFreeway(BrowserCase):
         tab.run_an_hour()
         tab.limit("2", "0:20", "0:30")
         path = tab.save("Report", "report.html")
-        self.assertEqual(path.name, "report-Ada-shared-0000-0100.html")
+        self.assertEqual(path.name, "report-plan-Ada-shared-0000-0100.html")
         page = path.read_text(encoding="utf-8")
         for wanted in ("<h1>The road of Ada, and the shared one: 0:00:00 to 1:00:00</h1>",
                        "<li>54 km/h, 0–0.3 km, 0:20:00–0:30:00 (new)</li>", "delay, vehicle hours"):
