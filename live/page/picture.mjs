@@ -158,7 +158,8 @@ export function write(context, text, left, top, align = "left", colour = "#00000
   context.fillText(text, from, top + 2);
 }
 
-/** Return the frames of the road that is shown, and of shapes that are not confirmed yet.
+/** Return the frames of the road that is shown, without the demand of its file, and of shapes that
+ * are not confirmed yet.
  * @returns {Drawn[]}
  */
 export function framesShown() {
@@ -167,7 +168,7 @@ export function framesShown() {
   const own = {name: {count: 0, number}, who: name};
   const shapes = whoseShown()[0] === "mine" ? waitingShapes() : [];
   const waiting = shapes.map((shape) => ({...shape, by: own, pending: true}));
-  return [...layersShown().frames, ...waiting];
+  return [...layersShown().frames.filter(({by}) => !by.planned), ...waiting];
 }
 
 /** Return the box of a frame on the canvas.

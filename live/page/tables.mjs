@@ -151,13 +151,14 @@ export function tableOfDays(plan, of, {figures, days}) {
 }
 
 /** Return the table of all that was done on a road: who did what and when, where it is in force,
- * and what covers it.
+ * and what covers it. The demand of the road's file is left out.
  * @param {Layers} layers
  * @returns {Cell[][]}
  */
 export function tableOfChanges(layers) {
   const words = new Words(layers, NOBODY);
-  const changes = [...layers.changes.values()].sort((one, other) => byStamp(one.name, other.name));
+  const changes = [...layers.changes.values()].filter(({planned}) => !planned)
+    .sort((one, other) => byStamp(one.name, other.name));
   return [["change", "who", "what", "when", "does", "shared", "in force", "covered"],
           ...changes.flatMap((change, index) => change.operations.map((done) =>
             [index + 1, done.who, done.note || words.text(change), layers.day.instantText(done.when), done.does,

@@ -1,6 +1,7 @@
 """One browser on a freeway: what is written in figures, the figures that it shows, what it saves; names and tokens."""
 from __future__ import annotations
 
+import csv
 import json
 import math
 import re
@@ -104,11 +105,14 @@ class OneFreeway(BrowserCase):
         self.assertEqual(tab.script("return [...document.querySelectorAll('#fileDemandTable tr')].map((row) => "
                                     "[...row.children].map((cell) => cell.textContent).join(' '))"),
                          ["from at 0 km at 0.45 km", "07:00 900 200", "07:05 612 200", "07:10 612 311"])
+        self.assertEqual(tab.script("return framesShown().map(({kind}) => kind)"), ["limit"])
         tab.tool("inflow")
         tab.choose("inlet", "1")
         tab.in_figures(demand="447.69", timeFrom="7:05", timeTo="7:10")
         self.assertEqual(tab.lines("own"), ["Demand 448 cars/h, at 0.45 km, 07:05–07:10 private"])
         self.assertEqual(operations_of(self.server)[-1]["demand"], 447.69)
+        self.assertEqual([row["what"] for row in self.changes(tab)], ["54 km/h, 0.9–1.2 km, 07:04–07:08",
+                                                                      "Demand 448 cars/h, at 0.45 km, 07:05–07:10"])
         page = tab.save("Report", "report.html").read_text(encoding="utf-8")
         self.assertEqual(re.findall("<li>([^<]*)</li>", page.split("Works")[1].split("</ul>")[0]),
                          ["54 km/h, 0.9–1.2 km, 07:04–07:08", "Demand 448 cars/h, at 0.45 km, 07:05–07:10 (new)"])
@@ -119,6 +123,11 @@ class OneFreeway(BrowserCase):
         self.assertIn(f"demand at 0.45 km,cars,{wanted[0]},{wanted[1]},", table)
         tab.press("Change", "#own")
         self.assertEqual(tab.part("demand").get_attribute("value"), "447.69")
+
+    def changes(self, tab: Tab) -> list[dict[str, str]]:
+        """Return the saved table of changes."""
+        lines = tab.save("Changes as CSV", "changes.csv").read_text(encoding="utf-8").splitlines()
+        return list(csv.DictReader(lines[1:]))
 
     def test_a_stretch_in_figures_takes_the_nearest_zones(self) -> None:
         tab, = self.open(FREEWAY)
