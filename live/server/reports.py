@@ -23,7 +23,7 @@ if TYPE_CHECKING:
 DAYS = 5
 NICE = 8
 PATIENCE = 600.0
-MOST_DATES = 12  # of a demand over time, in a sentence
+MOST_DATES = 40  # of a demand over time, in a sentence
 ReportAsked = TypedDict("ReportAsked", {
     "roads": figures.TwoRoads, "title": str, "works": Sequence[str], "names": Sequence[str], "clock": Sequence["str | None"], "days": int})
 """Two roads with their names, sentences about the works on them, and the begin, date and time zone of the file."""
@@ -113,7 +113,7 @@ def facts_of(roads: figures.TwoRoads, side: Side, clock: Clock) -> list[str]:
     found = [f"{to_km(plan['length']):g} km, one lane, {drivers}"]
     for (cell, _), rates in zip(plan["inlets"], side.demands):
         name = f"on-ramp at km {to_km(cell):g}" if cell else "main road"
-        found.append(f"{name}: {demand_text(rates, clock, roads['last'])} cars/h")
+        found.append(f"{name}: {demand_text(rates, clock, roads['last'])}")
     return found
 
 
@@ -122,8 +122,11 @@ def demand_text(rates: Rates, clock: Clock, last: int) -> str:
     whole = [(step, round(rate)) for step, rate in rates if step < last]
     dates = [one for place, one in enumerate(whole) if not place or one[1] != whole[place - 1][1]]
     if len(dates) == 1:
-        return f"{dates[0][1]:,}"
-    return ", ".join(f"{rate:,} from {clock.to_text(step)}" for step, rate in dates[:MOST_DATES]) + ", .." * (len(dates) > MOST_DATES)
+        return f"{dates[0][1]:,} cars/h"
+    if len(dates) > MOST_DATES:
+        peak, most = max(dates, key=lambda one: one[1])
+        return f"{min(rate for _, rate in dates):,} to {most:,} cars/h, in {len(dates)} values, the greatest from {clock.to_text(peak)}"
+    return ", ".join(f"{rate:,} from {clock.to_text(step)}" for step, rate in dates) + " cars/h"
 
 
 def page(asked: ReportAsked) -> str:

@@ -12,7 +12,9 @@ from typing import Any, Mapping, Sequence
 
 from crashes import numbers
 from server.client import Seat
+from server.reports import demand_text
 from running import LIVE, PATIENCE, SMALL, Case, Server, end, new_folder, program, started, until
+from zegdrut.clock import Clock
 from zegdrut.wire import PlanLine, WrittenEdit
 
 KM: dict[str, Any] = {
@@ -107,6 +109,14 @@ class Freeways(Case):
             (low, less), (high, more) = next((one, other) for one, other in zip(curve["points"], curve["points"][1:])
                                              if one[0] <= plan["inlets"][1][1] <= other[0])
             self.assertAlmostEqual(less + (more - less) * (plan["inlets"][1][1] - low) / (high - low), 40, delta=1)
+
+    def test_a_demand_of_many_values_is_told_with_its_peak(self) -> None:
+        """Compare thirty values, which are all told, and fifty, of which the report tells the range and when the greatest begins."""
+        clock = Clock(25_200)
+        said = demand_text([(300 * place, 400 + 10 * place) for place in range(30)], clock, 9_000)
+        self.assertRegex(said, r"^400 from 07:00, 410 from 07:05, .*, 690 from 09:25 cars/h$")
+        self.assertEqual(demand_text([(60 * place, 400 + 90 * place % 7) for place in range(50)], clock, 3_000),
+                         "400 to 406 cars/h, in 50 values, the greatest from 07:01")
 
     async def test_what_an_inlet_admits_is_measured_once(self) -> None:
         """Ask for one curve twice, from two tabs, and once more after a restart: the folder keeps it in a line, also beside a line that was
