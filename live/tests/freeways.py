@@ -111,7 +111,7 @@ class Freeways(Case):
             self.assertAlmostEqual(less + (more - less) * (plan["inlets"][1][1] - low) / (high - low), 40, delta=1)
 
     def test_a_demand_of_many_values_is_told_with_its_peak(self) -> None:
-        """Compare thirty values, which are all told, and fifty, of which the report tells the range and when the greatest begins."""
+        """Write thirty values, which are all there, and fifty: then the report writes their range and when the greatest begins."""
         clock = Clock(25_200)
         said = demand_text([(300 * place, 400 + 10 * place) for place in range(30)], clock, 9_000)
         self.assertRegex(said, r"^400 from 07:00, 410 from 07:05, .*, 690 from 09:25 cars/h$")
