@@ -26,7 +26,7 @@ def copied(whole=(), with_libraries=True):
 
 
 def changed(path, change):
-    """Writes to a file what `change` makes of its text, and gives the text that it had."""
+    """Apply `change` to the text of a file. Return the text that it had."""
     with open(path, encoding="utf-8") as file:
         text = file.read()
     with open(path, "w", encoding="utf-8") as file:

@@ -17,7 +17,7 @@ LEAST_WORDS = 3
 
 
 class Text(NamedTuple):
-    """A piece of prose in a file, with the line where it begins. `owner` is "function", "class" or "module" for a docstring."""
+    """A piece of prose in a file, with the line where it begins. `owner` is "function", "test", "class" or "module" for a docstring."""
 
     line: int
     text: str
@@ -127,8 +127,7 @@ def find_python_texts(source: str) -> Iterator[Text]:
             if text is not None:
                 value = node.body[0].value  # type: ignore[attr-defined]
                 docstrings.add(value)
-                owner = "module" if isinstance(node, ast.Module) else "class" if isinstance(node, ast.ClassDef) else "function"
-                yield from with_code_removed(value.lineno, text, owner)
+                yield from with_code_removed(value.lineno, text, name_owner(node))
     inner = {part for node in ast.walk(tree) if isinstance(node, ast.JoinedStr) for part in ast.walk(node) if part is not node}
     for node in ast.walk(tree):
         if isinstance(node, ast.JoinedStr):
@@ -143,6 +142,13 @@ def find_python_texts(source: str) -> Iterator[Text]:
     comments = ((token.start[0], token.string) for token in tokenize.generate_tokens(io.StringIO(source).readline)
                 if token.type == tokenize.COMMENT and not token.string.startswith("#!"))
     yield from join_neighbours(comments)
+
+
+def name_owner(node: ast.AST) -> str:
+    """Return the kind of thing that has a docstring."""
+    if isinstance(node, (ast.FunctionDef, ast.AsyncFunctionDef)):
+        return "test" if node.name.startswith("test_") else "function"
+    return "class" if isinstance(node, ast.ClassDef) else "module"
 
 
 def with_code_removed(line: int, docstring: str, owner: str) -> Iterator[Text]:

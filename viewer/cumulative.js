@@ -7,12 +7,12 @@ const OF_SITE = [{width: 1.5}, {width: 3.5}];
 
 const endSite = (plan) => plan.length - plan.exit;
 
-/** The inlets from which cars come in between two sites. */
+/** Return the inlets at which cars enter between two sites. */
 const inletsBetween = (plan, [up, down]) =>
   plan.inlets.map(([cell]) => cell).filter((cell) => up <= cell && cell < down);
 
-/** The detectors, and the end of the road; at first those two detectors that are farthest apart
-    without an inlet between them. */
+/** Offer the detectors and the end of the road; at first choose the two detectors that are
+ * farthest apart without an inlet between them. */
 function offerSites() {
   const plan = shown.plans.find(Boolean);
   if (!plan) return;
@@ -32,14 +32,14 @@ const sitesChosen = () =>
 
 const cellOrKm = (cell) => (unit.given ? `${placeText(cell, unit)} km` : `cell ${cell}`);
 
-/** The first and last step of a picture that count here. */
+/** Return the first and last step of a picture that are counted. */
 function stepsCounted(picture) {
   const {from, to} = shown.comparison ?? {from: picture.from, to: lastStep(picture)};
   return [from, to];
 }
 
-/** The curves of a picture: for each site, from upstream down, how many cars have passed it before
-    each step; the first begins with the cars that are between both. */
+/** Return the curves of a picture: for each site, from upstream down, how many cars have passed
+ * it before each step; the first begins with the cars that are between both. */
 function cumulative(which) {
   const [picture, plan] = [shown.pictures[which], shown.plans[which]];
   if (!picture || !plan || (which && shown.whyNot)) return [];
@@ -74,7 +74,8 @@ function drawSpent() {
     && `Cars enter between them (inlet at ${inlets}); only the thick curve includes these.`;
 }
 
-/** The same curves less the mean flow of the first of them: over hours they would coincide. */
+/** Return the curves minus the mean flow of the first one: over hours they would otherwise
+ * coincide. */
 function drawSlanted(series, range) {
   const [[begin, before], [end, after]] = [series[0].points[0], series[0].points.at(-1)];
   const flow = (after - before) / Math.max(1, end - begin);
@@ -86,8 +87,8 @@ function drawSlanted(series, range) {
 
 // The time spent.
 
-/** What the second picture's cars spend on the road beside the first's, and how many entered: what
-    stands before an inlet spends no time on the road. */
+/** Return how much more time the cars of the second picture spend on the road than those of the
+ * first, and how many entered. Cars that wait before an inlet spend no time on the road. */
 function spentSentence() {
   if (!shown.comparison) return "";
   const {from, to} = shown.comparison;

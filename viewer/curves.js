@@ -2,14 +2,14 @@
 // The curves below the pictures, their table and their CSV: flow and mean speed by the counts of a
 // detector, density by the rows; or all three of a stretch by the rows alone.
 
-/** The counts of the detector that is chosen: of another plan, that at its place. */
+/** Return the counts of the chosen detector; in another plan, of the detector at its place. */
 const allCounts = (which) =>
   shown.runs[which]?.counts.get(detectorOf(which, Number(page.detector.value))) ?? [];
 const countsShown = (which) => equalSpans(allCounts(which));
 const byRows = () => page.detector.value === "stretch";
 
-/** The cells of the stretch, ends excluded, and the steps of a point: as the fields have them, else
-    the road before its deleted zone, and a round part of the steps. */
+/** Return the cells of the stretch, the end excluded, and the steps per point: from the fields,
+ * by default the road before its deleted zone, and a round part of the steps. */
 function stretchOf(picture, plan) {
   const field = (name, factor) =>
     (page[name].value === "" ? null : Math.round(Number(page[name].value) / factor));
@@ -21,7 +21,7 @@ function stretchOf(picture, plan) {
           span: Math.max(1, field("span", unit.time) ?? round)};
 }
 
-/** What the curves show of a picture, each with its steps, flow, speed and density. */
+/** Return the points of a picture's curves, each with its steps, flow, speed and density. */
 function measured(which) {
   const picture = shown.pictures[which];
   if (byRows()) return (picture ? edieSpans(picture, stretchOf(picture, shown.plans[which])) : []);
@@ -69,7 +69,8 @@ function tellCounts(lists) {
       (byRows() ? " The speed is the space-mean speed." : "");
 }
 
-/** Where the curves are measured, and which mean their speed is; a stretch of the first picture. */
+/** Return a text that says where the curves are measured, and which mean their speed is; for a
+ * stretch, that of the first picture. */
 function measuredWhere() {
   if (!byRows()) {
     const name = siteName(Number(page.detector.value), shown.plans.find(Boolean));
@@ -82,7 +83,8 @@ function measuredWhere() {
   return {at: `stretch, ${at}`, speed: "space-mean speed", density: "density"};
 }
 
-/** Lines of the table: heads, and a picture's points with numbers, null where there is none. */
+/** Return the lines of the table: heads, and a picture's points with numbers, null if there is
+ * none. */
 function tableLines(lists) {
   const {at, speed, density} = measuredWhere();
   const heads = ["picture", `from, ${unit.names.time}`, `to, ${unit.names.time}`,

@@ -53,27 +53,27 @@ const FONT = "13px system-ui, sans-serif";
 
 const bytesOf = (colour) => [1, 3, 5].map((at) => parseInt(colour.slice(at, at + 2), 16));
 
-/** The end of the colours in cells a step, by the greatest speed that is seen: where a cell a step
-    is 27 km/h it is always 135 km/h, as on live's page. */
+/** Return the end of the colour scale in cells a step, from the greatest speed that is seen. If a
+ * cell a step is 27 km/h, it is always 135 km/h, as on live's page. */
 const FASTEST_COLOUR = 5;
 const scaleEnd = (seen, unit) =>
   (unit.given && Math.abs(unit.speed - 27) < 0.01 ? FASTEST_COLOUR : Math.max(1, seen));
 
-/** Vehicle hours as they are written, here and on live's page: with one digit behind the point. */
+/** Return vehicle hours as text, here and on live's page: with one decimal. */
 const hoursText = (hours) =>
   hours.toLocaleString("en", {minimumFractionDigits: 1, maximumFractionDigits: 1});
 
-/** The colour of a speed, as far along the scale as it is of the greatest. */
+/** Return the colour of a speed, whose place on the scale is its part of the greatest speed. */
 const speedColour = (speed, greatest) =>
   "#" + VIRIDIS[Math.round(9 * Math.min(1, speed / greatest))];
 
-/** The colour of a row's sign: a digit, a point or #. */
+/** Return the colour of a character of a row: a digit, a point or #. */
 function cellColour(sign, greatest) {
   if (sign === "#") return BLOCKED;
   return sign === "." ? EMPTY : speedColour(Number(sign), greatest);
 }
 
-/** Black or white, which reads better. */
+/** Return black or white, whichever is easier to read on a colour. */
 function inkOn(colour) {
   const [red, green, blue] = bytesOf(colour);
   return 0.3 * red + 0.59 * green + 0.11 * blue > 140 ? "#000000" : "#ffffff";
@@ -82,10 +82,10 @@ function inkOn(colour) {
 const pixelOfBytes = ([red, green, blue], alpha = 255) =>
   ((alpha << 24) | (blue << 16) | (green << 8) | red) >>> 0;
 
-/** A colour as a pixel of an image's 32 bits. */
+/** Return a colour as a pixel of an image's 32 bits. */
 const pixelOf = (colour, alpha = 255) => pixelOfBytes(bytesOf(colour), alpha);
 
-/** A pixel for each sign of a row, by the sign's code. */
+/** Return a table of pixels, by the code of a row's character. */
 function pixelTable(greatest) {
   const table = new Uint32Array(128);
   for (const sign of "0123456789.#") {
@@ -94,7 +94,7 @@ function pixelTable(greatest) {
   return table;
 }
 
-/** The colour between two, as bytes. */
+/** Return the colour between two, as bytes. */
 const between = (one, other, part) =>
   one.map((byte, index) => Math.round(byte + (other[index] - byte) * part));
 
@@ -110,10 +110,12 @@ const MEANS = hundredths((part) => {
 const SIGNED = [SLOWER, FASTER].map((colour) =>
   hundredths((part) => pixelOfBytes(between(bytesOf(EMPTY), bytesOf(colour), part))));
 
-/** The pixel of a mean speed that is this part of the greatest; it goes along viridis smoothly. */
+/** Return the pixel of a mean speed that is this part of the greatest; it follows viridis
+ * smoothly. */
 const meanPixel = (part) => MEANS[rounded(part)];
 
-/** The pixel of a difference from -1 (magenta: slower) to 1 (blue: faster); pale where little. */
+/** Return the pixel of a difference from -1 (magenta: slower) to 1 (blue: faster); small
+ * differences are pale. */
 const signedPixel = (part) => SIGNED[part < 0 ? 0 : 1][rounded(Math.abs(part))];
 
 // 2. Units: cells and steps, or what metres a cell and seconds a step make of them.
@@ -122,10 +124,11 @@ const PLAIN = {given: false, clock: false, place: 1, time: 1, flow: 1, speed: 1,
                names: {place: "cell", time: "step", flow: "cars a step", speed: "cells a step",
                        density: "cars a cell"}};
 
-/** What a cell and a step are: km, minutes, cars an hour, km/h and cars a km, by metres a cell and
-    seconds a step; with `clock` times are written as h:mm:ss, or as those of the day where it is
-    known how many seconds after midnight the first step is (`begin`). Without metres and seconds,
-    cells and steps. A page may give it `textOf`, which writes a step as a time. */
+/** Return the unit of cells and steps: km, minutes, cars an hour, km/h and cars a km, from
+ * metres a cell and seconds a step. With `clock`, times are written as h:mm:ss, or as times of
+ * day if `begin` (the seconds after midnight of the first step) is known. Without metres and
+ * seconds, the units are cells and steps. A page may give it `textOf`, which returns the text
+ * of a step's time. */
 function unitOf(metres, seconds, clock = false, begin = null) {
   if (!(metres > 0 && seconds > 0)) return PLAIN;
   return {given: true, clock, begin, place: metres / 1000, time: seconds / 60, flow: 3600 / seconds,
@@ -147,21 +150,21 @@ function clockText(minutes, begin) {
   return `${Math.floor(seconds / 3600)}:${two(Math.floor(seconds / 60))}:${two(seconds)}`;
 }
 
-/** Figures of a step and of a cell in a unit, without the unit's name. */
+/** Return the figures of a step and of a cell in a unit, without the unit's name. */
 const momentText = (step, unit) => {
   if (unit.textOf) return unit.textOf(step);
   return unit.clock ? clockText(step * unit.time, unit.begin) : long(step * unit.time);
 };
 const placeText = (cell, unit) => long(cell * unit.place);
 
-/** The next greater round figure. */
+/** Return the next larger round number. */
 function niceAbove(value) {
   const power = 10 ** Math.floor(Math.log10(value || 1));
   return power * [1, 2, 3, 4, 6, 8, 10].find((factor) => factor * power >= value * 0.9999);
 }
 
-/** Figures a round distance apart, at least `least`, so that their texts have room; whole ones
-    without units. */
+/** Return numbers a round distance apart, at least `least`, so that their texts have room; whole
+ * numbers without units. */
 function ticks(from, to, least, unit) {
   let apart = unit.given ? 0.001 : 1;
   for (let turn = 0; apart < least; turn++) apart *= [2, 2.5, 2][turn % 3];
@@ -176,7 +179,7 @@ function multiples(from, to, apart) {
 
 const ON_CLOCK = [1, 2, 5, 10, 15, 30, 60, 120, 300, 600, 900, 1800, 3600, 7200, 14400, 36000];
 
-/** Round times of a unit, in its minutes or steps. */
+/** Return round times of a unit, in its minutes or steps. */
 function timeTicks(from, to, least, unit) {
   if (!unit.clock) return ticks(from, to, least, unit);
   const apart = ON_CLOCK.find((seconds) => seconds >= 60 * least) ?? ON_CLOCK.at(-1);
@@ -196,11 +199,11 @@ const CLOSURE = 3;        // pixels of a box that is marked where a cell of it i
 const endOf = (picture) => picture.from + picture.rows.length * picture.every;
 const lastStep = (picture) => endOf(picture) - picture.every;
 
-/** The row of a step, or of the one before it that was asked for. */
+/** Return the row of a step, or of the last recorded step before it. */
 const rowAt = (picture, step) =>
   picture?.rows[Math.floor((step - picture.from) / picture.every)];
 
-/** All cells and steps of a picture. */
+/** Return all cells and steps of a picture. */
 const partOf = (picture) => ({cells: [0, picture.length], steps: [picture.from, endOf(picture)]});
 
 const leftOf = (view, cell) => MARGIN.left + (cell - view.cell) * view.scale;
@@ -209,7 +212,7 @@ const cellAt = (view, x) => view.cell + (x - MARGIN.left) / view.scale;
 const stepAt = (view, y) => view.step + (y - MARGIN.top) / view.tall;
 const sizeOfCell = (view) => Math.min(view.scale, view.tall);
 
-/** The part of a picture that lies in a canvas of a size. */
+/** Return the part of a picture that a canvas of a size shows. */
 function inView(view, picture, width, height) {
   const all = partOf(picture);
   const ends = [cellAt(view, width - MARGIN.right), stepAt(view, height - MARGIN.bottom)];
@@ -220,10 +223,11 @@ function inView(view, picture, width, height) {
   };
 }
 
-/** Whether single cars would be noise: cells share a pixel, or a row is lower than 2 pixels. */
+/** Return whether single cars would be noise: cells share a pixel, or a row is lower than 2
+ * pixels. */
 const meansAreSeen = (view) => view.scale < 1 || view.tall < 2;
 
-/** A box of about N pixels: `wide` cells and `high` steps, at least `least` of each. */
+/** Return a box of about N pixels: `wide` cells and `high` steps, at least `least` of each. */
 function boxOf(view, pixels, least = 1, every = 1) {
   const rows = Math.max(least / every, pixels / view.tall / every);
   return {wide: Math.max(least, Math.round(pixels / view.scale)),
@@ -232,13 +236,13 @@ function boxOf(view, pixels, least = 1, every = 1) {
 
 // 4. The canvas.
 
-/** Sets ink, font and where texts are anchored. */
+/** Set ink, font and where texts are anchored. */
 function pen(context, textAlign, textBaseline = "middle") {
   const ink = {fillStyle: INK, strokeStyle: INK, lineWidth: 1};
   Object.assign(context, {...ink, font: FONT, textAlign, textBaseline});
 }
 
-/** A canvas made as fine as the screen, and cleared: {context, width, height}. */
+/** Clear a canvas, and give it the screen's resolution. Return {context, width, height}. */
 function cleared(canvas) {
   const fine = window.devicePixelRatio;
   const [width, height] = [canvas.clientWidth, canvas.clientHeight];
@@ -252,7 +256,7 @@ function cleared(canvas) {
   return {context, width, height};
 }
 
-/** Draws within the plot alone, until it is restored. */
+/** Draw only within the plot, until the context is restored. */
 function clip(context, top, width, height) {
   context.save();
   context.beginPath();
@@ -274,7 +278,8 @@ class Tiles {
     Object.assign(this, {most, pixels: 0, kept: new Map()});
   }
 
-  /** The tile of a name and kind with the steps `from` to `to - 1`, painted if it is not kept. */
+  /** Return the tile of a name and kind with the steps `from` to `to - 1`, painted if it is not
+   * kept. */
   get(name, kind, from, to, paint) {
     const key = `${name} ${kind} ${from}`;
     const tile = this.kept.get(key) ?? {name, from, to, canvas: paint()};
@@ -290,7 +295,7 @@ class Tiles {
     if (tile && this.kept.delete(key)) this.pixels -= tile.canvas.width * tile.canvas.height;
   }
 
-  /** Forgets the tiles of a name that have one of the steps `from` to `to - 1`. */
+  /** Forget the tiles of a name that have one of the steps `from` to `to - 1`. */
   forget(name, from = -Infinity, to = Infinity) {
     for (const [key, tile] of [...this.kept]) {
       if (tile.name === name && tile.from < to && from < tile.to) this.drop(key);
@@ -302,7 +307,7 @@ class Tiles {
   }
 }
 
-/** A canvas of pixels; `paint` gets each line's pixels and its number. */
+/** Return a canvas of pixels; `paint` gets the pixels of each line and its number. */
 function newTile(width, height, paint) {
   const canvas = document.createElement("canvas");
   Object.assign(canvas, {width, height});
@@ -316,9 +321,9 @@ function newTile(width, height, paint) {
   return canvas;
 }
 
-/** Draws a part of a picture by its tiles of `lines` lines, each `high` steps of boxes `wide` cells
-    wide; they begin at multiples of their height, so that they stand still as a picture grows.
-    `paintLine` gets a line's pixels and its first step. */
+/** Draw a part of a picture from tiles of `lines` lines, each for `high` steps of boxes `wide`
+ * cells wide. Tiles begin at multiples of their height, so that they do not move as a picture
+ * grows. `paintLine` gets the pixels of a line and its first step. */
 function drawTiles(context, view, picture, part, {tiles, name, kind}, {wide, high, lines},
                    paintLine) {
   const {cells, steps} = part;
@@ -344,7 +349,7 @@ function drawTiles(context, view, picture, part, {tiles, name, kind}, {wide, hig
   context.restore();
 }
 
-/** Paints each cell; where cells share a pixel their colours mix. */
+/** Paint each cell; if cells share a pixel, their colours mix. */
 function paintCells(context, view, picture, part, {tiles, name, greatest}) {
   const table = pixelTable(greatest);
   const every = picture.every;
@@ -358,7 +363,7 @@ function paintCells(context, view, picture, part, {tiles, name, greatest}) {
             {wide: 1, high: every, lines: TILE_ROWS}, paintRow);
 }
 
-/** Paints the cells that differ from another picture's, over what is painted. */
+/** Paint the cells that differ from another picture, over what is painted. */
 function paintMarks(context, view, picture, other, part, {tiles, name}) {
   const mark = pixelOf(DIFFERS, 150);
   context.imageSmoothingEnabled = sizeOfCell(view) < 1;
@@ -376,8 +381,8 @@ function paintMarks(context, view, picture, other, part, {tiles, name}) {
 
 // 6. Boxes: what some cells of some rows have together.
 
-/** The cars, sums of their speeds and closed cells of the boxes `wide` cells wide in the steps
-    `from` to `to - 1`, and how many rows of these there are. */
+/** Return the cars, the sums of their speeds and the closed cells of the boxes `wide` cells wide
+ * in the steps `from` to `to - 1`, and the number of rows in these steps. */
 function boxSums(picture, from, to, wide) {
   const across = Math.ceil(picture.length / wide);
   const [cars, speeds, closed] = [0, 0, 0].map(() => new Uint32Array(across));
@@ -405,7 +410,7 @@ function boxSums(picture, from, to, wide) {
   return {cars, speeds, closed, rows};
 }
 
-/** Paints boxes; `pixelAt` gives a box's pixel by its number and the sums of its line. */
+/** Paint boxes; `pixelAt` returns a box's pixel from its number and the sums of its line. */
 function paintBoxes(context, view, picture, part, {tiles, name, kind}, box, sumsOf, pixelAt) {
   context.imageSmoothingEnabled = false;
   const paintLine = (pixels, step) => {
@@ -417,8 +422,8 @@ function paintBoxes(context, view, picture, part, {tiles, name, kind}, box, sums
             {...box, lines: TILE_BOXES}, paintLine);
 }
 
-/** Paints mean speeds of boxes of some 6 by 6 pixels: one without a car is white, one with a closed
-    cell orange. */
+/** Paint mean speeds of boxes of some 6 by 6 pixels: a box without a car is white, one with a
+ * closed cell orange. */
 function paintMeans(context, view, picture, part, {tiles, name, greatest}) {
   const box = boxOf(view, BOX, 1, picture.every);
   const [closed, empty] = [BLOCKED, EMPTY].map((colour) => pixelOf(colour));
@@ -437,15 +442,16 @@ function paintMeans(context, view, picture, part, {tiles, name, greatest}) {
 const LEAST_BOX = 5;      // cells and steps of a box of the difference: one car alone says little
 const FULL_AT = 0.8;      // the part of the greatest speed that has the full colour
 
-/** The speed of a free car on a cell: its zone's limit, where the plan is known. */
+/** Return the speed of a free car on a cell: its zone's limit, if the plan is known. */
 function freeSpeed(cell, plan, greatest) {
   const limit = plan?.zones[Math.floor(cell / plan.zone)][0] ?? greatest;
   return Math.max(1, Math.min(limit, greatest));
 }
 
-/** Paints by how much cars are slower (magenta) or faster (blue) than in another picture of the
-    road, over small boxes: a box without a car counts as free, so that free cars that are somewhere
-    else remain pale. A box with a closed cell in either is orange. The plan may be left out. */
+/** Paint how much slower (magenta) or faster (blue) cars are than in another picture of the
+ * road, over small boxes. A box without a car counts as free, so that free cars that have only
+ * moved remain pale. A box with a closed cell in either picture is orange. The plan is
+ * optional. */
 function paintDifference(context, view, picture, other, part, {tiles, name, greatest, plan}) {
   const box = boxOf(view, BOX, LEAST_BOX, picture.every);
   const closed = pixelOf(BLOCKED);
@@ -460,7 +466,7 @@ function paintDifference(context, view, picture, other, part, {tiles, name, grea
   paintBoxes(context, view, picture, part, {tiles, name, kind: "difference"}, box, sumsOf, pixelAt);
 }
 
-/** Which boxes `wide` cells wide have a closed cell in the steps `from` to `to - 1`. */
+/** Return which boxes `wide` cells wide have a closed cell in the steps `from` to `to - 1`. */
 function closedBoxes(picture, from, to, wide) {
   const closed = new Uint8Array(Math.ceil(picture.length / wide));
   const end = Math.min(to, endOf(picture));
@@ -476,7 +482,7 @@ function closedBoxes(picture, from, to, wide) {
   return closed;
 }
 
-/** Marks closed cells by 3 pixels where cells share a pixel, over what is painted. */
+/** Mark closed cells with 3 pixels if cells share a pixel, over what is painted. */
 function paintClosures(context, view, picture, part, {tiles, name}) {
   if (sizeOfCell(view) >= 1) return;
   const box = boxOf(view, CLOSURE, 1, picture.every);
@@ -506,8 +512,8 @@ function eachCell(picture, {cells, steps}, take) {
   }
 }
 
-/** Draws crosses in closed cells, speeds where they have room, and frames around the cells that
-    differ from another picture's, or null. */
+/** Draw crosses in closed cells, speeds if they have room, and frames around the cells that
+ * differ from another picture, if there is one. */
 function drawDetails(context, view, picture, other, part, greatest) {
   const {scale, tall} = view;
   const size = sizeOfCell(view);
@@ -531,7 +537,7 @@ function drawDetails(context, view, picture, other, part, greatest) {
 
 // 8. Around the plot.
 
-/** Draws figures of places above a part, and of times beside it. */
+/** Draw figures of places above a part, and of times beside it. */
 function drawAxes(context, view, {cells, steps}, unit, end = Infinity) {
   const inside = unit.given ? 0 : 0.5;   // a number is a cell's, or a place's
   const top = MARGIN.top - PLAN_HIGH;
@@ -559,8 +565,8 @@ function drawAxes(context, view, {cells, steps}, unit, end = Infinity) {
   context.fillText(unit.names.time + " \u2193", 4, 3);
 }
 
-/** Draws the plan above the plot: zones (alternating shades), the deleted zone, inlets, detectors
-    before their cells. */
+/** Draw the plan above the plot: zones (alternating shades), the deleted zone, inlets, detectors
+ * before their cells. */
 function drawPlan(context, view, plan, width) {
   if (!plan) return;
   const top = MARGIN.top - PLAN_HIGH;
@@ -591,7 +597,7 @@ function drawInlet(context, middle, top) {
   context.fill();
 }
 
-/** Draws a small wedge at the left of a step's row, where that is in the plot. */
+/** Draw a small wedge at the left of a step's row, if that is in the plot. */
 function drawWedge(context, view, step, colour, height) {
   const middle = topOf(view, step) + view.tall / 2;
   if (middle < MARGIN.top || middle > height - MARGIN.bottom) return;
@@ -603,7 +609,7 @@ function drawWedge(context, view, step, colour, height) {
   context.fill();
 }
 
-/** Draws a frame around a cell, at least 5 pixels wide and high. */
+/** Draw a frame around a cell, at least 5 pixels wide and high. */
 function drawFrame(context, view, step, cell) {
   const [wide, high] = [Math.max(5, view.scale), Math.max(5, view.tall)];
   Object.assign(context, {strokeStyle: "#000000", lineWidth: 2});
@@ -613,7 +619,7 @@ function drawFrame(context, view, step, cell) {
 
 const STRIP_HIGH = 34;
 
-/** Draws a row as a road; with `figures` its speeds too, where they have room. */
+/** Draw a row as a road; with `figures` also its speeds, if they have room. */
 function drawStrip(context, view, row, {cells}, width, {greatest, figures}) {
   clip(context, 0, width, STRIP_HIGH);
   const [left, right] = cells.map((cell) => leftOf(view, cell));
@@ -648,7 +654,7 @@ function speedEntries(greatest, unit) {
   return [`speed in ${unit.names.speed}:`, ...boxes];
 }
 
-/** Draws a legend's entries in a line from `left` on. */
+/** Draw a legend's entries in a line from `left` on. */
 function drawLegend(context, left, entries) {
   let at = left;
   const write = (text) => {
@@ -681,9 +687,9 @@ const SERIES = [{colour: "#0072b2", width: 2, dash: [], square: false},
                 {colour: "#b34700", width: 2, dash: [7, 4], square: true}];
 const MOST_DOTS = 60;
 
-/** Draws a chart with axes: series of points [step, value], each with a colour, the width and
-    pattern of its line, and squares or dots; the range of steps; a title with the values' unit.
-    Where a value is below 0, 0 is halfway up. */
+/** Draw a chart with axes: series of points [step, value], each with a colour, the width and
+ * pattern of its line, and squares or dots; the range of steps; a title with the values' unit.
+ * If a value is below 0, 0 is halfway up. */
 function drawChart(canvas, {title, series, range: [from, to], unit}) {
   const {context, width, height} = cleared(canvas);
   const plot = {left: 56, right: width - 12, top: 24, bottom: height - 40};

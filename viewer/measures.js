@@ -7,8 +7,9 @@
 // passings(picture, site, plan, from, to)  entries(picture, inlet, plan, from, to)
 // carsBetween(picture, step, cells)
 
-/** The cells that differ in the steps that both pictures show: {from, to, cells, step, cell}, with
-    the last step they share, and the first cell that differs, null where none does. */
+/** Compare two pictures in the steps that both show: {from, to, cells, step, cell} has the
+ * number of cells that differ, the last common step, and the first cell that differs, null if
+ * none does. */
 function comparison(one, other) {
   const from = Math.max(one.from, other.from);
   const to = Math.min(lastStep(one), lastStep(other));
@@ -25,7 +26,7 @@ function comparison(one, other) {
   return found;
 }
 
-/** Notes in a picture the cars of each row and the greatest speed. */
+/** Note in a picture the cars of each row and the highest speed. */
 function survey(picture) {
   let most = 49;   // the code of speed 1
   picture.cars = picture.rows.map((row) => {
@@ -40,19 +41,19 @@ function survey(picture) {
   picture.greatest = most - 48;
 }
 
-/** The mean density in cars a cell, where the picture has all of the steps. */
+/** Return the mean density in cars a cell, if the picture has all of the steps. */
 function meanDensity(picture, from, to) {
   if (!picture || from < picture.from || to - 1 > lastStep(picture)) return null;
   const part = picture.cars.slice(from - picture.from, to - picture.from);
   return part.reduce((sum, cars) => sum + cars, 0) / part.length / picture.length;
 }
 
-/** The cars of the rows `from` to `to`, both among them, added. */
+/** Return the sum of the cars in the rows `from` to `to`, both included. */
 const carsInRows = (picture, from, to) =>
   picture.cars.slice(from - picture.from, to - picture.from + 1)
     .reduce((sum, cars) => sum + cars, 0);
 
-/** The cars and their speeds on some cells in some rows: [cars, speeds]. */
+/** Return the cars and their speeds on some cells in some rows: [cars, speeds]. */
 function edieSums(picture, from, span, cells) {
   let [cars, speeds] = [0, 0];
   for (let step = from; step < from + span; step++) {
@@ -80,7 +81,7 @@ function edieSpans(picture, {cells, span}) {
   return found;
 }
 
-/** The counts of the span that is met most often, by rising steps. */
+/** Return the counts of the most frequent span, in order of time. */
 function equalSpans(counts) {
   const sizes = new Map();
   for (const {from, to} of counts) sizes.set(to - from, (sizes.get(to - from) ?? 0) + 1);
@@ -98,7 +99,7 @@ const isCar = (row, cell) => row.charCodeAt(cell) > 46;   // behind "#" and "."
 const speedAt = (row, cell) => (isCar(row, cell) ? row.charCodeAt(cell) - 48 : null);
 const endOfRoad = (plan) => plan.length - plan.exit;
 
-/** Whether the car of a cell is on the road in the next row. */
+/** Return whether the car of a cell is on the road in the next row. */
 function stays(next, cell, end) {
   for (let speed = 0; speed <= FASTEST && cell + speed < end; speed++) {
     if (speedAt(next, cell + speed) === speed) return true;
@@ -106,8 +107,9 @@ function stays(next, cell, end) {
   return false;
 }
 
-/** How many cars move, in each of the steps, from a cell before the site to it or past it, also
-    those that are taken off in the step. At the end of the road these are all that leave. */
+/** Return how many cars move in each of the steps from a cell before the site to it or past it,
+ * including those that are taken off in the step. At the end of the road these are all that
+ * leave. */
 function passings(picture, site, plan, from, to) {
   const end = endOfRoad(plan);
   const found = [];
@@ -125,8 +127,8 @@ function passings(picture, site, plan, from, to) {
   return found;
 }
 
-/** How many cars enter at an inlet's cell in the steps: such a car stands there afterwards, or has
-    moved by one. Null where it is at once at the end of the road, and no row has it. */
+/** Return how many cars enter at an inlet's cell in the steps: such a car is there afterwards,
+ * or has moved by one. Null if it is at once at the end of the road, where no row has it. */
 function entries(picture, inlet, plan, from, to) {
   if (inlet + 1 >= endOfRoad(plan)) return null;
   let cars = 0;
@@ -138,7 +140,7 @@ function entries(picture, inlet, plan, from, to) {
   return cars;
 }
 
-/** The cars of a step on some cells. */
+/** Return the cars of a step on some cells. */
 function carsBetween(picture, step, cells) {
   const row = rowAt(picture, step);
   let cars = 0;

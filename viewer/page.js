@@ -4,7 +4,8 @@
 const wanted = [0, 0];    // the newest reading of each slot; older ones stop
 let exampleShown = false;
 
-/** A sayer of sentences: of one reading the first dozen, and how many more there were. */
+/** Return a function that shows sentences: the first dozen of a reading, and how many more there
+ * were. */
 function sayer() {
   let said = 0;
   const more = document.createElement("li");

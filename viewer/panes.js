@@ -7,8 +7,8 @@ const on = (target, name, act, options) => target.addEventListener(name, act, op
 
 const SCALES = [1 / 32, 1 / 16, 1 / 8, 1 / 4, 1 / 2, 1, 2, 3, 4, 6, 8, 10, 12, 14, 16, 20, 24, 32];
 
-/** What is shown of the first and of the second picture, and of both: `comparison` is null where
-    `whyNot` says why they are not compared; `fit` is how the view came to be, null after a zoom. */
+/** What is shown of the first and of the second picture, and of both. `comparison` is null if they
+ * are not compared, and `whyNot` says why; `fit` says how the view was chosen (null: a zoom). */
 const shown = {pictures: [null, null], plans: [null, null], runs: [null, null], greatest: 1,
                comparison: null, whyNot: "", many: false, marksHid: false, fit: null, step: 0,
                pointed: null, saved: false};
@@ -20,11 +20,12 @@ const picturesShown = () => shown.pictures.filter(Boolean);
 const marksShown = () => Boolean(shown.comparison) && page.marks.checked;
 const panesShown = () => [0, 1, 2].filter((which) => !panes[which].figure.hidden);
 
-/** The picture and the plan of a pane, the third being the second's difference from the first. */
+/** Return the picture and the plan of a pane; the third pane has the difference of the second
+ * from the first. */
 const pictureOf = (which) => shown.pictures[Math.min(which, 1)];
 const planOf = (which) => (which < 2 ? shown.plans[which] : shown.plans.find(Boolean));
 
-/** The first and last step of what is shown. */
+/** Return the first and last step that are shown. */
 function stepsShown() {
   const both = picturesShown();
   if (!both.length) return [0, 0];
@@ -41,8 +42,8 @@ function withText(name, text) {
 
 // 1. Drawing.
 
-/** Whether mean speeds are painted: these are not marked, since each car that is somewhere else
-    would be. */
+/** Return whether mean speeds are painted. These have no marks, since each car that has only
+ * moved would be marked. */
 const byMeans = () => (page.paint.value === "zoom" ? meansAreSeen(view)
   : page.paint.value === "means");
 
@@ -84,7 +85,7 @@ function drawDiagram(which, {context, width, height}) {
   if (first !== null) drawWedge(context, view, first, DIFFERS, height);
 }
 
-/** The road at the slider's step, under the diagram's cells. */
+/** Return the road at the slider's step, under the diagram's cells. */
 function drawRoad(which, {context, width}) {
   const picture = shown.pictures[which];
   pen(context, "right");
@@ -132,13 +133,13 @@ function plotSize() {
           diagram.clientHeight - MARGIN.top - MARGIN.bottom];
 }
 
-/** How many cells and steps the plot has room for. */
+/** Return how many cells and steps the plot has room for. */
 function roomOfPlot() {
   const [width, height] = plotSize();
   return [width / view.scale, height / view.tall];
 }
 
-/** Keeps the view on the picture, and on whole pixels. */
+/** Keep the view on the picture, and on whole pixels. */
 function settle() {
   const [width, height] = roomOfPlot();
   const [from, to] = stepsShown();
@@ -149,15 +150,16 @@ function settle() {
   askDrawing();
 }
 
-/** The scales that make the whole picture fill its box: of a cell's width, of a row's height. */
+/** Return the scales that make the whole picture fill its box: of a cell's width, of a row's
+ * height. */
 function fillingScales() {
   const [width, height] = plotSize();
   const [from, to] = stepsShown();
   return [width / cellsShown(), height / (to - from + 1)];
 }
 
-/** Shows the whole picture: with square cells of 1 to 20 pixels, or, where it is too long for
-    these, so that it fills its box. */
+/** Show the whole picture: with square cells of 1 to 20 pixels, or filling its box if it is too
+ * long for these. */
 function begin() {
   const filling = fillingScales();
   const most = Math.min(...filling, 20);
@@ -168,7 +170,7 @@ function begin() {
   settle();
 }
 
-/** Shows the whole picture: it fills its box. */
+/** Show the whole picture: it fills its box. */
 function whole() {
   const [scale, tall] = fillingScales();
   Object.assign(view, {cell: 0, step: stepsShown()[0], scale, tall});
@@ -176,14 +178,14 @@ function whole() {
   settle();
 }
 
-/** Shows as much as before in a box of another size. */
+/** Show as much as before in a box of another size. */
 const fitAgain = () => (shown.fit ?? settle)();
 
-/** The next scale from one on, greater or less. */
+/** Return the next larger or smaller scale. */
 const nextScale = (scale, greater) => (greater ? SCALES.find((one) => one > scale * 1.001)
   : SCALES.findLast((one) => one < scale * 0.999)) ?? scale;
 
-/** Zooms in or out about a place of the plot: the width of cells, the height of rows, or both. */
+/** Zoom in or out about a place of the plot: the width of cells, the height of rows, or both. */
 function zoom(closer, x, y, side = "both") {
   const [width, height] = plotSize();
   const [right, down] = [x ?? width / 2, y ?? height / 2];
@@ -330,7 +332,7 @@ panes[2].strip.hidden = true;
 let playing = 0;
 let playedFrom = {step: 0, at: 0};
 
-/** The step a number of milliseconds after another one; after the last step it begins again. */
+/** Return the step some milliseconds after another one; after the last step it begins again. */
 function stepAfter(step, milliseconds, rate, [from, to]) {
   const steps = Math.floor(milliseconds / 1000 * rate / (unit.given ? 60 * unit.time : 1));
   return from + (step - from + steps) % (to - from + 1);

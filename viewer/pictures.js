@@ -3,7 +3,8 @@
 
 const transcripts = [null, null];
 
-/** All that can be shown: the pictures of each run, and runs that have counts alone. */
+/** Return everything that can be shown: the pictures of each run, and runs that have only
+ * counts. */
 function offers() {
   return transcripts.flatMap((transcript, slot) => (transcript?.runs ?? []).flatMap((run) => {
     const pictures = run.pictures.length ? run.pictures : run.counts.size ? [null] : [];
@@ -11,7 +12,7 @@ function offers() {
   }));
 }
 
-/** Figures in steps or cells, and in minutes or km too where there are units. */
+/** Return figures in steps or cells, and also in minutes or km if there are units. */
 const minutes = (step) => String(Number((step * unit.time).toFixed(2)));
 const withUnit = (plain, figure, name) => (unit.given ? `${plain} (${figure} ${name})` : plain);
 const stepsText = (from, to) =>
@@ -20,9 +21,9 @@ const stepText = (step) => withUnit(step, minutes(step), "min");
 const cellText = (cell) => withUnit(cell, placeText(cell, unit), "km");
 const whereText = (cell) => (unit.given ? `km ${placeText(cell, unit)}` : `cell ${cell}`);
 
-/** What a picture is called: whose it is, after how many changes, and its steps. */
+/** Return the name of a picture: whose it is, after how many changes, and its steps. */
 function labelOf({slot, run, picture}) {
-  const steps = picture ? stepsText(picture.from, lastStep(picture)) : "counts alone";
+  const steps = picture ? stepsText(picture.from, lastStep(picture)) : "only counts";
   const after = run.changes === 0 ? "before any edit"
     : `after ${run.changes} change${run.changes > 1 ? "s" : ""} (last: ${run.last})`;
   const whose = transcripts[1] ? `${slot ? "second" : "first"} transcript, ` : "";
@@ -34,13 +35,15 @@ const rowsShared = (one, other) => !one.picture || !other.picture ? 0
   : Math.min(lastStep(one.picture), lastStep(other.picture))
     - Math.max(one.picture.from, other.picture.from) + 1;
 
-/** The last of a list that `better` prefers to those before it; null of none. */
+/** Return the last element of a list that `better` prefers to those before it; null if the list
+ * is empty. */
 const bestOf = (list, better) =>
   list.reduce((best, one) => (best && !better(one, best) ? best : one), null);
 
-/** Of two transcripts the longest picture of the first, and the last of the second that shares most
-    steps with it. Of one, two that share half of the longest one's steps: the first and the last of
-    a replica, before and after what was changed; else the longest and the last. */
+/** Choose two pictures. With two transcripts: the longest picture of the first, and the last of
+ * the second that shares most steps with it. With one: two that share half of the longest one's
+ * steps, the first and the last of a replica, before and after a change; else the longest and
+ * the last. */
 function choice(all) {
   const longest = bestOf(all.filter(({slot}) => slot === all[0].slot),
                          (one, best) => rowsOf(one) > rowsOf(best));
@@ -54,7 +57,8 @@ function choice(all) {
 const nearest = (offer, others) =>
   bestOf(others, (one, best) => rowsShared(offer, one) >= rowsShared(offer, best));
 
-/** The first picture of a replica and the last that shares most steps with it; null of none. */
+/** Return the first picture of a replica and the last one that shares most steps with it; null
+ * if there are none. */
 function beforeAndAfter(all, halves) {
   const first = new Map();
   const pairs = all.flatMap((after) => {
@@ -81,8 +85,8 @@ function optionsOf(which) {
   return which ? [new Option("none", -1), ...options] : options;
 }
 
-/** Offers choices in a select element, which keeps its choice where it can; the same choices get
-    their new names while it may be open. */
+/** Offer choices in a select element, which keeps its choice if it can; equal choices get their
+ * new names while it may be open. */
 function offerIn(select, options, wanted) {
   const values = (list) => [...list].map(({value}) => value).join("\n");
   if (values(select.options) === values(options)) {
@@ -101,7 +105,7 @@ const picked = () => {
   return [0, 1].map((which) => all[Number(page["picture" + which].value)] ?? null);
 };
 
-/** Where the colours of the speeds end. */
+/** Return the end of the colour scale of speeds. */
 function setScale() {
   shown.greatest = scaleEnd(Math.max(0, ...picturesShown().map(({greatest}) => greatest)), unit);
   tiles.clear();
@@ -126,7 +130,7 @@ function showPictures() {
   tellAll();
 }
 
-/** Rewrites everything that shows figures in units. */
+/** Rewrite everything that shows figures in units. */
 function tellAll() {
   for (const which of [0, 1]) offerIn(page["picture" + which], optionsOf(which));
   namePanes();
@@ -138,7 +142,7 @@ function tellAll() {
   askDrawing();
 }
 
-/** Why two pictures are not compared, "" where there are not two; else null. */
+/** Return why two pictures are not compared, "" if there are not two; else null. */
 function whyNotCompared() {
   const [one, other] = shown.pictures;
   if (!one || !other) return "";
@@ -165,12 +169,12 @@ function comparisonSentence() {
   if (step === null) return `No cell differs ${all}`;
   const unmarked = shown.many ? " They are not marked because there are too many:"
     : byMeans() ? " Mean speeds are not marked:" : "";
-  const hint = unmarked && `${unmarked} choose "their difference alone".`;
+  const hint = unmarked && `${unmarked} choose "only their difference".`;
   return `First differing step: ${stepText(step)}, there first at cell ${cellText(cell)}. ` +
     `${cells} of ${(to - from + 1) * shown.pictures[0].length} cells differ ${all}${hint}`;
 }
 
-/** Lays out the panes: both pictures, or their difference alone. */
+/** Lay out the panes: both pictures, or only their difference. */
 function layPanes() {
   const alone = page.layout.value === "difference" && shown.comparison;
   const seen = alone ? [2] : [0, 1].filter((which) => shown.pictures[which]);
@@ -194,7 +198,8 @@ function namePanes() {
 const MOST_EDITS = 6;
 const OF_ZONES = {limit: "limit", slow: "slowing", start: "slowing of standing cars"};
 
-/** How many changes of a picture the first one has too: those of the same replica before it. */
+/** Return how many changes of a picture the first picture has too: those of the same replica
+ * before it. */
 function changesShared(which) {
   const [one, other] = picked();
   const same = which === 1 && one && other && one.transcript === other.transcript
@@ -202,7 +207,8 @@ function changesShared(which) {
   return same ? one.run.changes : 0;
 }
 
-/** Changes edit by edit: of imports, which come first, the winners that are not withdrawals. */
+/** Return the changes edit by edit; of imports, which come first, the winning edits that are not
+ * withdrawals. */
 function oneByOne(made) {
   const winners = new Map();
   for (const edit of made.flatMap(({edits}) => edits ?? [])) {
@@ -214,7 +220,7 @@ function oneByOne(made) {
           ...made.filter(({edits}) => !edits)];
 }
 
-/** Of edits of one object and step the last; none where that withdraws one of these. */
+/** Return the last edit of each object and step; none if it withdraws one of these. */
 function lasting(edits) {
   const kept = new Map();
   edits.forEach((edit, turn) => {
@@ -225,7 +231,8 @@ function lasting(edits) {
   return [...kept.values()];
 }
 
-/** Edits of one number from one step on in neighbouring zones or cells, as one: with `last`. */
+/** Merge edits with one value from one step on in neighbouring zones or cells into one, with
+ * `last`. */
 function joined(edits) {
   const found = [];
   const newest = new Map();
@@ -249,7 +256,7 @@ function putText(kind, put) {
   return unit.given ? `${long(put * unit.speed)} km/h` : String(put);
 }
 
-/** An edit in km and minutes, or in cells and steps. */
+/** Return the text of an edit, in km and minutes, or in cells and steps. */
 function editText({title, kind, index, last, step, put}, plan) {
   if (title) return title;
   const since = unit.given ? `from ${minutes(step)} min` : `from step ${step}`;
@@ -268,7 +275,8 @@ function editText({title, kind, index, last, step, put}, plan) {
   return `${whereText(cell)}: ${kind === "inflow" ? "inflow chance" : "detector"} ${what} ${since}`;
 }
 
-/** What was changed of a picture's road: all, or beyond what the first picture has. */
+/** Return what was changed on a picture's road: all changes, or those that the first picture
+ * does not have. */
 function editLines(which) {
   const offer = picked()[which];
   if (!offer) return [];
@@ -283,21 +291,22 @@ function editLines(which) {
   return [...head, ...none, ...texts.slice(0, MOST_EDITS), ...rest];
 }
 
-/** A detector's name: its index, and where it is. */
+/** Return a detector's name: its index, and where it is. */
 function siteName(index, plan) {
   const site = plan?.detectors[index];
   if (site === undefined) return String(index);
   return unit.given ? `${index}, at ${placeText(site, unit)} km` : `${index}, before cell ${site}`;
 }
 
-/** The index in a picture's plan of a detector of the first plan that there is: of that place. */
+/** Return the index, in a picture's plan, of the detector at the place of a detector of the
+ * first plan. */
 function detectorOf(which, index) {
   const [plan, first] = [shown.plans[which], shown.plans.find(Boolean)];
   const at = (one) => one?.detectors[index];
   return at(plan) === at(first) ? index : plan?.detectors.indexOf(at(first));
 }
 
-/** Offers the detectors of the first plan there is that have counts in a picture. */
+/** Offer the detectors of the first plan that have counts in a picture. */
 function offerDetectors() {
   const plan = shown.plans.find(Boolean);
   const counted = (index) => shown.runs.some((run, which) =>

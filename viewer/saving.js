@@ -6,14 +6,14 @@ const LEGEND_WIDE = 1100;
 const BETWEEN = 12;
 const MOST_SAVED = {side: 8_000, area: 2.5e7};   // pixels of a side, and of all pictures
 
-/** The scale at which N pictures are saved. */
+/** Return the scale at which N pictures are saved. */
 function scaleOfAll(cells, steps, pictures) {
   const {side, area} = MOST_SAVED;
   return SCALES.findLast((one) => one <= 4 && Math.max(cells, steps) * one <= side
     && pictures * cells * steps * one * one <= area) ?? SCALES[0];
 }
 
-/** Draws one picture with its caption and its road. */
+/** Draw one picture with its caption and its road. */
 function drawSaved(which, context, size) {
   pen(context, "left", "top");
   context.font = "bold " + FONT;
@@ -24,7 +24,8 @@ function drawSaved(which, context, size) {
   if (which < 2) drawRoad(which, {context, ...size});
 }
 
-/** The pictures as the view has them on one canvas, with captions and legend, cut to their rows. */
+/** Return the pictures as the view shows them on one canvas, with captions and legend, cut to
+ * their rows. */
 function asOneCanvas(most) {
   const fine = most ? window.devicePixelRatio : 1;
   const right = leftOf(view, cellsShown()) + MARGIN.right;
@@ -51,7 +52,8 @@ function asOneCanvas(most) {
   return canvas;
 }
 
-/** Saves what is seen, or all of the pictures; without what is pointed at, and without grey. */
+/** Save what is visible, or all of the pictures; without the cell that is pointed at, and
+ * without grey. */
 function save(all) {
   if (!panesShown().length) return;
   const {diagram} = panes[panesShown()[0]];

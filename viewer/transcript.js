@@ -29,7 +29,7 @@ function kindOf(value) {
   return REPLY_FIELDS.some((field) => field in value) ? "reply" : "other";
 }
 
-/** A line of a file as {number, kind, value}; of values only what the page shows is kept. */
+/** Return a line of a file as {number, kind, value}; a value keeps only what the page shows. */
 function lineOf(text, number) {
   try {
     const value = JSON.parse(text);
@@ -56,7 +56,7 @@ function shortCommand(value) {
           edits: name === "import" && Array.isArray(edits) ? edits.map(importedEdit) : null};
 }
 
-/** An edit of an import, [kind, index, step, count, number, put]. */
+/** Return an edit of an import, [kind, index, step, count, number, put]. */
 function importedEdit([kind, index, step, count, number, put]) {
   return {kind, index, step, put: put ?? undefined, stamp: [count, number]};
 }
@@ -92,8 +92,8 @@ class LineCutter {
 
 const megabytes = (bytes) => Math.ceil(bytes / 1e6);
 
-/** The lines of a file, read piece by piece, so that the page goes on meanwhile; null where
-    another reading has begun. */
+/** Return the lines of a file, read piece by piece, so that the page goes on meanwhile; null if
+ * another reading has begun. */
 async function linesOf(file, say, goesOn) {
   const lines = [];
   let kept = 0;
@@ -105,7 +105,7 @@ async function linesOf(file, say, goesOn) {
       tell(number, `rows after the first ${megabytes(MOST_TEXT)} MB are left out.`);
       line.value.rows = undefined;
     }
-    if (line.kind === "bad") tell(number, "no JSON.");
+    if (line.kind === "bad") tell(number, "not JSON.");
     if (line.kind === "other") tell(number, "not a plan, a command or a reply.");
     lines.push(line);
   }, (number) => {
@@ -139,7 +139,7 @@ function roleOf(lines) {
 
 const zipped = (asked, answered) => asked.map((command, index) => [command, answered[index]]);
 
-/** The exchanges of a file that has commands and replies in turn. */
+/** Return the exchanges of a file that has commands and replies in turn. */
 function exchangesWithin(lines) {
   const exchanges = [];
   let open = null;
@@ -155,7 +155,8 @@ function exchangesWithin(lines) {
   return open ? [...exchanges, [open, undefined]] : exchanges;
 }
 
-/** The exchanges of the files of one transcript; null if there are none, with a sentence. */
+/** Return the exchanges of the files of one transcript; null, after a sentence, if there are
+ * none. */
 function exchangesOf(files, say) {
   const by = (role) => files.filter((file) => file.role === role);
   const [both, script, replies] = ["both", "script", "replies"].map(by);
@@ -189,7 +190,7 @@ class Transcript {
     this.say(`${this.name}, line ${line.number}: ${what}`);
   }
 
-  /** Takes an exchange; false where nothing behind it can be read. */
+  /** Take an exchange. Return false if nothing after it can be read. */
   take([command, reply]) {
     if (command?.kind === "plan") return this.takePlan(command, reply);
     const told = reply?.value;
@@ -202,9 +203,9 @@ class Transcript {
     return true;
   }
 
-  /** Notes a change of a replica's edits: how many there were, which was the last, and all of them;
-      what is taken from others by its title. Imports are told edit by edit where nothing else was
-      before them, so that it is known which edits win. */
+  /** Note a change of a replica's edits: how many there were, which was the last, and all of
+   * them; what is taken from others by its title. Imports are listed edit by edit if nothing
+   * else came before them, so that it is known which edits win. */
   change({at, title, edit, edits}) {
     const {count, made} = this.changesOf(at);
     const isFirst = made.every((one) => one.edits);
@@ -225,7 +226,7 @@ class Transcript {
     return !fault;
   }
 
-  /** The command of a reply without one: rows go on from those before, counts have no steps. */
+  /** Return a command for a reply without one: rows continue those before, counts have no steps. */
   guess(told) {
     if (!told.rows) return {at: "replies"};
     const run = this.runOf("replies");
@@ -239,7 +240,7 @@ class Transcript {
     this.tell(command, `this ${command.value.name} was refused (${why}).`);
   }
 
-  /** The run of a replica as its edits are. */
+  /** Return the run of a replica with its present edits. */
   runOf(at) {
     const {count: changes, last, made} = this.changesOf(at);
     let run = this.runs.find((one) => one.at === at && one.changes === changes);
@@ -270,7 +271,7 @@ class Transcript {
 
   takeCount(asked, told, reply) {
     if (!Number.isInteger(told.cars) || !Number.isInteger(told.speeds)) {
-      this.tell(reply, "no count; are these this script's replies?");
+      this.tell(reply, "this is not a count: are these this script's replies?");
       return;
     }
     const {counts} = this.runOf(asked.at);
@@ -281,7 +282,7 @@ class Transcript {
   }
 }
 
-/** Joins rows to a run: to a picture that they lie in or go on from, or as a new one. */
+/** Join rows to a run: to a picture that they are in or continue, or as a new one. */
 function addRows(run, from, rows) {
   const joined = run.pictures.find((one) => one.from <= from && from <= one.from + one.rows.length);
   if (!joined) {
@@ -291,14 +292,14 @@ function addRows(run, from, rows) {
   rows.forEach((row, index) => { joined.rows[from - joined.from + index] = row; });
 }
 
-/** What two plans must have alike for their pictures to be compared: zones cell by cell, so that
-    their bounds may be others; detectors and replicas may be others too. */
+/** Return what must be equal in two plans for their pictures to be compared: zones cell by cell,
+ * so their bounds may differ; detectors and replicas may differ too. */
 function roadOf({length, exit, inlets, words, zones, zone}) {
   const ofCells = Array.from({length}, (_, cell) => zones[Math.floor(cell / zone)]);
   return {length, exit, zones: ofCells, inlets, words};
 }
 
-/** The name of the first part in which the roads of two plans differ; null where none does. */
+/** Return the name of the first part in which the roads of two plans differ; null if none does. */
 function differentPart(one, other) {
   if (!one || !other) return null;
   const roads = [one, other].map(roadOf);

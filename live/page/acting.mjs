@@ -34,7 +34,7 @@ const TIMINGS = 50;             // that are kept
 const LOOKS = 500;              // milliseconds: who shares sooner wants no figures
 const LONGEST_NOTE = 200;
 
-/** Put a shape, or alter a change by it.
+/** Put a shape, or give it to a change.
  * @param {Area} area
  */
 export function put({shape, note, taken = "", old}) {
@@ -69,7 +69,7 @@ export function putOnTop(change) {
   act({gesture}, {note, first: change.shape?.from});
 }
 
-/** Do once more what an operation did that lost to another.
+/** Repeat an operation that lost to another one.
  * @param {Change} change
  * @param {Operation} operation
  */
@@ -134,8 +134,8 @@ function runPresses() {
     if (stamp === null) tell(NOTHING[does], true);
     else {
       const note = [UNDO_NOTES[does], noteOf(stamp)].filter(Boolean).join(": ");
-      const told = typeof stamp === "string" ? stamp : encodeStamp(stamp);
-      act({undo: {stamp: told}}, {note, does, undoes: stamp});
+      const called = typeof stamp === "string" ? stamp : encodeStamp(stamp);
+      act({undo: {stamp: called}}, {note, does, undoes: stamp});
     }
   }
 }
@@ -177,7 +177,7 @@ export function persistPending() {
   }
 }
 
-/** Take up what was pending when this tab was loaded, of the seat that it has again. */
+/** Restore what was pending when this tab was reloaded, if it has the same seat again. */
 export function restorePending() {
   const {at, acts} = kept(sessionStorage);
   if (acts.length && at === need("me").at) {
@@ -222,7 +222,7 @@ export async function send(key) {
 const withFields = (command, more) => Object.fromEntries(
   Object.entries(command).map(([verb, fields]) => [verb, {...more, ...fields}]));
 
-/** Take changes that came with an answer, and ask for those before and behind them, if there are
+/** Take changes that came with an answer, and ask for those before and after them, if there are
  * any.
  * @param {"mine" | "shared"} whose
  * @param {ListNews} said
@@ -300,8 +300,8 @@ export function refreshLists() {
  * @param {Stamp[]} stamps
  */
 async function share(changes, stamps) {
-  const told = {at: need("me").at, name: "shared", stamps: stamps.map(encodeStamp)};
-  const said = await ask({send: told}, {turn: "first", away: messages.NOT_SHARED});
+  const fields = {at: need("me").at, name: "shared", stamps: stamps.map(encodeStamp)};
+  const said = await ask({send: fields}, {turn: "first", away: messages.NOT_SHARED});
   if (!said || "refused" in said) return;
   tell(messages.shared(changes.length));
   if (said.touched !== null) roadOf("shared").invalidate(said.touched);
@@ -369,7 +369,7 @@ function sharedBy(names) {
   return {changes, stamps: changes.flatMap(privateOf).map(({stamp}) => stamp)};
 }
 
-/** Ask what the preview would change: the list at once, the rows of both roads as they are seen,
+/** Ask what the preview would change: the list at once, the rows of both roads as they are shown,
  * and the figures a moment later. If nothing is left to share, close it.
  */
 export async function askPreview() {

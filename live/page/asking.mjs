@@ -9,7 +9,7 @@ const BUSY = 1000;              // milliseconds until it is asked again of one w
 
 /** @typedef {import("./types.mjs").Answers} Answers */
 /** @typedef {import("./types.mjs").Refusal} Refusal */
-/** @typedef {import("./types.mjs").ToldAnswers} ToldAnswers */
+/** @typedef {import("./types.mjs").WireAnswers} WireAnswers */
 
 /** Ask whether an answer is a refusal.
  * @param {object} said
@@ -19,14 +19,14 @@ const isRefusal = (said) => "refused" in said;
 
 const always = () => true;
 
-/** Ask a question. Return its answer, or a refusal, after telling it; null if the connection broke.
+/** Ask a question. Return its answer, or a refusal, after showing it; null if the connection broke.
  * @template {keyof Answers} Verb
  * @param {Partial<Record<Verb, object>>} command
  * @param {object} how
  * @param {import("./connection.mjs").Turn} [how.turn]     when it is sent
- * @param {string[]} [how.quiet]        refusals not to tell
- * @param {() => boolean} [how.stands]  whether a refusal is still worth telling
- * @param {string} [how.away]           what to tell if there is no connection
+ * @param {string[]} [how.quiet]        refusals not to show
+ * @param {() => boolean} [how.stands]  whether a refusal is still worth showing
+ * @param {string} [how.away]           the message if there is no connection
  * @returns {Promise<Answers[Verb] | Refusal | null>}
  */
 export async function ask(command, {turn = "usual", quiet = [], stands = always, away = ""} = {}) {
@@ -34,10 +34,10 @@ export async function ask(command, {turn = "usual", quiet = [], stands = always,
   const isAway = !connection.isAdmitted;
   const [verb] = /** @type {Verb[]} */ (Object.keys(command));
   try {
-    const said = /** @type {ToldAnswers[Verb] | Refusal} */ (await connection.ask(command, turn));
+    const said = /** @type {WireAnswers[Verb] | Refusal} */ (await connection.ask(command, turn));
     if (!isRefusal(said)) return decodeAnswer(verb, said);
-    const isTold = !quiet.includes(said.refused) && stands();
-    if (isTold) tell(said.why ?? messages.refusedWithoutReason(said.refused), true);
+    const isShown = !quiet.includes(said.refused) && stands();
+    if (isShown) tell(said.why ?? messages.refusedWithoutReason(said.refused), true);
     return said;
   } catch (fault) {
     if (!(fault instanceof Disconnected)) throw fault;

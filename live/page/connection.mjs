@@ -3,7 +3,7 @@
 
 /** @typedef {import("./types.mjs").Answers} Answers */
 /** @typedef {Partial<Record<keyof Answers | "hello" | "seats", object>>} Command */
-/** @typedef {import("./types.mjs").Told} Told */
+/** @typedef {import("./types.mjs").Pushed} Pushed */
 /** @typedef {{id: number, refused?: string, why?: string}} Answer     with more fields */
 /**
  * @typedef {object} Question
@@ -51,17 +51,17 @@ export class Connection {
    * @param {object} calls
    * @param {() => Socket} calls.open      makes a socket
    * @param {() => void} calls.onOpen    is called when the socket is open
-   * @param {(value: Told) => void} calls.onTold    is called with a message that nobody asked
+   * @param {(value: Pushed) => void} calls.onPush    is called with a message that nobody asked
    *   for
    * @param {(again: boolean, reason: string, code: number) => void} calls.onLost    is called when
    *   the connection breaks; `again`: it is tried again
    * @param {(act: () => void, wait: number) => void} [calls.later]    calls a function after some
    *   milliseconds
    */
-  constructor({open, onOpen, onTold, onLost, later = soon}) {
+  constructor({open, onOpen, onPush, onLost, later = soon}) {
     this.openSocket = open;
     this.onOpen = onOpen;
-    this.onTold = onTold;
+    this.onPush = onPush;
     this.onLost = onLost;
     this.later = later;
     this.number = 0;            // of the last question that was sent
@@ -129,11 +129,11 @@ export class Connection {
   }
 
   /** Take a message of the server.
-   * @param {Answer | (Told & {id?: undefined})} value
+   * @param {Answer | (Pushed & {id?: undefined})} value
    */
   receive(value) {
     if (value.id === undefined) {
-      this.onTold(value);
+      this.onPush(value);
       return;
     }
     this.questions.get(value.id)?.done(value);

@@ -3,7 +3,7 @@
 
 import {HOUR, LAST_STEP, MINUTE} from "./units.mjs";
 
-/** @typedef {import("./types.mjs").ToldDay} ToldDay */
+/** @typedef {import("./types.mjs").WireDay} WireDay */
 /**
  * A period between two clock changes: its first step, how many seconds the clock has been put
  * forward since step 0, and the offset from UTC in seconds, if it is known.
@@ -16,7 +16,7 @@ const TIME = /^(\d+):([0-5]\d)(?::([0-5]\d))?([+-]\d\d:\d\d)?(?: \(day (\d+)\))?
 /** @param {number} value */
 const two = (value) => String(value).padStart(2, "0");
 
-/** Write an offset from UTC: +02:00.
+/** Return an offset from UTC, as text: +02:00.
  * @param {number} seconds
  */
 const offsetText = (seconds) => `${seconds < 0 ? "-" : "+"}${two(Math.floor(Math.abs(seconds) / HOUR))}:`
@@ -70,7 +70,7 @@ function findPeriods(start, offsetAt) {
 
 /** The clock of a road. */
 export class DayClock {
-  /** @param {Partial<ToldDay>} told     without a begin the clock counts from 0:00:00 */
+  /** @param {Partial<WireDay>} wire     without a begin the clock counts from 0:00:00 */
   constructor({begin = null, date = null, zone = null} = {}) {
     this.begin = begin;         // seconds after midnight of step 0
     /** @type {Period[]} */
@@ -110,7 +110,7 @@ export class DayClock {
     return {seconds: whole + (this.begin ?? 0) + period.forward, period};
   }
 
-  /** Write a step as a time: h:mm:ss from the beginning, or the time of the day, as 07:00 or
+  /** Return a step as a time: h:mm:ss from the beginning, or the time of the day, as 07:00 or
    * 07:00:30. A time that comes twice has its offset from UTC, one of a later day its number.
    * @param {number} step
    */
@@ -122,7 +122,7 @@ export class DayClock {
     return this.axisText(step) + (isTwice ? offsetText(period.offset ?? 0) : "") + day;
   }
 
-  /** Write a step as a time, without the number of the day and the offset.
+  /** Return a step as a time, without the number of the day and the offset.
    * @param {number} step
    */
   axisText(step) {
@@ -132,7 +132,7 @@ export class DayClock {
     return `${two(Math.floor(seconds / HOUR) % 24)}:${minute}${seconds % 60 ? `:${rest}` : ""}`;
   }
 
-  /** Write a step as `timeText` does, but always with its seconds: for a clock that runs.
+  /** Return a step as `timeText` does, but always with seconds: for a clock that runs.
    * @param {number} step
    */
   runningText(step) {
@@ -141,7 +141,7 @@ export class DayClock {
       : text.replace(/^\d+:\d+/, "$&:00");
   }
 
-  /** Write when something is in force.
+  /** Return when something is in force, as text.
    * @param {number} from      step
    * @param {number | null} to
    */
@@ -150,7 +150,7 @@ export class DayClock {
       : `${this.timeText(from)}\u2013${this.timeText(to)}`;
   }
 
-  /** Write a step as it stands in the name of a file: 0700.
+  /** Return a step as a time in the name of a file: 0700.
    * @param {number} step
    */
   fileText(step) {
@@ -187,7 +187,7 @@ export class DayClock {
     return Number.isNaN(this.readStep(text)) && !Number.isNaN(alone.readStep(text.replace(/[+-]\d\d:\d\d/, "")));
   }
 
-  /** Write when a change was made, as tables have it: 2026-03-02 14:05:00; "" if it is not known.
+  /** Return when a change was made, as tables have it: 2026-03-02 14:05:00; "" if it is not known.
    * @param {number} seconds   since 1970; 0: not known
    */
   instantText(seconds) {
@@ -197,7 +197,7 @@ export class DayClock {
     return `${parts.year}-${parts.month}-${parts.day} ${parts.hour}:${parts.minute}:${parts.second}`;
   }
 
-  /** Write when a change was made: the time of day, and the date unless it is today.
+  /** Return when a change was made, as text: the time of day, and the date unless it is today.
    * @param {number} seconds   since 1970; 0: not known
    */
   dateText(seconds) {

@@ -1,5 +1,5 @@
 // What the server tells, as objects with named fields, and back: stamps, shapes, parts and edits of
-// changes, figures. Another site may have told anything: what is malformed is left out.
+// changes, figures. Another site may have sent anything: what is malformed is left out.
 
 /** @typedef {import("./types.mjs").Answers} Answers */
 /** @typedef {import("./types.mjs").Edit} Edit */
@@ -13,17 +13,17 @@
 /** @typedef {import("./types.mjs").Shape} Shape */
 /** @typedef {import("./types.mjs").Stamp} Stamp */
 /** @typedef {import("./types.mjs").TaggedChange} TaggedChange */
-/** @typedef {import("./types.mjs").ToldAnswers} ToldAnswers */
-/** @typedef {import("./types.mjs").ToldChange} ToldChange */
-/** @typedef {import("./types.mjs").ToldFigures} ToldFigures */
-/** @typedef {import("./types.mjs").ToldGone} ToldGone */
-/** @typedef {import("./types.mjs").ToldLayers} ToldLayers */
-/** @typedef {import("./types.mjs").ToldMean} ToldMean */
-/** @typedef {import("./types.mjs").ToldOperation} ToldOperation */
-/** @typedef {import("./types.mjs").ToldRoadFigures} ToldRoadFigures */
-/** @typedef {import("./types.mjs").ToldShape} ToldShape */
-/** @typedef {import("./types.mjs").ToldStamp} ToldStamp */
-/** @typedef {import("./types.mjs").ToldTrip} ToldTrip */
+/** @typedef {import("./types.mjs").WireAnswers} WireAnswers */
+/** @typedef {import("./types.mjs").WireChange} WireChange */
+/** @typedef {import("./types.mjs").WireFigures} WireFigures */
+/** @typedef {import("./types.mjs").WireGone} WireGone */
+/** @typedef {import("./types.mjs").WireLayers} WireLayers */
+/** @typedef {import("./types.mjs").WireMean} WireMean */
+/** @typedef {import("./types.mjs").WireOperation} WireOperation */
+/** @typedef {import("./types.mjs").WireRoadFigures} WireRoadFigures */
+/** @typedef {import("./types.mjs").WireShape} WireShape */
+/** @typedef {import("./types.mjs").WireStamp} WireStamp */
+/** @typedef {import("./types.mjs").WireTrip} WireTrip */
 /** @typedef {import("./types.mjs").Trip} Trip */
 
 /** @type {readonly Kind[]} */
@@ -54,28 +54,28 @@ const isWhole = (value) => Number.isInteger(value);
 const listOf = (value) => (Array.isArray(value) ? value : []);
 
 /** Return the stamp of [count, number].
- * @param {ToldStamp} told
+ * @param {WireStamp} wire
  * @returns {Stamp}
  */
 export const decodeStamp = ([count, number]) => ({count, number});
 
 /** Return [count, number] of a stamp.
  * @param {Stamp} stamp
- * @returns {ToldStamp}
+ * @returns {WireStamp}
  */
 export const encodeStamp = ({count, number}) => [count, number];
 
 /** Return the stamp of [count, number]; null of null.
- * @param {ToldStamp | null | undefined} told
+ * @param {WireStamp | null | undefined} wire
  */
-const decodeIfAny = (told) => (told ? decodeStamp(told) : null);
+const decodeIfAny = (wire) => (wire ? decodeStamp(wire) : null);
 
 /** Return the shape of [kind, first, last, from, until, value]; null if it is malformed.
- * @param {unknown} told
+ * @param {unknown} wire
  * @returns {Shape | null}
  */
-export function decodeShape(told) {
-  const [kind, first, last, from, to, value] = listOf(told);
+export function decodeShape(wire) {
+  const [kind, first, last, from, to, value] = listOf(wire);
   if (!isKind(kind) || !isCount(first) || !isCount(last) || !isCount(from)) return null;
   if ((to !== null && !isCount(to)) || !isWhole(value)) return null;
   return {kind, first, last, from, to, value};
@@ -92,16 +92,16 @@ const withDemand = (shape, demand) =>
 
 /** Return [kind, first, last, from, until, value] of a shape.
  * @param {Shape} shape
- * @returns {ToldShape}
+ * @returns {WireShape}
  */
 export const encodeShape = ({kind, first, last, from, to, value}) =>
   [kind, first, last, from, to, value];
 
 /** Return the parts of a change of [kind, first, last, from, until, value, by].
- * @param {unknown} told
+ * @param {unknown} wire
  * @returns {Rectangle[]}
  */
-export const decodeParts = (told) => listOf(told).flatMap((part) => {
+export const decodeParts = (wire) => listOf(wire).flatMap((part) => {
   const [shape, by] = [decodeShape(part), listOf(part)[6]];
   const [count, number] = listOf(by);
   if (!shape || !(by === null || (isCount(count) && isCount(number)))) return [];
@@ -109,42 +109,42 @@ export const decodeParts = (told) => listOf(told).flatMap((part) => {
 });
 
 /** Return the edit of [kind, index, step, value]; none if it is malformed.
- * @param {unknown} told
+ * @param {unknown} wire
  * @returns {Edit[]}
  */
-function decodeEdit(told) {
-  const [kind, index, step, value] = listOf(told);
+function decodeEdit(wire) {
+  const [kind, index, step, value] = listOf(wire);
   if (!isKind(kind) || !isCount(index) || !isCount(step)) return [];
   return value === null || isWhole(value) ? [{kind, index, step, value}] : [];
 }
 
 /** Return an operation on a change.
- * @param {ToldOperation} told
+ * @param {WireOperation} wire
  */
-const decodeOperation = ({stamp, undoes, lost, shape, demand, ...told}) =>
-  ({...told, stamp: decodeStamp(stamp), undoes: decodeIfAny(undoes), lost: decodeIfAny(lost),
+const decodeOperation = ({stamp, undoes, lost, shape, demand, ...wire}) =>
+  ({...wire, stamp: decodeStamp(stamp), undoes: decodeIfAny(undoes), lost: decodeIfAny(lost),
     ...(shape ? {shape: withDemand(decodeShape(shape), demand)} : {})});
 
 /** Return a change, or that one is gone.
- * @param {ToldChange | ToldGone} told
+ * @param {WireChange | WireGone} wire
  * @returns {TaggedChange | Gone}
  */
-export function decodeChange(told) {
-  const name = decodeStamp(told.name);
-  if ("gone" in told) return {name, gone: true};
-  const {shape, shown, edits, operations, was, demand, ...rest} = told;
+export function decodeChange(wire) {
+  const name = decodeStamp(wire.name);
+  if ("gone" in wire) return {name, gone: true};
+  const {shape, shown, edits, operations, was, demand, ...rest} = wire;
   const [, number] = listOf(shape);
   const decode = (/** @type {unknown} */ parts) =>
     decodeParts(parts).map((part) => withDemand(part, demand));
   return {...rest, name, shape: withDemand(decodeShape(shape), demand), shown: decode(shown),
           edits: listOf(edits).flatMap(decodeEdit), operations: operations.map(decodeOperation),
-          site: told.kind === "site" && isCount(number) ? number : null,
+          site: wire.kind === "site" && isCount(number) ? number : null,
           ...(was === undefined ? {} : {was: was && decode(was)})};
 }
 
 /** Return the changes that differ from an earlier version of the list, and what Z and Redo would
  * do.
- * @param {ToldLayers} told
+ * @param {WireLayers} wire
  * @returns {ListNews}
  */
 export const decodeList = ({layers, next, since, more = false, undo, redo, blocked = []}) =>
@@ -153,67 +153,67 @@ export const decodeList = ({layers, next, since, more = false, undo, redo, block
     blocked: blocked.map(({stamp, by}) => ({stamp: decodeStamp(stamp), by}))});
 
 /** Return the cars that arrived somewhere and their mean seconds.
- * @param {ToldTrip} told
+ * @param {WireTrip} wire
  * @returns {Trip}
  */
 const decodeTrip = ([cars, seconds]) => ({cars, seconds});
 
 /** Return the figures of a road.
- * @param {ToldRoadFigures} told
+ * @param {WireRoadFigures} wire
  * @returns {RoadFigures}
  */
-const decodeRoad = ({travel, travel_by_entry: byEntry = {}, ...told}) => ({...told,
+const decodeRoad = ({travel, travel_by_entry: byEntry = {}, ...wire}) => ({...wire,
   travel: travel.map(decodeTrip), entries: Object.entries(byEntry)
     .map(([step, trips]) => ({step: Number(step), trips: trips.map(decodeTrip)}))
     .sort((one, other) => one.step - other.step)});
 
 /** Return the figures of two roads.
- * @param {ToldFigures} told
+ * @param {WireFigures} wire
  * @returns {Figures}
  */
-export const decodeFigures = ({before, after, later, ...told}) =>
-  ({...told, before: decodeRoad(before), after: decodeRoad(after), later: later.map(decodeTrip)});
+export const decodeFigures = ({before, after, later, ...wire}) =>
+  ({...wire, before: decodeRoad(before), after: decodeRoad(after), later: later.map(decodeTrip)});
 
 /** Return the mean of [mean, half].
- * @param {ToldMean} told
+ * @param {WireMean} wire
  * @returns {Mean}
  */
 const decodeMean = ([mean, half]) => ({mean, half});
 
 /** Return the figures of many days.
- * @param {ToldAnswers["days"]} told
+ * @param {WireAnswers["days"]} wire
  * @returns {Answers["days"]}
  */
-export const decodeDays = ({figures = [], ...told}) => ({...told,
+export const decodeDays = ({figures = [], ...wire}) => ({...wire,
   figures: figures.map(({name, before, after, difference}) => ({name, before: decodeMean(before),
     after: decodeMean(after), difference: decodeMean(difference)}))});
 
 /** Return the answer to an act.
- * @param {ToldAnswers["gesture"]} told
+ * @param {WireAnswers["gesture"]} wire
  * @returns {Answers["gesture"]}
  */
-const decodeDone = (told) => ({...decodeList(told), stamp: decodeStamp(told.stamp),
-                               touched: told.touched, us: told.us});
+const decodeDone = (wire) => ({...decodeList(wire), stamp: decodeStamp(wire.stamp),
+                               touched: wire.touched, us: wire.us});
 
 /** Return an answer that has no arrays of positions.
  * @template Answer
- * @param {Answer} told
+ * @param {Answer} wire
  */
-const asTold = (told) => told;
+const asSent = (wire) => wire;
 
-/** @type {{[Verb in keyof Answers]: (told: ToldAnswers[Verb]) => Answers[Verb]}} */
+/** @type {{[Verb in keyof Answers]: (wire: WireAnswers[Verb]) => Answers[Verb]}} */
 const DECODERS = {
   gesture: decodeDone, again: decodeDone, site: decodeDone, undo: decodeDone,
-  take: (told) => ({...decodeList(told), touched: told.touched}), layers: decodeList,
+  take: (wire) => ({...decodeList(wire), touched: wire.touched}), layers: decodeList,
   preview: ({layers = []}) => ({layers: layers.map(decodeChange)}), figures: decodeFigures,
-  days: decodeDays, send: asTold, advance: asTold, diagram: asTold, counts: asTold, sums: asTold,
-  admission: asTold, script: asTold, report: asTold, transcript: asTold, csv: asTold, clock: asTold,
+  days: decodeDays, send: asSent, advance: asSent, diagram: asSent, counts: asSent, sums: asSent,
+  admission: asSent, script: asSent, report: asSent, transcript: asSent, csv: asSent, clock: asSent,
 };
 
 /** Return the answer to a command, with named fields.
  * @template {keyof Answers} Verb
  * @param {Verb} verb
- * @param {ToldAnswers[Verb]} told
+ * @param {WireAnswers[Verb]} wire
  * @returns {Answers[Verb]}
  */
-export const decodeAnswer = (verb, told) => DECODERS[verb](told);
+export const decodeAnswer = (verb, wire) => DECODERS[verb](wire);

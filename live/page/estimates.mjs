@@ -9,20 +9,20 @@ import {signedText} from "./units.mjs";
 const text = (value) => value.toLocaleString("en",
   {minimumFractionDigits: 1, maximumFractionDigits: 1});
 
-/** Write a mean.
+/** Return a mean, as text.
  * @param {Mean} mean
  */
 export const meanText = ({mean}) => text(mean);
-/** Write how far the interval reaches; "" after one day.
+/** Return how far the interval reaches, as text; "" after one day.
  * @param {Mean} mean
  */
 export const halfText = ({half}) => (half === null ? "" : `\u00b1 ${text(half)}`);
-/** Write a difference with its sign.
+/** Return a difference with its sign, as text.
  * @param {Mean} mean
  */
 export const changeText = ({mean}) => signedText(mean, 1);
 
-/** Write how sure a difference is: if 0 lies in its interval, it may be chance.
+/** Return how sure a difference is, as text: if 0 lies in its interval, it may be chance.
  * @param {Mean} mean
  */
 export function sureText({mean, half}) {

@@ -182,7 +182,7 @@ const isOfSpan = (count) => Array.isArray(count);
  */
 const isOfPeriod = (count) => !Array.isArray(count);
 
-/** Return how many steps a point of the series is of: at most some 150 points.
+/** Return the steps per point of the series: at most some 150 points.
  * @param {number} steps     of the period
  */
 const eachOf = (steps) => [60, 300, 900, 3600].find((each) => steps / each <= 150) ?? 10_800;
@@ -216,7 +216,7 @@ export async function askSeries(period = periodShown()) {
       ask({counts: {at, from, to, each}}, {quiet: ["Busy", "NoPreview"]})));
     const flows = said.flatMap((one) => (one && "flows" in one ? [one.flows.filter(isOfSpan)] : []));
     if (flows.length < said.length) return;
-    const names = outcome?.layers ? ["now", "then"] : ["shared", "mine"];
+    const names = outcome?.layers ? ["before", "after"] : ["shared", "mine"];
     const isThere = series.point !== null && series.point < flows[0].length;
     assign(series, {key, names, from, to, each, flows, point: isThere ? series.point : null});
     notify("series");

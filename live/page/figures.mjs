@@ -22,7 +22,7 @@ import {everyShown} from "./view.mjs";
 /** @typedef {ReturnType<typeof boxSums>} BoxSums */
 
 const AWAITED = "\u2026";
-/** Write what is counted car by car, and is not known: nothing while the clock runs. */
+/** Return what is counted car by car, and is not known, as text: nothing while the clock runs. */
 const unknownText = () => (store.clock.rate ? "" : AWAITED);
 const AS_WIDE = "0,000/h, 000 km/h";    // as what is awaited, and not seen
 const NO_CAR = "\u2013";         // of a travel time that no car has
@@ -59,7 +59,8 @@ function flowCell(one, seconds, travel) {
     element("small", parts + offText(one, seconds)));
 }
 
-/** Write how much later the cars on both roads are at a place, in seconds; "" if that is not known.
+/** Return how much later the cars that both roads have are at a place, in seconds, as text; "" if
+ * that is not known.
  * @param {Figures | null} exact
  * @param {number} place     the number of a detector, or behind them of the road's end
  */
@@ -127,7 +128,7 @@ function sumRow(name, [one, other], digits, unknown) {
     element("td", difference));
 }
 
-/** Make the row of the delay of mine beside shared, of the cars on both roads.
+/** Return the row of the delay on mine against shared, of the cars that both roads have.
  * @param {Figures | null} exact
  */
 function delayRow(exact) {
@@ -142,7 +143,7 @@ function delayRow(exact) {
 function noteText(exact) {
   if (!exact && store.clock.rate) return messages.PAUSE_FOR_FIGURES;
   const scatter = exact ? Math.hypot(...exact.after.scatter) : 0;
-  return "Lost: cars asked for minus cars admitted"
+  return "Lost: demand minus cars that entered"
     + (scatter >= 1 ? ` (\u00b1 ${whole(scatter)} by chance)` : "")
     + ". Seconds: from the inlet; on the right, delay.";
 }
@@ -219,7 +220,7 @@ function showWarnings(exact) {
 const TABLE_ROWS = 12;
 const TABLE_COLUMNS = 10;
 
-/** Write the mean speed of a box, or its difference from another road's.
+/** Return the mean speed of a box, or its difference from another road's, as text.
  * @param {BoxSums} sums
  * @param {BoxSums | null} other
  * @param {number} box
@@ -255,8 +256,8 @@ function showSpeeds([from, to]) {
     body.push(row(headCell(`from ${store.day.timeText(start)}`, "row"),
       ...heads.map((_, box) => element("td", speedText(sums, beside, box)))));
   }
-  const caption = other ? `Mean speeds in km/h, ${whoseShown()[0] === "after" ? "then less now"
-    : "mine less shared"}` : "Mean speeds in km/h";
+  const caption = other ? `Mean speeds in km/h, ${whoseShown()[0] === "after" ? "after minus before"
+    : "mine minus shared"}` : "Mean speeds in km/h";
   $("speeds").replaceChildren(element("caption", caption),
     element("thead", "", {}, row(element("td"), ...heads)), element("tbody", "", {}, ...body));
 }

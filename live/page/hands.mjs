@@ -29,7 +29,7 @@ import {everyShown, strideNow, viewNow} from "./view.mjs";
 /** @typedef {import("./types.mjs").Place} Place */
 /** @typedef {import("./types.mjs").Shape} Shape */
 
-const ROAD_NAMES = {mine: "mine", shared: "shared", before: "now", after: "then"};
+const ROAD_NAMES = {mine: "mine", shared: "shared", before: "before", after: "after"};
 const AT_EDGE = 6;              // pixels from an edge at which it is taken
 
 // Drags.

@@ -21,7 +21,7 @@ import {titlesOf} from "./listing.mjs";
 /** @typedef {import("./types.mjs").Seat} Seat */
 /** @typedef {import("./types.mjs").Welcome} Welcome */
 /** @typedef {import("./types.mjs").Wishes} Wishes */
-/** @typedef {import("./types.mjs").Told} Told */
+/** @typedef {import("./types.mjs").Pushed} Pushed */
 /** @typedef {{welcome: Welcome} | (Refusal & {seats?: Seat[]})} HelloAnswer */
 
 const FORM = 4;                 // of what is spoken with the server
@@ -39,7 +39,7 @@ export function takeToken() {
 /** Connect to the server. */
 export function connect() {
   const open = () => new WebSocket(location.origin.replace(/^http/, "ws") + "/live");
-  store.connection = new Connection({open, onOpen: greet, onTold: hear, onLost: noteLost});
+  store.connection = new Connection({open, onOpen: greet, onPush: hear, onLost: noteLost});
   store.connection.connect();
 }
 
@@ -162,18 +162,19 @@ function noteLost(again, reason, code) {
   for (const road of Object.values(store.roads)) road.isAdvancing = false;
   setConnectionText(again ? messages.RECONNECTING : reason || messages.CONNECTION_CLOSED, true);
   if (store.me) persistPending();
-  const told = again ? messages.connectionLost(store.isPersisted) : messages.connectionClosed(reason, code === TAKEN_OVER);
+  const text = again ? messages.connectionLost(store.isPersisted)
+    : messages.connectionClosed(reason, code === TAKEN_OVER);
   if (!store.me) {
-    store.hello = {free: [], ...store.hello, why: told};
+    store.hello = {free: [], ...store.hello, why: text};
     notify("hello");
   }
-  if (!again || !store.isAway) tell(told, true);
+  if (!again || !store.isAway) tell(text, true);
   store.isAway = true;
 }
 
 /** Handlers of the server's messages, by their kinds. */
 const HANDLERS = {
-  /** @param {{now: number, rate: number, stop?: number | null}} told */
+  /** @param {{now: number, rate: number, stop?: number | null}} message */
   clock({now, rate, stop = null}) {
     const {rate: ran, stop: wanted} = store.clock;
     assign(store.clock, {now, rate, stop});
@@ -218,10 +219,10 @@ const HANDLERS = {
     store.trouble = text ?? "";
     notify("siteFaults");
   },
-  /** @param {{why?: string}} told */
+  /** @param {{why?: string}} message */
   async program({why}) {
     if (why) tellReplaced(messages.programReplaced(why));
-    await refreshChanges("mine");  // what was pending, and the disk refused, may have been in the list
+    await refreshChanges("mine");  // the list may have had pending changes that the disk refused
     refreshDiagram();
   },
 };
@@ -260,7 +261,7 @@ function hearNews(news) {
 }
 
 /** Handle a message of the server. Ignore kinds that this page does not know.
- * @param {Told} value
+ * @param {Pushed} value
  */
 function hear(value) {
   if (!store.plan) return;

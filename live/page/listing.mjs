@@ -1,5 +1,5 @@
 // What the lists of changes say: what a change is, whose, where it is in force, and what covers it.
-// `layers` are those of the road that is shown; `number` is that of the seat that reads it.
+// `layers` belong to the road that is shown; `number` is the number of the seat that reads it.
 
 import {isCovered, lastOf, lostOf, privateOf} from "./layers.mjs";
 import {THINGS, editsText, placesText, shapeText, thingText} from "./sentences.mjs";
@@ -28,7 +28,7 @@ const DID = {put: "put it", change: "changed it", withdraw: "withdrew it", top: 
               undo: "undid a change of it", redo: "redid a change of it", edits: "edited there",
               exclude: "excluded it", include: "included it again"};
 
-/** Write what a withdrawn change was.
+/** Return what a withdrawn change was, as text.
  * @param {Change} change
  */
 function goneText(change) {
@@ -42,7 +42,7 @@ function goneText(change) {
 export class Words {
   /**
    * @param {Layers} layers
-   * @param {number | null} number    null: of no seat
+   * @param {number | null} number    null: no seat reads it
    */
   constructor(layers, number) {
     this.layers = layers;
@@ -56,21 +56,21 @@ export class Words {
     return name.number === this.number;
   }
 
-  /** Write who made a change.
+  /** Return who made a change, as text.
    * @param {Pick<Change, "name" | "who">} change
    */
   name(change) {
     return this.isOwn(change) ? "you" : change.who || "somebody";
   }
 
-  /** Write whose a change is.
+  /** Return whose a change is, as text.
    * @param {Change} change
    */
   whose(change) {
     return this.isOwn(change) ? "your" : `${change.who || "somebody"}'s`;
   }
 
-  /** Write what a change is.
+  /** Return what a change is, as text.
    * @param {Change} change
    */
   text(change) {
@@ -81,7 +81,7 @@ export class Words {
     return note || (edits.length ? editsText(this.layers, edits) : "Edits");
   }
 
-  /** Write who made the last operation on a change.
+  /** Return who made the last operation on a change, as text.
    * @param {Change} change
    */
   by(change) {
@@ -89,8 +89,8 @@ export class Words {
     return stamp.number === this.number ? "you" : who || "somebody";
   }
 
-  /** Write who made a change, when its last operation was made, and who made that if it was somebody
-   * else.
+  /** Return who made a change, when its last operation was made, and who made that one if it was
+   * somebody else, as text.
    * @param {Change} change
    */
   meta(change) {
@@ -100,7 +100,7 @@ export class Words {
     return [this.name(change) + done, this.layers.day.dateText(when)].filter(Boolean).join(", ");
   }
 
-  /** Write a change in a few words: "Ben's limit of 54 km/h".
+  /** Return a change in a few words, as text: "Ben's limit of 54 km/h".
    * @param {Change} change
    */
   short(change) {
@@ -108,7 +108,8 @@ export class Words {
     return `${this.whose(change)} ${value}`;
   }
 
-  /** Write where a change is in force, and what covers it elsewhere; "" if nothing covers it.
+  /** Return where a change is in force, and what covers it elsewhere, as text; "" if nothing
+   * covers it.
    * @param {Change} change
    */
   cover(change) {
@@ -126,7 +127,7 @@ export class Words {
     return text[0].toUpperCase() + text.slice(1);
   }
 
-  /** Write where a change is in force, or where another change covers it: all parts.
+  /** Return where a change is in force, or where another change covers it, as text: all parts.
    * @param {Change} change
    * @param {boolean} inForce
    */
@@ -139,7 +140,7 @@ export class Words {
     }).join("; ");
   }
 
-  /** Write what covers a part of a change; "" if it is in force.
+  /** Return what covers a part of a change, as text; "" if it is in force.
    * @param {Rectangle} part
    */
   coverer({by}) {
@@ -148,7 +149,7 @@ export class Words {
     return change ? this.short(change) : "another change";
   }
 
-  /** Write when a part of a change is in force, or what covers it.
+  /** Return when a part of a change is in force, or what covers it, as text.
    * @param {Rectangle} part
    * @param {boolean} places  with where it is
    */
@@ -160,7 +161,7 @@ export class Words {
       : `covered${where} ${time} by ${this.coverer(part)}`;
   }
 
-  /** Write in a sentence who changed the same at the same time and won; "" if nobody did.
+  /** Return a sentence that says who changed the same at the same time and won; "" if nobody did.
    * @param {Change} change
    */
   lost(change) {
@@ -171,8 +172,8 @@ export class Words {
     return `${name} ${DID[does] ?? "changed it"} at the same time, and that counts.`;
   }
 
-  /** Write what others would have made of a change that is lost when it is taken, and who won; null
-   * if nothing of theirs is lost.
+  /** Return what others did to a change that would have no effect when it is taken, and who won, as
+   * text; null if nothing of theirs is lost.
    * @param {Change} change  as it would be
    * @param {Operation[]} fresh  what would be taken of it
    * @returns {[text: string, hint: string] | null}
@@ -189,11 +190,11 @@ export class Words {
       + `${DID[winner?.does ?? "change"]} at the same time, and that counts`];
   }
 
-  /** Write what becomes of a change by a preview: "then ..".
+  /** Return what the preview would do to a change, as text: "then ..".
    * @param {Change} change
    */
   effect(change) {
-    const then = change.standing ? this.cover(change) || "In force whole."
+    const then = change.standing ? this.cover(change) || "Fully in force."
       : `Withdrawn by ${this.by(change)}.`;
     return `${this.name(change)}: ${this.text(change).replace(/^Withdrew: /, "")} \u2013 then: `
       + `${then[0].toLowerCase()}${then.slice(1)}`;
@@ -222,8 +223,7 @@ function isListed(change, layers, number) {
   return privateOf(change).length > 0 || lostOf(change, number) !== null;
 }
 
-/** Return changes in the order of the lists: the last that was made is looked for most, and comes
- * first.
+/** Return changes in the order of the lists: the newest first, since people look for it most.
  * @param {Change[]} changes
  */
 export const newestFirst = (changes) => [...changes].sort((one, other) =>
@@ -264,7 +264,7 @@ export function demandsOfFile(layers) {
   return found;
 }
 
-/** Return all operations, newest first: who did what and when, and what covers it since.
+/** Return all operations, newest first: who did what and when, and what covers it now.
  * @param {Layers} layers
  * @param {number} number
  */
@@ -287,7 +287,7 @@ export function historyOf(layers, number) {
 export const affectedBy = (changes) => changes.filter(({was, shown, standing}) =>
   was && (!standing || JSON.stringify(was) !== JSON.stringify(shown)));
 
-/** Write the titles under which others shared what is not taken; "" if there are none.
+/** Return the titles under which others shared what is not taken, as text; "" if there are none.
  * @param {{shares: {who: string, title: string}[], from: string[]}} news
  */
 export const titlesOf = ({shares, from}) => [...new Set(shares.filter(({who}) => from.includes(who))

@@ -26,8 +26,9 @@ export const NOT_PERSISTED = "Pending changes are not stored in this tab. Closin
 
 /** @param {boolean} isPersisted */
 export const connectionLost = (isPersisted) => "There is no connection; the page is retrying. "
-  + (isPersisted ? "Changes that you make now are stored in this tab, and sent once it is back."
-    : "Changes that you make now are sent once it is back, unless you close or reload this tab.");
+  + (isPersisted ? "Changes that you make now are stored in this tab, and sent once the connection is back."
+    : "Changes that you make now are sent once the connection is back, unless you close or reload "
+      + "this tab.");
 
 /**
  * @param {string} reason    of the server
@@ -35,25 +36,25 @@ export const connectionLost = (isPersisted) => "There is no connection; the page
  */
 export const connectionClosed = (reason, isTakenOver) =>
   `The server closed the connection: ${ended(reason)}`
-  + (isTakenOver ? " Reload the page to join by another seat." : "");
+  + (isTakenOver ? " Reload the page to join in another seat." : "");
 
 /** @param {number} count */
 export const otherSites = (count, isSealed = true) =>
-  `, with ${plural(count, "other site")}${isSealed ? "" : ", trusted without a seal"}`;
+  `, with ${plural(count, "other site")}${isSealed ? "" : " (messages are not authenticated)"}`;
 
 /** @param {number} unsent */
 export const brokerAway = (unsent) =>
-  `${CONNECTED}; the broker is away, ${plural(unsent, "change")} to be sent`;
+  `${CONNECTED}; the broker is unreachable, ${plural(unsent, "change")} to be sent`;
 
 /** @type {(seats: number) => string} */
-export const pendingOfOtherSeat = (count) => `${plural(count, "pending change")} of another seat `
-  + `${byCount(count, "is", "are")} lost: this tab has joined as somebody else.`;
+export const pendingOfOtherSeat = (count) => `${plural(count, "unsent change")} `
+  + `${byCount(count, "was", "were")} lost, since this tab joined under another name.`;
 
 /** @param {string} owner */
 export const takeOver = (owner) =>
   `Whoever uses the seat of ${owner} now, a person or a script, loses it. `;
 
-export const TROUBLE_OVER = "The server's trouble is over.";
+export const TROUBLE_OVER = "The server is working again.";
 
 /** @param {string} why */
 export const programReplaced = (why) => `The program was restarted: ${why}`;
@@ -69,7 +70,7 @@ export const CLOCK_STOPPED = "The clock stopped: above 60\u00d7 it runs for one 
 
 /** @param {number} hours */
 export const farthestAhead = (hours) =>
-  `Your road is already ${hours} hours ahead of the clock, and may be no farther.`;
+  `Your road is already ${hours} hours ahead of the clock, which is the limit.`;
 
 /** @param {string} text */
 export const skippedTime = (text) => `${text} does not exist: a clock change skips it.`;
@@ -83,7 +84,7 @@ export const timeHint = (begin) => (begin === null
 
 export const CHOOSE_TOOL = "Choose a tool first: C closes, L limits, and so on.";
 export const TOO_FEW_ZONES =
-  "This covers less than half of a zone. Hold Shift to take each zone that it touches, whole.";
+  "This covers less than half of a zone. Hold Shift to take every zone that it touches in full.";
 export const END_BEFORE_BEGIN = "The end must be later than the beginning.";
 export const CHANCE_OUT_OF_RANGE = "The chance is out of range: 0 to 100 %.";
 
@@ -97,7 +98,7 @@ export const measuringDemands = (done, all) =>
 
 /** @param {string} length   of the road, in km */
 export const placesOutOfRange = (length) =>
-  `Give two places from 0 to ${length} km, the greater one second.`;
+  `Give two places from 0 to ${length} km, the smaller first.`;
 
 /** @param {string} end      of the clock */
 export const tooLate = (end) => `This is too late: the road's clock ends at ${end}.`;
@@ -113,7 +114,7 @@ export const tooLong = (most) => `This is too long: one closure is at most ${mos
  */
 export const demandOutOfRange = (capacity, limit, slowing, isPassed) =>
   `The demand is out of range: this inlet admits 0 to ${whole(capacity)} cars per hour (limit `
-  + `${limit}, slowing ${slowing})${isPassed ? ", beside the cars that pass it" : ""}.`;
+  + `${limit}, slowing ${slowing})${isPassed ? ", on top of the cars that already pass it" : ""}.`;
 
 /** @param {string} note     of the change */
 export const nothingChanged = (note) => `${note}: nothing is changed.`;
@@ -138,7 +139,7 @@ export const NOTHING_TO_REDO = "There is nothing of yours to redo.";
  */
 export const undoBlocked = (others, note, isLast) =>
   `Your last change cannot be undone${note ? ` (${note})` : ""}: `
-  + `${others.join(" and ") || "somebody"} changed it since. ${isLast
+  + `${others.join(" and ") || "somebody"} ${others.length > 1 ? "have" : "has"} changed it since. ${isLast
     ? "There is nothing else of yours to undo." : "Press Undo again to undo the one before it."}`;
 
 // Sharing and taking.
@@ -157,7 +158,7 @@ export const shared = (count) => `Shared ${plural(count, "change")}.`;
  * @param {number} covered   own changes
  */
 export const taken = (count, makers, covered) =>
-  `Took ${plural(count, "change")}${makers.length ? ` of ${makers.join(", ")}` : ""}. ${covered
+  `Took ${plural(count, "change")}${makers.length ? ` from ${makers.join(", ")}` : ""}. ${covered
     ? `${plural(covered, "change")} of yours ${byCount(covered, "is", "are")} covered by them, `
       + "wholly or in part." : "They cover nothing of yours."}`;
 
@@ -174,7 +175,7 @@ export const newlyShared = (from, count, titles) => `${from.join(", ") || "Someb
 export const NOTHING_COMPUTED =
   "There are no figures yet: run the clock for at least a minute, or show an earlier time.";
 export const NO_PICTURE =
-  "The browser made no picture of the diagram. Make its window smaller, and try again.";
+  "The browser made no picture of the diagram. Make the window smaller, and try again.";
 export const SAVING = "Saving \u2026";
 export const MAKING_REPORT = "Making the report: both roads are simulated on five days \u2026";
 export const PAUSE_FOR_FIGURES =
@@ -187,7 +188,7 @@ export const daysStopped = (days) =>
 /** @param {string} name */
 export const savedFile = (name) => `Saved ${name}.`;
 /** @param {string} name */
-export const savedPicture = (name) => `Saved ${name}: the diagram as it is seen.`;
+export const savedPicture = (name) => `Saved ${name}: the diagram as shown.`;
 /** @param {string} name */
 export const savedReport = (name) => `Saved ${name}: any browser shows it, and prints it on A4.`;
 /**
@@ -208,9 +209,8 @@ export const savedScripts = (names) =>
  * @param {number} lost
  */
 export const demandLost = (place, asked, lost) =>
-  `The inlet at ${place} km admits ${whole(asked - lost)} of the ${plural(asked, "car")} that it is `
-  + `asked for. The other ${whole(lost)} are lost and spend no time: counts and vehicle hours look `
-  + "too good.";
+  `The inlet at ${place} km admits ${whole(asked - lost)} of ${plural(asked, "car")}. The other `
+  + `${whole(lost)} never enter, so counts and vehicle hours look better than they are.`;
 
 /**
  * @param {number} cars

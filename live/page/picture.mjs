@@ -307,9 +307,10 @@ function colourEntries() {
   const closed = {text: "closed", colour: BLOCKED};
   const unknown = {text: "not computed", colour: NO_ROW};
   if (store.whose === "both") {
-    const whose = whoseShown()[0] === "after" ? "then" : "mine";
-    return [{text: `${whose} slower`, colour: SLOWER}, {text: "as fast", colour: EMPTY},
-            {text: `${whose} faster`, colour: FASTER}, closed, unknown];
+    const [slower, faster] = whoseShown()[0] === "after" ? ["slower after", "faster after"]
+      : ["mine slower", "mine faster"];
+    return [{text: slower, colour: SLOWER}, {text: "as fast", colour: EMPTY},
+            {text: faster, colour: FASTER}, closed, unknown];
   }
   const speeds = Array.from({length: GREATEST + 1}, (_, speed) =>
     ({text: String(speed * KMH_A_CELL), colour: speedColour(speed, GREATEST)}));

@@ -17,9 +17,9 @@ import {kmText, plural, signedText, sum} from "./units.mjs";
 /** @typedef {import("./types.mjs").RoadFigures} RoadFigures */
 /** @typedef {import("./types.mjs").Span} Span */
 
-const READ_BOTH = "Lost demand is the cars that inlets were asked for minus those that they "
-  + "admitted; a lost car spends no vehicle hours. Seconds count from the inlet; their change is the "
-  + "delay of the cars on both roads.";
+const READ_BOTH = "Lost demand is the number of cars that wanted to enter minus those that "
+  + "entered; a lost car spends no vehicle hours. Seconds count from the inlet; their change is the "
+  + "delay of the cars that both roads have.";
 
 /** @param {[text: string, hint: string]} item */
 const changeItem = ([text, hint]) => element("li", text, {},
@@ -79,7 +79,7 @@ function showOutcome() {
     $("previewCovers").replaceChildren(...coversOf(affected, words(layers)));
   }
   const place = $("previewFigures");
-  if (figures && !("why" in figures)) place.replaceChildren(figuresOf(figures));
+  if (figures && !("why" in figures)) place.replaceChildren(figuresTable(figures));
   else place.replaceChildren(element("p", (figures?.why || why) || messages.COMPUTING));
 }
 
@@ -98,23 +98,23 @@ function coversOf(changes, said) {
 }
 
 
-/** Make the table of figures.
+/** Return the table of figures.
  * @param {Figures} figures
  */
-function figuresOf({before, after, delay_hours: delay, later, from, to}) {
+function figuresTable({before, after, delay_hours: delay, later, from, to}) {
   /** @type {FigureLine[]} */
   const lines = [["Vehicle hours", before.vehicle_hours, after.vehicle_hours, 1],
                  ["Cars admitted", sum(before.entered), sum(after.entered), 0],
                  ["Lost demand, cars", sum(before.lost), sum(after.lost), 0],
                  ...lostLines(before.lost, after.lost),
-                 ["Delay of cars on both roads, vehicle hours", null, delay, 1],
+                 ["Delay of the cars that both roads have, vehicle hours", null, delay, 1],
                  ...placeLines(before, after, later)];
   return element("div", "", {}, previewTable([from, to], lines),
     element("p", READ_BOTH, {className: "hint"}));
 }
 
-/** Return the flows at the detectors, and the seconds to them and to the road's end, with the delay
- * of the cars on both roads.
+/** Return the flows at the detectors, and the travel times to them and to the end of the road, with
+ * the delay of the cars that both roads have.
  * @param {RoadFigures} before
  * @param {RoadFigures} after
  * @param {Figures["later"]} later
@@ -145,13 +145,13 @@ function lostLines(before, after) {
 }
 
 /**
- * A line of the table: without a change it is then less now; if `now` is null, it has the change
- * alone.
- * @typedef {[name: string, now: number | null, then: number | null, digits: number,
+ * A line of the table. `change` is by default `after` minus `before`; if `before` is null, only the
+ * change is shown.
+ * @typedef {[name: string, before: number | null, after: number | null, digits: number,
  *            change?: number | null]} FigureLine
  */
 
-/** Make a table of now, then and the change.
+/** Return a table with the columns before, after and change.
  * @param {Span} period
  * @param {FigureLine[]} lines
  */
@@ -167,7 +167,7 @@ function previewTable([from, to], lines) {
       element("td", one === null ? "" : number(other, digits)), element("td", change(more, digits)));
   const table = element("table", "", {}, element("caption", `${store.day.timeText(from)} to ${store.day.timeText(to)}`),
     element("thead", "", {}, row(element("td"),
-      ...["now", "then", "change"].map((name) => headCell(name)))),
+      ...["before", "after", "change"].map((name) => headCell(name)))),
     element("tbody", "", {}, ...lines.map(lineOf)));
   return element("div", "", {className: "scrolled"}, table);
 }

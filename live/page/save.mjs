@@ -63,14 +63,14 @@ function saveAs(what, lines, type, whose = fileRoad(), period = periodShown()) {
 export function captionText() {
   const {name} = need("me");
   const whose = {mine: `The road of ${name}`, shared: "The shared road",
-                 both: `The road of ${name} less the shared one`}[store.whose];
+                 both: `The road of ${name} minus the shared one`}[store.whose];
   const {cells, steps} = partShown();
   const [places, times] = [cells.map(Math.round).map(kmText), steps.map((step) => store.day.timeText(step))];
   return `${whose}, ${places.join("\u2013")} km, ${times.join("\u2013")}`
     + (now() < steps[1] ? `; the clock is at ${store.day.timeText(now())}` : "");
 }
 
-/** Return the diagram as it is seen, without the cursor, between what it shows and its colours. */
+/** Return the diagram as shown, without the cursor, between its caption and its legend. */
 function diagramWithLegend() {
   withoutCursor(drawDiagram);
   const diagram = $("diagram");
@@ -91,14 +91,14 @@ function diagramWithLegend() {
   return canvas;
 }
 
-/** Save the diagram as it is seen. */
+/** Save the diagram as shown. */
 function savePicture() {
   diagramWithLegend().toBlob((blob) => {
     if (!blob) {
       tell(messages.NO_PICTURE, true);
       return;
     }
-    const whose = store.whose === "both" ? `${need("me").name}-less-shared` : fileRoad();
+    const whose = store.whose === "both" ? `${need("me").name}-minus-shared` : fileRoad();
     const name = saveAs("diagram.png", [blob], "image/png", whose);
     tell(messages.savedPicture(name));
   });
@@ -147,12 +147,12 @@ async function saveScripts() {
 const fileAndDate = () => [need("me").road, need("me").day?.date].filter(Boolean)
   .map((one) => `, ${one}`).join("");
 
-/** Return what a table of the two roads is of.
+/** Return the title of a table of the two roads.
  * @param {number} from      step
  * @param {number} to
  */
 function comparedText(from, to) {
-  const of = comparedNow() === "preview" ? "the road now, and then"
+  const of = comparedNow() === "preview" ? "the road before and after"
     : `the road of ${need("me").name} and the shared one`;
   return `${of}${fileAndDate()}, ${store.day.timeText(from)} to ${store.day.timeText(to)}`;
 }
@@ -161,7 +161,7 @@ function comparedText(from, to) {
 async function saveFigures() {
   const [plan, {at, name}] = [need("plan"), need("me")];
   const of = comparedNow();
-  const whose = of === "preview" ? "now-then" : `${name}-shared`;
+  const whose = of === "preview" ? "before-after" : `${name}-shared`;
   const days = daysShown()?.said;
   const [from, to] = days ? [days.from, days.to] : periodShown();
   if (to <= from) {
@@ -190,7 +190,7 @@ async function saveTravel() {
   const said = await askUntilFree({figures: {at, of, from, to}});
   if (!said || "refused" in said) return;
   saveLines(`travel times of ${comparedText(from, to)}`, tableOfTravel(need("plan"), of, said, store.day),
-    "travel-times.csv", of === "preview" ? "now-then" : `${name}-shared`, [from, to]);
+    "travel-times.csv", of === "preview" ? "before-after" : `${name}-shared`, [from, to]);
 }
 
 /** Save a table.
@@ -227,7 +227,7 @@ async function worksText() {
   const [after, before] = both.map(textsOf);
   const gone = before.filter((text) => !after.includes(text));
   const fresh = after.map((text) => (before.includes(text) ? text : `${text} (new)`));
-  return [...fresh, ...gone.map((text) => `${text} (before alone)`)].slice(0, MOST_WORKS)
+  return [...fresh, ...gone.map((text) => `${text} (only before)`)].slice(0, MOST_WORKS)
     .map((text) => text.slice(0, MOST_SIGNS));
 }
 
@@ -241,18 +241,18 @@ async function saveReport() {
     return;
   }
   const date = day?.date ? `, ${day.date}` : "";
-  const title = `${of === "preview" ? "A road, now and then" : `The road of ${name}, and the shared one`}: `
+  const title = `${of === "preview" ? "A road before and after" : `The road of ${name}, and the shared one`}: `
     + `${store.day.timeText(from)} to ${store.day.timeText(to)}${date}`;
   const works = await worksText();
   tell(messages.MAKING_REPORT);
   const said = await askUntilFree({report: {at, of, from, to, title, works}});
   if (!said || "refused" in said) return;
-  const whose = of === "preview" ? "now-then" : `${name}-shared`;
+  const whose = of === "preview" ? "before-after" : `${name}-shared`;
   const saved = saveAs("report.html", [said.html], "text/html", whose, [from, to]);
   tell(messages.savedReport(saved));
 }
 
-/** Return what a table of the road that is shown is of. */
+/** Return the name of the road that is shown, for the title of a table. */
 const roadText = () => (roadShown() === "shared" ? "the shared road" : `the road of ${need("me").name}`);
 
 /** Save all that was done: who did what and when, where it is in force, and what covers it. */

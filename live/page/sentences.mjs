@@ -11,7 +11,7 @@ import {chanceText, demandOfChance, kmText, limitText, metresText, plural, whole
 /** @typedef {import("./types.mjs").Shape} Shape */
 /** @typedef {import("./types.mjs").MeasuredRoad} MeasuredRoad */
 
-/** Write where objects lie, in km.
+/** Return where objects lie, in km, as text.
  * @param {Plan} plan
  * @param {Kind} kind
  * @param {number} first
@@ -23,7 +23,7 @@ export function placesText(plan, kind, first, last) {
   return `${kmText(from)}\u2013${kmText(to)} km`;
 }
 
-/** Write a value that an object of a kind has from a step on, in a few words.
+/** Return a value that an object of a kind has from a step on, in a few words, as text.
  * @param {MeasuredRoad} road
  * @param {Kind} kind
  * @param {number} value
@@ -42,7 +42,7 @@ export function valueText(road, kind, value, index, step, demand) {
   return cars === undefined ? "Demand that is being measured" : `Demand ${whole(cars)} cars/h`;
 }
 
-/** Write a shape in a sentence, which becomes the note of the change.
+/** Return a shape in a sentence, which becomes the note of the change, as text.
  * @param {MeasuredRoad} road
  * @param {Shape} shape
  */
@@ -56,7 +56,7 @@ export function shapeText(road, {kind, first, last, from, to, value, demand}) {
 export const THINGS = {limit: "Limit", block: "Closure", inflow: "Demand", watch: "Detector",
                 slow: "Slowing", start: "Slow to start"};
 
-/** Write a shape's kind and value in a few words: "limit of 54 km/h".
+/** Return a shape's kind and value in a few words, as text: "limit of 54 km/h".
  * @param {MeasuredRoad} road
  * @param {Shape} shape
  */
@@ -67,7 +67,7 @@ export function thingText(road, {kind, first, from, value, demand}) {
   return kind === "limit" ? `limit of ${text}` : text[0].toLowerCase() + text.slice(1);
 }
 
-/** Write in a sentence what one edit of the objects first to last does.
+/** Return a sentence that says what one edit of the objects first to last does.
  * @param {MeasuredRoad} road
  * @param {{kind: Kind, first: number, last: number, step: number, value: number | null}} edit
  */
@@ -77,7 +77,7 @@ export function editText(road, {kind, first, last, step, value}) {
   return `${THINGS[kind]} withdrawn, ${where}, ${road.day.spanText(step, null)}`;
 }
 
-/** Write in a sentence what edits do: the first ones, and how many more there are.
+/** Return a sentence that says what edits do: the first ones, and how many more there are.
  * @param {MeasuredRoad} road
  * @param {Edit[]} edits     at least one
  */
@@ -100,7 +100,7 @@ export const zonesText = (plan, kind) => (OF_ZONES.includes(kind)
   ? `in whole zones of ${metresText(plan.zone)}; with Shift also where less than half is covered`
   : "");
 
-/** Write how many whole zones are taken; "" for other kinds.
+/** Return how many whole zones are taken, as text; "" for other kinds.
  * @param {Plan} plan
  * @param {Kind} kind
  * @param {number} first

@@ -1,5 +1,5 @@
-// View: flow and speed by time at a detector, and travel times by the minute of entry: of mine beside
-// shared, or of the road now and then in a preview. The pointer, or an arrow, reads them.
+// View: flow and speed by time at a detector, and travel times by the minute of entry: mine against
+// shared, or the road before and after in a preview. The pointer or an arrow key selects a point.
 
 import {assign} from "./assign.mjs";
 import {$, element, on} from "./elements.mjs";
@@ -13,19 +13,19 @@ import {MINUTE, kmText, whole} from "./units.mjs";
 /** @typedef {"flowChart" | "speedChart" | "travelChart"} ChartId */
 /** @typedef {[x: number, y: number]} Point          pixels */
 /**
- * A chart: its canvas, its unit, the least end of its axis, the steps that it shows, how many steps a
- * point is of, and for each of two roads the value of each point; null: there is none.
- * @typedef {{id: ChartId, unit: string, least: number, from: number, to: number, each: number,
+ * A chart: its canvas, its unit, the smallest top of its axis, the steps that it shows, the steps per
+ * point, and for each of two roads the value of each point; null: there is none.
+ * @typedef {{id: ChartId, unit: string, smallestTop: number, from: number, to: number, each: number,
  *            sides: (number | null)[][]}} Chart
  */
 
-const COLOURS = ["#0072b2", "#c24e00"];        // as the report has them: the road before, and after
+const COLOURS = ["#0072b2", "#c24e00"];        // as in the report: the road before, and after
 const LEFT = 44, RIGHT = 6, TOP = 4, BOTTOM = 16;       // pixels around a plot
-const TALL_ENOUGH = 880;        // pixels of a window in which it is open from the first on
+const TALL_ENOUGH = 880;        // pixels: the height of a window from which it starts open
 const MOST_POINTS = 720;        // minutes of entry that are drawn
 
-/** Return the names of the two roads, the one before first. */
-const namesNow = () => (store.outcome?.layers ? ["now", "then"] : ["shared", "mine"]);
+/** Return the names of the two roads, in order: before, after. */
+const namesNow = () => (store.outcome?.layers ? ["before", "after"] : ["shared", "mine"]);
 
 /** Return the charts of flow and speed at the detector that is chosen; none if they are not known.
  * @returns {Chart[]}
@@ -36,8 +36,8 @@ function detectorCharts() {
   const sidesOf = (/** @type {(one: DetectorFigures) => number | null} */ of) =>
     flows.map((spans) => spans.map((span) => of(span[site])));
   return [
-    {id: "flowChart", unit: "cars/h", least: 500, from, to, each, sides: sidesOf(({flow}) => flow)},
-    {id: "speedChart", unit: "km/h", least: 135, from, to, each, sides: sidesOf(({speed}) => speed)}];
+    {id: "flowChart", unit: "cars/h", smallestTop: 500, from, to, each, sides: sidesOf(({flow}) => flow)},
+    {id: "speedChart", unit: "km/h", smallestTop: 135, from, to, each, sides: sidesOf(({speed}) => speed)}];
 }
 
 /** Return the figures that are counted car by car of the two roads; null if they are not known.
@@ -49,8 +49,8 @@ function figuresNow() {
   return figures && !("why" in figures) ? figures : null;
 }
 
-/** Return the chart of travel times by the minute of entry; null if they are not known, or are of too
- * many minutes.
+/** Return the chart of travel times by the minute of entry; null if they are not known, or if there
+ * are too many minutes.
  * @returns {Chart | null}
  */
 function travelChart() {
@@ -64,7 +64,7 @@ function travelChart() {
     const byMinute = new Map(entries.map(({step, trips}) => [(step - from) / MINUTE, trips[place].seconds]));
     return Array.from({length: minutes}, (_, minute) => byMinute.get(minute) ?? null);
   });
-  return {id: "travelChart", unit: "s", least: 60, from, to, each: MINUTE, sides};
+  return {id: "travelChart", unit: "s", smallestTop: 60, from, to, each: MINUTE, sides};
 }
 
 /** Return the chart of a canvas; null if it is not known.
@@ -73,7 +73,7 @@ function travelChart() {
 const chartOf = (id) =>
   (id === "travelChart" ? travelChart() : detectorCharts().find((chart) => chart.id === id) ?? null);
 
-/** Return the next greater round figure.
+/** Return the next larger round number.
  * @param {number} value     above 0
  */
 function niceAbove(value) {
@@ -81,7 +81,7 @@ function niceAbove(value) {
   return power * ([1, 1.5, 2, 3, 4, 5].find((factor) => factor * power >= value) ?? 10);
 }
 
-/** Make a canvas as large as it is seen, and clear it. Return its context, width and height.
+/** Match a canvas to its displayed size, and clear it. Return its context, width and height.
  * @param {HTMLCanvasElement} canvas
  * @returns {[CanvasRenderingContext2D, number, number]}
  */
@@ -95,13 +95,13 @@ function clearedCanvas(canvas) {
   return [context, width, height];
 }
 
-/** Draw a chart, with a mark at the point that is read.
+/** Draw a chart, with a mark at the selected point.
  * @param {Chart} chart
- * @param {number | null} read
+ * @param {number | null} selected
  */
-function drawChart({id, unit, least, from, to, each, sides}, read) {
+function drawChart({id, unit, smallestTop, from, to, each, sides}, selected) {
   const [context, width, height] = clearedCanvas($(id));
-  const top = niceAbove(Math.max(least, ...sides.flat().map((value) => value ?? 0)));
+  const top = niceAbove(Math.max(smallestTop, ...sides.flat().map((value) => value ?? 0)));
   const [wide, high] = [width - LEFT - RIGHT, height - TOP - BOTTOM];
   const across = (/** @type {number} */ step) => LEFT + wide * (step - from) / (to - from);
   const up = (/** @type {number} */ value) => TOP + high * (1 - value / top);
@@ -123,9 +123,9 @@ function drawChart({id, unit, least, from, to, each, sides}, read) {
   }
   sides.forEach((values, side) => drawLine(context, values.map((value, index) =>
     value === null ? null : [across(from + (index + 0.5) * each), up(value)]), side));
-  if (read === null) return;
+  if (selected === null) return;
   assign(context, {strokeStyle: "#1a1a1a", lineWidth: 1});
-  context.strokeRect(across(from + (read + 0.5) * each), TOP, 0, high);
+  context.strokeRect(across(from + (selected + 0.5) * each), TOP, 0, high);
 }
 
 /** Draw a line through points, with a gap where there is none.
@@ -145,7 +145,7 @@ function drawLine(context, points, side) {
   context.stroke();
 }
 
-/** Write what a detector counted in a span.
+/** Return the text of what a detector counted in a span.
  * @param {number | null} flow       cars per hour; null: it was off
  * @param {number | null} speed      km/h; null: no car passed
  */
@@ -154,14 +154,15 @@ function detectorText(flow, speed) {
   return `${whole(flow)} cars/h${speed === null ? "" : `, ${Math.round(speed)} km/h`}`;
 }
 
-/** Write the span of a point of a chart.
+/** Return the text of the span of a point.
  * @param {Chart} chart
  * @param {number} point
  */
 const spanOf = ({from, to, each}, point) =>
   store.day.spanText(from + point * each, Math.min(to, from + (point + 1) * each));
 
-/** Write what is read of flow and speed. The later road comes first, as in the table.
+/** Return the text of flow and speed at the selected point. The road after comes first, as in the
+ * table.
  * @param {Chart[]} charts   of flow and speed
  */
 function readingText([flows, speeds]) {
@@ -171,7 +172,7 @@ function readingText([flows, speeds]) {
     `${names[side]} ${detectorText(flows.sides[side][point], speeds.sides[side][point])}`).join("; ");
 }
 
-/** Write what is read of travel times.
+/** Return the text of the travel times at the selected minute.
  * @param {Chart} chart
  */
 function travelText(chart) {
@@ -213,7 +214,7 @@ function showRoadColours() {
   }));
 }
 
-/** Read the point of a chart at which the pointer is.
+/** Select the point of a chart at which the pointer is.
  * @param {ChartId} id
  * @param {PointerEvent} event
  */
@@ -224,7 +225,7 @@ function onPoint(id, {offsetX}) {
   readAt(id, chart, Math.floor(part * (chart.to - chart.from) / chart.each));
 }
 
-/** Read the next point of a chart, or the one before.
+/** Select the next point of a chart, or the one before.
  * @param {ChartId} id
  * @param {KeyboardEvent} event
  */
@@ -237,7 +238,7 @@ function onKey(id, event) {
   readAt(id, chart, (read ?? (way > 0 ? -1 : chart.sides[0].length)) + way);
 }
 
-/** Read a point of a chart, or the nearest that it has.
+/** Select a point of a chart, or the nearest that it has.
  * @param {ChartId} id
  * @param {Chart} chart
  * @param {number} point
@@ -245,7 +246,7 @@ function onKey(id, event) {
 const readAt = (id, {sides: [one]}, point) =>
   readPoint(id === "travelChart" ? "minute" : "point", Math.max(0, Math.min(one.length - 1, point)));
 
-/** Fill the choices of places by the plan. */
+/** Fill the choices of places from the plan. */
 function showPlaces() {
   const options = () => need("plan").detectors.map((cell, index) =>
     new Option(`${kmText(cell)} km`, String(index)));

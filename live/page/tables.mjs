@@ -1,5 +1,5 @@
-// Tables as they are saved: what they are of in the first line, names and units in the second, then
-// lines; of mine beside the shared road, or of a road before and after.
+// Tables as they are saved: a title in the first line, names and units in the second, then the rows;
+// of mine against the shared road, or of a road before and after.
 
 import {Words} from "./listing.mjs";
 import {byStamp} from "./stamps.mjs";
@@ -39,23 +39,23 @@ function cellOf(value) {
   return /[",\r\n]/.test(text) ? `"${text.replaceAll('"', '""')}"` : text;
 }
 
-/** Return the text of a table; its first line says what it is of.
+/** Return the text of a table; its first line is the title.
  * @param {string} title
  * @param {Cell[][]} lines
  */
 export const csvOf = (title, lines) => [`# ${title.replace(/[\r\n]+/g, " ")}`,
   ...lines.map((line) => line.map(cellOf).join(","))].map((line) => line + "\n").join("");
 
-const NOBODY = -1;              // no seat's number: all are called by their names
+const NOBODY = -1;              // no seat has this number, so everybody is called by name
 
-/** In which order the sides of a comparison stand, and what they are called.
+/** The order of the two sides of a comparison, and their names.
  * @type {Record<Comparison, [side: Side, name: string][]>}
  */
 export const ORDER = {mine: [["after", "mine"], ["before", "shared"]],
-                      preview: [["before", "now"], ["after", "then"]]};
+                      preview: [["before", "before"], ["after", "after"]]};
 
 /** @param {Comparison} of */
-const changeOf = (of) => (of === "mine" ? "mine less shared" : "then less now");
+const changeOf = (of) => (of === "mine" ? "mine minus shared" : "after minus before");
 
 /** Of each inlet, in cars.
  * @type {[name: string, cars: (side: RoadFigures) => number[]][]}
@@ -88,10 +88,10 @@ export function tableOfFigures({inlets, detectors}, of, said) {
   const places = [...detectors.map((cell) => `${kmText(cell)} km`), "the road's end"];
   const times = places.flatMap((place, index) => [
     lineOf(`travel time to ${place}`, "s", (side) => side.travel[index].seconds),
-    [`delay of cars on both roads to ${place}`, "s", "", "", plain(said.later[index].seconds)]]);
+    [`delay of the cars that both roads have to ${place}`, "s", "", "", plain(said.later[index].seconds)]]);
   return [["figure", "unit", first, second, changeOf(of)],
           lineOf("vehicle hours", "h", (side) => side.vehicle_hours),
-          ["delay of cars on both roads", "vehicle hours", "", "", plain(said.delay_hours)],
+          ["delay of the cars that both roads have", "vehicle hours", "", "", plain(said.delay_hours)],
           ...OF_INLETS.map(([name, cars]) => lineOf(name, "cars", (side) => sum(cars(side)))),
           ...atInlets, ...atDetectors, ...times];
 }
@@ -132,7 +132,7 @@ function nameOfDays({detectors}, name) {
   const place = cell === undefined ? "the road's end" : `${kmText(cell)} km`;
   /** @type {Record<string, [name: string, unit: string]>} */
   const names = {vehicle_hours: ["vehicle hours", "h"], lost: ["lost demand", "cars"],
-                 delay: ["delay of cars on both roads", "vehicle hours"],
+                 delay: ["delay of the cars that both roads have", "vehicle hours"],
                  cars: [`cars at ${place}`, "cars"], seconds: [`travel time to ${place}`, "s"]};
   return names[what];
 }

@@ -2,7 +2,8 @@
 // file, by tsconfig.json. Cells are 7.5 m long and steps take 1 s.
 
 /**
- * The name of an operation: a count, and the number of the seat that made it. The greater is later.
+ * The name of an operation: a count, and the number of the seat that made it. The greater one is
+ * later.
  * @typedef {{count: number, number: number}} Stamp
  *
  * What a change sets: a closure, a speed limit, a slowing chance, a slow-to-start chance, a demand,
@@ -58,11 +59,11 @@
  * @property {Stamp | null} [undoes]  the operation that it takes back
  * @property {Stamp | null} lost      the operation that was made at the same time and won
  * @property {Shape | null} [shape]   what a lost operation would have set
- * @property {boolean} [idle]         it need not be shared: nothing differs by it
+ * @property {boolean} [idle]         it need not be shared, since it changes nothing
  */
 
 /**
- * A change as the server tells it, before parts of other roads are removed.
+ * A change as the server sends it, before parts of other roads are removed.
  * @typedef {Omit<Change, "isRaw">} TaggedChange
  *
  * A change that leaves the list.
@@ -95,7 +96,7 @@
  * @property {(TaggedChange | Gone)[]} layers
  * @property {number} next            the version that they lead to
  * @property {number} [since]         the version from which they lead
- * @property {boolean} more           there are more behind them
+ * @property {boolean} more           more changes follow them
  * @property {Stamp | null} undo      what Z would take back
  * @property {Stamp | null} redo      what Redo would put again
  * @property {{stamp: Stamp, by: string[]}[]} blocked     what Z passes over, and who changed it
@@ -125,10 +126,10 @@
  * What is counted of one road, in a period.
  * @typedef {object} RoadFigures
  * @property {number} vehicle_hours
- * @property {number[]} asked         cars that each inlet is asked for
- * @property {number[]} entered       cars that each inlet lets in
- * @property {number[]} lost          cars of lost demand of each inlet
- * @property {number[]} scatter       how many cars the demand of each inlet scatters by chance
+ * @property {number[]} asked         cars that want to enter at each inlet
+ * @property {number[]} entered       cars that entered at each inlet
+ * @property {number[]} lost          cars of lost demand at each inlet
+ * @property {number[]} scatter       the random variation of the demand of each inlet, in cars
  * @property {DetectorFigures[]} flows
  * @property {Trip[]} travel          to each detector, and last to the road's end
  * @property {Entry[]} entries        the same by the minute of entry, in their order
@@ -155,11 +156,11 @@
  * @property {RoadFigures} before
  * @property {RoadFigures} after
  * @property {number} delay_hours     vehicle hours
- * @property {Trip[]} later           how much later cars of both roads are at each place
+ * @property {Trip[]} later           how much later the cars that both roads have are at each place
  */
 
 /**
- * A mean of days, with how far its 95 % interval reaches to both sides; null: it was one day.
+ * A mean of days, with the half-width of its 95 % interval; null: there was one day.
  * @typedef {{mean: number, half: number | null}} Mean
  *
  * @typedef {{name: string, before: Mean, after: Mean, difference: Mean}} DaysFigure
@@ -183,13 +184,13 @@
  * @property {{rows: number, bytes: number, days: number}} [most]
  * @property {Broker | null} broker
  * @property {string} [standing]
- * @property {ToldDay | null} [day]
+ * @property {WireDay | null} [day]
  * @property {string} [road]          the name of the road's file
  */
 
 /**
  * The time of day of step 0 in seconds after midnight, the time zone, and the date.
- * @typedef {{begin: number | null, zone: string | null, date?: string | null}} ToldDay
+ * @typedef {{begin: number | null, zone: string | null, date?: string | null}} WireDay
  */
 
 /**
@@ -208,7 +209,7 @@
  * @property {{site: number, when: number}[]} [sites]
  * @property {string[]} [told]        sentences, the newest last
  * @property {string[]} [stays]       what is wrong, as long as it is
- * @property {boolean} [sealed]       false: sites are trusted wholly
+ * @property {boolean} [sealed]       false: messages of sites are not authenticated
  */
 
 /**
@@ -239,7 +240,7 @@
  * @property {string[] | undefined} names         of the changes to share; undefined: all
  * @property {Change[]} changes       what is shared
  * @property {Stamp[]} stamps
- * @property {ReturnType<typeof setTimeout>} [soon]   until figures are asked for
+ * @property {ReturnType<typeof setTimeout>} [soon]   until the page asks for figures
  */
 
 /**
@@ -247,7 +248,7 @@
  * @typedef {object} Outcome
  * @property {string} why             why it cannot be said; "": it can
  * @property {import("./layers.mjs").Layers | null} layers    of the road that it would be
- * @property {Stamp[]} names          of the changes that would be shown otherwise
+ * @property {Stamp[]} names          of the changes that would look different
  * @property {Figures | {why: string} | null} figures
  */
 
@@ -305,8 +306,8 @@
  */
 
 /**
- * A message that nobody asked for: one of these.
- * @typedef {object} Told
+ * A message that the server pushes: one of these.
+ * @typedef {object} Pushed
  * @property {{now: number, rate: number, stop?: number | null}} [clock]
  * @property {News} [news]
  * @property {Seat[]} [seats]
@@ -322,46 +323,46 @@
  * @typedef {Partial<Record<Verb, object>>} Command
  */
 
-// As the server tells it: arrays of positions, which decoding.mjs reads.
+// As the server sends it: arrays of positions, which decoding.mjs reads.
 
 /**
- * @typedef {[count: number, number: number]} ToldStamp
+ * @typedef {[count: number, number: number]} WireStamp
  * @typedef {[kind: Kind, first: number, last: number, from: number, to: number | null,
- *            value: number]} ToldShape
- * @typedef {[cars: number, seconds: number | null]} ToldTrip
- * @typedef {[mean: number, half: number | null]} ToldMean
+ *            value: number]} WireShape
+ * @typedef {[cars: number, seconds: number | null]} WireTrip
+ * @typedef {[mean: number, half: number | null]} WireMean
  *
  * @typedef {Omit<Operation, "stamp" | "undoes" | "lost" | "shape">
- *   & {stamp: ToldStamp, undoes?: ToldStamp | null, lost: ToldStamp | null,
- *      shape?: ToldShape | null, demand?: unknown}} ToldOperation
+ *   & {stamp: WireStamp, undoes?: WireStamp | null, lost: WireStamp | null,
+ *      shape?: WireShape | null, demand?: unknown}} WireOperation
  *
  * Another site may have made shapes, parts and edits: they may be anything.
  * @typedef {Omit<Change, "name" | "shape" | "shown" | "operations" | "edits" | "isRaw" | "site" | "was">
- *   & {name: ToldStamp, shape: unknown, shown: unknown, operations: ToldOperation[], edits?: unknown,
- *      was?: unknown, demand?: unknown}} ToldChange
- * @typedef {{name: ToldStamp, gone: true}} ToldGone
+ *   & {name: WireStamp, shape: unknown, shown: unknown, operations: WireOperation[], edits?: unknown,
+ *      was?: unknown, demand?: unknown}} WireChange
+ * @typedef {{name: WireStamp, gone: true}} WireGone
  *
- * @typedef {object} ToldLayers
- * @property {(ToldChange | ToldGone)[]} layers
+ * @typedef {object} WireLayers
+ * @property {(WireChange | WireGone)[]} layers
  * @property {number} next
  * @property {number} [since]
  * @property {boolean} [more]
- * @property {ToldStamp | null} [undo]
- * @property {ToldStamp | null} [redo]
- * @property {{stamp: ToldStamp, by: string[]}[]} [blocked]
+ * @property {WireStamp | null} [undo]
+ * @property {WireStamp | null} [redo]
+ * @property {{stamp: WireStamp, by: string[]}[]} [blocked]
  *
  * @typedef {Omit<RoadFigures, "travel" | "entries">
- *   & {travel: ToldTrip[], travel_by_entry?: Record<string, ToldTrip[]>}} ToldRoadFigures
+ *   & {travel: WireTrip[], travel_by_entry?: Record<string, WireTrip[]>}} WireRoadFigures
  * @typedef {Omit<Figures, "before" | "after" | "later">
- *   & {before: ToldRoadFigures, after: ToldRoadFigures, later: ToldTrip[]}} ToldFigures
- * @typedef {{name: string, before: ToldMean, after: ToldMean, difference: ToldMean}} ToldDaysFigure
- * @typedef {Omit<DaysFigures, "figures"> & {figures?: ToldDaysFigure[]}} ToldDays
- * @typedef {ToldLayers & Pick<Done, "touched" | "us"> & {stamp: ToldStamp}} ToldDone
+ *   & {before: WireRoadFigures, after: WireRoadFigures, later: WireTrip[]}} WireFigures
+ * @typedef {{name: string, before: WireMean, after: WireMean, difference: WireMean}} WireDaysFigure
+ * @typedef {Omit<DaysFigures, "figures"> & {figures?: WireDaysFigure[]}} WireDays
+ * @typedef {WireLayers & Pick<Done, "touched" | "us"> & {stamp: WireStamp}} WireDone
  * @typedef {Omit<Answers, "gesture" | "again" | "site" | "undo" | "take" | "layers" | "preview"
  *                         | "figures" | "days">
- *   & {gesture: ToldDone, again: ToldDone, site: ToldDone, undo: ToldDone,
- *      take: ToldLayers & {touched: number | null}, layers: ToldLayers,
- *      preview: Partial<Pick<ToldLayers, "layers">>, figures: ToldFigures, days: ToldDays}} ToldAnswers
+ *   & {gesture: WireDone, again: WireDone, site: WireDone, undo: WireDone,
+ *      take: WireLayers & {touched: number | null}, layers: WireLayers,
+ *      preview: Partial<Pick<WireLayers, "layers">>, figures: WireFigures, days: WireDays}} WireAnswers
  */
 
 export {};

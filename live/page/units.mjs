@@ -25,7 +25,7 @@ export function roundedKm(km, digits = 3) {
   return Math.round(Number((km * power).toPrecision(12))) / power;
 }
 
-/** Write the place of a cell's beginning in km.
+/** Return the place of a cell's beginning in km, as text.
  * @param {number} cell
  */
 export const kmText = (cell) => String(roundedKm(kmOf(cell)));
@@ -33,11 +33,11 @@ export const kmText = (cell) => String(roundedKm(kmOf(cell)));
  * @param {number} km
  */
 export const cellOfKm = (km) => Math.round(km * 1000 / METRES_A_CELL);
-/** Write a length of cells in metres.
+/** Return a length of cells in metres, as text.
  * @param {number} cells
  */
 export const metresText = (cells) => `${cells * METRES_A_CELL} m`;
-/** Write a number without decimals.
+/** Return a number without decimals, as text.
  * @param {number} value
  */
 export const whole = (value) => Math.round(value).toLocaleString("en");
@@ -46,7 +46,7 @@ export const whole = (value) => Math.round(value).toLocaleString("en");
  */
 export const sum = (numbers) => numbers.reduce((one, other) => one + other, 0);
 
-/** Write a count with its noun.
+/** Return a count with its noun, as text.
  * @param {number} count
  * @param {string} one       the noun of one thing
  * @param {string} [more]    the noun of several
@@ -54,7 +54,7 @@ export const sum = (numbers) => numbers.reduce((one, other) => one + other, 0);
 export const plural = (count, one, more = one + "s") =>
   `${whole(count)} ${count === 1 ? one : more}`;
 
-/** Write a difference with its sign; what rounds to 0 has none.
+/** Return a difference with its sign, as text; what rounds to 0 has none.
  * @param {number} value
  * @param {number} [digits]  decimals
  */
@@ -65,16 +65,16 @@ export function signedText(value, digits = 0) {
   return (value < 0 ? "\u2212" : "+") + text;
 }
 
-/** Write how long some steps are, in seconds or minutes.
+/** Return how long some steps are, in seconds or minutes, as text.
  * @param {number} steps
  */
 export const durationText = (steps) => (steps % MINUTE ? `${steps} s` : `${steps / MINUTE} min`);
 
-/** Write a speed limit in km/h.
+/** Return a speed limit in km/h, as text.
  * @param {number} limit     cells a step
  */
 export const limitText = (limit) => `${limit * KMH_A_CELL} km/h`;
-/** Write a chance in percent.
+/** Return a chance in percent, as text.
  * @param {number} chance    in 1/65,536
  */
 export const chanceText = (chance) => `${Number((100 * chance / ALWAYS).toFixed(1))} %`;

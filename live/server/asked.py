@@ -101,7 +101,7 @@ class Asked:
             return default
         value = cast(int, self._checked(name, whole))
         if not least <= value <= most:
-            raise Refused("Range", f"`{name}` is {least} to {most}, not {value}")
+            raise Refused("Range", f"`{name}` must be {least} to {most}, not {value}")
         return value
 
     def version(self, name: str) -> int:
@@ -116,7 +116,7 @@ class Asked:
     def number(self, name: str, most: float) -> float:
         value = self.require(name)
         if not isinstance(value, (int, float)) or isinstance(value, bool) or not 0 <= value <= most:
-            raise Refused("Range", f"`{name}` is 0 to {most}")
+            raise Refused("Range", f"`{name}` must be 0 to {most}")
         return float(value)
 
     def demand(self, shape: Shape) -> float | None:

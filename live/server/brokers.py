@@ -31,7 +31,7 @@ def broker_of(said: str) -> tuple[str, int]:
     """Return host and port of HOST:PORT."""
     host, _, port = said.rpartition(":")
     if not (host and port.isdecimal() and 1 <= int(port) <= 65_535):
-        raise Broken(f"--broker is HOST:PORT, not {said}")
+        raise Broken(f"--broker must be HOST:PORT, not {said}")
     return host, int(port)
 
 
@@ -40,5 +40,5 @@ def needs_tls(options: argparse.Namespace) -> bool:
     host = options.broker.rpartition(":")[0]
     is_here = host in ("127.0.0.1", "::1", "localhost")
     if not is_here and not (options.broker_user and options.broker_password):
-        raise Broken("a broker on another host wants --broker-user and --broker-password, and TLS")
+        raise Broken("a broker on another host requires --broker-user, --broker-password and TLS")
     return not is_here or options.broker_authority is not None

@@ -73,13 +73,13 @@ class Question:
             self.stop(done=True)
             await self._process.wait()
         if self.is_stopped and not self.done:
-            raise Refused("Stopped", "the question was stopped before a day was done")
+            raise Refused("Stopped", "the request was stopped before the first day was simulated")
         if "fault" in told or self.done < self.days and not self.is_stopped:
             raise Refused("Failed", told.get("fault", "the figures failed; the server's log says why"))
         return {"days": self.done, "stopped": self.done < self.days, "figures": told["figures"]}
 
     def stop(self, done: bool = False) -> None:
-        """Ends it, with all that it has started."""
+        """End the process, with all that it has started."""
         self.is_stopped = self.is_stopped or not done
         if self._process is not None:
             figures.kill(self._process)
@@ -95,7 +95,7 @@ class DayQuestions:
         """Begin a question of a seat, in the place of the one that it had. Another seat's goes on."""
         now = self.now
         if now is not None and now.index != index:
-            raise Refused("Busy", f"{name(now.index)} asks about {now.days} days just now, of which {now.done} are done: one "
+            raise Refused("Busy", f"{name(now.index)} asks about {now.days} days just now ({now.done} done): one "
                           "such question at a time")
         self.stop(index)
         self.now = Question(index, days)
@@ -106,7 +106,7 @@ class DayQuestions:
             self.now = None
 
     def stop(self, index: int | None = None) -> bool:
-        """Stops the question of a seat, or of any; whether there was one."""
+        """Stop the question of a seat, or of any seat. Return whether there was one."""
         now = self.now
         if now is None or index is not None and now.index != index:
             return False

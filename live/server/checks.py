@@ -50,9 +50,9 @@ class Checks:
         if end is None:
             return
         if end > LAST_STEP:
-            raise Refused("Step", f"a shape ends at step {LAST_STEP} or before, or not at all, not at {end}")
+            raise Refused("Step", f"a shape must end at step {LAST_STEP} or before, or have no end; not at {end}")
         if end <= begin:
-            raise Refused("Range", f"a shape ends behind its beginning, {begin}, not at {end}")
+            raise Refused("Range", f"a shape must end after its beginning, {begin}, not at {end}")
 
     def _edit(self, kind: str, index: int, step: int, value: int | None, stamp: Stamp) -> None:
         if kind not in KINDS:

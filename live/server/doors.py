@@ -67,7 +67,7 @@ class Doors:
             except (BlockingIOError, InterruptedError, ConnectionError):
                 return
             except OSError as fault:
-                logging.warning("no more connections for a moment: %s", fault)
+                logging.warning("no new connections for a moment: %s", fault)
                 loop.remove_reader(door)
                 loop.call_later(TOO_MANY, self._again, door)
                 return

@@ -86,10 +86,10 @@ def entry_of(path: Path, number: int, line: bytes) -> Entry:
             raise ValueError("its checksum differs")
         entry: Json = json.loads(text)
     except (ValueError, RecursionError) as fault:
-        raise Broken(f"{path}, line {number}, is broken ({fault}): {line[:60]!r}") from None
+        raise Broken(f"{path}, line {number}, is malformed ({fault}): {line[:60]!r}") from None
     fields = {kind: value for kind, value in entry.items() if isinstance(value, dict)} if isinstance(entry, dict) else {}
     if len(fields) != 1 or fields != entry:
-        raise Broken(f"{path}, line {number}, is no entry: {line[:60]!r}")
+        raise Broken(f"{path}, line {number}, is not an entry: {line[:60]!r}")
     return fields
 
 

@@ -39,10 +39,10 @@ RUNNING = asyncio.Semaphore(1)
 WAITING: list[int] = []  # seats for which a road is run beside, or will be
 MOST_WAITING = 8
 NICE = 5  # between editing and what takes long
-GUARD = "ROAD_LAB_GUARD"  # by which a program of zegdrut ends with the process that started it
+GUARD = "ROAD_LAB_GUARD"  # makes a program of zegdrut end with the process that started it
 SIDES = "before", "after"
 NUMBER = 64  # in the stamps of edits; no replica has it
-ENTRY = 60  # steps of entry whose travel times are told together
+ENTRY = 60  # steps: travel times are given for the cars that entered in this many steps
 Q = TypeVar("Q", bound=Mapping[str, object])
 A = TypeVar("A")
 
@@ -72,7 +72,7 @@ FiguresTold = TypedDict("FiguresTold", {
 async def alone(index: int) -> AsyncIterator[None]:
     """Run a road beside the laboratory: one at a time, and one of each seat."""
     if index in WAITING or len(WAITING) >= MOST_WAITING:
-        raise Refused("Busy", "another road is run for this: ask again later")
+        raise Refused("Busy", "another road is being simulated for this: ask again later")
     WAITING.append(index)
     try:
         async with RUNNING:

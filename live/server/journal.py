@@ -203,7 +203,7 @@ class Journal:
         except OSError as fault:
             if not is_read_only(fault) or not self.path.exists():
                 raise
-            logging.warning("%s can only be read (%s): all can be looked at, and nothing put", self.path, fault.strerror)
+            logging.warning("%s is read-only (%s): everything can be viewed, and nothing changed", self.path, fault.strerror)
             self._failed(fault)
             self._is_read_only = True
             return os.open(self.path, os.O_RDONLY)
@@ -211,7 +211,7 @@ class Journal:
     def write(self, entry: Entry, then: Then = lambda: None) -> asyncio.Future[None]:
         """Return a future that is done once the entry is on the disk, and `then` was called; or fails with `NotWritten`."""
         done: asyncio.Future[None] = asyncio.get_running_loop().create_future()
-        done.add_done_callback(lambda one: one.cancelled() or one.exception())  # whoever asks is told
+        done.add_done_callback(lambda one: one.cancelled() or one.exception())  # whoever asks gets the fault
         if self.fault is not None:
             done.set_exception(NotWritten(self.fault))
             return done
@@ -226,7 +226,7 @@ class Journal:
         return self._began is not None and time.monotonic() - self._began > seconds
 
     async def settled(self) -> None:
-        """Waits until all that was written so far is on the disk; `NotWritten` where it was not taken."""
+        """Wait until all that was written so far is on the disk; `NotWritten` where it was not taken."""
         if self._last is not None:
             await asyncio.shield(self._last)
 
@@ -245,14 +245,14 @@ class Journal:
                     try:
                         then()
                     except Exception:  # pylint: disable=broad-except
-                        logging.exception("what follows a write failed: it is on the disk all the same")
+                        logging.exception("a callback after a write failed; the write is on the disk")
                     if not done.done():
                         done.set_result(None)
         finally:
             self._writer = None
 
     async def _asks(self, does: Callable[P, None], *given: P.args, **named: P.kwargs) -> None:
-        """Lets the disk do something, beside all else."""
+        """Let the disk do something, beside all else."""
         self._began = time.monotonic()
         try:
             await asyncio.get_running_loop().run_in_executor(None, functools.partial(does, *given, **named))
@@ -260,7 +260,7 @@ class Journal:
             self._began = None
 
     def _failed(self, fault: OSError) -> None:
-        self.fault = f"the disk does not take it ({fault.strerror})"
+        self.fault = f"the disk does not accept it ({fault.strerror})"
         self.failures += 1
         waiting, self._waiting, self._last = self._waiting, [], None
         for _, _, done in waiting:
@@ -285,7 +285,7 @@ class Journal:
         return read_entries(self.path, self.size)[0]
 
     async def mend(self, entry: Entry) -> None:
-        """Tries the disk by an entry, and as much more as a gesture may be: once that is there, and cut off again, all
+        """Try the disk by an entry, and as much more as a gesture may be: once that is there, and cut off again, all
         else is taken. OSError where it is not."""
         await self._asks(self._mend, entry)
         self.fault = None
@@ -309,7 +309,7 @@ class Journal:
             return
         copied, failures = self.size, self.failures
         if not await self._is_written(fork_writing(self.path, entries)):
-            logging.warning("the journal stays as long as it is: a shorter one could not be written")
+            logging.warning("the journal was not compacted: the shorter one could not be written")
             return
         file = appended(beside(self.path))
         try:
@@ -321,7 +321,7 @@ class Journal:
                 self._writer = asyncio.ensure_future(self._replace(file, copied))
                 await asyncio.wait([self._writer])
         except OSError as fault:
-            logging.warning("the journal stays as long as it is: %s", fault)
+            logging.warning("the journal was not compacted: %s", fault)
         finally:
             if file != self._file:
                 close_all(file)
@@ -351,7 +351,7 @@ class Journal:
         try:
             await self._asks(self._rename, file, copied)
         except OSError as fault:
-            logging.warning("the journal stays as long as it is: %s", fault)
+            logging.warning("the journal was not compacted: %s", fault)
         else:
             try:
                 await self._asks(sync_folder, self.path.parent)

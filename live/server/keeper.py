@@ -1,4 +1,4 @@
-"""Keeps the journal and the program together: the journal is the truth, and a program that holds what it says answers.
+"""Keep the journal and the program together: the journal is the truth, and a program that holds what it says answers.
 
 At any time another program can take its place: it died, it has read almost all lines that it takes, or a write
 failed and it holds what is not written. A replica gets what it lacks when it is next asked, a piece at a time.
@@ -92,7 +92,7 @@ class Keeper:
         self.confirmed = self.state.shared.size
         is_new = count == 0
         if not is_new and site not in (None, self.state.site):
-            raise Broken(f"{self.folder} is of site {self.state.site}, which never changes")
+            raise Broken(f"{self.folder} belongs to site {self.state.site}, and its site never changes")
         if is_new:
             first: dict[str, Json] = {**plan(), "replicas": [self.state.replica(seat.index).at for seat in self.state.seats]}
             # A program must take it before it is written that this is the plan.
@@ -121,7 +121,7 @@ class Keeper:
         form, self._former = self._former, None
         await self.journal.write(Upgraded().written())
         await self.compact()
-        logging.warning("the journal was of form %d: it is written again, and the old one is kept as %s", form, kept)
+        logging.warning("the journal had form %d: it is rewritten, and the old one is kept as %s", form, kept)
 
     async def compact(self) -> None:
         """Shorten the journal: each operation once."""
@@ -230,7 +230,7 @@ class Keeper:
         try:
             await self.journal.mend(self.clock().written())
         except OSError as fault:
-            return f"the disk does not take it ({fault.strerror})"
+            return f"the disk does not accept it ({fault.strerror})"
         await self._upgrade()
         self._trouble = None
         self.listeners.trouble.tell()
@@ -254,7 +254,7 @@ class Keeper:
         """Forget, after a failed write, what was not confirmed, in the program too. It is done once, and what is confirmed can be
         looked at from then on, whether the disk takes more or not."""
         failures = self.journal.failures
-        logging.error("%s: back to what is written", self.journal.fault)
+        logging.error("%s: returning to what is on the disk", self.journal.fault)
         self._trouble = self.journal.fault
         self.listeners.trouble.tell()
         try:
@@ -300,11 +300,11 @@ class Keeper:
                 try:
                     return await job()
                 except ProgramExited as fault:
-                    logging.warning("%s: another is started", fault)
+                    logging.warning("%s: another one is being started", fault)
                     await self.replace(str(fault))
         except ProgramExited as fault:
             logging.error("%s", fault)
-        raise Refused("NoProgram", "the program ended over this, twice; the server's log says why")
+        raise Refused("NoProgram", "the program crashed on this twice; the server's log says why")
 
     async def replace(self, why: str | None = None) -> None:
         """Start another program in the place of this one. Its replicas are shown their roads when they are next asked."""
@@ -337,7 +337,7 @@ class Keeper:
                 self._screen, self.changes, self.why_changed = successor.result(), self.changes + 1, None
                 self.listeners.program.tell()
             else:
-                logging.warning("no successor: %s", successor.exception())
+                logging.warning("no program is ready to replace this one: %s", successor.exception())
         settings = self.settings
         is_late = (self.program.lines >= settings.most_lines or self.undone >= settings.most_undone
                    or self.screen.withdrawn >= settings.most_withdrawn)
@@ -376,7 +376,7 @@ class Keeper:
         async def job() -> Union[T, More]:
             failures.add(self.journal.failures)
             if len(failures) > 1:
-                raise NotKept(self.journal.fault or "the disk did not take it")
+                raise NotKept(self.journal.fault or "the disk did not accept it")
             for index in replicas:
                 if not await self._bring(self.screen, index):
                     return MORE

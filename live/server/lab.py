@@ -64,7 +64,7 @@ class Lab:
         self._pending: dict[tuple[int, str], list[asyncio.Future[None]]] = {}  # by seat and key: what is being written
 
     async def open(self, plan: Callable[[], Mapping[str, Json]], site: int | None) -> bool:
-        """Opens the keeper's folder; whether it is new."""
+        """Open the keeper's folder. Return whether it is new."""
         is_new = await self.keeper.open(plan, site)
         self._checks = Checks(self.state.plan)
         self.keeper.tasks.append(supervised("the clock, seats that nobody uses and a long journal", self._look_after,
@@ -148,13 +148,13 @@ class Lab:
     async def exclude_site(self, index: int, times: Times, *, key: str, note: str, site: int, out: bool) -> Reply:
         """Let nothing count that a site made and will make; or let it count again."""
         if site == self.state.site:
-            raise Refused("OwnSite", f"{site} is this site: who leaves it out must be of another")
+            raise Refused("OwnSite", f"site {site} cannot exclude itself: another site must do it")
         return await self._make(index, key, note, times, lambda seat, stamp, about: exclude(stamp, site, out, about))
 
     def _called(self, seat: SeatReplica, called: Called) -> Stamp:
         stamp = seat.done.get(called) if isinstance(called, str) else seat.renamed.get(called, called)
         if stamp is None:
-            raise Refused("NoSuchChange", f"you made no change of the key {called}")
+            raise Refused("NoSuchChange", f"you made no change with the key {called}")
         return stamp
 
     def _line(self, seat: SeatReplica, called: Called) -> Stamp:
@@ -162,14 +162,14 @@ class Lab:
         stamp = self._called(seat, called)
         held = self.state.held_by(seat, stamp)
         if not held and not stands(seat.road, stamp) and not seat.road.setters_of(stamp):
-            raise Refused("NoSuchChange", f"you hold no change of the name {list(stamp)}")
+            raise Refused("NoSuchChange", f"you hold no change with the name {list(stamp)}")
         return stamp
 
     def _held_by(self, seat: SeatReplica, called: Called) -> Operation:
         stamp = self._called(seat, called)
         held = self.state.held_by(seat, stamp)
         if not held:
-            raise Refused("NoSuchChange", f"you hold no change of the stamp {list(stamp)}")
+            raise Refused("NoSuchChange", f"you hold no change with the stamp {list(stamp)}")
         return held[0]
 
     def _why_nothing(self, seat: SeatReplica, one: Operation) -> str:
@@ -180,9 +180,9 @@ class Lab:
         by = [other for other in overruling(seat.road, one) if other is not one]
         if not record.counts(one):
             by = [other for other in record.undos_of(one) if record.counts(other)]
-            return f"{' and '.join(sorted({other.about.who for other in by}))} took it back before"
+            return f"{' and '.join(sorted({other.about.who for other in by}))} undid it already"
         later = sorted({other.about.who for other in by if other.names or other.excludes})
-        return f"{' and '.join(later)} changed it since" if later else "nothing of it is there any more"
+        return f"{' and '.join(later)} changed it since" if later else "nothing of it is left"
 
     async def _make(self, index: int, key: str, note: str, times: Times, makes: Makes) -> Reply:
         """Make an operation, once for each key, and answer when it is on the disk."""
@@ -223,8 +223,8 @@ class Lab:
         try:
             one = makes(seat, stamp, About(seat.name, note, int(time.time())))
         except ValueError:
-            raise Refused("Count", "this change is stamped more than a day ahead of the clock: it can be changed when that day "
-                          "has come") from None
+            raise Refused("Count", "this change is stamped more than a day ahead of the clock: wait until that "
+                          "day to change it") from None
         self.check(one)
         if one.site in seat.road.record.excluded:
             raise Refused("SiteExcluded", "this site is excluded: changes made here have no effect until another site includes it again")
@@ -237,9 +237,9 @@ class Lab:
         if one.excludes is not None:
             return f"site {one.excludes[0]} is {'excluded' if one.excludes[1] else 'included'} already"
         if not one.sets:
-            return "nothing of this change is there to be put on top, or it is on top already"
+            return "nothing of this change is left to put on top, or it is on top already"
         if not any(one.sets.values()):
-            return "nothing of this change is there to be withdrawn"
+            return "nothing of this change is left to withdraw"
         return "it is so already"
 
     async def _touched(self, before: Road, after: Road) -> int | None:
@@ -317,7 +317,7 @@ class Lab:
         """Return what was shared by others and this seat has not taken."""
         seat, shared, upto = self.state.seats[index], self.state.shared, self.keeper.confirmed
         begin = max(seat.upto, upto - LOOKED_AT)  # of one who never takes not all is gone through for each news
-        fresh = [one for one in shared.order(begin, upto) if one not in seat.own]
+        fresh = [one for one in shared.operations(begin, upto) if one not in seat.own]
         shares = [one for one in self.state.shares if seat.upto < one.upto <= upto]
         lister = Lister(self.state, shared, self.keeper.road(SHARED))
         return {"size": len(fresh) + begin - seat.upto, "from": sorted({one.about.who for one in fresh})[:10],

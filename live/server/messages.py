@@ -30,7 +30,7 @@ def site_of(folder: str, value: Mapping[str, Json]) -> tuple[str, str, int, str]
     """Return folder, run, number and road of a site, from a message of this folder or one that names its folder."""
     said, run, number, road = map(value.get, ("folder", "run", "site", "road"))
     if type(said) is not str or type(number) is not int or number not in NUMBERS or type(road) is not str:
-        raise InvalidMessage("it says of no site who it is")
+        raise InvalidMessage("it does not say which site sent it")
     return token_of(folder or said), clean_text(run or "", 40), number, clean_text(road, 40)
 
 
@@ -40,7 +40,7 @@ def sum_of(folder: str, value: Mapping[str, Json]) -> tuple[str, str, dict[str, 
     hashes = {name: one for name, one in numbers.items() if isinstance(one, str)} if isinstance(numbers, dict) else None
     if type(said) is not str or type(theirs) is not str or hashes != numbers or hashes is None or any(
             len(one) > LONGEST_HASH for one in hashes.values()):
-        raise InvalidMessage("it is no hash of what a site holds")
+        raise InvalidMessage("it has no hash of what a site holds")
     return token_of(folder or said), clean_text(theirs, LONGEST_HASH), hashes
 
 

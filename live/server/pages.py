@@ -28,7 +28,7 @@ class Page:
     def _check(self, request: web.Request) -> str:
         host = request.headers.get("Host", "")
         if host not in self._hosts:
-            raise web.HTTPForbidden(text="this host is not the server's")
+            raise web.HTTPForbidden(text="this host is not one of the server's names")
         return host
 
     async def _live(self, request: web.Request) -> web.StreamResponse:

@@ -10,7 +10,7 @@ import time
 from typing import Callable, Iterator, NamedTuple, Sequence, TypedDict
 
 from .asked import clean_text
-from .floods import only_newest
+from .floods import drop_oldest
 from .lab import Lab
 from .model.operations import Json
 from .refusals import Refused
@@ -62,7 +62,7 @@ class Peers:
         now, ahead = time.monotonic(), time.time() - when
         before, least = self._clocks.pop(folder, (now, ahead))
         self._clocks[folder] = (now, ahead) if ahead <= least or now - before > RECENT else (before, least)
-        only_newest(self._clocks)
+        drop_oldest(self._clocks)
 
     def ahead(self) -> float:
         """Return by how many seconds this server's clock is ahead of all that were heard in the last minute, if that is much;
@@ -79,7 +79,7 @@ class Peers:
         is_new = key not in self.known
         self.known.pop(key, None)
         self.known[key] = site
-        only_newest(self.known)
+        drop_oldest(self.known)
         if site.road == self._road:
             await self._bind(site.folder, site.number, bound)
         if is_new:
@@ -94,13 +94,13 @@ class Peers:
         if not before and len(bindings(state)) < MOST_BOUND:
             await self._lab.bind(number, folder)
         elif before and before != folder:
-            self._say(f"Number {number} is bound to another folder than the one that has it now. If this one is right: live/road "
+            self._say(f"Number {number} is bound to another folder than the one that uses it now. If the one that uses it is right: live/road "
                       f"NAME unbind {number}")
         other = told.get(str(own)) if isinstance(told, dict) else None
         if type(other) is not str or other == self._id or self.is_anothers():
             return
         if state.bound.get(own) == self._id:
-            self._say(f"Site {number} says that this site's number, {own}, is another folder's: if it is not, live/road NAME "
+            self._say(f"Site {number} says that this site's number, {own}, belongs to another folder: if that is wrong, run live/road NAME "
                       f"unbind {own} there, too")
             return
         await self._lab.bind(own, clean_text(other, 40))
@@ -143,19 +143,19 @@ class Peers:
     def named(self, folder: str) -> str:
         """Return what people call a folder's site."""
         if folder == self._id:
-            return "Somebody who uses this site's name"
+            return "Somebody with this site's name"
         number = next((site.number for site in [*self.known.values()] if site.folder == folder), None)
-        return "A site that was not heard for a while" if number is None else f"Site {number}"
+        return "A site that has been silent for a while" if number is None else f"Site {number}"
 
     def own_state(self) -> Iterator[str]:
         """Yield why this site sends nothing, and what is wrong with its clock."""
         if self.ahead():
-            yield (f"This server's clock is {self.ahead() / 60:.0f} minutes ahead of all other sites': set it right. Until then "
-                   f"what is put here is stamped by theirs")
+            yield (f"This server's clock is {self.ahead() / 60:.0f} minutes ahead of all other sites': correct it. Until then "
+                   f"changes made here are stamped by the others' clocks")
         number = self._keeper.state.site
         if self.is_anothers():
-            yield (f"This site's number, {number}, is another folder's: nothing is sent. Start it with another --site, in "
-                   f"a new folder; or, if the number is this one's: live/road NAME unbind {number}")
+            yield (f"This site's number, {number}, belongs to another folder: nothing is sent. Start this site with another --site, "
+                   f"in a new folder; or, if the number is its own, run live/road NAME unbind {number}")
         elif self.twin() is not None:
             yield (f"Another folder has this site's number, {number}, too: nothing is sent until one of them is gone. "
                    f"Start one with another --site, in a new folder")
@@ -163,16 +163,16 @@ class Peers:
     def their_state(self) -> Iterator[str]:
         """Yield what is to be known of others."""
         if len(bindings(self._keeper.state)) >= MOST_BOUND:
-            yield (f"{MOST_BOUND} numbers of sites are written down with their folders, and no more: live/road NAME numbers "
-                   f"lists them, and live/road NAME unbind N forgets one")
+            yield (f"{MOST_BOUND} site numbers are bound to folders, which is the limit: live/road NAME numbers "
+                   f"lists them, and live/road NAME unbind N releases one")
         for site in self.known.values():
             if site.is_silent and site.road == self._road:
-                yield f"A folder of number {site.number} sends nothing: the number is another's"
+                yield f"A folder with the number {site.number} sends nothing: the number belongs to another folder"
             elif site.form != SITE_FORM and site.road == self._road:
                 older = f"site {site.number}" if site.form < SITE_FORM else "this site"
                 yield f"Nothing is exchanged with site {site.number}, whose server has another version: update {older}"
             elif site.road != self._road:
-                yield f"Site {site.number} has another road (its plan or its seed differs): its changes do not come here"
+                yield f"Site {site.number} has another road (its plan or its seed differs): its changes are not taken"
 
 
 def bindings(state: State) -> dict[int, str]:
@@ -186,5 +186,5 @@ async def revoke(lab: Lab, number: int) -> None:
     state = lab.state
     mine = state.folder if number == state.site else NOBODY
     if (state.bound.get(number) or mine) == mine:
-        raise Refused("NotBound", f"number {number} is bound to no other folder")
+        raise Refused("NotBound", f"no other folder has the number {number}, so there is nothing to revoke")
     await lab.bind(number, mine)

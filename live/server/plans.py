@@ -63,9 +63,9 @@ def read_plan(path: Path) -> dict[str, Json]:
         value: Json = json.loads(text)
         packed(value).encode()  # halves of signs, and NaN, can be read and not written
     except (ValueError, RecursionError) as fault:
-        raise Broken(f"{path} is no plan line, and no freeway in km: {fault}") from None
+        raise Broken(f"{path} is neither a plan line nor a freeway in km: {fault}") from None
     if not isinstance(value, dict):
-        raise Broken(f"{path} is no plan line, and no freeway in km: it is no object of JSON")
+        raise Broken(f"{path} is neither a plan line nor a freeway in km: it is not a JSON object")
     return value
 
 
@@ -123,7 +123,7 @@ def by_recipe(path: Path, program: str) -> Converted:
                 said.append(line.strip())
         found = process.stdout.read()
     if process.returncode:
-        raise Broken(f"{path} is no plan line, and no freeway in km: {' '.join(said[-1:])}")
+        raise Broken(f"{path} is neither a plan line nor a freeway in km: {' '.join(said[-1:])}")
     for line in said:
         print(line, file=sys.stderr, flush=True)
     converted: Converted = json.loads(found)
@@ -146,7 +146,7 @@ def is_another(path: Path, plan: PlanLine, kept: Path) -> bool:
 
 
 async def lay(lab: Lab, road: Planned) -> None:
-    """Puts and shares what a freeway begins with, by a seat that is free again afterwards."""
+    """Put and share the works that a freeway begins with, from a seat that is freed afterwards."""
     if not road.shapes:
         return
     index, _ = await lab.seating.join(road.name, "", None)

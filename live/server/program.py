@@ -140,7 +140,7 @@ async def start(command: list[str], plan: bytes) -> Program:
     """Start a program, and let it read the plan line. Raise `ProgramExited`, or `BadPlan` with its refusal."""
     try:
         if not os.access(command[0], os.X_OK):
-            raise PermissionError(f"{command[0]} is no program")
+            raise PermissionError(f"{command[0]} is not a program")
         process = await asyncio.create_subprocess_exec(
             *dies_with_us(command), stdin=asyncio.subprocess.PIPE, stdout=asyncio.subprocess.PIPE, limit=LONGEST_REPLY,
             start_new_session=True)

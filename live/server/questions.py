@@ -97,7 +97,7 @@ class Questions:
         """Raise `Refused` if a road would run further than the clock may be set."""
         now = self._keeper.now()
         if to > LAST_HORIZON:
-            raise Refused("Horizon", f"`to` is at most {LAST_HORIZON}, not {to}")
+            raise Refused("Horizon", f"`to` must be at most {LAST_HORIZON}, not {to}")
         if to > now + AHEAD:
             raise Refused("TooFarAhead", f"at most {AHEAD} steps ahead of the clock, which is at {now}")
 
@@ -108,10 +108,10 @@ class Questions:
         """Return every n-th row of some steps, all cells or a stretch of them."""
         left, right = cells or (0, self._length - 1)
         if not left <= right < self._length:
-            raise Refused("Range", f"the cells are 0 to {self._length - 1}, the first at most the last")
+            raise Refused("Range", f"the cells must be from 0 to {self._length - 1}, the smaller first")
         count = (last - first) // every + 1
         if first > last or count > MOST_ROWS:
-            raise Refused("Range", f"`from` is at most `to`, and there are at most {MOST_ROWS} rows, not {count}")
+            raise Refused("Range", f"`from` must be at most `to`, with at most {MOST_ROWS} rows, not {count}")
         if count * (right - left + 4) > MOST_BYTES:
             raise Refused("Range", f"{count} rows of {right - left + 1} cells are too many bytes: at most "
                           f"{MOST_BYTES // (right - left + 4)} rows")
@@ -151,7 +151,7 @@ class Questions:
     async def sums(self, road: AskedRoad, times: Times, first: int, last: int) -> Reply:
         """Return for each whole minute the steps that cars spend on the road: the cars in the rows that its steps lead to."""
         if first % MINUTE or last % MINUTE or not 0 < last - first <= MOST_MINUTES * MINUTE:
-            raise Refused("Range", f"1 to {MOST_MINUTES} whole minutes, `from` and `to` in steps")
+            raise Refused("Range", f"`from` and `to` are steps, and must span 1 to {MOST_MINUTES} whole minutes")
         cars: list[int] = []
 
         async def body() -> More | None:
@@ -207,7 +207,7 @@ class Questions:
         async def part() -> More | None:
             if marks[-1:] != [road.mark()]:
                 if len(marks) > MOST_AGAIN:
-                    raise Refused("Busy", "the road is changed all the time: ask again later")
+                    raise Refused("Busy", "the road keeps changing: ask again later")
                 marks.append(road.mark())
                 found.clear()
             return await body()
@@ -349,8 +349,8 @@ class Questions:
             return {"stopped": self._chance.stop(index)}
         plan, listeners, days = self._keeper.state.plan, self._keeper.listeners, self._keeper.settings.days
         if not isinstance(plan["words"], int):
-            raise Refused("OneDay", "the words of this road are steady, drawn by no seed: it has one day, and its figures are "
-                          "those of each")
+            raise Refused("OneDay", "this road has fixed random numbers (no seed), so all days are the same: the figures of "
+                          "this day are those of every day")
         question = self._chance.begin(index, days, lambda other: self._keeper.state.seats[other].name)
         try:
             roads = await self._both(index, own, of, first, last)
@@ -379,7 +379,7 @@ class Questions:
         """Return the report of two roads: those of the preview, or the shared and the own one."""
         roads = await self._both(index, own, of, first, last)
         day, seat = clock_of(self._keeper.folder), self._keeper.state.seats[index]
-        names = ["now", "then"] if of == "preview" else ["shared", seat.name or seat.at]
+        names = ["before", "after"] if of == "preview" else ["shared", seat.name or seat.at]
         clock = () if day is None else (day.to_text(0), *(None if one is None else str(one) for one in (day.date, day.zone)))
         html = await reports.make(index, {"roads": roads, "title": title, "works": works, "names": names, "clock": clock,
                                           "days": reports.DAYS})

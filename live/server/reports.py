@@ -39,7 +39,7 @@ async def make(index: int, asked: ReportAsked) -> str:
             async with asyncio.timeout(PATIENCE):
                 out, _ = await process.communicate(packed(asked).encode())
         except asyncio.TimeoutError:
-            raise Refused("TooLong", f"the report took more than {PATIENCE:.0f} seconds: show less time") from None
+            raise Refused("TooLong", f"the report took more than {PATIENCE:.0f} seconds: choose a shorter period") from None
         finally:
             if process.returncode is None:  # nobody waits for it any more
                 figures.kill(process)

@@ -207,4 +207,4 @@ class Previews:
 
 
 def no_preview() -> Refused:
-    return Refused("NoPreview", "the two roads are not kept any more: ask for the preview again")
+    return Refused("NoPreview", "the two roads of the preview are no longer kept: request a new preview")

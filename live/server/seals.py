@@ -56,7 +56,7 @@ def key_of(path: Path) -> bytes:
     """Return the sites' shared secret, without spaces around it."""
     key = path.read_bytes().strip()
     if len(key) < SHORTEST_KEY:
-        raise Broken(f"{path} has {len(key)} bytes, and {SHORTEST_KEY} are the least for the sites' key")
+        raise Broken(f"{path} has {len(key)} bytes, but the key of the sites must have at least {SHORTEST_KEY}")
     return key
 
 
@@ -81,7 +81,7 @@ class Taken:
             try:
                 self._bounds = {str(folder): int(number) for folder, number in json.loads(path.read_bytes()).items()}
             except (OSError, ValueError, AttributeError, TypeError) as fault:
-                logging.warning("%s cannot be read, and begins again: %s", path, fault)
+                logging.warning("%s cannot be read, and is started again: %s", path, fault)
 
     def bound(self, folder: str) -> int:
         return self._bounds.get(folder, 0)
@@ -109,8 +109,8 @@ class Taken:
                 os.close(put_in_place(self._path, [packed(self._bounds).encode()]))
                 sync_folder(self._path.parent)
             except OSError as fault:
-                logging.warning("the numbers of messages are not written down, so after a restart old ones may be played "
-                                "again: %s", fault)
+                logging.warning("the numbers of messages cannot be written, so after a restart old messages may be "
+                                "replayed: %s", fault)
 
 
 class Seen:
@@ -156,7 +156,7 @@ class Seal:
         head = head_of(line) if there else None
         if self.key is not None:
             if head is None:
-                raise Unsealed("it bears no seal")
+                raise Unsealed("it has no seal")
             self._check(topic, head, body)
         if head is not None:
             return head.folder, body
@@ -165,7 +165,7 @@ class Seal:
 
     def _check(self, topic: str, head: Head, body: bytes) -> None:
         if not hmac.compare_digest(self._mac(topic, head, body).encode(), head.mac.encode()):
-            raise Unsealed("its seal is not that of this site's key")
+            raise Unsealed("its seal does not match this site's key")
         now, folder = self._clock(), head.folder
         if abs(now - head.time / 1_000) > LATE:
             raise Expired(folder, head.time / 1_000)

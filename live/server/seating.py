@@ -99,12 +99,12 @@ class Seating:
         if not 1 <= index < SEATS or not self._state.seats[index].key:
             raise self._refused("NoSuchSeat", "nobody has this seat")
         if index in self._keeper.here:
-            raise self._refused("SeatConnected", "somebody is connected there")
+            raise self._refused("SeatConnected", "a tab is connected to this seat")
         return await self._give(index, self._state.seats[index].name)
 
     async def _new_seat(self, name: str) -> tuple[int, str]:
         if not name:
-            raise self._refused("NoName", "who are you? A name has 1 to 64 signs")
+            raise self._refused("NoName", "give a name of 1 to 64 characters")
         alike = self._alike(name)
         if alike is not None:
             looks = "" if alike == name else f", and {name} looks like it"
@@ -122,7 +122,7 @@ class Seating:
         index = int(said) if said.isdecimal() and len(said) <= 2 else 0
         is_signed = hmac.compare_digest(self._signed(key[:8], index, name).encode(), key.encode("utf-8", "replace"))
         if not is_signed or self._state.seats[index].key or self._alike(name) is not None:
-            raise self._refused("UnknownKey", "the seat was taken over, or is free again: choose one")
+            raise self._refused("UnknownKey", "the seat was taken over, or is free again: choose a seat")
         return await self._give(index, name, self._state.works, key)
 
     def _alike(self, name: str) -> str | None:
@@ -185,7 +185,7 @@ class Seating:
         """Return a seat, unless it was left by what was asked before."""
         seat = self._state.seats[index]
         if not seat.key:
-            raise Refused("NotYourReplica", "the seat was left")
+            raise Refused("NotYourReplica", "this tab has left the seat")
         return seat
 
     def _free(self, index: int) -> asyncio.Future[None]:

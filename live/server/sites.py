@@ -19,7 +19,7 @@ from typing import TYPE_CHECKING, Callable, Deque, Iterator, Mapping, NamedTuple
 
 from .asked import LONGEST_NAME, LONGEST_NOTE, clean_text
 from .brokers import broker_of, connack_string, new_client
-from .floods import FLOOD, STRANGERS, UNSEALED, Floods, only_newest
+from .floods import FLOOD, STRANGERS, UNSEALED, Floods, drop_oldest
 from .journal import packed
 from .keeper import SHARED, Times
 from .lab import FutureStamp, Lab
@@ -37,9 +37,9 @@ from .supervised import supervised
 if TYPE_CHECKING:
     import paho.mqtt.client as mqtt
 
-LONGEST_PAUSE = 300.0  # after which it is sent again at the latest
+LONGEST_PAUSE = 300.0  # seconds after which an operation is sent again at the latest
 LONGEST = 2_000_000  # bytes of a message
-LARGE = 100_000  # bytes of one that is read beside all else
+LARGE = 100_000  # bytes of a message from which on it is read in a thread
 PIECE = 500_000  # bytes, about, of operations that are sent together
 AT_ONCE = 500  # operations that are sent, and taken, without a pause
 READ_FOR = 0.02  # seconds for operations of a message, until others get their turn
@@ -47,7 +47,7 @@ TOLD, MOST_STAY = 5, 20  # sentences
 MOST_EARLY, LONGEST_EARLY = 1_000, 2_000_000  # operations that wait until their day has come, and their bytes
 SITES_TOPIC = "road/sites"
 TOTAL = "all"  # beside the numbers: of all operations
-LATE_SAID = f"Messages more than {LATE / 60:.0f} minutes old, by this site's clock, were ignored: what they say will be sent again"
+LATE_SAID = f"Messages more than {LATE / 60:.0f} minutes old by this site's clock were ignored; their changes will be sent again"
 SENDERS = {STRANGERS: "A sender that names no folder", UNSEALED: "A sender without this site's --site-key"}
 
 
@@ -123,11 +123,11 @@ class Sites:
         if self._seal.key is None:
             yield "Anybody who reaches the broker can send changes: start the sites with --site-key"
         for folder in self._floods.paused():
-            yield f"{SENDERS.get(folder) or self._peers.named(folder)} sends too much: its messages are ignored for {FLOOD:.0f} seconds"
+            yield f"{SENDERS.get(folder) or self._peers.named(folder)} sends too many messages: they are ignored for {FLOOD:.0f} seconds"
         if self._early:
             yield f"{len(self._early)} changes are dated more than a day ahead of this server's clock: they take effect at their date"
         if self._left_out:
-            yield f"{self._left_out} messages were ignored: they are not sealed with this site's --site-key"
+            yield f"{self._left_out} messages were ignored: they have no seal of this site's --site-key"
         yield from self._peers.their_state()
 
     def _say(self, sentence: str) -> None:
@@ -159,10 +159,10 @@ class Sites:
             return
         except (InvalidMessage, Unsealed) as fault:
             self._left_out += isinstance(fault, Unsealed)
-            if not self._floods.are_too_many(UNSEALED):
+            if not self._floods.count_message(UNSEALED):
                 self._loop.call_soon_threadsafe(self._say, f"A message from the broker was ignored: {fault}")
             return
-        if self._floods.are_too_many(self._sender(folder)):
+        if self._floods.count_message(self._sender(folder)):
             return
         done = asyncio.run_coroutine_threadsafe(self._came(message.topic, folder, body), self._loop)
         try:
@@ -172,7 +172,7 @@ class Sites:
 
     def _opened(self, topic: str, payload: bytes) -> tuple[str, bytes]:
         if len(payload) > LONGEST:
-            raise InvalidMessage(f"it has {len(payload)} bytes, and {LONGEST} are the most")
+            raise InvalidMessage(f"it has {len(payload)} bytes, and the limit is {LONGEST}")
         return self._seal.opened(topic, payload)
 
     def _sender(self, folder: str) -> str:
@@ -184,7 +184,7 @@ class Sites:
     def _is_connected(self, code: int | None) -> None:
         self._connected = code == 0
         if code:
-            self._say(f"The broker does not let this site in: {connack_string(code)}")
+            self._say(f"The broker refused the connection: {connack_string(code)}")
         self._sent.clear()
         self._tell()
         if self._connected:
@@ -259,7 +259,7 @@ class Sites:
                 logging.warning("no announcement: %s", fault.why)
 
     async def announce(self) -> None:
-        """Says who this is and what it holds, sends what has not come back, and takes what has waited."""
+        """Announce this site and what it holds, send what has not come back, and take what has waited."""
         self._present()
         self._send_unreturned()
         if self._early and (self._taking is None or self._taking.done()):
@@ -289,7 +289,7 @@ class Sites:
         if self._counted[0] is not state:
             self._counted = state, 0, {}
         _, counted, sums = self._counted
-        for operation in state.shared.order(counted, self._keeper.confirmed):
+        for operation in state.shared.operations(counted, self._keeper.confirmed):
             one = hashlib.sha256(operation.text().encode()).hexdigest()
             for number in (str(operation.stamp[1]), TOTAL):
                 sums[number] = (sums.get(number, 0) + int(one[:16], 16)) % (1 << 64)
@@ -371,7 +371,7 @@ class Sites:
         times: Times = {}
         await self._lab.came(operations, title, times)
         if folder != self._id:
-            self._floods.works(self._sender(folder), times.get("work", 0))
+            self._floods.add_work(self._sender(folder), times.get("work", 0))
         for one in operations:
             self._tell_if_twice(one)
         unsent = self._keeper.state.unsent
@@ -385,7 +385,7 @@ class Sites:
         twins = self._keeper.state.of_stamp(one.stamp)
         if len(twins) > 1:
             people = sorted({f"{each.about.who}, {each.about.note}" if each.about.note else each.about.who for each in twins})
-            self._say(f"Two changes have one stamp, {list(one.stamp)}: of {' and of '.join(people)}")
+            self._say(f"Two changes have the same stamp, {list(one.stamp)}: of {' and of '.join(people)}")
 
     async def _take_early(self) -> None:
         """Take what waited until its day has come."""
@@ -406,12 +406,12 @@ class Sites:
         pair_now = theirs, ours
         before = self._sums.pop(folder, None)
         self._sums[folder] = pair_now
-        only_newest(self._sums)
+        drop_oldest(self._sums)
         if theirs == ours:
             self._pauses.pop(folder, None)
             if value.get("timeline") != await self._timeline() and self._numbers()[TOTAL] == ours:
-                self._say(f"{self._peers.named(folder)} has the same changes and another road by them: its server has another "
-                          f"version than this one. Update the older of the two")
+                self._say(f"{self._peers.named(folder)} has the same changes but derives a different road from them: its server "
+                          f"has another version. Update the older of the two")
         elif before == pair_now or folder in self._pauses and self._pauses[folder].place:
             self._tell_what_may_lack(folder, numbers, ours)
 
@@ -425,7 +425,7 @@ class Sites:
             return
         own = self._numbers()
         other = {number for number, found in own.items() if numbers.get(number) != found}
-        lacking = sorted((one for one in self._keeper.state.shared.order(0, self._keeper.confirmed)
+        lacking = sorted((one for one in self._keeper.state.shared.operations(0, self._keeper.confirmed)
                           if str(one.stamp[1]) in other), key=lambda one: one.stamp)
         logging.info("another site holds other operations: telling %d to %d of %d", place,
                      min(place + AT_ONCE, len(lacking)), len(lacking))
@@ -433,7 +433,7 @@ class Sites:
         has_more = place + AT_ONCE < len(lacking)
         self._pauses[folder] = (Pause(now, pause, place + AT_ONCE, held) if has_more
                                 else Pause(now, min(LONGEST_PAUSE, max(EVERY, 2 * pause)), 0, held))
-        only_newest(self._pauses)
+        drop_oldest(self._pauses)
 
 
 def hash_of(edits: Edits) -> str:

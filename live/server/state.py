@@ -1,12 +1,12 @@
-"""Hold what a folder's journal says: the plan, the seats, and each operation with who holds it.
+"""Hold what a folder's journal says: the plan, the seats, and the operations that each seat holds.
 
     state = State()
     for entry in read_entries(path)[0]: state.read(entry)
     entry.apply(state)                     a new entry
     entries = list(state.entries())        the same in as few entries as possible
 
-Seat 0 is the shared road. Its operations stand in the order in which they came. A seat that takes has the first of them, up to
-a place, beside its own.
+Seat 0 is the shared road. It has its operations in order of arrival. Every other seat holds its own operations and a prefix of
+these.
 """
 from __future__ import annotations
 
@@ -28,15 +28,15 @@ from .stamps import StampClock
 TAB_FORM = 4  # the protocol of tabs
 SITE_FORM = 3  # the protocol of sites
 MOST_NEWS = 100
-AT_ONCE = 100  # operations that are worked out before others are heard
-MOST_ROADS = 8  # values of the shared road that are kept for those who take
+AT_ONCE = 100  # operations that are applied before others get a turn
+MOST_ROADS = 8  # values of the shared road that are kept for seats that take
 
 NO_PLAN: PlanLine = {"length": 0, "inlets": (), "zones": (), "zone": 0, "exit": 0, "detectors": (), "words": 0, "replicas": ()}
 """The plan of a state that has read none."""
 
 
 def plan_value(plan: PlanLine, kind: str, index: int) -> int | None:
-    """Return what an object is by the plan alone; None of cars that start, about which it says nothing."""
+    """Return the value that the plan gives an object; None for `start`, which a plan does not set."""
     if kind == "block":
         return 0
     if kind == "watch":
@@ -51,14 +51,14 @@ def plan_value(plan: PlanLine, kind: str, index: int) -> int | None:
 
 
 class Replica:
-    """A road that is kept, with the list of its changes. Operations wait until the road is asked for."""
+    """A road with the list of its changes. New operations wait until somebody asks for the road."""
 
     def __init__(self, index: int, state: State) -> None:
         self.index, self._state = index, state
         self.begun = self.version = state.begun  # of its list
-        self.marks: dict[Stamp, int] | None = None  # by line the version that altered it last, from `begun` on
-        self.places: dict[Operation, int] = {}  # what it holds, each with how many came before
-        self.size: int = 0  # how many came
+        self.marks: dict[Stamp, int] | None = None  # line -> version of its last change, relative to `begun`
+        self.places: dict[Operation, int] = {}  # operation -> its place in order of arrival
+        self.size: int = 0  # how many operations it holds
         self._road: Road | None = None
         self._waiting: list[Operation] = []
 
@@ -82,18 +82,18 @@ class Replica:
         return self._road
 
     async def catch_up(self) -> None:
-        """Work its road out in pieces, between which others are heard. Whoever asks for it meanwhile gets it whole."""
+        """Apply waiting operations in pieces, so that others get a turn in between. Whoever asks for the road meanwhile gets all of it."""
         while self._road is not None and len(self._waiting) > AT_ONCE:
             part, self._waiting = self._waiting[:AT_ONCE], self._waiting[AT_ONCE:]
             self.become(self._road.adding(part))
             await asyncio.sleep(0)
 
     def built(self) -> Road:
-        """Return its road, made from all that it holds."""
+        """Build its road from all the operations that it holds."""
         raise NotImplementedError
 
     def become(self, road: Road) -> None:
-        """Take another road in the place of this one, and mark the lines that may show something else."""
+        """Replace the road, and mark the lines that may look different."""
         before, self._road = self._road, road
         if self.marks is not None and before is not None:
             self.mark(sorted(altered(before, road)))
@@ -118,7 +118,7 @@ class Replica:
                 self.marks[line] = same_int(self.version - self.begun)
 
     def begin_list(self) -> dict[Stamp, int]:
-        """Return the marks; the first time all lines are new."""
+        """Return the marks. The first time, all lines are new."""
         road = self.road
         if self.marks is None:
             self.marks = {}
@@ -132,7 +132,7 @@ class SharedReplica(Replica):
     def __init__(self, state: State) -> None:
         super().__init__(0, state)
         self._order: list[Operation] = []
-        self._roads: dict[int, Road] = {}  # by how many operations it had
+        self._roads: dict[int, Road] = {}  # by the number of its operations
 
     def built(self) -> Road:
         return self.upto(self.size)
@@ -142,9 +142,9 @@ class SharedReplica(Replica):
         self._order += fresh
         return fresh
 
-    def order(self, since: int = 0, until: int | None = None) -> list[Operation]:
-        """Return its operations in the order in which they came."""
-        return self._order[since:until]
+    def operations(self, first: int = 0, end: int | None = None) -> list[Operation]:
+        """Return its operations in order of arrival, from place `first` to before `end`."""
+        return self._order[first:end]
 
     def upto(self, size: int) -> Road:
         """Return the road of the first `size` operations."""
@@ -155,7 +155,7 @@ class SharedReplica(Replica):
         return self._roads[size]
 
     def keep(self, size: int, road: Road) -> None:
-        """Keep a value of the road for those who take, and let go those that nobody will ask for."""
+        """Keep a value of the road for seats that take, and drop those that nobody will ask for."""
         self._roads[size] = road
         used = {seat.upto for seat in self._state.seats if seat.key}
         for old in [one for one in self._roads if one not in used][:-MOST_ROADS]:
@@ -166,7 +166,7 @@ class SharedReplica(Replica):
         self.keep(self.size - len(self._waiting), road)
 
     def prepare(self) -> None:
-        """Work out the roads that will be asked for, before anybody does."""
+        """Build the roads that will be needed, before anybody asks."""
         for size in sorted({self.size, *(seat.upto for seat in self._state.seats if seat.key)}):
             self.upto(size)
 
@@ -177,26 +177,26 @@ class SeatReplica(Replica):
     def __init__(self, index: int, state: State, count: int = 0) -> None:
         super().__init__(index, state)
         self.name, self.key = "", ""  # the hash of its tab's key; empty: nobody has the seat
-        self.count = count  # the greatest in its stamps
+        self.count = count  # the greatest count in its stamps
         self.upto = 0  # how many operations of the shared road it has taken
-        self.used: float = 0  # when a tab of it was last there
-        self.own: dict[Operation, None] = {}  # made at this seat, in their order
+        self.used: float = 0  # when it last had a tab
+        self.own: dict[Operation, None] = {}  # made at this seat, in order
         self.done: dict[str, Stamp] = {}  # its operations by their keys
         self.renamed: dict[Stamp, Stamp] = {}  # the stamps of operations that were stamped again
-        self.idle: frozenset[Operation] = frozenset()  # private ones that need not be shared, as the list says
+        self.idle: frozenset[Operation] = frozenset()  # private ones that need not be shared, as the list shows
         self._shareable: tuple[Road, Road, list[Operation]] | None = None
 
     def built(self) -> Road:
         return self._state.shared.upto(self.upto).adding(self.own)
 
     def rebuild(self) -> None:
-        """Make its road again, from all that it holds."""
+        """Build its road again from all the operations that it holds."""
         if self._road is not None:
             self._waiting = []
             self.become(self.built())
 
     def forgot(self, lines: set[Stamp]) -> None:
-        """Build its road again, without what was forgotten on these lines. Lines that have nothing left were gone before."""
+        """Build its road again, without what was forgotten on these lines. Empty lines had left the list before."""
         self._road = self.built()
         left = {line for line in lines if operations_on(self._road, line)}
         self.mark(sorted(left))
@@ -213,7 +213,7 @@ class SeatReplica(Replica):
         return self._shareable[2]
 
     def _all_shared(self, shared: Road) -> Road:
-        """Return the shared road with all private operations. Most of them were there when it was asked for last."""
+        """Return the shared road with all private operations. Starts from the last such road, since most of them are in it."""
         lately = self._state.lately
         known, then = lately.pop(self.index, (shared, shared))
         lately[self.index] = shared, (then if known is shared else shared).adding(self._state.private(self))
@@ -222,7 +222,7 @@ class SeatReplica(Replica):
         return lately[self.index][1]
 
     def look_for_idle(self) -> None:
-        """Mark the lines whose operations have become idle, or are no longer so."""
+        """Mark the lines whose operations have become idle, or are no longer idle."""
         given = set(self.shareable())
         idle = frozenset(one for one in self._state.private(self) if one not in given)
         changed, self.idle = idle ^ self.idle, idle
@@ -238,22 +238,22 @@ class State:
     """All that a journal determines."""
 
     def __init__(self, clock: StampClock | None = None, begun: int = 0) -> None:
-        """Stamps are by `clock`; versions of lists are above `begun`."""
+        """`clock` makes stamps; versions of lists are above `begun`."""
         self.begun = begun
         self.plan: PlanLine = NO_PLAN
         self.site, self.folder, self.form = 0, "", JOURNAL_FORM
-        self.bound: dict[int, str] = {}  # by site's number the folder that had it first
+        self.bound: dict[int, str] = {}  # site's number -> the folder that had it first
         self.unsent: dict[Operation, None] = {}  # shared here, and not yet come back from the broker
-        self.titles: dict[Operation, str] = {}  # under which operations were shared
+        self.titles: dict[Operation, str] = {}  # the title under which an operation was shared
         self.shares: list[News] = []
-        self.works = 0  # how many operations of the shared road every new seat has
+        self.works = 0  # how many operations of the shared road every new seat starts with
         self.rate: float = 0
         self.now = 0
         self.stop: int | None = None
         self.by_stamp: dict[Stamp, Operation] = {}
-        self._twins: dict[Stamp, tuple[Operation, ...]] = {}  # others of a stamp
+        self._twins: dict[Stamp, tuple[Operation, ...]] = {}  # other operations with the same stamp
         self._greatest, self._later = 0, list[int]()  # the greatest count by the clock when it was asked last, and those above
-        self.lately: dict[int, tuple[Road, Road]] = {}  # of a seat: the shared road, and that with all private operations
+        self.lately: dict[int, tuple[Road, Road]] = {}  # by seat: the shared road, and the same road with all private operations
         self._clock = clock or StampClock()
         self._former: Former | None = None
         self.empty = Road(lambda kind, index: plan_value(self.plan, kind, index))
@@ -262,13 +262,13 @@ class State:
         self.seats = [SeatReplica(index, self) for index in range(SEATS)]
 
     def replica(self, index: int) -> Replica:
-        """Return the road of a seat; of 0 the shared one."""
+        """Return the replica of a seat; of seat 0 the shared one."""
         return self.seats[index] if index else self.shared
 
     # Entries
 
     def read(self, entry: Mapping[str, Fields]) -> None:
-        """Apply an entry as a journal has it, of any form; raise `Broken` if it is malformed."""
+        """Apply an entry of a journal, of any form; raise `Broken` if it is malformed."""
         (kind, value), = entry.items()
         try:
             if self._former is None or not self._former.apply(kind, value):
@@ -285,7 +285,7 @@ class State:
         self.form, self._former = JOURNAL_FORM, None
 
     def interned(self, one: Operation) -> Operation:
-        """Return the operation that is held and the same, or this one."""
+        """Return the equal operation that is already held, or this one."""
         known = self.of_stamp(one.stamp)
         found = next((other for other in known if other.is_same(one)), None)
         if found is None:
@@ -295,7 +295,7 @@ class State:
         return found or one
 
     def of_stamp(self, stamp: Stamp) -> tuple[Operation, ...]:
-        """Return the operations of a stamp: none, one, or twins."""
+        """Return the operations with a stamp: none, one, or twins."""
         first = self.by_stamp.get(stamp)
         return () if first is None else (first, *self._twins.get(stamp, ()))
 
@@ -349,8 +349,8 @@ class State:
     # Questions
 
     def stamp(self, seat: SeatReplica) -> Stamp:
-        """Return a new stamp of a seat: above all that is held here, and above all that was made at this site, so that a clock
-        that goes back puts nothing beneath what is older. What is too far ahead of the clock does not count."""
+        """Return a new stamp of a seat: above all stamps that are held here, and above all that this site made, so that no change
+        falls below an older one if the clock goes back. Stamps too far ahead of the clock are ignored."""
         latest = self._clock.latest_count()
         if self._greatest > latest:  # the clock has gone back
             self._greatest, self._later = 0, [count for count, _ in self.by_stamp]
@@ -364,14 +364,14 @@ class State:
         return [one for one in seat.own if one not in self.shared.places]
 
     def fresh(self, seat: SeatReplica, upto: int | None = None) -> list[Operation]:
-        """Return what was shared that the seat has not taken, but for what it holds already."""
-        return [one for one in self.shared.order(seat.upto, upto) if one not in seat.places]
+        """Return the shared operations that the seat has not taken and does not hold already."""
+        return [one for one in self.shared.operations(seat.upto, upto) if one not in seat.places]
 
     def held_by(self, seat: SeatReplica, stamp: Stamp) -> list[Operation]:
         return [one for one in self.of_stamp(stamp) if one in seat.places]
 
     def stamp_anew(self, seat: SeatReplica, stamps: Mapping[Stamp, Stamp]) -> None:
-        """Give private operations of a seat other stamps. They are called by the old ones, too."""
+        """Give private operations of a seat new stamps. The old ones still name them, too."""
         old = [one for one in self.private(seat) if one.stamp in stamps]
         new = stamped_anew(old, stamps)
         for one in old:
@@ -386,12 +386,12 @@ class State:
     # Forgetting
 
     def _drop(self, seat: SeatReplica, one: Operation) -> None:
-        """Let a private operation go."""
+        """Drop a private operation."""
         del seat.own[one], seat.places[one]
         self._set_stamp(one.stamp, tuple(other for other in self.of_stamp(one.stamp) if other is not one))
 
     def forget(self, seat: SeatReplica, kept: int) -> None:
-        """Let private operations go that say nothing any more, but for the newest: no layer differs without them."""
+        """Drop private operations that no longer have an effect, except the newest: no layer differs without them."""
         private = self.private(seat)
         if len(private) <= kept:
             return
@@ -416,7 +416,7 @@ class State:
                 yield SeatGiven(seat.index, seat.name, seat.key, seat.used, seat.count)
             elif seat.count:
                 yield SeatFreed(seat.index, seat.count)
-        for one in self.shared.order():
+        for one in self.shared.operations():
             yield self._shared_entry(one)
         yield AllNews(self.shares)
         if self.works:

@@ -170,7 +170,7 @@ class Tab:
             if verb == "seats":
                 self._send({"id": number, "seats": await self._tabs.seats()})
             elif self.index is not None:
-                raise not_a_command("hello was said before")
+                raise not_a_command("`hello` was sent before")
             else:
                 self._send({"id": number, "welcome": await self._tabs.welcome(self, asked)})
                 self._tabs.arrived(self)
@@ -220,7 +220,7 @@ def parse_frame(text: str) -> tuple[int, str, Json]:
 
 
 def no_number(text: str) -> None:
-    raise ValueError(f"{text} is no number of JSON")
+    raise ValueError(f"{text} is not a JSON number")
 
 
 def finite(text: str) -> float:

@@ -30,7 +30,7 @@ class Timing:
         keeper = self._keeper
         now = keeper.now()
         if to is not None and not now <= to <= min(LAST_HORIZON, now + AHEAD):
-            raise Refused("Range", f"`to` is {now} to {min(LAST_HORIZON, now + AHEAD)}, not {to}")
+            raise Refused("Range", f"`to` must be {now} to {min(LAST_HORIZON, now + AHEAD)}, not {to}")
         async with self._setting:
             await keeper.turns.ask(SHARED, keeper.writable)
             clock = keeper.clock() if rate is None else Clock(rate, keeper.now())

@@ -67,7 +67,7 @@ class Verb:
 async def answer(lab: Lab, questions: Questions, index: int, asked: Asked, times: Times) -> Reply:
     """Answer a seat; raise `Refused` if that cannot be done."""
     if asked.verb not in VERBS:
-        raise not_a_command(f"`{asked.verb}` is no command of a tab")
+        raise not_a_command(f"`{asked.verb}` is not a command of a tab")
     verb = VERBS[asked.verb]
     call = Call(lab, questions, index, where(lab, index, asked, verb), times)
     with asked:
@@ -86,8 +86,8 @@ def where(lab: Lab, index: int, asked: Asked, verb: Verb) -> str:
     meant = "own" if at == own else at
     if type(meant) is not str or meant not in verb.of:
         valid = " or ".join(f'"{own if one == "own" else one}"' for one in sorted(verb.of))
-        raise Refused("NotYourReplica", "a tab asks about its own replica, the shared one, and the two of its preview, and "
-                      f"changes its own: here `at` is {valid}")
+        raise Refused("NotYourReplica", "a tab may change only its own replica, and read only that one, the shared one and the two "
+                      f"of its preview: here `at` must be {valid}")
     return meant
 
 
@@ -117,7 +117,7 @@ def read_comparison(asked: Asked) -> tuple[str, int, int]:
     """Return which roads are compared, and the steps."""
     of = asked.require("of")
     if type(of) is not str or of not in ("preview", "mine"):
-        raise not_a_command('`of` is "preview" or "mine"')
+        raise not_a_command('`of` must be "preview" or "mine"')
     return (of, *read_steps(asked))
 
 
@@ -127,7 +127,7 @@ def read_site(asked: Asked) -> int:
 
 def require_shared(asked: Asked, field: str) -> None:
     if asked.require(field) != "shared":
-        raise Refused("not a command", f"`{field}` is \"shared\" here")
+        raise Refused("not a command", f"`{field}` must be \"shared\" here")
 
 
 # Of no road
@@ -162,7 +162,7 @@ def admission(asked: Asked) -> Does:
         inlets = len(call.lab.state.plan["inlets"])
         for one, chance in [(inlet, 0), *before]:
             if one >= inlets or chance > 65_536:
-                raise Refused("Range", f"an inlet is 0 to {inlets - 1}, and its chance 0 to 65536")
+                raise Refused("Range", f"an inlet must be 0 to {inlets - 1}, and its chance 0 to 65536")
         return await call.questions.admission(inlet, start, before)
     return does
 
@@ -183,7 +183,7 @@ def gesture(asked: Asked) -> Does:
     line, top = asked.stamp_or_key("layer"), asked.flag("top")
     if not asked.has("shape"):
         if not top:
-            raise not_a_command("a gesture with a `layer` has a `shape`, which may be null, or `top`")
+            raise not_a_command("a gesture with a `layer` needs a `shape` (which may be null) or `top`")
         return lambda call: call.lab.lift_line(call.index, call.times, key=key, note=note, line=line)
     shape = None if asked.is_null("shape") else asked.shape()
     said = None if shape is None else asked.demand(shape)
@@ -197,7 +197,7 @@ def read_edit(asked: Asked) -> list[RawEdit]:
             asked.require("value") if asked.verb == "edit" else None]
     edits = Asked("gesture", {"edits": [edit]}).edits()
     if asked.verb == "edit" and edit[-1] is None:
-        raise Refused("not a command", "null is no number: `withdraw` takes an edit back")
+        raise Refused("not a command", "`value` is null: use `withdraw` to take an edit back")
     return edits
 
 
@@ -259,7 +259,7 @@ def counts(asked: Asked) -> Does:
 def preview(asked: Asked) -> Does:
     what = None if asked.is_null("what") else asked.require("what")
     if what not in (None, "share", "take"):
-        raise not_a_command('`what` is "share" or "take", or null')
+        raise not_a_command('`what` must be "share", "take" or null')
     stamps = asked.stamps()
     return lambda call: call.questions.preview(call.index, what, stamps)
 
@@ -289,7 +289,7 @@ def report(asked: Asked) -> Does:
 
 def table_of_counts(asked: Asked) -> Does:
     if asked.require("what") != "counts":
-        raise not_a_command('`what` is "counts"')
+        raise not_a_command('`what` must be "counts"')
     first, last = read_steps(asked)
     each = asked.whole("each", 1, LAST_HORIZON)
     return lambda call: call.questions.table_of_counts(call.road, call.times, first, last, each)

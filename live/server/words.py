@@ -32,7 +32,7 @@ class InvalidWords(ValueError):
 
 @dataclass(frozen=True)
 class WrittenChange:
-    """A change: its shape, in which a demand has the value 0; the demand in cars per hour, if it is one; and a sentence of it."""
+    """A change: its shape, in which a demand has the value 0; the demand in cars per hour, if it is one; and a sentence about it."""
 
     shape: Shape
     demand: float | None
@@ -51,7 +51,7 @@ def read_change(words: Sequence[str], plan: PlanLine, clock: Clock) -> WrittenCh
     most = HOW[kind].count(" ") + 1
     given = list(words[1:])
     if not most - 1 <= len(given) <= most:
-        raise InvalidWords(f"{kind} is followed by {HOW[kind]}")
+        raise InvalidWords(f"write {kind} {HOW[kind]}")
     value = None if kind == "close" else given.pop(0)
     places = [given.pop(0) for _ in range(1 if kind in ("demand", "detector") else 2)]
     begin, end = read_times(given, clock)
@@ -86,12 +86,12 @@ def read_times(given: Sequence[str], clock: Clock) -> tuple[int, int | None]:
 
 
 def read_value(kind: str, text: str | None) -> tuple[int, str]:
-    """Return a value in the program's units, and in words. InvalidWords: it is out of range."""
+    """Return a value in program units (0 for a demand), and as text. InvalidWords: it is out of range."""
     if text is None:
         return 1, "closed"
     if kind == "detector":
         if text not in ("on", "off"):
-            raise InvalidWords(f"a detector is on or off, not {text!r}")
+            raise InvalidWords(f"a detector can be on or off, not {text!r}")
         return int(text == "on"), f"detector {text}"
     if kind == "demand":
         return 0, f"{parse_number(text, 'a number of cars per hour'):g} cars/h"
@@ -99,18 +99,20 @@ def read_value(kind: str, text: str | None) -> tuple[int, str]:
     if kind == "limit":
         limit = to_limit(number)
         if limit > 9:
-            raise InvalidWords(f"a limit is 0 to {9 * KMH:g} km/h, not {text}")
+            raise InvalidWords(f"a limit must be 0 to {9 * KMH:g} km/h, not {text}")
         return limit, f"limit {limit * KMH:g} km/h"
     if number > 100:
-        raise InvalidWords(f"a chance is 0 to 100 percent, not {text}")
+        raise InvalidWords(f"a chance must be 0 to 100 percent, not {text}")
     return to_chance(number / 100), f"{kind} {number:g} %"
 
 
 def find_places(kind: str, places: Sequence[float], plan: PlanLine) -> tuple[int, int, str]:
-    """Return the first and the last object at places in km, and where they are in words. InvalidWords: they are not on the road."""
+    """Return the first and the last object at places in km, and a text that says where they are. InvalidWords: they are not on the
+    road."""
     end = to_km(plan["length"])
     if max(places) > end + 1e-9 or len(places) == 2 and places[0] > places[1]:
-        raise InvalidWords(f"{' to '.join(f'{one:g}' for one in places)} km is not on the road: 0 to {end:g} km, the greater one second")
+        raise InvalidWords(f"{' to '.join(f'{one:g}' for one in places)} km: give two places from 0 to {end:g} km, the smaller first"
+                           if len(places) == 2 else f"{places[0]:g} km is not on the road: give a place from 0 to {end:g} km")
     if kind in ("demand", "detector"):
         cells = [cell for cell, _ in plan["inlets"]] if kind == "demand" else plan["detectors"]
         if not cells:
@@ -129,7 +131,7 @@ def find_places(kind: str, places: Sequence[float], plan: PlanLine) -> tuple[int
 
 
 def find_state(plan: PlanLine, edits: Sequence[WrittenEdit], inlet: int, step: int) -> InletState:
-    """Return what the curve of an inlet depends on at a step, as the question `admission` has it. `edits` are those of a scenario."""
+    """Return what the curve of an inlet depends on at a step, in the form that `admission` takes. `edits` are those of a scenario."""
     cell = plan["inlets"][inlet][0]
 
     def find_value(kind: str, index: int, at: int, planned: int | None) -> int | None:

@@ -1,4 +1,4 @@
-"""What a tab can do: put, change, withdraw, raise, take back, share, take; who covers whom, and what is told of it."""
+"""Test what a tab can do: put, change, withdraw, raise, undo, share, take; which change covers which, and what the server tells."""
 from __future__ import annotations
 
 import asyncio
@@ -16,29 +16,29 @@ SLOW = ["limit", 1, 3, 20, 80, 2]
 
 
 async def put(seat: Seat, key: str, *edits: list[Any], **more: Any) -> Stamp:
-    """Raw edits."""
+    """Put raw edits. Return the stamp."""
     return (await seat.ask("gesture", key=key, edits=list(edits), **more))["stamp"]
 
 
 async def lay(seat: Seat, key: str, shape: list[Any] | None, **more: Any) -> Stamp:
-    """A shape, or what becomes of one."""
+    """Put, change or withdraw a shape. Return the stamp."""
     return (await seat.ask("gesture", key=key, shape=shape, **more))["stamp"]
 
 
 async def limit_at(seat: Seat, at: str = "") -> Any:
-    """What the seat's replica holds for LIMIT: null for a withdrawal, "-" for nothing."""
+    """Return what the seat's replica holds for LIMIT: null for a withdrawal, "-" for nothing."""
     edits = (await seat.ask("scenario", **({"at": at} if at else {})))["edits"]
     return next((edit[5] for edit in edits if [*edit[:3]] == LIMIT), "-")
 
 
 async def numbers(seat: Seat, at: str = "") -> dict[tuple[Any, ...], int]:
-    """The numbers that are put."""
+    """Return the values of the edits in force, by object and step."""
     edits = (await seat.ask("scenario", **({"at": at} if at else {})))["edits"]
     return {tuple(edit[:3]): edit[5] for edit in edits if edit[5] is not None}
 
 
 async def lines(seat: Seat, at: str = "") -> dict[tuple[int, ...], Any]:
-    """The whole list, by names."""
+    """Return the whole list of changes, by name."""
     found: dict[tuple[int, ...], Any] = {}
     after, more = 0, True
     while more:
@@ -49,7 +49,7 @@ async def lines(seat: Seat, at: str = "") -> dict[tuple[int, ...], Any]:
 
 
 def closed(first: int, last: int, begin: int, end: int) -> dict[tuple[Any, ...], int]:
-    """The numbers of a closure alone."""
+    """Return the values of the edits of a closure alone."""
     return {("block", cell, step): value for cell in range(first, last + 1) for step, value in ((begin, 1), (end, 0))}
 
 
@@ -76,7 +76,7 @@ class Acts(Case):
         self.assertEqual((again["stamp"], again["again"], again["layers"]), (stamp, True, []))
         self.assertEqual(await numbers(self.ada), closed(60, 69, 30, 60))
 
-    async def test_of_two_closures_that_overlap_each_can_be_withdrawn(self) -> None:
+    async def test_each_of_two_overlapping_closures_can_be_withdrawn(self) -> None:
         first = await lay(self.ada, "1", ["block", 60, 60, 30, 60, 1])
         second = await lay(self.ada, "2", ["block", 60, 60, 20, 40, 1])
         self.assertEqual(await numbers(self.ada), closed(60, 60, 20, 60))
@@ -86,7 +86,7 @@ class Acts(Case):
         self.assertEqual(await numbers(self.ada), {})
         self.assertEqual(await lines(self.ada), {})  # it was private: nothing of it is left to list
 
-    async def test_of_a_preview_that_is_replaced_no_program_is_left(self) -> None:
+    async def test_a_replaced_preview_leaves_no_program(self) -> None:
         await lay(self.ada, "1", CLOSED)
         asked = []
         for count in range(30):
@@ -100,17 +100,17 @@ class Acts(Case):
         async def is_alone() -> bool:
             return [*descendants(self.a6.process.pid)] == [self.a6.program]
         await until(is_alone, "the program of the roads alone")
-        self.assertNotIn("` failed", self.a6.said())  # a question; that a pipe broke asyncio may say
+        self.assertNotIn("` failed", self.a6.said())  # no question failed (asyncio may log a broken pipe)
 
-    async def test_who_covers_whom_from_when_to_when(self) -> None:
+    async def test_shown_lists_which_layer_covers_which_and_when(self) -> None:
         old = await lay(self.ada, "old", ["limit", 2, 2, 20, 80, 1], note="long")
         said = await self.ada.ask("gesture", key="new", shape=["limit", 2, 2, 40, 50, 3])
         new = said["stamp"]
-        self.assertEqual({tuple(one["name"]) for one in said["layers"]}, {tuple(old), tuple(new)})  # what is other now
+        self.assertEqual({tuple(one["name"]) for one in said["layers"]}, {tuple(old), tuple(new)})  # what differs now
         shown = next(one["shown"] for one in said["layers"] if one["name"] == old)
         self.assertEqual(shown, [["limit", 2, 2, 20, 40, 1, None], ["limit", 2, 2, 40, 50, 1, new],
                                  ["limit", 2, 2, 50, 80, 1, None]])
-        changed = await lay(self.ada, "change", ["limit", 2, 2, 20, 90, 2], layer=old)  # it stays where it is
+        changed = await lay(self.ada, "change", ["limit", 2, 2, 20, 90, 2], layer=old)  # a change keeps its height
         self.assertEqual(await numbers(self.ada), {("limit", 2, 20): 2, ("limit", 2, 40): 3, ("limit", 2, 50): 2,
                                                    ("limit", 2, 90): 5})
         top = await self.ada.ask("gesture", key="top", layer=old, top=True)
@@ -119,10 +119,10 @@ class Acts(Case):
         self.assertEqual(held[tuple(new)]["shown"], [["limit", 2, 2, 40, 50, 3, old]])  # wholly covered
         self.assertEqual([one["does"] for one in held[tuple(old)]["operations"]], ["put", "change", "top"])
         self.assertEqual([one["stamp"] for one in held[tuple(old)]["operations"]], [old, changed, top["stamp"]])
-        gone = await self.ada.ask("gesture", key="gone", layer=new, shape=None)  # it can be withdrawn all the same
+        gone = await self.ada.ask("gesture", key="gone", layer=new, shape=None)  # it can still be withdrawn
         self.assertEqual((gone["touched"], gone["layers"]), (None, [{"name": new, "gone": True}]))
 
-    async def test_undo_gives_back_exactly_what_was(self) -> None:
+    async def test_undo_restores_exactly_what_was_there(self) -> None:
         old = await lay(self.ada, "old", ["limit", 2, 2, 20, 80, 1])
         await lay(self.ada, "new", ["limit", 2, 2, 40, 50, 3])
         before = await numbers(self.ada), await lines(self.ada)
@@ -137,7 +137,7 @@ class Acts(Case):
         await self.ada.ask("undo", key="again", stamp=back["redo"])
         self.assertEqual(await numbers(self.ada), {("limit", 2, 40): 3, ("limit", 2, 50): 5})
 
-    async def test_z_takes_back_one_after_the_other_and_redo_puts_them_again(self) -> None:
+    async def test_z_undoes_one_change_after_the_other_and_redo_repeats_them(self) -> None:
         states, undo = [await numbers(self.ada)], None
         for count in range(4):
             undo = (await self.ada.ask("gesture", key=f"g{count}", shape=["limit", count % 2, 2, 20 + count, 80, 1]))["undo"]
@@ -156,7 +156,7 @@ class Acts(Case):
         await self.ada.ask("undo", key="last", stamp=undo)
         self.assertEqual(await numbers(self.ada), states[3])
 
-    async def test_z_takes_back_all_that_was_done_to_one_line(self) -> None:
+    async def test_z_undoes_every_change_of_one_line(self) -> None:
         line = await lay(self.ada, "under", ["limit", 2, 2, 40, 90, 1])
         states = [await numbers(self.ada)]
         gestures: list[tuple[str, dict[str, Any]]] = [
@@ -174,7 +174,7 @@ class Acts(Case):
                 self.assertEqual(await numbers(self.ada), states[-1 - count if walk == "undo" else count], f"{walk} {count}")
             self.assertEqual(said[walk], line if walk == "undo" else None)
 
-    async def test_what_another_took_back_again_hinders_nobody(self) -> None:
+    async def test_a_change_that_somebody_undid_again_blocks_nobody(self) -> None:
         mine = await lay(self.ada, "1", CLOSED)
         await self.ada.ask("send", name="shared")
         await self.ben.ask("take", message="shared")
@@ -193,16 +193,16 @@ class Acts(Case):
         await self.ben.ask("take", message="shared")
         self.assertEqual(await numbers(self.ben), {})
 
-    async def test_what_is_pending_is_named_by_its_key(self) -> None:
+    async def test_a_pending_operation_is_named_by_its_key(self) -> None:
         asked: list[tuple[str, dict[str, Any]]] = [
             ("gesture", {"key": "a", "shape": CLOSED}), ("gesture", {"key": "b", "layer": "a", "shape": SLOW}),
             ("gesture", {"key": "c", "layer": "a", "top": True}), ("undo", {"key": "d", "stamp": "b"}),
             ("undo", {"key": "e", "stamp": "c"}), ("undo", {"key": "f", "stamp": "b"})]
         said = await asyncio.gather(*(self.ada.reply(verb, at=self.ada.at, **fields) for verb, fields in asked))
         self.assertEqual([one.get("refused") for one in said], [None, None, None, None, None, "NothingToUndo"])
-        self.assertIn("Ada took it back before", said[-1]["why"])
+        self.assertIn("Ada undid it already", said[-1]["why"])
         self.assertEqual(await numbers(self.ada), closed(60, 69, 30, 60))
-        self.a6.again()
+        self.a6.restart()
         async with self.a6.seat(key=self.ada.key) as ada:  # keys are known after a restart, too
             await ada.ask("gesture", key="g", layer="a", shape=None)
             self.assertEqual(await numbers(ada), {})
@@ -211,7 +211,7 @@ class Acts(Case):
         for refusal, why, shape in (
                 ("NoObject", "no zone 6", ["limit", 5, 6, 0, None, 1]), ("NoObject", "before its first", ["limit", 3, 2, 0, 9, 1]),
                 ("NoObject", "no cell 120", ["block", 119, 120, 0, 9, 1]), ("Step", "at most", ["limit", 1, 1, 1_048_576, None, 1]),
-                ("Step", "ends at step", ["limit", 1, 1, 5, 1_048_576, 1]), ("Range", "behind its beginning", ["limit", 1, 1, 5, 5, 1]),
+                ("Step", "must end at step", ["limit", 1, 1, 5, 1_048_576, 1]), ("Range", "after its beginning", ["limit", 1, 1, 5, 5, 1]),
                 ("ValueOutOfRange", "0 to 9", ["limit", 1, 1, 5, 6, 10]), ("not a command", "not a number", ["limit", 1, 1, 5, 6, None]),
                 ("not a command", "is not [kind", ["limit", 1, 1, 5, 6]), ("not a command", "is not [kind", None),
                 ("not a command", "does not exist", ["lane", 1, 1, 5, 6, 1])):
@@ -299,7 +299,7 @@ class Acts(Case):
 
     # Sharing and taking
 
-    async def test_what_is_shared_is_taken_and_the_later_one_is_on_top(self) -> None:
+    async def test_shared_changes_are_taken_and_the_later_one_is_on_top(self) -> None:
         mine = await lay(self.ada, "1", ["limit", 2, 2, 50, 70, 1], note="mine")
         one = await lay(self.ben, "1", ["limit", 0, 0, 5, None, 4])
         other = await lay(self.ben, "2", ["limit", 2, 3, 50, 60, 3], note="his")
@@ -329,7 +329,7 @@ class Acts(Case):
         found = [(await lines(seat))[tuple(mine)]["operations"][0]["when"] for seat in (self.ada, self.ben)]
         self.assertEqual([*found, took["changes"][0]["when"]], [made] * 3)
 
-    async def test_anothers_shared_change_is_withdrawn_and_taken_back(self) -> None:
+    async def test_a_shared_change_of_another_seat_is_withdrawn_and_that_is_undone(self) -> None:
         mine = await lay(self.ada, "1", CLOSED, note="mine")
         await self.ada.ask("send", name="shared")
         await self.ben.ask("take", message="shared")
@@ -345,8 +345,8 @@ class Acts(Case):
         with self.assertRaisesRegex(RefusedReply, "Ben changed it since"):
             await self.ada.ask("undo", key="2", stamp=mine)
 
-    async def test_what_another_does_in_turn_is_not_done_at_once(self) -> None:
-        """Who holds a change knows it, however often the line is changed since; a taking back alone, too."""
+    async def test_a_job_of_another_turn_does_not_run_at_once(self) -> None:
+        """A seat that holds a change has seen it, however often the line is changed later; an undo alone, too."""
         line = tuple(await lay(self.ada, "1", CLOSED))
         await self.ada.ask("send", name="shared")
         await self.ben.ask("take", message="shared")
@@ -398,7 +398,7 @@ class Acts(Case):
         await self.ada.ask("send", name="shared", stamps=[line])
         self.assertEqual(await numbers(self.ada, "shared"), closed(60, 69, 30, 70))
 
-    async def test_what_was_taken_back_in_private_is_not_shared_and_hides_nothing(self) -> None:
+    async def test_privately_undone_changes_are_not_shared_and_hide_nothing(self) -> None:
         his = await lay(self.ben, "1", ["limit", 2, 2, 50, 80, 4])
         for count in range(3):
             await lay(self.ada, f"a{count}", ["limit", 0, 0, 5 + 10 * count, 10 + 10 * count, 3])
@@ -416,7 +416,7 @@ class Acts(Case):
                          {("limit", 2, 50): 4, ("limit", 2, 80): 5})
         self.assertEqual([one["seat"] for one in (await self.ada.say("seats"))["seats"] if one["private"]], [])
 
-    async def test_what_was_taken_back_long_ago_is_forgotten_and_never_comes_back(self) -> None:
+    async def test_changes_undone_long_ago_are_forgotten_and_never_come_back(self) -> None:
         server = self.server(LIVE_MOST_UNDONE="70")
         async with server.seat() as ada, server.seat("Ben") as ben:
             first = await lay(ada, "first", ["limit", 2, 2, 20, 60, 1])
@@ -446,7 +446,7 @@ class Acts(Case):
                 os.kill(server.program, signal.SIGKILL)  # another program: the same
             self.assertEqual((await ada.ask("send", name="shared"))["stamps"], [first, last])
 
-    async def test_what_is_forgotten_is_not_listed_any_more(self) -> None:
+    async def test_forgotten_changes_are_no_longer_listed(self) -> None:
         server = self.server(LIVE_MOST_UNDONE="30")
         async with server.seat() as ada:
             gone = await lay(ada, "gone", ["limit", 2, 2, 20, 60, 1])
@@ -462,18 +462,18 @@ class Acts(Case):
             fresh = (await lines(ada))[line]
             self.assertEqual([one["does"] for one in fresh["operations"]], ["put", *["change", "undo"] * 10])
             self.assertEqual((await ada.ask("layers", **{"from": said["next"]}))["layers"], [fresh])
-            with self.assertRaisesRegex(RefusedReply, "you hold no change of the name"):
+            with self.assertRaisesRegex(RefusedReply, "you hold no change with the name"):
                 await ada.ask("gesture", key="late", layer=gone, top=True)
 
     async def test_z_is_the_same_after_what_a_start_forgets(self) -> None:
-        """Of the newest operations one takes back one that is older."""
+        """One of the newest operations undoes an older one."""
         line = await lay(self.ada, "line", CLOSED)
         stamp = await lay(self.ada, "change", ["block", 60, 69, 30, 70, 1], layer=line)
         await self.ada.ask("undo", key="undo", stamp=stamp)
         undo: Stamp | None = None
         for count in range(19):
             undo = await lay(self.ada, f"g{count}", ["limit", 2, 2, 20 + count, 60, 1])
-        self.a6.again()
+        self.a6.restart()
         async with self.a6.seat(key=self.ada.key) as ada:
             for count in range(20):
                 said = await ada.ask("undo", key=f"u{count}", stamp=undo)
@@ -481,12 +481,12 @@ class Acts(Case):
                 self.assertEqual(closed(60, 69, 30, 60).items() <= (await numbers(ada)).items(), count < 19)
             self.assertEqual((undo, await numbers(ada)), (None, {}))
 
-    async def test_a_line_is_forgotten_whole(self) -> None:
+    async def test_a_whole_line_is_forgotten(self) -> None:
         line = await lay(self.ada, "line", CLOSED, note="works")
         for count in range(20):
             await lay(self.ada, f"g{count}", ["limit", 2, 2, 20 + count, 60, 1])
         gone = await lay(self.ada, "gone", None, layer=line, note="open")
-        self.a6.again()
+        self.a6.restart()
         async with self.a6.seat(key=self.ada.key) as ada:
             back = await ada.ask("undo", key="back", stamp=gone)
             self.assertEqual([(one["name"], one["note"]) for one in back["layers"]], [(line, "works")])
@@ -495,7 +495,7 @@ class Acts(Case):
 
     # Lists
 
-    async def test_the_list_comes_in_pieces_and_what_changed_alone(self) -> None:
+    async def test_the_list_comes_in_pieces_and_only_with_changes(self) -> None:
         for count in range(3):
             await lay(self.ada, str(count), ["limit", count, count, 20, 40, 1])
         said = await self.ada.ask("layers")
@@ -511,7 +511,7 @@ class Acts(Case):
 
 
 class Previews(Case):
-    """What sharing or taking would change, beside the same done."""
+    """Compare a preview of sharing or taking with what it then does."""
 
     async def asyncSetUp(self) -> None:
         self.a6 = self.server()
@@ -534,7 +534,7 @@ class Previews(Case):
         return [{name: value for name, value in one.items() if name not in ("id", "us")} for one in picture]
 
     async def figures_are(self, said: Any, name: str, at: str, first: int) -> None:
-        """The figures of a road are those of the replica, by its cars."""
+        """Compare the figures of a road with those of the replica's cars."""
         cars: list[Any] = [(await self.ada.ask("cars", at=at, step=step))["cars"] for step in range(first, 201)]
         self.assertAlmostEqual(said[name]["vehicle_hours"], sum(map(len, cars[1:])) / 3_600)
         numbers = {car[0] for row in cars for car in row if first <= car[0] // 16 < 200}
@@ -543,7 +543,7 @@ class Previews(Case):
         counts = (await self.ada.ask("counts", at=at, **{"from": first, "to": 200}))["counts"]
         self.assertEqual(said[name]["detectors"], counts)
 
-    async def test_sharing_is_compared_with_what_is_shared(self) -> None:
+    async def test_a_preview_of_sharing_compares_with_the_shared_road(self) -> None:
         said = await self.ada.ask("preview", what="share")
         self.assertEqual((said["size"], said["touched"]), (2, 1))
         told = {tuple(one["name"]): (one["was"], one["shown"]) for one in said["layers"]}
@@ -566,7 +566,7 @@ class Previews(Case):
             await self.figures_are(found, "after", "shared", first)
         self.assertEqual(self.seen(await self.picture("before")), self.seen(before))  # they stay as they were
 
-    async def test_taking_is_compared_with_what_is_held(self) -> None:
+    async def test_a_preview_of_taking_compares_with_the_own_road(self) -> None:
         said = await self.ada.ask("preview", what="take")
         self.assertEqual((said["size"], said["touched"]), (1, 30))
         told = {tuple(one["name"]): (one["was"], one["shown"]) for one in said["layers"]}
@@ -581,7 +581,7 @@ class Previews(Case):
         self.assertEqual(self.seen(after), self.seen(await self.picture(self.ada.at)))
         await self.figures_are(figures, "after", self.ada.at, 0)
 
-    async def test_what_would_be_lost_is_told_with_its_shape_and_with_who_won(self) -> None:
+    async def test_a_change_that_would_be_lost_is_listed_with_its_shape_and_the_winner(self) -> None:
         """Though nothing would be other on the road."""
         await self.ada.ask("take", message="shared")
         theirs = await lay(self.ben, "3", ["block", 60, 60, 30, 95, 1], layer=self.his)
@@ -597,7 +597,7 @@ class Previews(Case):
                              [theirs, "Ben", mine, ["block", 60, 60, 30, 95, 1]])
             await self.ada.ask("send", name="shared")
 
-    async def test_mine_is_compared_with_what_is_shared(self) -> None:
+    async def test_mine_is_compared_with_the_shared_road(self) -> None:
         figures = await self.ada.ask("figures", of="mine", **{"from": 0, "to": 200})
         for name, at in (("before", "shared"), ("after", self.ada.at)):
             await self.ada.ask("advance", at=at, to=200)
@@ -608,7 +608,7 @@ class Previews(Case):
         self.assertEqual((said["size"], said["touched"]), (1, 50))
         self.assertEqual({tuple(one["name"]) for one in said["layers"]}, {tuple(self.mine), tuple(self.his)})
 
-    async def test_a_preview_is_asked_for_first(self) -> None:
+    async def test_figures_of_a_preview_need_a_preview(self) -> None:
         for verb, fields in (("cells", {"at": "after", "step": 0}), ("advance", {"at": "before", "to": 5}),
                              ("figures", {"at": self.ada.at, "of": "preview", "from": 0, "to": 5})):
             self.assertEqual((await self.ada.reply(verb, **fields))["refused"], "NoPreview")
@@ -620,7 +620,7 @@ class Previews(Case):
         self.assertEqual((await self.ben.reply("cells", at="after", step=0))["refused"], "NoPreview")
 
     async def test_demand_that_could_not_enter(self) -> None:
-        """Where no car is slowed an inlet that always asks lets in a car each other step, 1,800 an hour: so the demand is known,
+        """Without slowing, an inlet with chance 1 admits a car every other step, 1,800 an hour: so the demand is known,
         and what is lost, too. A demand that is lowered is not lost."""
         plan = {**SMALL, "zones": [[5, 0]] * 6, "inlets": [[0, 65_536], [40, 0]]}
         server = self.server(plan=plan)
@@ -654,7 +654,7 @@ class Seats(Case):
                     await ada.reply("ping")
                     await ada.reply("ping")
 
-    async def test_a_seat_is_taken_over_where_nobody_is_connected(self) -> None:
+    async def test_a_seat_without_a_tab_can_be_taken_over(self) -> None:
         server = self.server()
         async with server.seat("Ada") as ada, server.seat("Ben") as ben:
             await put(ada, "1", [*LIMIT, 1])
@@ -704,7 +704,7 @@ class Seats(Case):
             new = next(seat for seat in fill if seat.at == "seat1")
             self.assertEqual(await numbers(new), {})
             self.assertGreater([*await put(new, "2", [*LIMIT, 3])], [1, 65])  # no stamp is made twice
-        server.again()
+        server.restart()
         async with server.seat(key=new.key) as new:
             self.assertEqual(await numbers(new), {("limit", 2, 50): 3})
 

@@ -20,13 +20,13 @@ function answering(...answers) {
   return asked;
 }
 
-const BUSY = {refused: "Busy", why: "another road is run"};
+const BUSY = {refused: "Busy", why: "another road is being simulated"};
 const settled = () => new Promise((done) => { setImmediate(done); });
 
-test("a refusal is told", async () => {
+test("a refusal is shown", async () => {
   answering(BUSY);
   assert.deepEqual(await ask({figures: {}}), BUSY);
-  assert.deepEqual(store.message, ["another road is run", true]);
+  assert.deepEqual(store.message, ["another road is being simulated", true]);
 });
 
 test("what was asked about what is looked at no more is not told", async () => {
@@ -37,7 +37,7 @@ test("what was asked about what is looked at no more is not told", async () => {
   assert.deepEqual(store.message, ["ask again", true]);
 });
 
-test("one who is busy is asked again until there is an answer, and nothing is told", async (t) => {
+test("a busy server is asked again until it answers, and nothing is shown", async (t) => {
   const wait = t.mock.method(globalThis, "setTimeout", () => {});
   const asked = answering(BUSY, BUSY, {lines: "a"});
   const said = askUntilFree({transcript: {}});

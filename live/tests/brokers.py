@@ -1,4 +1,4 @@
-"""Two and three servers by a broker that is stopped, killed, keeps nothing, and is told rubbish."""
+"""Test two and three servers with a broker that is stopped, killed, forgets everything, and gets garbage."""
 from __future__ import annotations
 
 import asyncio
@@ -18,14 +18,14 @@ TOTALS = {"from": 0, "to": 100}
 
 
 async def put(seat: Seat, *edits: list[Any]) -> Sequence[int]:
-    """A gesture that is shared at once."""
+    """Make a gesture, and share it at once."""
     stamp: Sequence[int] = (await seat.ask("gesture", key=os.urandom(8).hex(), edits=list(edits)))["stamp"]
     await seat.ask("send", name="shared")
     return stamp
 
 
 async def shared(seat: Seat) -> list[Any]:
-    """What is put on the shared road; the stamps are local to each server."""
+    """Return what is put on the shared road, without stamps, which are local to each server."""
     edits = (await seat.ask("scenario", at="shared"))["edits"]
     return [[*edit[:3], 1, 64, edit[5]] for edit in edits if edit[5] is not None]
 
@@ -46,7 +46,7 @@ class Brokers(Case):
         return self.server("--broker", broker.address, "--site", str(number), plan=plan)
 
     async def same(self, *seats: Seat, edits: int) -> list[Any]:
-        """Waits until all shared replicas hold the same so many edits; then rows and totals are the same, and those
+        """Wait until all shared replicas hold the same number of edits; then rows and totals are the same, and those
         of one program that got the edits in another order."""
         async def holds() -> bool:
             held = [await shared(seat) for seat in seats]
@@ -91,7 +91,7 @@ class Brokers(Case):
                     await self.same(ada, sam, edits=4)
                     broker.kill(signal.SIGTERM)
                     await put(sam, ["block", 60, 30, 1], ["block", 60, 50, 0])
-                    first.again()
+                    first.restart()
                     async with first.seat(key=ada.key) as again:
                         await put(again, ["block", 61, 30, 1])
                         broker.start()
@@ -109,18 +109,18 @@ class Brokers(Case):
                 await ada.ask("gesture", key=f"k{number}", edits=[["limit", 2, 80 + number, 1]])
                 await ada.ask("send", name="shared", title=title)
                 if number:
-                    first.again()
+                    first.restart()
                     broker.start()
                 await until(lambda: self.has_title(sam, title), title)
             news = next(one["news"] for one in reversed(sam.told) if "news" in one)
             self.assertEqual([one["title"] for one in news["shares"]], ["night works", "by day"])
 
     async def has_title(self, seat: Seat, title: str) -> bool:
-        """Whether the seat is told that Ada shared something so titled, and nothing else was."""
+        """Return whether the server told the seat that Ada shared something with this title, and nothing else."""
         shares = [share for one in seat.told if "news" in one for share in one["news"]["shares"]]
         return bool(shares) and (shares[-1]["who"], shares[-1]["title"]) == ("Ada", title)
 
-    async def test_rubbish_is_left_out_and_told(self) -> None:
+    async def test_garbage_is_skipped_and_reported(self) -> None:
         broker = self.broker()
         first, second = self.site(broker, 1), self.site(broker, 2)
         topic = f"road/{reference(first)}/operations"
@@ -140,7 +140,7 @@ class Brokers(Case):
                     (said(limit([1, 70], 99, 8)), "no zone 99"), (said(limit([1, 3], 1, 8)), "belongs to a replica"),
                     (said(limit([281474976710656, 70], 1, 20)), "[281474976710656, 70] of number 70 is more than a day"),
                     (said(limit([2764800001, 70], 1, 21)), "[2764800001, 70] of number 70 is more than a day ahead"),
-                    (said(limit([1, "1"], 1, 8)), "is no whole number"), (said(limit([1, 70], 1, 8, note="\ud800")), "not JSON"),
+                    (said(limit([1, "1"], 1, 8)), "is not a whole number"), (said(limit([1, 70], 1, 8, note="\ud800")), "not JSON"),
                     (" " * 2_100_000, "bytes"),
                     (said({"stamp": [1, 70], "sets": [[["block", 1, step], 1] for step in range(1_202)]}), "at most 1200 raw edits")):
                 broker.say(topic, text)
@@ -158,10 +158,10 @@ class Brokers(Case):
         return all(any(why in sentence for sentence in told(seat)) for seat in seats)
 
     async def stays(self, why: str, *seats: Seat) -> bool:
-        """Whether a panel says so that stays."""
+        """Return whether a permanent warning has this sentence."""
         return all(any(why in sentence for sentence in broker_of(seat).get("stays", [])) for seat in seats)
 
-    async def test_one_number_twice_is_told_and_nothing_is_mixed(self) -> None:
+    async def test_a_duplicate_number_is_reported_and_nothing_is_mixed(self) -> None:
         broker = self.broker()
         first, second = self.site(broker, 7), self.site(broker, 7)
         async with first.seat("Ada") as ada, second.seat("Sam") as sam:
@@ -175,7 +175,7 @@ class Brokers(Case):
         async with third.seat("Tom") as tom, first.seat(key=ada.key) as ada:  # once the other is gone it goes on
             await self.same(ada, tom, edits=1)
 
-    async def test_a_copied_folder_is_told(self) -> None:
+    async def test_a_copied_folder_is_reported(self) -> None:
         broker = self.broker()
         first = self.site(broker, 7)
         copy = new_folder() / "copy"
@@ -185,7 +185,7 @@ class Brokers(Case):
         async with first.seat("Ada") as ada, second.seat("Sam") as sam:
             await until(lambda: self.stays("has this site's number, 7", ada, sam), "one number twice")
 
-    async def test_another_seed_is_told(self) -> None:
+    async def test_another_seed_is_reported(self) -> None:
         broker = self.broker()
         first, second = self.site(broker, 1), self.site(broker, 2, {**SMALL, "words": 2})
         async with first.seat("Ada") as ada, second.seat("Sam") as sam:
@@ -195,7 +195,7 @@ class Brokers(Case):
             await until(lambda: self.broker_is(ada, "connected", 0), "it came back")
             self.assertEqual(await shared(sam), [])
 
-    async def test_what_has_not_come_back_is_seen(self) -> None:
+    async def test_changes_that_have_not_come_back_are_shown(self) -> None:
         broker = self.broker()
         first = self.site(broker, 1)
         async with first.seat("Ada") as ada:
@@ -203,7 +203,7 @@ class Brokers(Case):
             broker.kill()
             await put(ada, ["limit", 2, 80, 1])
             await until(lambda: self.broker_is(ada, "away", 1), "away")
-            first.again()
+            first.restart()
         async with first.seat(key=ada.key) as ada:
             self.assertEqual(broker_of(ada)["unsent"], 1)
             broker.start()
@@ -213,13 +213,13 @@ class Brokers(Case):
         now = broker_of(seat)
         return (now["state"], now["unsent"]) == (state, unsent)
 
-    async def test_a_broker_elsewhere_wants_a_password(self) -> None:
-        with self.assertRaisesRegex(RuntimeError, "wants --broker-user and --broker-password"):
+    async def test_a_broker_on_another_host_requires_a_password(self) -> None:
+        with self.assertRaisesRegex(RuntimeError, "requires --broker-user, --broker-password"):
             self.server("--broker", "192.0.2.1:8883")
 
 
 def reference(server: Server) -> str:
-    """By which sites know that they have the same road."""
+    """Tests of the hashes that show sites that they have the same road."""
     import hashlib
     plan = server.journal()[0]["lab"]["plan"]
     return hashlib.sha256(json.dumps({**plan, "replicas": 0}, sort_keys=True).encode()).hexdigest()[:16]

@@ -25,7 +25,7 @@ FREE_ROAD = {"detectors": [28], "exit": 1, "inlets": [[0, 65536]], "length": 40,
              "zones": [[3, 0]], "replicas": ["A"]}
 # 6 km in zones of 375 m, p = 0.1; an on-ramp at 1.5 km.
 FREEWAY = json.loads((LIVE / "plan.json").read_text(encoding="utf-8"))
-# Viridis from dark to light over speeds 0 to 5, and what the legend says of the others.
+# Viridis from dark to light over speeds 0 to 5, and how the legend names the others.
 COLOURS = {"0": (0x44, 0x01, 0x54), "1": (0x41, 0x44, 0x87), "2": (0x2a, 0x78, 0x8e), "3": (0x21, 0x91, 0x8c),
            "#": (0xe6, 0x61, 0x00), ".": (0xff, 0xff, 0xff)}
 
@@ -122,24 +122,24 @@ TRUTH = """
 
 
 def example_rows(which: int) -> list[str]:
-    """The rows of a diagram of the example: 0 closed from step 12 on, 1 from 12 to 24; both begin at step 12, or 24."""
+    """Return the rows of a diagram of the example: 0 closed from step 12 on, 1 from 12 to 24; both begin at step 12, or 24."""
     with open(TOP / "examples" / "closed_cell.out", encoding="utf-8") as replies:
         rows: list[list[str]] = [reply["rows"] for reply in map(json.loads, replies) if "rows" in reply]
     return rows[which]
 
 
 def free_server(plan: dict[str, Any], *more: str, **environment: str) -> Server:
-    """A server at a port that stays the same when it is started again."""
+    """Start a server whose port stays the same when it is restarted."""
     return Server(None, plan, "--port", str(free_port()), *more, **environment)
 
 
 def operations_of(server: Server) -> list[dict[str, Any]]:
-    """The operations in its journal, in their order."""
+    """Return the operations in its journal, in their order."""
     return [entry["made"]["operation"] for entry in server.journal() if "made" in entry]
 
 
 def shapes_of(operation: dict[str, Any]) -> list[list[Any]]:
-    """What it sets: shapes, and raw edits as [kind, index, step, value], by objects and steps."""
+    """Return what an operation sets: shapes, and raw edits as [kind, index, step, value], by object and step."""
     return sorted([*name, shape] if len(name) == 3 else shape for name, shape in operation["sets"])
 
 
@@ -171,7 +171,7 @@ class Tab:
     # What there is
 
     def script(self, text: str, *words: Any) -> Any:
-        """What a script returns, in which the names of the page's modules are known."""
+        """Run a script that may use the names of the page's modules. Return its value."""
         text = f"{IF_KNOWN} return [(function () {{{text}\n}}).apply(null, arguments)];"
         said = self.driver.execute_script(text, *words)
         if said is None:
@@ -186,7 +186,7 @@ class Tab:
         return " ".join(str(self.script("return document.getElementById(arguments[0]).textContent", ident)).split())
 
     def until(self, holds: Callable[[], Any], what: str) -> None:
-        """Waits until something holds."""
+        """Wait until something holds."""
         end = time.monotonic() + PATIENCE
         while time.monotonic() < end:
             if holds():
@@ -195,30 +195,30 @@ class Tab:
         raise AssertionError(f"waited in vain: {what}\n{self.truth()}")
 
     def truth(self) -> str:
-        """What the page shows, knows and went through, for who reads of a test that failed."""
+        """Return what the page shows and knows, and what happened to it, for the report of a failed test."""
         seen = self.driver.execute_script(TRUTH)
         console = [entry["message"] for entry in self.driver.get_log("browser")]
         saved = sorted(path.name for path in self.downloads.iterdir())
         return "\n".join([*seen, f"console: {console}", f"saved: {saved}"])
 
     def settled(self) -> None:
-        """Waits until all is confirmed, asked for and drawn, the figures say it, and it stays so for a moment."""
+        """Wait until all is confirmed, asked for and drawn, the figures say it, and it stays so for a moment."""
         self.until(lambda: self.driver.execute_async_script(SETTLED), "quiet")
 
     def lines(self, ident: str) -> list[str]:
-        """The lines of a list: what was done, and its state."""
+        """Return the lines of a list: what was done, and its state."""
         found = self.script("return [...document.querySelectorAll(`#${arguments[0]} > li > .note`)]"
                             ".map((one) => one.textContent)", ident)
         return [" ".join(one.split()) for one in found]
 
     def covers(self, ident: str) -> list[str]:
-        """What the lines of a list say of what covers them."""
+        """Return what the lines of a list say about what covers them."""
         found = self.script("return [...document.querySelectorAll(`#${arguments[0]} > li > .loss`)].map((one) => "
                             "one.textContent)", ident)
         return list(map(str, found))
 
     def value_at(self, kind: str, index: int, *steps: int) -> list[int]:
-        """What holds on the own road, as the page says it."""
+        """Return what is in force on the own road, as the page shows it."""
         found: list[int] = self.script(
             "const [kind, index, steps] = arguments;"
             "return steps.map((step) => store.layers.mine.valueAt(kind, index, step))", kind, index, steps)
@@ -231,20 +231,20 @@ class Tab:
     # What is done
 
     def press(self, name: str, within: str = "body") -> None:
-        """Presses the button that is called so, once it is there and nothing lies over it: in the page itself, where
+        """Press the button that is called so, once it is there and nothing lies over it: in the page itself, where
         nothing moves meanwhile, as it may between a look and a click from outside."""
         self.until(lambda: self.script(PRESS, name, within), f"a button {name} in {within}")
 
     def press_in(self, ident: str) -> None:
-        """Presses the only or the first button of a part, or the part where it is one."""
+        """Press the only or the first button of a part, or the part where it is one."""
         self.until(lambda: self.script(PRESS, "", ident), f"the button of {ident}")
 
     def open_part(self, ident: str) -> None:
-        """Opens what is folded."""
+        """Open what is folded."""
         self.until(lambda: self.script(PRESS, "", f"#{ident} > summary"), f"to open {ident}")
 
     def save(self, name: str, file: str) -> Path:
-        """Saves by the menu, and gives the new file whose name begins and ends as this one's; by a key, since a browser lets a
+        """Save from the menu, and return the new file whose name begins and ends as this one's; by a key, since a browser lets a
         page save once for each press."""
         before = set(self.saved(file))
         if self.part("save").get_attribute("open") is None:
@@ -256,7 +256,7 @@ class Tab:
         return path
 
     def save_both(self, name: str, file: str) -> list[Path]:
-        """Saves two files by one press: that of the own road, and that of the shared one."""
+        """Save two files by one press: that of the own road, and that of the shared one."""
         self.open_part("save")
         self.press(name, "#save")
         is_shared = lambda path: "-shared-" in path.name
@@ -264,7 +264,7 @@ class Tab:
         return sorted(self.saved(file), key=is_shared)
 
     def saved(self, file: str) -> list[Path]:
-        """The files that were saved whose names begin and end as this one's."""
+        """Return the saved files whose names begin and end as this one's."""
         stem, _, ending = file.rpartition(".")
         return [*self.downloads.glob(f"{stem}-*.{ending}")]
 
@@ -272,11 +272,11 @@ class Tab:
         self.script("document.querySelector(`input[name=tool][value=${arguments[0]}]`).click()", kind)
 
     def choose(self, ident: str, value: str) -> None:
-        """Chooses from a list."""
+        """Choose from a list."""
         self.fill(**{ident: value})
 
     def fill(self, **fields: str) -> None:
-        """Writes into fields, and chooses from lists."""
+        """Write into fields, and choose from lists."""
         self.script("""
             for (const [ident, value] of Object.entries(arguments[0])) {
               $(ident).value = value;
@@ -285,7 +285,7 @@ class Tab:
             }""", fields)
 
     def show(self, seconds: int) -> None:
-        """Shows so many seconds, from the first row on."""
+        """Show this many seconds, from the first row on."""
         self.choose("span", str(seconds))
         self.keys(Keys.HOME)
         self.settled()
@@ -301,14 +301,14 @@ class Tab:
             ActionChains(self.driver, duration=0).send_keys(key).perform()
 
     def place(self, cell: float, step: float) -> tuple[int, int]:
-        """Where a place of the road is in the canvas, from its middle."""
+        """Return where a place of the road is in the canvas, relative to its middle."""
         x, y, wide, high = self.script(
             "const c = $('diagram'); return [leftOf(viewNow(), arguments[0]), topOf(viewNow(), arguments[1]),"
             " c.clientWidth, c.clientHeight]", cell, step)
         return round(x - wide / 2), round(y - high / 2)
 
     def begin_drag(self, one: tuple[float, float], other: tuple[float, float]) -> None:
-        """Presses at one place, each [cell, step], and moves to another."""
+        """Press at a place [cell, step], and move to another one."""
         self.script("$('diagram').scrollIntoView({block: 'center'})")
         (x, y), (to_x, to_y) = self.place(*one), self.place(*other)
         chain = ActionChains(self.driver, duration=20).move_to_element_with_offset(self.part("diagram"), x, y)
@@ -324,13 +324,13 @@ class Tab:
         self.drop()
 
     def in_figures(self, **fields: str) -> None:
-        """Fills the form and applies it."""
+        """Fill the form, and apply it."""
         self.fill(**fields)
         self.press_in("#apply")
         self.settled()
 
     def limit(self, limit: str, begin: str, end: str) -> None:
-        """Puts a limit on the whole of a short road."""
+        """Put a limit on the whole of a short road."""
         self.tool("limit")
         self.choose("limit", limit)
         self.in_figures(kmFrom="0", kmTo="0.3", timeFrom=begin, timeTo=end)
@@ -349,7 +349,7 @@ class Tab:
     # What is drawn
 
     def signs(self, first: int, count: int, length: int) -> list[str]:
-        """The rows that the pixels of the diagram show, read beside the middle of each cell."""
+        """Return the rows that the pixels of the diagram show, read next to the middle of each cell."""
         found = self.script("""
             const [first, count, length] = arguments, view = viewNow();
             const context = $("diagram").getContext("2d");
@@ -368,7 +368,7 @@ class Tab:
         return red, green, blue
 
     def point(self, cell: float, step: float) -> str:
-        """Moves the pointer to a place, and gives what the page says of it."""
+        """Move the pointer to a place. Return what the page says about it."""
         self.script("$('diagram').scrollIntoView({block: 'center'})")
         ActionChains(self.driver, duration=0).move_to_element_with_offset(
             self.part("diagram"), *self.place(cell, step)).perform()
@@ -376,7 +376,7 @@ class Tab:
 
 
 def before_rows(tab: Tab) -> dict[str, tuple[float, ...]]:
-    """The table of what sharing or taking would change: now, then, the change."""
+    """Return the table of what sharing or taking would change: before, after, the change."""
     tab.until(lambda: tab.script("return document.querySelector('#preview table') !== null"), "the figures")
     rows = tab.script("return [...document.querySelectorAll('#preview tbody tr')].map((line) => "
                       "[...line.children].map((one) => one.textContent))")
@@ -402,7 +402,7 @@ class BrowserCase(Watched):
 
     def open(self, plan: dict[str, Any], names: tuple[str, ...] | None = None, *more: str,
              **environment: str) -> list[Tab]:
-        """A server with this plan and these words more, and a tab for each name."""
+        """Start a server with this plan and these additional arguments. Return a tab for each name."""
         self.server = free_server(plan, *more, **environment)
         self.addCleanup(self.server.kill)
         return [tab.join(self.server, name) for tab, name in zip(self.tabs, names or self.names)]

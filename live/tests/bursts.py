@@ -1,4 +1,4 @@
-"""Bursts of gestures, in each of which a server, its program or the broker is killed, or a folder is restored from an
+"""Test bursts of gestures. In each a server, its program or the broker is killed, or a folder is restored from an
 older copy, or cloned: what was confirmed is there, no stamp is made twice, and at the end all sites have one road.
 `live/test --all` has twenty bursts of 500 gestures.
 """
@@ -45,12 +45,12 @@ class Bursts(Case):
             shared = {tuple(one["stamp"]) for one in await self.operations(tom, "shared")}
         for engineer in self.engineers:
             self.assertLessEqual(engineer.shared, shared)
-        self.assertNotIn("Two changes have one stamp", self.one.said() + self.two.said())
+        self.assertNotIn("Two changes have the same stamp", self.one.said() + self.two.said())
 
     # What is done in a burst
 
     async def server_is_killed(self) -> None:
-        await self.burst(self.one, lambda: self.one.again())
+        await self.burst(self.one, lambda: self.one.restart())
 
     async def program_is_killed(self) -> None:
         await self.burst(self.one, lambda: os.kill(self.one.program, signal.SIGKILL))
@@ -62,7 +62,7 @@ class Bursts(Case):
         await self.burst(self.one, again)
 
     async def folder_is_restored(self) -> None:
-        """The folder is that of before the burst; what was shared since comes from the other site."""
+        """Restore the folder from before the burst; what was shared since comes from the other site."""
         old = self.copy(self.one.folder)
         before = [dict(engineer.confirmed) for engineer in self.engineers]
         await self.burst(self.one, lambda: None)
@@ -76,7 +76,7 @@ class Bursts(Case):
             engineer.sent = {key: engineer.sent[key] for key in confirmed}
 
     async def folder_is_cloned(self) -> None:
-        """A clone runs beside, and none stamps what the other did."""
+        """Run a clone at the same time: neither uses a stamp of the other."""
         clone = Server(self.copy(self.one.folder), PLAN, "--broker", self.mosquitto.address, LIVE_MILLISECONDS="")
         self.addCleanup(lambda: end(clone.process))
         twins = [Engineer(one.name, random.Random(9)) for one in self.engineers]
@@ -92,7 +92,7 @@ class Bursts(Case):
         return copy
 
     async def burst(self, server: Server, fault: Any, engineers: list[Engineer] | None = None) -> None:
-        """So many gestures, and the fault at some time between them."""
+        """Make this many gestures, and the fault at some time between them."""
         some = engineers or self.engineers
         left = [GESTURES - self.chance.randrange(GESTURES // 5, GESTURES * 4 // 5)]
         count = sum(len(one.confirmed) for one in some) + GESTURES
@@ -105,7 +105,7 @@ class Bursts(Case):
         await asyncio.gather(*tasks)
 
     async def puts(self, server: Server, engineer: Engineer, count: int, some: list[Engineer]) -> None:
-        """Puts, shares and takes until all have put so many; whoever loses the server comes again."""
+        """Put, share and take until every seat has put this many; a seat that loses the server comes back."""
         while sum(len(one.confirmed) for one in some) < count:
             try:
                 async with engineer.seat(server) as seat:
@@ -116,14 +116,14 @@ class Bursts(Case):
             self.keep(engineer)
 
     def keep(self, engineer: Engineer) -> None:
-        """No stamp is made twice, by whatever folder."""
+        """Check that no stamp is used twice, in any folder."""
         for key, stamp in engineer.confirmed.items():
             self.assertEqual(self.stamps.setdefault(tuple(stamp), key), key)
 
     # What is so then
 
     async def look(self, engineer: Engineer) -> None:
-        """Each confirmed gesture is there; what was not confirmed is sent again, and is there once."""
+        """Check that each confirmed gesture is there, and that each other one is sent again and is there once."""
         async with engineer.seat(self.one) as seat:
             for key in engineer.sent.keys() - engineer.confirmed.keys():
                 engineer.confirmed[key] = (await seat.ask("gesture", key=key, edits=engineer.sent[key]))["stamp"]

@@ -30,11 +30,11 @@ class ByCars(Case):
             self.assertAlmostEqual(found, wanted, 7, what)
 
     async def runs(self, here: Here, seat: int) -> list[Run]:
-        """The shared road and the own one, by the edits that the laboratory says."""
+        """Build the shared road and the own one from the edits that the laboratory reports."""
         edits = [(await here.ask(seat, "scenario", at=at))["edits"] for at in ("shared", f"seat{seat}")]
         return [Run(here.plan, one, STEPS) for one in edits]
 
-    async def test_each_figure_is_that_of_the_cars(self) -> None:
+    async def test_each_figure_equals_that_of_the_cars(self) -> None:
         for number in range(ROADS):
             chance = random.Random(number)
             async with Here(plan=random_plan(chance)) as here:
@@ -62,7 +62,7 @@ class ByCars(Case):
                                   (number, side))
                     if [first, last] == whole:
                         self.demand_is(said, before, after, number)
-                for step in (300, 40):  # late edits, of which one is further back than the other
+                for step in (300, 40):  # late edits, the second one further back
                     await here.ask(seat, "gesture", key=f"late {step}", shape=["block", 8, 8, step, step + 40, 1])
                     before, after = await self.runs(here, seat)
                     said = await soon(here.ask(seat, "figures", of="mine", **{"from": 0, "to": STEPS}))
@@ -76,14 +76,14 @@ class ByCars(Case):
                     self.assertAlmostEqual(sum(sums) / 3_600, run.hours(60, 420), 9)
 
     def demand_is(self, said: Any, before: Run, after: Run, number: int) -> None:
-        """The demand is what its chances admit in long runs: to 0.5 %, and four standard errors of such a run."""
+        """Check that the demand equals what its chances admit in long runs, within 0.5 % and four standard errors of such a run."""
         for side, run in (("before", before), ("after", after)):
             for inlet, asked in enumerate(said[side]["asked"]):
                 wanted = run.asked(inlet, 0, STEPS)
                 error = math.sqrt(wanted * STEPS / LONG) if wanted else 0
                 self.assertLessEqual(abs(asked - wanted), 0.005 * wanted + 4 * error + 1e-9, (number, side, inlet, asked, wanted))
 
-    async def test_what_holds_cars_back_at_an_inlet_is_lost_demand(self) -> None:
+    async def test_cars_held_back_at_an_inlet_are_lost_demand(self) -> None:
         """Without slowing a chance q admits q / (1 + q q) cars a step, if nothing hinders a car: so the demand is known. What is put
         at the inlet holds cars back, and leaves the demand as it is; a lowered demand or a ramp that is switched off loses nothing."""
         chances, steps = (26_214, 6_554), 3_600
@@ -130,7 +130,7 @@ class ByCars(Case):
                 else:
                     self.assertEqual((asked, said["after"]["lost"][1]), (0, 0))
 
-    async def test_days_are_means_of_such_figures(self) -> None:
+    async def test_days_are_means_of_these_figures(self) -> None:
         chance = random.Random(77)
         for _ in range(2):
             plan = random_plan(chance)

@@ -64,7 +64,7 @@ class Certificates(Case):
         both.write_bytes(self.certificate.read_bytes() + (self.certificate.parent / "key.pem").read_bytes())
         self.both = str(both)
 
-    async def test_a_tab_comes_by_tls(self) -> None:
+    async def test_a_tab_connects_over_tls(self) -> None:
         server = self.server("--listen", "0.0.0.0", "--name", "localhost", "--certificate", self.both)
         self.assertRegex(server.address, "^https://localhost:")
         async with Seat(server.address, self.authority, name="Ada") as ada:
@@ -74,7 +74,7 @@ class Certificates(Case):
                 async with Seat(address, self.authority, name="Ben"):
                     pass
 
-    async def test_who_does_not_shake_hands_is_not_waited_for(self) -> None:
+    async def test_nobody_waits_for_a_missing_handshake(self) -> None:
         server = self.server("--listen", "0.0.0.0", "--name", "localhost", "--certificate", self.both)
         port = int(server.address.partition("/#")[0].rpartition(":")[2])
         silent = [(await asyncio.open_connection("127.0.0.1", port)) for _ in range(300)]
@@ -85,7 +85,7 @@ class Certificates(Case):
                 self.assertEqual(await asyncio.wait_for(reader.read(), 40), b"")
             writer.close()
 
-    async def test_many_who_do_not_shake_hands_take_little(self) -> None:
+    async def test_many_missing_handshakes_cost_little(self) -> None:
         server = self.server("--listen", "0.0.0.0", "--name", "localhost", "--certificate", self.both)
         port, before = int(server.address.partition("/#")[0].rpartition(":")[2]), memory(server)
         silent = [(await asyncio.open_connection("127.0.0.1", port)) for _ in range(800)]
@@ -96,8 +96,8 @@ class Certificates(Case):
         for _, writer in silent:
             writer.close()
 
-    async def test_a_flood_of_one_address_locks_nobody_out_at_another(self) -> None:
-        """By 600 connections a second that say nothing, by TLS: of those that the other opens none is closed, and each has its
+    async def test_a_flood_from_one_address_locks_out_no_other_address(self) -> None:
+        """600 silent TLS connections a second come from one address: none of the other address's connections is closed, and each has its
         page in time."""
         server = self.server("--listen", "0.0.0.0", "--name", "localhost", "--certificate", self.both)
         port = int(server.address.partition("/#")[0].rpartition(":")[2])
@@ -119,7 +119,7 @@ class Certificates(Case):
         self.assertIsNone(flood.poll(), "the flood ended")
         self.assertLess(memory(server), 200)
 
-    async def test_a_broker_by_tls_and_a_password(self) -> None:
+    async def test_a_broker_with_tls_and_a_password(self) -> None:
         folder, port = self.certificate.parent, free_port()
         subprocess.run(["mosquitto_passwd", "-b", "-c", folder / "passwords", "sites", "secret"], check=True)
         (folder / "password").write_text("secret\n")
@@ -139,24 +139,24 @@ class Certificates(Case):
                 told[:] = [one["broker"] for one in eve.told if "broker" in one and one["broker"]["told"]]
                 return bool(told and (await sam.ask("scenario", at="shared"))["edits"])
             told: list[Any] = []
-            await until(is_told, "the one has the edit, the other is told")
+            await until(is_told, "the one has the edit, the other a warning")
             kind, index, step, *_, value = (await sam.ask("scenario", at="shared"))["edits"][0]  # stamps are a server's own
             self.assertEqual((kind, index, step, value), ("limit", 1, 5, 1))
-            self.assertIn("does not let this site in", told[-1]["told"][0])
+            self.assertIn("refused the connection", told[-1]["told"][0])
             self.assertEqual((await eve.ask("scenario", at="shared"))["edits"], [])
 
-    def test_without_a_certificate_nobody_else_is_let_in(self) -> None:
+    def test_without_a_certificate_other_hosts_are_refused(self) -> None:
         self.refused("--listen wants --certificate", "--listen", "0.0.0.0")
         folder = new_folder() / "new"
         self.refused("no certificate", "--listen", "0.0.0.0", "--name", "x", "--certificate", str(LIVE / "serve"),
                      "--folder", str(folder))
         self.assertFalse(folder.exists())
 
-    def test_who_listens_everywhere_says_by_which_name(self) -> None:
+    def test_a_server_that_listens_everywhere_must_name_its_host(self) -> None:
         for everywhere in ("0.0.0.0", "::"):
             self.refused(f"--listen {everywhere} wants --name", "--listen", everywhere, "--certificate", self.both)
 
-    def test_a_port_in_use_is_told_at_once_and_names_the_next_free_one(self) -> None:
+    def test_a_port_in_use_is_reported_at_once_with_the_next_free_one(self) -> None:
         """Before the road is opened, which may take long: here the program never answers. Nothing is left of a new folder."""
         silent, folder = new_folder() / "road_lab", new_folder() / "new"
         silent.write_text("#!/bin/sh\nsleep 600\n", encoding="utf-8")
@@ -169,15 +169,15 @@ class Certificates(Case):
         self.assertLess(int(named[1]), second + 100)
         self.assertFalse(folder.exists())
 
-    def test_what_is_no_port_is_told(self) -> None:
+    def test_an_invalid_port_is_reported(self) -> None:
         """Else another one would be listened at, or a broker waited for that cannot be."""
         for port in ("65536", "-1"):
             self.refused(f"a port is 1 to 65535, or 0: any that is free; and not {port}", "--port", port)
         for broker in ("127.0.0.1:65536", "127.0.0.1:0", "127.0.0.1:", "127.0.0.1:x"):
-            self.refused(f"--broker is HOST:PORT, not {broker}", "--broker", broker)
+            self.refused(f"--broker must be HOST:PORT, not {broker}", "--broker", broker)
 
     def refused(self, why: str, *options: str) -> str:
-        """A server that does not start, and says why. Return what it says."""
+        """Start a server that must fail. Return its message."""
         command: list[str | Path] = [sys.executable, LIVE / "serve", "--folder", new_folder(), "--port", "0", *options]
         ran = subprocess.run(command, capture_output=True, text=True, timeout=PATIENCE, check=False)
         self.assertNotEqual(ran.returncode, 0)

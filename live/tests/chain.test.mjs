@@ -67,7 +67,7 @@ test("what an older page kept is read: its shape is not drawn, and what it did i
   assert.deepEqual(kept(there).acts, [["k1", {shape: null, does: "apply"}], ["k2", {shape, does: "redo"}]]);
 });
 
-test("it is known where nothing is kept", () => {
+test("a tab knows when nothing is stored", () => {
   assert.ok(!keep(storage(true), "seat1", new Map([["k", {}]])));
   assert.ok(!keep(storage(true), "seat1", new Map()));
   const broken = storage();

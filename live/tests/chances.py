@@ -12,7 +12,7 @@ from running import SMALL, Case, new_folder, program, until
 from server.refusals import Refused
 from server.settings import Settings
 
-# Student's t for 95 % and so many degrees of freedom, from a printed table.
+# Student's t for 95 %, by degrees of freedom, from a printed table.
 T_OF = {1: 12.706205, 2: 4.302653}
 SPAN = {"from": 20, "to": 200}
 # A program that answers of the first days, which are the seeds from 1 on, of no others, and of the demand, whose seeds are far above.
@@ -23,7 +23,7 @@ seed=${{plan##*'"words":'}}
 
 
 def runs(process: int) -> bool:
-    """Whether a process is there and has not ended."""
+    """Return whether a process exists and has not ended."""
     try:
         return Path(f"/proc/{process}/stat").read_text(encoding="ascii").rpartition(")")[2].split()[0] != "Z"
     except OSError:
@@ -41,11 +41,11 @@ class Days(Case):
         self.here.keeper.settings = Settings(days=days)
 
     async def change(self, here: Here, seat: int) -> None:
-        """A jam that reaches the inlets, and at one of them another demand."""
+        """Make a jam that reaches the inlets, and change the demand of one of them."""
         await here.put(seat, ["block", 50, 60, 1], ["block", 50, 150, 0], ["inflow", 1, 30, 20_000])
 
     def program_that(self, does: str) -> tuple[str, Path]:
-        """A program in the place of road_lab, that writes into a file beside."""
+        """Replace road_lab by a program that also writes into a file."""
         folder = new_folder()
         path, wrote = folder / "road_lab", folder / "wrote"
         path.write_text(f"#!/bin/sh\nexport WROTE={wrote}\n{does}\n", encoding="utf-8")
@@ -53,7 +53,7 @@ class Days(Case):
         return str(path), wrote
 
     async def of_days(self, days: int) -> dict[str, list[list[float]]]:
-        """The figures of so many days, before and after: each is a road of its own, with another seed, asked for its figures."""
+        """Return the figures of this many days, before and after, each computed on a road of its own with another seed."""
         found = []
         for words in range(1, days + 1):
             async with Here(plan={**SMALL, "words": words}) as here:
@@ -68,7 +68,7 @@ class Days(Case):
                 **{f"seconds {at}": [[day[side]["travel"][at][1] for day in found] for side in sides] for at in range(4)}}
 
     def are_means(self, said: Any, wanted: dict[str, list[list[float]]]) -> None:
-        """Whether the figures are the means of these days, with their intervals where there are two or more."""
+        """Check that the figures are the means of these days, with intervals if there are two or more days."""
         self.assertEqual([one["name"] for one in said["figures"]], list(wanted))
         for one in said["figures"]:
             before, after = wanted[one["name"]]
@@ -82,7 +82,7 @@ class Days(Case):
                     half = T_OF[days - 1] * statistics.stdev(values) / days ** 0.5
                     self.assertAlmostEqual(one[side][1], half, 4, (one["name"], side))
 
-    async def test_means_and_intervals_are_those_of_the_days(self) -> None:
+    async def test_means_and_intervals_equal_those_of_the_days(self) -> None:
         of_days = await self.of_days(3)
         await self.change(self.here, self.ada)
         self.over(3)
@@ -92,7 +92,7 @@ class Days(Case):
         self.are_means(said, of_days)
         self.assertEqual(self.heard, [(self.ada, done, 3) for done in (1, 2, 3)])
 
-    async def test_where_it_is_stopped_the_days_that_are_done_are_told(self) -> None:
+    async def test_stopping_returns_the_days_that_are_done(self) -> None:
         """Days behind the first ones never end."""
         await self.change(self.here, self.ada)
         for days in (1, 2):
@@ -103,7 +103,7 @@ class Days(Case):
 
             async def done() -> bool:
                 return (self.ada, days, 4) in self.heard
-            await until(done, "so many are done", 60)
+            await until(done, "this many are done", 60)
             self.assertEqual(await soon(self.here.ask(self.ada, "days", of=None)), {"stopped": True})
             said = await soon(question)
             self.assertEqual((said["days"], said["stopped"]), (days, True))
@@ -123,7 +123,7 @@ class Days(Case):
             seat, = await here.join("Ada")
             with self.assertRaises(Refused) as caught:
                 await here.ask(seat, "days", of="mine", **SPAN)
-        self.assertIn("steady, drawn by no seed: it has one day", caught.exception.why)
+        self.assertIn("fixed random numbers (no seed), so all days are the same", caught.exception.why)
 
     async def test_it_is_nice_and_leaves_a_processor_free(self) -> None:
         before = self.here.keeper.path
@@ -143,7 +143,7 @@ class Days(Case):
         self.here.keeper.path = before
 
     async def asks(self, seat: int) -> tuple[asyncio.Future[Any], list[int]]:
-        """A question that has no answer, and the processes that run for it."""
+        """Ask a question that gets no answer. Return it, and the processes that run for it."""
         self.here.keeper.path, wrote = self.program_that("echo $$ >> $WROTE; exec sleep 1000")
         question = asyncio.ensure_future(self.here.ask(seat, "days", of="mine", **SPAN))
 
@@ -161,12 +161,12 @@ class Days(Case):
             return not any(map(runs, processes))
         await until(gone, "nothing runs for it any more", 20)
 
-    async def test_one_question_at_a_time_and_who_asks_is_told(self) -> None:
+    async def test_one_question_at_a_time_and_the_refusal_names_who_asks(self) -> None:
         question, processes = await self.asks(self.ada)
         with self.assertRaises(Refused) as caught:
             await soon(self.here.ask(self.ben, "days", of="mine", **SPAN))
         self.assertEqual(caught.exception.text, "Busy")
-        self.assertIn("Ada asks about 20 days just now, of which 0 are done", caught.exception.why)
+        self.assertIn("Ada asks about 20 days just now (0 done)", caught.exception.why)
         self.assertEqual(await soon(self.here.ask(self.ben, "days", of=None)), {"stopped": False})
         await soon(self.here.put(self.ben, ["limit", 2, 50, 3]))  # who edits does not wait for it
         other, more = await self.asks(self.ada)  # her next one takes its place
@@ -174,7 +174,7 @@ class Days(Case):
         self.assertEqual(await soon(self.here.ask(self.ada, "days", of=None)), {"stopped": True})
         await self.ended(other, more)
 
-    async def test_it_ends_when_who_asks_leaves(self) -> None:
+    async def test_it_ends_when_the_asking_tab_leaves(self) -> None:
         question, processes = await self.asks(self.ada)
         self.here.questions.left(self.ben)
         self.assertFalse(question.done())

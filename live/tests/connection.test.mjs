@@ -5,7 +5,7 @@ import {test} from "node:test";
 
 import {Connection, Disconnected, TAKEN_OVER} from "../page/connection.mjs";
 
-/** A connection that stands, what it sent, what it was told, and waits that it made. */
+/** Return an open connection, what it sent, what it received, and the waits that it made. */
 function standing() {
   const found = {sockets: [], sent: [], heard: [], lost: [], waits: []};
   const connection = new Connection({
@@ -16,7 +16,7 @@ function standing() {
       return socket;
     },
     onOpen: () => connection.admit(),
-    onTold: (value) => found.heard.push(value),
+    onPush: (value) => found.heard.push(value),
     onLost: (...words) => found.lost.push(words),
     later: (act, wait) => found.waits.push([act, wait]),
   });

@@ -53,12 +53,12 @@ class Engineer:
 
 
 def raw_edits(operation: Held) -> list[list[Any]]:
-    """The raw edits of an operation."""
+    """Return the raw edits of an operation."""
     return [[*name, value] for name, value in operation["sets"] if isinstance(name, list)]
 
 
 def numbers(scenario: Sequence[Any]) -> dict[tuple[Any, ...], int]:
-    """What is put in a program, whatever the stamps."""
+    """Return what is put in a program, without stamps."""
     return {tuple(edit[:3]): edit[5] for edit in scenario if edit[5] is not None}
 
 
@@ -84,14 +84,14 @@ class Crashes(Case):
             await self.look(server, engineers)
 
     async def more(self, engineers: list[Engineer]) -> None:
-        """Waits until each has had more gestures confirmed."""
+        """Wait until each has had more gestures confirmed."""
         async def has_more() -> bool:
             return all(len(one.confirmed) > count for one, count in zip(engineers, counts))
         counts = [len(one.confirmed) + 1 for one in engineers]
         await until(has_more, "gestures are confirmed")
 
     async def look(self, server: Server, engineers: list[Engineer]) -> None:
-        """Every confirmed gesture is there with its edits; what was not confirmed goes out again, and is there once."""
+        """Check that every confirmed gesture is there with its edits, and that each other one is sent again and is there once."""
         for engineer in engineers:
             async with engineer.seat(server) as seat:
                 for key in engineer.sent.keys() - engineer.confirmed.keys():
@@ -134,7 +134,7 @@ class Crashes(Case):
         await self.rounds(server, engineers, kill)
 
     async def test_the_broker_is_killed(self) -> None:
-        """What was shared meanwhile comes to the other site all the same."""
+        """Changes that were shared meanwhile still reach the other site."""
         broker = self.broker()
         server = self.server("--broker", broker.address, plan=PLAN)
         other = self.server("--broker", broker.address, "--site", "2", plan=PLAN)
@@ -158,7 +158,7 @@ class Crashes(Case):
             await until(are_same, "both hold the same")
             self.assertGreater(len((await shared())[0]), ROUNDS)
 
-    async def test_a_change_of_program_is_not_felt(self) -> None:
+    async def test_nobody_notices_a_replaced_program(self) -> None:
         """Near its limit of lines the program gets a successor: no question is refused, and rows stay what they are."""
         server = self.server(plan=PLAN, LIVE_MOST_LINES="60")
         async with server.seat("Ada") as ada, server.seat("Ben") as ben:
@@ -184,8 +184,8 @@ class Crashes(Case):
     def changes(self, seat: Seat) -> int:
         return max((one["program"]["changes"] for one in seat.told if "program" in one), default=0)
 
-    async def test_it_ends_by_an_interrupt_with_tabs_open(self) -> None:
-        """One of them does not read."""
+    async def test_an_interrupt_ends_it_with_tabs_open(self) -> None:
+        """One of the tabs does not read."""
         server = self.server(plan=PLAN)
         ada, deaf = [await server.seat(name).__aenter__() for name in ("Ada", "deaf")]
         await ada.ask("gesture", key="1", edits=[["block", 30, 10, 1]])
@@ -203,7 +203,7 @@ class Crashes(Case):
         async with server.seat(key=ada.key) as ada:
             self.assertEqual(len((await ada.ask("scenario"))["edits"]), 1)
 
-    async def test_a_program_that_cannot_go_on_is_told(self) -> None:
+    async def test_a_program_that_cannot_continue_is_reported(self) -> None:
         server = self.server(plan=PLAN)
         async with server.seat("Ada") as ada:
             await ada.ask("gesture", key="1", edits=[["block", 30, 10, 1]])

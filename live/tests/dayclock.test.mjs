@@ -47,7 +47,7 @@ test("times are those of the day where the road's clock has one", () => {
 const SPRING = new DayClock({begin: 1.5 * 3600, date: "2026-03-29", zone: "Europe/Berlin"});
 const AUTUMN = new DayClock({begin: 1.5 * 3600, date: "2026-10-25", zone: "Europe/Berlin"});
 
-test("an hour that a clock change skips is not written, and is no time", () => {
+test("an hour that a clock change skips is never written, and is refused as a time", () => {
   for (const [step, text] of [[0, "01:30"], [1799, "01:59:59"], [1800, "03:00"], [5400, "04:00"],
                               [79_200, "00:30 (day 2)"]]) {
     assert.equal(SPRING.timeText(step), text);
@@ -84,7 +84,7 @@ test("without a date nobody knows of a clock change", () => {
   assert.equal(clock.timeText(1800), "02:00");
 });
 
-test("a day is told where it is not today", () => {
+test("a day is named unless it is today", () => {
   assert.equal(COUNTED.dateText(0), "");
   const now = Math.floor(Date.now() / 1000);
   assert.match(COUNTED.dateText(now), /^\d\d[:.]\d\d$/);     // of 24 hours
@@ -107,7 +107,7 @@ test("a time of day is written by formats that are kept: lists have hundreds, tw
   const plain = many(() => [new Date().toDateString(), kept.format(new Date(now * 1000))]);
   const made = many(() => new Date(now * 1000).toLocaleTimeString([], {hour: "2-digit"}));
   const one = many(() => COUNTED.dateText(now - 60));
-  assert.ok(one - plain < 0.3 * (made - plain), `${one}, kept ${plain}, made anew ${made}`);
+  assert.ok(one - plain < 0.3 * (made - plain), `${one}, kept ${plain}, made again ${made}`);
 });
 
 test("an instant is written with its date, in 24 hours", () => {
@@ -117,7 +117,7 @@ test("an instant is written with its date, in 24 hours", () => {
     ["2026-03-02 23:05:09", "2026-03-03 00:05:09", ""]);
 });
 
-test("times of changes are written in the time zone of the road's file", () => {
+test("the time of a change is written in the time zone of the road's file", () => {
   const noon = Date.UTC(2020, 0, 1, 12) / 1000;
   const told = (zone) => new DayClock({zone}).dateText(noon);
   assert.match(told("Asia/Tokyo"), /09:00|21:00/);

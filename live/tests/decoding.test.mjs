@@ -1,4 +1,4 @@
-// What the server tells becomes objects with named fields, and shapes and stamps are told back alike.
+// What the server sends becomes objects with named fields, and shapes and stamps are sent back unchanged.
 
 import assert from "node:assert/strict";
 import {test} from "node:test";
@@ -9,14 +9,14 @@ import {decodeAnswer, decodeChange, decodeParts, decodeShape, decodeStamp, encod
 const TOLD = ["limit", 4, 5, 1200, null, 2];
 const SHAPE = {kind: "limit", first: 4, last: 5, from: 1200, to: null, value: 2};
 
-test("a shape and a stamp have named fields, and are told as they came", () => {
+test("a shape and a stamp have named fields, and are sent back as they came", () => {
   assert.deepEqual(decodeShape(TOLD), SHAPE);
   assert.deepEqual(encodeShape(SHAPE), TOLD);
   assert.deepEqual(decodeStamp([7, 65]), {count: 7, number: 65});
   assert.deepEqual(encodeStamp({count: 7, number: 65}), [7, 65]);
 });
 
-test("a malformed shape is none, whichever field is wrong", () => {
+test("a malformed shape is refused, whichever field is wrong", () => {
   for (const [place, wrong] of [[0, "speed"], [0, null], [1, -1], [2, "5"], [3, 0.5], [4, "x"],
                                 [4, undefined], [5, null], [5, NaN]]) {
     assert.equal(decodeShape(TOLD.map((field, at) => (at === place ? wrong : field))), null, `${place}`);

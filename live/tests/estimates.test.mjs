@@ -19,7 +19,7 @@ test("a difference may be chance where its interval has 0 in it, and only there"
   assert.equal(sureText({mean: -3, half: 3}), "± 3.0, may be chance");
 });
 
-test("what is the same each day is no chance", () => {
+test("a figure that is the same each day is not called chance", () => {
   assert.equal(sureText({mean: 0, half: 0}), "the same each day");
 });
 

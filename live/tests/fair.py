@@ -44,21 +44,21 @@ class FairTurns(unittest.IsolatedAsyncioTestCase):
         self.assertEqual(await asyncio.gather(*asked), ["a", "b", "c", "d", "e"])
         self.assertEqual("".join(self.done), "aceadeab")
 
-    async def test_one_who_asks_much_waits_for_himself_alone(self) -> None:
+    async def test_a_seat_that_asks_much_delays_only_itself(self) -> None:
         many = [self.turns.ask(1, self.job("m")) for _ in range(50)]
         await asyncio.sleep(0)
         await self.turns.ask(2, self.job("x"))
         self.assertLess(self.done.index("x"), 4)
         await asyncio.gather(*many)
 
-    async def test_what_is_done_at_leisure_waits_for_all_else_of_its_seat(self) -> None:
+    async def test_background_jobs_wait_for_all_others_of_their_seat(self) -> None:
         figures = self.turns.ask(1, self.job("f", 3), at_leisure=True)
         while not self.done:
             await asyncio.sleep(0)
         await asyncio.gather(*(self.turns.ask(1, self.job(name)) for name in "gr"), figures)
         self.assertEqual("".join(self.done), "fgrff")
 
-    async def test_what_is_done_at_leisure_waits_for_a_second_at_the_most(self) -> None:
+    async def test_background_jobs_wait_for_a_second_at_most(self) -> None:
         await self.beside()
         rows = [asyncio.create_task(self.always(1, "r", 0.15)) for _ in range(2)]
         while not self.done:
@@ -70,7 +70,7 @@ class FairTurns(unittest.IsolatedAsyncioTestCase):
             one.cancel()
 
     async def asks(self, seat: int, name: str, cost: float, takes_long: bool | None = None) -> None:
-        """Asks once, for a turn that takes so many seconds of the test's clock."""
+        """Ask for one turn that takes this many seconds of the test's clock."""
         async def work() -> None:
             self.done.append(name)
             for _ in range(5):
@@ -83,7 +83,7 @@ class FairTurns(unittest.IsolatedAsyncioTestCase):
             await self.asks(seat, name, cost)
 
     async def beside(self) -> None:
-        """From now on the turns have the test's clock."""
+        """Let the turns use the test's clock from now on."""
         self.task.cancel()
         self.now, self.waits = 0.0, 0
         test = self
@@ -111,7 +111,7 @@ class FairTurns(unittest.IsolatedAsyncioTestCase):
             self.assertLessEqual(self.done.count("F"), 1)  # one that began while it was asked
         far.cancel()
 
-    async def test_what_is_asked_at_once_waits_for_one_long_turn(self) -> None:
+    async def test_questions_asked_at_once_wait_for_one_long_turn(self) -> None:
         await self.beside()
         far = asyncio.create_task(self.always(1, "F", 0.15))
         while self.done.count("F") < 3:
@@ -121,7 +121,7 @@ class FairTurns(unittest.IsolatedAsyncioTestCase):
         self.assertLessEqual(self.done.count("F"), 1)
         far.cancel()
 
-    async def test_long_turns_come_beside_many_short_ones(self) -> None:
+    async def test_long_turns_get_their_turn_among_many_short_ones(self) -> None:
         await self.beside()
         busy = [asyncio.create_task(self.always(1, "F", 0.15)),
                 *(asyncio.create_task(self.always(seat, "s", 0.002)) for seat in range(2, 64))]
@@ -131,7 +131,7 @@ class FairTurns(unittest.IsolatedAsyncioTestCase):
         for one in busy:
             one.cancel()
 
-    async def test_what_is_said_to_be_short_waits_for_one_long_turn_of_all(self) -> None:
+    async def test_a_job_announced_as_short_waits_for_one_long_turn_at_most(self) -> None:
         """Though its seat has used more than they, and none of theirs was long before."""
         await self.beside()
         for _ in range(9):
@@ -145,8 +145,8 @@ class FairTurns(unittest.IsolatedAsyncioTestCase):
         self.assertLess(self.done.count("t"), 62)
         await asyncio.gather(*takes)
 
-    async def test_what_is_short_is_done_within_the_long_turn_of_another(self) -> None:
-        """In its seat's order, one at a time, and not if the turn mends what jobs stand on."""
+    async def test_short_jobs_run_within_the_long_turn_of_another_seat(self) -> None:
+        """Jobs run in their seat's order, one at a time, and not while the turn repairs what they depend on."""
         self.task.cancel()
         may, ends = [True], asyncio.Event()
         self.turns = Turns(self.around, may_be_within=lambda: may[0])
@@ -181,7 +181,7 @@ class FairTurns(unittest.IsolatedAsyncioTestCase):
         await asyncio.gather(*asked)
         self.assertEqual("".join(self.done[:5]), "Lcedl")
 
-    async def test_it_is_waited_only_for_who_was_answered_since(self) -> None:
+    async def test_a_turn_waits_only_for_seats_that_were_answered_since(self) -> None:
         await self.beside()
         for _ in range(3):
             await self.asks(1, "F", 0.15)
@@ -191,12 +191,12 @@ class FairTurns(unittest.IsolatedAsyncioTestCase):
             await self.asks(1, "F", 0.15)
         self.assertEqual(self.waits, 1)
 
-    async def test_a_fault_is_told_to_who_asked_and_others_go_on(self) -> None:
+    async def test_a_fault_is_reported_to_the_asking_seat_and_others_go_on(self) -> None:
         asked = [self.turns.ask(1, self.job("a", fault=ValueError("x"))), self.turns.ask(1, self.job("b"))]
         said = await asyncio.gather(*asked, return_exceptions=True)
         self.assertEqual([str(one) for one in said], ["x", "b"])
 
-    async def test_what_nobody_waits_for_is_not_begun(self) -> None:
+    async def test_a_job_that_nobody_waits_for_is_not_started(self) -> None:
         first, second = self.turns.ask(1, self.job("a", 2)), self.turns.ask(1, self.job("b"))
         second.cancel()
         self.assertEqual(await first, "a")
@@ -217,7 +217,7 @@ class Figures(Case):
                 self.assertFalse(figures.done())
                 await figures
 
-    async def test_figures_are_of_one_road_though_a_gesture_comes_between_their_pieces(self) -> None:
+    async def test_figures_belong_to_one_road_even_if_a_gesture_comes_between_their_pieces(self) -> None:
         for verb, more in COUNTING:
             async with Here() as here:
                 seat, = await here.join("Ada")

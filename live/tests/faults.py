@@ -27,18 +27,18 @@ LINES = ("killed before", "killed after", "stopped")
 
 
 def each(of: Iterable[Any]) -> list[Any]:
-    """All, or one of a few, always the same."""
+    """Return all cases, or a fixed sample of them in the gate."""
     return [one for place, one in enumerate(of) if ALL or place % FEW == FEW // 2]
 
 
 class Story:
-    """Two sites and what is done there, always the same; what was confirmed, refused, told."""
+    """Two sites and a fixed series of acts; what was confirmed, refused and announced."""
 
     def __init__(self, disk: Disk | None = None) -> None:
         self.disk = disk or Disk()
         self.disk.folder = new_folder()
         self.disk.after = self._changed
-        self.durable = b""  # what of the journal is on the disk for good
+        self.durable = b""  # the part of the journal that is durable on the disk
         self.confirmed: list[tuple[Any, ...]] = []
         self.refused: list[str] = []
         self.told: list[tuple[int, int]] = []  # the stamps that others have heard of
@@ -77,14 +77,14 @@ class Story:
             self._tells(stamp)
 
     def _look(self) -> None:
-        """What Cleo, who takes nothing, is told."""
+        """Note what the server announces to Cleo, who takes nothing."""
         for change in self.here.lab.news(self.cleo, 1_000)["changes"]:
             self._tells(change["stamp"])
 
     def _tells(self, stamp: tuple[int, int]) -> None:
         self.told.append(stamp)
         if stamp[1] // 64 == 1 and f'"stamp":[{stamp[0]},{stamp[1]}]'.encode() not in self.durable:
-            self.untrue.append(f"{stamp} was told before it was on the disk")
+            self.untrue.append(f"{stamp} was announced before it was on the disk")
 
     # What is done
 
@@ -112,13 +112,13 @@ class Story:
         await self.act(f"take {seat}", self.here.take(seat))
 
     async def from_there(self, step: int) -> None:
-        """Sam shares something, and it comes."""
+        """Let Sam share something, and wait until it arrives."""
         await self.there.put(1, ["limit", 5, step, 2])
         await self.there.share(1)
         await soon(self.bus.carry())
 
     async def tell(self) -> None:
-        """All is told, until nothing is left."""
+        """Deliver everything that is waiting."""
         await asyncio.sleep(0)
         self._look()
         await soon(self.bus.carry())
@@ -143,7 +143,7 @@ class Story:
         await self.take(self.ada)
 
     async def ends(self) -> None:
-        """Without faults all that was shared comes to all."""
+        """Without faults, exchange until both sites hold all that was shared."""
         await soon(self.here.keeper.until_writable())
         for number in range(12):
             self.site._sent.clear()
@@ -155,10 +155,10 @@ class Story:
                 return
 
     def faults(self, state: State, confirmed: list[tuple[Any, ...]], told: list[tuple[int, int]]) -> list[str]:
-        """What of this is not so in a state."""
+        """Return what a state is missing of what was confirmed or announced."""
         lacking = [f"{name} is not there" for name, result in confirmed if not is_there(state, name, result)]
         known = shared(state)
-        return lacking + [f"{stamp} was told, and is not there" for stamp in told if stamp[1] // 64 == 1
+        return lacking + [f"{stamp} was announced, and is not there" for stamp in told if stamp[1] // 64 == 1
                           and stamp not in known]
 
 
@@ -180,7 +180,7 @@ def shared(state: State) -> set[tuple[int, int]]:
 
 
 def stamps_in(message: Message) -> list[tuple[int, int]]:
-    """The stamps of a message with operations."""
+    """Return the stamps of a message with operations."""
     import json
     value = json.loads(message.payload)
     return [(count, number) for count, number in (one["stamp"] for one in value.get("operations", []))]
@@ -200,7 +200,7 @@ class Faults(Case):
         self.addCleanup(logging.disable, logging.NOTSET)
 
     async def whole(self) -> Story:
-        """Without a fault: all is confirmed."""
+        """Run the story without a fault: all is confirmed."""
         async with Story() as story:
             await story.runs()
             await story.ends()
@@ -209,7 +209,8 @@ class Faults(Case):
         return story
 
     def look(self, story: Story, what: str, may_refuse: bool) -> None:
-        """What was confirmed is there, what was told was on the disk, the sites agree; so by the disk alone."""
+        """Check that what was confirmed is there, that what was announced was on the disk, and that the sites agree; then check a
+        state that is read from the disk."""
         for state in (story.here.keeper.state, replayed(story.journal)):
             self.assertEqual(story.faults(state, story.confirmed, story.told), [], what)
             done = sum(len(seat.done) for seat in state.seats[1:])
@@ -235,8 +236,8 @@ class Faults(Case):
                 self.look(story, f"call {number} and {'all later' if lasting else 'no other'}", True)
         self.assertGreater(refused, len(some) // 3)
 
-    async def test_without_current_at_each_call_to_the_disk(self) -> None:
-        """What is on the disk for good is there, and of what else was written any part, or zeros."""
+    async def test_power_failure_at_each_call_to_the_disk(self) -> None:
+        """After a power failure the durable part of the disk is there, and any part of the rest, or zeros."""
         moments: list[tuple[bytes, bytes, list[Any], list[Any]]] = []
         async with Story() as story:
             def moment(name: str, given: Any) -> None:
@@ -281,7 +282,7 @@ class Faults(Case):
                 self.look(story, f"message {number}, {way}", False)
 
     async def test_at_each_call_to_the_disk_of_a_new_folder(self) -> None:
-        """A folder that could not be begun can be begun again."""
+        """A folder whose creation failed can be created again."""
         with Disk() as disk:
             async with Here():
                 calls = len(disk.calls)
@@ -298,7 +299,7 @@ class Faults(Case):
 
 
 def ends_at(number: int, way: str) -> Any:
-    """In the place of `Program.ask_all`: the program ends, or hangs, at the line of this number."""
+    """Return a replacement of `Program.ask_all`, in which the program ends, or hangs, at the line of this number."""
     ask_all, count = Program.ask_all, 0
 
     async def asked(program: Program, lines: list[bytes]) -> list[bytes]:

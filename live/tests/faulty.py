@@ -27,10 +27,10 @@ CALLS = ("write", "fsync", "rename", "ftruncate")
 
 
 class Disk:
-    """In the place of `os` in the journal: counts the calls that change a folder, and asks before each."""
+    """A replacement of `os` in the journal: counts the calls that change a folder, and asks before each."""
 
     def __init__(self, folder: Path | None = None) -> None:
-        self.folder = folder  # all folders, where there is none
+        self.folder = folder  # None: all folders
         self.calls: list[str] = []
         self.fault: Callable[[int, str], int | None] = lambda number, name: None  # the number of an error, or none
         self.before: Callable[[str, Any], None] = lambda name, given: None
@@ -60,7 +60,7 @@ class Disk:
         return call
 
     def is_full(self, is_so: bool = True) -> None:
-        """Takes nothing, but can be cut."""
+        """Refuse every write, but let files be cut."""
         self.fault = lambda _, name: errno.ENOSPC if is_so and name == "write" else None
 
     def is_read_only(self, is_so: bool = True) -> None:
@@ -108,7 +108,7 @@ class Here:
         return [index for index, _ in joined]
 
     async def ask(self, seat: int, verb: str, **fields: Any) -> Any:
-        """What a tab of the seat is answered, or `Refused`."""
+        """Ask a question as a tab of the seat. Return the answer; raise `Refused` if it is refused."""
         asked = Asked(verb, {"at": f"seat{seat}", **fields})
         reply = await verbs.answer(self.lab, self.questions, seat, asked, {})
         return json.loads(reply) if isinstance(reply, bytes) else reply
@@ -124,13 +124,13 @@ class Here:
         return await self.ask(seat, "take", message="shared")
 
     def entries(self) -> list[Any]:
-        """What the disk holds."""
+        """Return the entries on the disk."""
         from server.journal import read_entries
         return read_entries(self.folder / "journal.jsonl")[0]
 
 
 async def soon(waited_for: Any) -> Any:
-    """What comes while nothing keeps it; else the test fails."""
+    """Wait for a result that nothing should delay. Return it; the test fails if it takes too long."""
     return await asyncio.wait_for(waited_for, PATIENCE)
 
 
@@ -140,23 +140,23 @@ class Message(NamedTuple):
 
 
 def message_of(site: Sites, *operations: Operation, **more: Any) -> Message:
-    """A message with operations, as a site sends it."""
+    """Return a message with operations, as a site sends it."""
     value = {"form": 3, "operations": [one.written() for one in operations], **more}
     return Message(f"road/{site._road}/operations", json.dumps(value).encode())
 
 
 class Bus:
-    """A broker in this process, with which nothing happens by itself: what was sent waits until it is carried."""
+    """A broker in this process, which does nothing by itself: messages wait until `carry` delivers them."""
 
     def __init__(self) -> None:
         self.sites: list[Sites] = []
         self.sent: list[Message] = []
         self.seen: list[Message] = []
         self.hears: Callable[[Message], None] = lambda message: None
-        self.way: tuple[int, str] = -1, ""  # of which message what becomes: it is lost, comes twice, or late
+        self.way: tuple[int, str] = -1, ""  # the number of a message, and its fate: lost, twice or late
 
     def site(self, here: Here, key: Path | None = None) -> Sites:
-        """A site that is connected."""
+        """Return a connected site."""
         options = argparse.Namespace(broker="127.0.0.1:1", broker_user=None, broker_authority=None, site_key=key)
         with mock.patch.object(Sites, "_new_client", lambda _: self):
             site = Sites(here.lab, lambda: None, options)
@@ -171,7 +171,7 @@ class Bus:
         self.sent.append(message)
 
     async def carry(self) -> None:
-        """All that was sent comes to all, and what they send by it."""
+        """Deliver all messages to all sites, and what they send in reply."""
         late: list[Message] = []
         while self.sent or late:
             message = self.sent.pop(0) if self.sent else late.pop()
@@ -183,12 +183,12 @@ class Bus:
                 await self.give(site, message)
 
     async def give(self, site: Sites, message: Message) -> None:
-        """As the broker's thread does."""
+        """Give a message to a site, as the broker's thread does."""
         await asyncio.get_running_loop().run_in_executor(None, site._on_message, None, None, message)
         await asyncio.sleep(0)
 
     async def rounds(self, count: int = 1) -> None:
-        """All say who they are, and what they hold."""
+        """Let all sites announce themselves and what they hold."""
         for _ in range(count):
             for site in self.sites:
                 await site.announce()
@@ -196,6 +196,6 @@ class Bus:
 
 
 def told(site: Sites) -> str:
-    """What people are told of it, once or for good."""
+    """Return what the site reports to its users, once or permanently."""
     state = site.state()
     return " | ".join([*state["told"], *state["stays"]])

@@ -29,7 +29,7 @@ ORACLE = oracle_of(ROADS, 44)
 
 
 def checksum(state: State, index: int) -> str:
-    """The checksum of a road, as it was taken when the journals were written."""
+    """Return the checksum of a road, computed as when the journals were written."""
     values = ORACLE.by_the_program(by_rows(rows_of(timeline(state.replica(index).road))))
     told = [([kind, at, step], value) for (kind, at), line in values.items() for step, value in enumerate(line)]
     return hashlib.sha256(json.dumps(sorted(told)).encode()).hexdigest()[:16]
@@ -45,7 +45,7 @@ def state_of(entries: list[Any]) -> State:
 
 class Journals(unittest.TestCase):
     def test_no_road_of_a_former_journal_differs(self) -> None:
-        """Also once it was written anew in this form."""
+        """Nor after it was rewritten in the present form."""
         compared = 0
         with gzip.open(HERE / "histories.jsonl.gz", "rt") as lines:
             for line in lines if running.ALL else random.Random(1).sample(list(lines), 40):
@@ -58,8 +58,8 @@ class Journals(unittest.TestCase):
                         compared += 1
         self.assertGreater(compared, 150)
 
-    def test_what_is_written_in_this_form_is_read(self) -> None:
-        """Each entry, and what a shorter journal has is what the longer one said."""
+    def test_entries_of_this_form_are_read_back(self) -> None:
+        """Each entry is read, and a compacted journal says the same as the longer one."""
         with gzip.open(HERE / "load.json.gz", "rt") as file:
             for kept in json.load(file):
                 state = state_of([entry_of(line) for line in kept["journal"].splitlines()])
@@ -78,7 +78,7 @@ def entry_of(line: str) -> dict[str, Any]:
 
 class Servers(Case):
     async def test_a_folder_of_form_2_that_was_written_under_load_has_the_same_rows(self) -> None:
-        """At each seat and on the shared road, after each of two starts; and the old journal is kept."""
+        """Compare each seat and the shared road after each of two starts; the old journal is kept."""
         with gzip.open(HERE / "load.json.gz", "rt") as file:
             folders = json.load(file)
         for kept in folders:
@@ -96,5 +96,5 @@ class Servers(Case):
                 self.assertEqual((folder / "journal.form2.jsonl").read_text(encoding="utf-8"), kept["journal"])
                 self.assertEqual(server.journal()[0]["lab"]["form"], 3)
                 self.assertTrue(any("made" in entry for entry in server.journal()))
-                server.again()
+                server.restart()
             self.addCleanup(running.end, server.process)

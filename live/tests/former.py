@@ -1,5 +1,5 @@
-"""A folder of the former form, whose gestures are edits alone: the same roads, row by row, after the first start, its journal
-written anew and the old one kept."""
+"""Test a folder of form 1, whose gestures are only edits: it has the same roads, row by row, after the first start, its journal
+rewritten and the old one kept."""
 from __future__ import annotations
 
 import hashlib
@@ -18,7 +18,7 @@ SEATS = ["shared", *(f"seat{index}" for index in range(1, 64))]
 
 
 class Folder:
-    """A journal of the former form, and what each replica holds by it."""
+    """A journal of form 1, and what each replica holds according to it."""
 
     def __init__(self, chance: random.Random) -> None:
         self.entries: list[Any] = [{"lab": {"plan": {**PLAN, "replicas": SEATS}, "site": 1, "folder": "f", "form": 1}},
@@ -54,7 +54,7 @@ class Folder:
         self.entries.append({"gesture": {"seat": seat, "key": f"key {number}", **gesture}})
 
     def rows(self, seat: int) -> list[str]:
-        """A replica's rows, by its edits alone."""
+        """Return the rows of a replica, from its edits alone."""
         with RoadLab(read_plan_line({**PLAN, "replicas": ["A"]})) as lab:
             lab.take_in("A", [Edit((edit[0], edit[1]), edit[2], Stamp(*one["stamp"]), edit[3]) for one in self.held[seat]
                               for edit in one["edits"]])
@@ -68,7 +68,7 @@ def digest(key: str) -> str:
 
 
 class Former(Case):
-    async def test_a_folder_of_the_former_form_has_the_same_roads(self) -> None:
+    async def test_a_folder_of_form_1_has_the_same_roads(self) -> None:
         for seed in range(RUNS):
             folder, old = running.new_folder(), Folder(random.Random(seed))
             journal = folder / "journal.jsonl"
@@ -81,7 +81,7 @@ class Former(Case):
                 self.assertEqual((folder / "journal.form1.jsonl").read_bytes(), before)
                 self.assertEqual(server.journal()[0]["lab"]["form"], 3)
                 self.assertFalse(any("gesture" in entry for entry in server.journal()))
-                server.again()
+                server.restart()
             self.addCleanup(running.end, server.process)
 
     async def same_rows(self, server: Server, old: Folder) -> None:
@@ -94,7 +94,7 @@ class Former(Case):
                 notes = {one["note"] for line in (await seat.ask("layers"))["layers"] for one in line.get("operations", [])}
                 self.assertTrue(notes <= {f"note {number}" for number in range(60)} and notes)
 
-    async def test_a_line_of_the_former_form_is_changed_and_withdrawn(self) -> None:
+    async def test_a_line_of_form_1_is_changed_and_withdrawn(self) -> None:
         folder = running.new_folder()
         edits = [["block", cell, step, value] for cell in range(30, 35) for step, value in ((20, 1), (40, 0))]
         entries: list[Any] = [*Folder(random.Random(0)).entries[:4], {"gesture": {

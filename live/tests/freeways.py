@@ -31,8 +31,8 @@ def value_at(edits: Sequence[WrittenEdit], plan: PlanLine, inlet: int, step: int
 
 
 class Freeways(Case):
-    async def test_a_freeway_in_km_is_the_recipes_road(self) -> None:
-        """Rows beside those of the edits that the recipe makes of the same figures."""
+    async def test_a_freeway_in_km_gives_the_road_of_the_recipe(self) -> None:
+        """Compare its rows with those of the edits that the recipe makes from the same figures."""
         server = self.server(plan=KM)
         async with server.seat() as ada:
             await ada.ask("take", message="shared")
@@ -57,7 +57,7 @@ class Freeways(Case):
             roads = [numbers((await eve.ask("scenario", at=at))["edits"]) for at in (eve.at, "shared")]
             self.assertEqual(roads[0], roads[1])
             self.assertEqual((await eve.ask("take", message="shared"))["size"], 0)
-        # The same file again starts the same road, at once; another one is told.
+        # The same file starts the same road again, at once; a different file is refused.
         server.stop()
         server.start()
         self.assertNotIn("another plan", server.said())
@@ -69,7 +69,7 @@ class Freeways(Case):
         server.start()
         self.assertIn("has another plan than", server.said())
 
-    async def test_the_demand_is_that_of_the_file_and_the_clock_is_its_day(self) -> None:
+    async def test_demand_and_clock_are_those_of_the_file(self) -> None:
         """900 cars an hour, and 600 from 7:05 on; 200 at a ramp beside them: to half a per cent, and the curve that the page asks for
         gives the ramp's demand back."""
         server = self.server(plan={**KM, "main": [["7:00", 900], ["7:05", 600]], "ramps": [[0.45, 200]], "begin": "07:00",
@@ -130,7 +130,7 @@ class Freeways(Case):
         (key, kept), = map(json.loads, path.read_text(encoding="ascii").splitlines())
         self.assertEqual(kept, {"points": curve["points"], "capacity": curve["capacity"]})
         path.write_text(f'{json.dumps([key, {**kept, "capacity": 1_234.5}])}\n["half", {{"poi', encoding="ascii")
-        server.again()
+        server.restart()
         async with server.seat("Cleo") as cleo:
             again = await cleo.say("admission", **asked)
             self.assertEqual((again["points"], again["capacity"]), (curve["points"], 1_234.5))
@@ -183,12 +183,12 @@ class Freeways(Case):
             html = (await ada.ask("report", of="mine", title="A road", works=[], **window))["html"]
             self.assertRegex(html, "main road: 900 from 07:00, 600 from 07:05")
             self.assertRegex(html, "on-ramp at km 0.45: 200 from 07:00, 100 from 07:05")
-        server.again()
+        server.restart()
         async with server.seat("Cleo") as cleo:
             self.assertEqual(await demands(cleo), 2 * [asked])
 
-    async def test_a_freeway_that_was_not_begun_whole_is_begun_anew(self) -> None:
-        """Its server was killed before the works were shared."""
+    async def test_a_freeway_that_was_only_partly_set_up_is_set_up_again(self) -> None:
+        """The server was killed before the works were shared."""
         folder, keys = new_folder(), dict[Path, dict[str, str]]()
         (folder / "token").write_text("a token of twenty signs")
         (folder / "stalled").write_text("journal.jsonl")
@@ -213,7 +213,7 @@ class Freeways(Case):
             server.stop()
 
     async def test_a_file_may_have_any_name(self) -> None:
-        """Also one that is no text: what can be shown of it is said of its works."""
+        """Even one that is not valid text: its works are named by the characters that can be shown."""
         folder = new_folder()
         path = os.fsencode(folder) + b"/r\xff d.json"
         with open(path, "w", encoding="utf-8") as file:
@@ -229,20 +229,20 @@ class Freeways(Case):
             self.assertEqual({line["who"] for line in lines}, {"r d.json"})
 
     def of_recipe(self, path: Path) -> Any:
-        """The recipe's road in cells and steps."""
+        """Return the recipe's road in cells and steps."""
         from zegdrut.commands.freeway import FIGURES
         from zegdrut.freeway import make_roads
         return make_roads(FIGURES.override(path), None)[0]
 
-    def test_what_cannot_be_read_is_refused_and_leaves_nothing(self) -> None:
+    def test_an_unreadable_file_is_refused_and_leaves_nothing(self) -> None:
         free: dict[str, Any] = {**KM, "main": 0}
         for text, said in (
-                ("", "is no plan line, and no freeway in km"), ("[1]", "it is no object of JSON"),
+                ("", "is neither a plan line nor a freeway in km"), ("[1]", "it is not a JSON object"),
                 ('{"length": 3}', "has no sections"), (json.dumps({**free, "lanes": 3}), "unknown field 'lanes': the fields are"),
                 (json.dumps({**free, "ramps": [[7, 100]]}), "the ramp at 7 km is not on the road"),
                 (json.dumps({**free, "sections": [[1, 0.9, 4, 8, 54]]}), "it must begin before it ends"),
                 (json.dumps({**free, "sections": [[0.9, 1.2, -4, 8, 54]]}), "minute -4 to 8: it must begin before it ends"),
-                (json.dumps({**SMALL, "words": "\ud800"}), "is no plan line"), (json.dumps({**SMALL, "length": 1e400}), "is no plan line"),
+                (json.dumps({**SMALL, "words": "\ud800"}), "is neither a plan line"), (json.dumps({**SMALL, "length": 1e400}), "is neither a plan line"),
                 (json.dumps({**SMALL, "zones": [[12, 0]]}), "the program refuses the plan")):
             folder = new_folder()
             (folder / "road.json").write_text(text, encoding="utf-8")

@@ -50,7 +50,7 @@ test("a rectangle between two places has the objects and the time between them",
   assert.deepEqual(between("inflow", [190, 0], [20, 9]), [1, 1, 0, 9]);
 });
 
-test("a drag takes zones of which at least half is covered; all with a key held", () => {
+test("a drag takes zones that it covers at least by half; with a key held, all that it touches", () => {
   // Zones have 50 cells, 375 m: half a kilometre is 66 cells.
   for (const [cells, half, all] of [
     [[360, 426], [7, 8], [7, 8]],         // 40 of zone 7, 26 of zone 8
@@ -102,7 +102,7 @@ test("an edge is drawn to a place, at least one cell and one step from the other
   assert.deepEqual(shapeWithEdge(PLAN, demand, "right", [90, 0]), demand);
 });
 
-test("an edge is taken within so many pixels", () => {
+test("an edge is taken within a few pixels", () => {
   const corners = [100, 200, 300, 400];
   assert.equal(edgeNear(corners, [200, 403], 6, false), "bottom");
   assert.equal(edgeNear(corners, [200, 403], 6, true), undefined);

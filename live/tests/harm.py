@@ -1,4 +1,4 @@
-"""Sites and tabs that mean harm: what they say is checked and bounded, and who floods is not heard."""
+"""Test hostile sites and tabs: what they send is checked and bounded, and a flood is ignored."""
 from __future__ import annotations
 
 import json
@@ -24,7 +24,7 @@ JUNK: list[Any] = [None, True, -1, 0, 1, 5, 119, 1 << 20, 1 << 48, 10 ** 30, 0.5
 
 
 def asked_well(number: int) -> list[tuple[str, dict[str, Any]]]:
-    """What a tab may ask."""
+    """Return valid questions of a tab."""
     made = {"key": f"{number}", "note": ""}
     former = f"{number - 1}"
     return [
@@ -41,7 +41,7 @@ def asked_well(number: int) -> list[tuple[str, dict[str, Any]]]:
 
 
 def places_in(value: Any) -> Iterator[tuple[Any, Any]]:
-    """All places in a message: the list or object, and where in it."""
+    """Yield all places in a message: the list or object, and the key or index."""
     keys: Any = value if isinstance(value, dict) else range(len(value)) if isinstance(value, list) else ()
     for key in list(keys):
         yield value, key
@@ -49,7 +49,7 @@ def places_in(value: Any) -> Iterator[tuple[Any, Any]]:
 
 
 class Bounds(Case):
-    async def test_who_floods_is_not_heard_for_a_while_and_named(self) -> None:
+    async def test_a_flooding_site_is_ignored_for_a_while_and_reported(self) -> None:
         bus = Bus()
         one, two = [await self.enterAsyncContext(Here(site=number)) for number in (1, 2)]
         first, second = bus.site(one), bus.site(two)
@@ -61,7 +61,7 @@ class Bounds(Case):
             for _ in range(30):
                 second._present()
             await bus.carry()
-            self.assertIn("Site 2 sends too much: its messages are ignored for 30 seconds", " ".join(first.state()["stays"]))
+            self.assertIn("Site 2 sends too many messages: they are ignored for 30 seconds", " ".join(first.state()["stays"]))
             await two.join("Ben")
             await two.put(1, ["limit", 2, 50, 3])
             await two.share(1)
@@ -78,8 +78,8 @@ class Bounds(Case):
             self.assertEqual(one.lab.state.shared.size, 1)
             self.assertNotIn("too much", " ".join(first.state()["stays"]))
 
-    async def test_who_makes_much_work_is_not_heard_for_a_while_either(self) -> None:
-        """Of 6 seconds at once, and half of the time: a second counts for 1,000 messages."""
+    async def test_a_site_that_makes_much_work_is_ignored_for_a_while_too(self) -> None:
+        """The limit is 6 seconds of work at once, and half of the time: a second counts as 1,000 messages."""
         bus = Bus()
         one, two = [await self.enterAsyncContext(Here(site=number)) for number in (1, 2)]
         first, second = bus.site(one), bus.site(two)
@@ -98,11 +98,11 @@ class Bounds(Case):
                 await bus.carry()
                 now[0] += seconds
         self.assertEqual(one.lab.state.shared.size, 4)
-        self.assertIn("Site 2 sends too much: its messages are ignored for 30 seconds", " ".join(first.state()["stays"]))
+        self.assertIn("Site 2 sends too many messages: they are ignored for 30 seconds", " ".join(first.state()["stays"]))
         self.assertEqual(second._floods.paused(), [])  # not by its own
 
-    async def test_an_operation_that_a_tab_may_make_every_site_takes_and_no_other(self) -> None:
-        """One gate: a closure of 600 cells in raw edits, and the drag of its end, which withdraws them all."""
+    async def test_every_site_accepts_exactly_the_operations_that_a_tab_may_make(self) -> None:
+        """One gate for all: a closure of 600 cells in raw edits, and the drag of its end, which withdraws them all."""
         bus, plan = Bus(), {**SMALL, "length": 1_300, "zone": 100, "zones": [[5, 0]] * 13, "detectors": []}
         one, two = [await self.enterAsyncContext(Here(site=number, plan=plan)) for number in (1, 2)]
         first, _ = bus.site(one), bus.site(two)
@@ -129,8 +129,8 @@ class Bounds(Case):
         line = list(await here.put(1, ["limit", 1, 50, 4]))
         await here.ask(1, "gesture", key="w", layer=line, shape=None)
         cases: list[tuple[dict[str, Any], str]] = [
-            ({"layer": line, "shape": None}, "to be withdrawn"), ({"layer": line, "top": True}, "to be put on top"),
-            ({"edits": [["limit", 1, 50, None]]}, "to be withdrawn")]
+            ({"layer": line, "shape": None}, "left to withdraw"), ({"layer": line, "top": True}, "left to put on top"),
+            ({"edits": [["limit", 1, 50, None]]}, "left to withdraw")]
         for what, why in cases:
             with self.assertRaisesRegex(Refused, "NoEffect") as caught:
                 await here.ask(1, "gesture", key="again", **what)
@@ -172,8 +172,8 @@ class Bounds(Case):
         await site._came(f"road/{site._road}/operations", "", body)
         self.assertEqual([one.about.who for one in here.lab.state.shared.places], ["Eve"])
 
-    async def test_whatever_is_changed_in_a_message_is_taken_or_told(self) -> None:
-        """And the program takes all that the server took."""
+    async def test_whatever_is_changed_in_a_message_is_taken_or_reported(self) -> None:
+        """The program accepts all that the server accepted."""
         here = await self.enterAsyncContext(Here(site=1))
         site, chance = Bus().site(here), random.Random(1)
         with mock.patch("logging.error") as error, mock.patch("logging.exception", error):
@@ -194,8 +194,8 @@ class Bounds(Case):
         self.assertEqual(numbers(json.loads(reply)["edits"]), numbers(rows_of(timeline(here.lab.state.shared.road))))
         self.assertGreater(here.lab.state.shared.size, 10)
 
-    async def test_what_lacks_is_told_when_it_was_heard_twice(self) -> None:
-        """A site that lacks operations is told them once; one whose protocol is another is told nothing."""
+    async def test_missing_operations_are_sent_after_a_hash_is_heard_twice(self) -> None:
+        """A site that is missing operations gets them once; a site with another version of the protocol gets nothing."""
         bus = Bus()
         here = await self.enterAsyncContext(Here(site=1))
         site = bus.site(here)
@@ -209,7 +209,7 @@ class Bounds(Case):
                 await site._came(f"road/{site._road}/sum", "f", body)
             self.assertEqual([one.topic.rpartition("/")[2] for one in bus.sent], sent)
 
-    async def test_two_that_read_the_same_changes_otherwise_say_so(self) -> None:
+    async def test_two_sites_that_derive_different_roads_from_the_same_changes_say_so(self) -> None:
         bus = Bus()
         here = await self.enterAsyncContext(Here(site=1))
         site = bus.site(here)
@@ -219,11 +219,11 @@ class Bounds(Case):
         await site._came(f"road/{site._road}/sum", "f", body)
         self.assertNotIn("another road", told(site))
         await site._came(f"road/{site._road}/sum", "f", body.replace(b'"timeline": "', b'"timeline": "x'))
-        self.assertIn("has the same changes and another road by them", told(site))
+        self.assertIn("has the same changes but derives a different road from them", told(site))
         self.assertEqual(bus.sent, [])
 
 
-    async def test_what_strangers_say_of_themselves_is_bounded(self) -> None:
+    async def test_announcements_of_strangers_are_bounded(self) -> None:
         bus = Bus()
         here = await self.enterAsyncContext(Here(site=1))
         site = bus.site(here)
@@ -240,9 +240,9 @@ class Bounds(Case):
         self.assertLess(len(json.dumps(site.state())), 100_000)
         for wrong in (0, -1, 1_024, True, "7", None, 1 << 70):
             await site._came("road/sites", "", json.dumps({"folder": "f", "site": wrong, "road": "r"}).encode())
-        self.assertIn("it says of no site who it is", told(site))
+        self.assertIn("it does not say which site sent it", told(site))
 
-    async def test_what_does_not_come_back_is_sent_again_after_growing_pauses(self) -> None:
+    async def test_an_operation_that_does_not_come_back_is_resent_after_growing_pauses(self) -> None:
         bus = Bus()
         here = await self.enterAsyncContext(Here(site=1))
         site = bus.site(here)
@@ -282,7 +282,7 @@ class Bounds(Case):
 
 
 class Refusals(unittest.TestCase):
-    """One table of names, which the protocol's page, the server and the format's page have alike."""
+    """One table of names, which is the same in PROTOCOL.md, the server and FORMAT.md."""
 
     def rows(self, page: str) -> dict[str, str]:
         text = (LIVE.parent / page).read_text().partition("## Refusals\n")[2].partition("\n## ")[0]
@@ -304,7 +304,7 @@ class Refusals(unittest.TestCase):
 
 class Tabs(Case):
     async def test_whatever_a_tab_asks_is_answered_or_refused(self) -> None:
-        """By a sentence, and the program takes all that the server took."""
+        """A refusal has a sentence, and the program accepts all that the server accepted."""
         here = await self.enterAsyncContext(Here(site=1))
         chance = random.Random(1)
         await here.join("Eve")

@@ -1,4 +1,4 @@
-// While a button is held down nothing moves it, or makes it anew.
+// While a button is held down, nothing moves it or replaces it.
 
 import assert from "node:assert/strict";
 import {test} from "node:test";

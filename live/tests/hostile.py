@@ -1,4 +1,4 @@
-"""Frames, tabs and addresses that mean harm: each gets a refusal, and nobody else is the slower for it."""
+"""Test hostile frames, tabs and addresses: each gets a refusal, and nobody else is slowed down."""
 from __future__ import annotations
 
 import asyncio
@@ -22,7 +22,7 @@ from working import takes_at_most
 
 
 class Frames(Case):
-    """What comes back for frames that are sent as they are."""
+    """The replies to frames that are sent unchanged."""
 
     async def asyncSetUp(self) -> None:
         self.a6 = self.server()
@@ -30,7 +30,7 @@ class Frames(Case):
         self.session = await self.enterAsyncContext(aiohttp.ClientSession())
 
     async def raw(self, *frames: str | bytes, **headers: str) -> list[Any]:
-        """The replies, and at last the code by which the socket was closed, or None."""
+        """Send frames. Return the replies, and at last the code with which the socket was closed, or None."""
         socket = await self.session.ws_connect(self.base + "/live", headers={"Origin": self.base, **headers})
         replies: list[Any] = []
         for frame in frames:
@@ -75,7 +75,7 @@ class Frames(Case):
             self.assertIn(b" 404 ", await reader.readline(), path)
             writer.close()
 
-    async def test_the_page_is_told_to_load_nothing_from_elsewhere(self) -> None:
+    async def test_the_page_may_load_nothing_from_elsewhere(self) -> None:
         async with self.session.get(self.base + "/viewer/drawing.js") as one, self.session.get(self.base + "/") as other:
             for reply in (one, other):
                 if reply.status == 200:
@@ -85,7 +85,7 @@ class Frames(Case):
                     self.assertNotIn("unsafe", policy)
                     self.assertEqual(reply.headers["Referrer-Policy"], "no-referrer")
 
-    async def test_the_token_lets_in(self) -> None:
+    async def test_the_token_admits_a_tab(self) -> None:
         for token in ("", "wrong", self.token[:-1], self.token + "x", "\u00e9", 7, None, [self.token]):
             frame = json.dumps({"id": 1, "hello": {"token": token, "name": "x"}})
             self.assertEqual(await self.raw(frame), [1008], token)
@@ -94,7 +94,7 @@ class Frames(Case):
         self.assertEqual((await self.raw('{"id":1,"hello":{"name":"x"}}'))[0]["refused"], "not a command")
 
     async def test_a_person_may_take_long_to_say_a_name(self) -> None:
-        """Who has shown the token may think; who has not is not waited for."""
+        """A tab with the token may take its time; one without it is disconnected."""
         self.a6 = self.server(LIVE_HELLO="5")
         self.base, _, self.token = self.a6.address.partition("/#")
         known = await self.session.ws_connect(self.base + "/live", headers={"Origin": self.base})
@@ -106,15 +106,15 @@ class Frames(Case):
         self.assertEqual((await known.receive_json())["welcome"]["name"], "Ada")
         await known.close()
 
-    async def test_who_never_says_a_name_is_let_go_at_last(self) -> None:
-        """Though it has shown the token: there are 200 such sockets."""
+    async def test_a_tab_that_never_sends_a_name_is_disconnected_at_last(self) -> None:
+        """Even with the token: there are 200 such sockets."""
         self.enterContext(mock.patch("server.tabs.NAMED", 0.1))
         tab = Tab(mock.Mock(**{"lab.keeper.settings.hello": 0.1}), mock.Mock(), mock.Mock())
         tab.has_token = True
         await asyncio.wait_for(tab._hello_in_time(), PATIENCE)
         self.assertEqual(tab.close_reason, (1008, "no hello"))
 
-    async def test_frames_that_are_none(self) -> None:
+    async def test_malformed_frames(self) -> None:
         for number, frame in enumerate((
                 "", "x", "[]", "7", "null", "[" * 60_000, '{"id":1}', '{"id":"1","ping":{}}', '{"id":1.5,"ping":{}}',
                 '{"id":true,"ping":{}}',
@@ -135,7 +135,7 @@ class Frames(Case):
         self.assertEqual((await self.raw(self.hello("c"), b"\x00binary"))[1:], [1003])
         self.assertEqual((await self.raw(self.hello("d"), *["x"] * 40))[-1], 1008)
 
-    async def test_who_sends_a_frame_without_end_is_told_and_nothing_of_it_is_kept(self) -> None:
+    async def test_an_endless_frame_is_refused_and_not_kept(self) -> None:
         host = self.base.rpartition("/")[2]
         reader, writer = await asyncio.open_connection("127.0.0.1", int(host.rpartition(":")[2]))
         writer.write((f"GET /live HTTP/1.1\r\nHost: {host}\r\nOrigin: {self.base}\r\nUpgrade: websocket\r\n"
@@ -221,9 +221,9 @@ class Frames(Case):
 
 
 class Long(Case):
-    """Frames of 64 KB that are wrong all over hold nobody up."""
+    """Malformed frames of 64 KB delay nobody."""
 
-    def test_what_is_wrong_is_soon_found(self) -> None:
+    def test_faults_are_found_fast(self) -> None:
         def many(one: str) -> str:
             return "[" + ",".join([one] * (64_000 // (len(one) + 1))) + "]"
         wrong = [*map(many, ("1", "[]", "[1]", '["x",1,1,1]', '["limitt",1,1,1]', '["limit",1,1,1.5]', '["limit",1,1,1]', '"x"',
@@ -242,7 +242,7 @@ class Long(Case):
 
 
 class Connection(asyncio.Transport):
-    """One from an address, until it is cut."""
+    """A connection from an address, until it is cut."""
 
     def __init__(self, address: str) -> None:
         super().__init__()
@@ -264,12 +264,12 @@ class Crowds(Case):
             self.assertEqual(neighbourhood(one) == neighbourhood(other), is_one, (one, other))
 
     def test_strangers_are_64_of_an_address_and_512_of_all_for_a_minute(self) -> None:
-        """The oldest are cut; who has shown the token is none."""
+        """The oldest are cut; a tab with the token does not count as a stranger."""
         ones: list[Connection] = []
         strangers = Strangers(lambda: ones, lambda: set(ones[:2]))
 
         def come(addresses: list[str], now: float) -> list[bool]:
-            """Who is still there when these have come, one after the other within a second."""
+            """Connect from these addresses, one after the other within a second. Return which are still connected."""
             for place, address in enumerate(addresses):
                 ones.append(Connection(address))
                 strangers.look(now + place / len(addresses))
@@ -281,7 +281,7 @@ class Crowds(Case):
         self.assertEqual(come(["c"], 123).count(True), 2 + 1)
 
     async def test_sockets_without_a_token_lock_nobody_out(self) -> None:
-        """Many that ask nothing, that never end what they ask, and that never say hello; tabs that were there stay."""
+        """Many send nothing, never finish a request, or never say hello; tabs that were there stay."""
         server = self.server()
         base, _, _ = server.address.partition("/#")
         host = base.rpartition("/")[2]
@@ -300,15 +300,15 @@ class Crowds(Case):
             self.assertEqual((await ada.reply("ping"))["pong"], {})
 
     async def are_few(self, server: Server) -> bool:
-        """Files and sockets that the server has open."""
+        """Return whether the server has few files and sockets open."""
         return len(os.listdir(f"/proc/{server.process.pid}/fd")) < 110
 
 
 class Neighbours(Case):
-    """A tab's gesture and rows beside one that floods, one that never reads, one that edits the first step."""
+    """A tab's gesture and rows next to one that floods, one that never reads, one that edits the first step."""
 
     async def goes_on(self, seat: Seat) -> None:
-        """Gestures and their rows, each of which comes; how soon is measured by live/measure."""
+        """Make gestures and wait for their rows; live/measure measures how long that takes."""
         for number in range(15):
             await seat.ask("gesture", key=f"{number}", edits=[["limit", 3, 150, number % 5]])
             await seat.ask("diagram", **{"from": 140, "to": 200})
@@ -318,8 +318,8 @@ class Neighbours(Case):
         await seat.ask("advance", to=200)
         return seat
 
-    async def test_what_tabs_asked_that_have_gone_is_not_waited_for(self) -> None:
-        """A seat whose tab is opened anew again and again, each with questions that take long."""
+    async def test_nobody_waits_for_questions_of_tabs_that_have_gone(self) -> None:
+        """The tab of a seat is reopened again and again, and each asks questions that take long."""
         plan = {**SMALL, "length": 2_000, "zone": 1_000, "zones": [[5, 6_554]] * 2}
         server = self.server(plan=plan)
         async with server.seat("Ada") as ada:
@@ -361,7 +361,7 @@ class Neighbours(Case):
                     frame = json.dumps({"id": number, "diagram": {"at": deaf.at, "from": 0, "to": 200}})
                     await asyncio.wait_for(deaf._socket.send_str(frame), PATIENCE)
         tasks = [asyncio.create_task(floods()), asyncio.create_task(never_reads())]
-        await until(is_told_busy, "the flood is told so")
+        await until(is_told_busy, "the flood is answered Busy")
         await self.goes_on(good)
         self.assertFalse(tasks[0].done(), "the flood ended")
         tasks[0].cancel()
@@ -374,12 +374,12 @@ class Neighbours(Case):
 
 
 def used(server: Server) -> int:
-    """Hundredths of a second of the processor that the program of the roads has used."""
+    """Return the hundredths of a processor second that the program of the roads has used."""
     fields = Path(f"/proc/{server.program}/stat").read_text(encoding="ascii").rpartition(")")[2].split()
     return int(fields[11]) + int(fields[12])
 
 
 def memory(server: Server) -> float:
-    """Megabytes that the server has in memory."""
+    """Return the megabytes that the server has in memory."""
     with open(f"/proc/{server.process.pid}/status", encoding="ascii") as file:
         return int(next(line for line in file if line.startswith("VmRSS")).split()[1]) / 1_024

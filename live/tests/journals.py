@@ -1,4 +1,4 @@
-"""The journal: cuts, broken lines, a full disk, one server a folder, compaction."""
+"""Test the journal: cuts, broken lines, a full disk, one server a folder, compaction."""
 from __future__ import annotations
 
 import asyncio
@@ -36,7 +36,7 @@ GESTURES: list[Any] = [{"gesture": {"seat": 1, "key": f"k{count}", "stamp": [cou
 
 
 def line_of(entry: dict[str, Any], sum_as: str | None = "crc") -> bytes:
-    """As `journal.py` says; without a checksum as older journals have it."""
+    """Return a line as `journal.py` writes it; without a checksum as in older journals."""
     text = json.dumps(entry, ensure_ascii=False, separators=(",", ":")).encode()
     summed = f',"{sum_as}":"{binascii.crc32(text):08x}"}}'.encode() if sum_as else b"}"
     return text[:-1] + summed + b"\n"
@@ -48,7 +48,7 @@ class Reading(unittest.TestCase):
         self.lines = [line_of(entry) for entry in GESTURES]
 
     def test_each_cut_of_the_last_two_lines_leaves_whole_lines(self) -> None:
-        """What was confirmed before the cut is there, and nothing else."""
+        """Entries that were confirmed before the cut are there, and nothing else."""
         data = b"".join(self.lines)
         for cut in range(len(self.lines[0]), len(data) + 1):
             self.path.write_bytes(data[:cut])
@@ -73,8 +73,8 @@ class Reading(unittest.TestCase):
         self.path.write_bytes(b"".join([*old, self.lines[2][:-9]]))
         self.assertEqual(read_entries(self.path), (GESTURES[:2], len(b"".join(old))))
 
-    def test_what_of_a_write_is_zero_was_never_confirmed(self) -> None:
-        """A disk that lost its current may have any of the blocks of the last write: the others are zero."""
+    def test_zeros_in_a_write_were_never_confirmed(self) -> None:
+        """After a power failure the disk may have any of the blocks of the last write: the others are zero."""
         whole, last = self.lines[0], line_of(GESTURES[1]) + line_of(GESTURES[2], "and")
         for begin in range(0, len(last), 7):
             for end in (begin + 1, begin + 40, len(last)):
@@ -88,7 +88,7 @@ class Reading(unittest.TestCase):
             read_entries(self.path)
 
     def test_10_000_operations_are_read_in_a_second(self) -> None:
-        """However long the journal is; until the shared road can be asked."""
+        """However long the journal is, until questions about the shared road can be answered."""
         size = 20_000
         entries = [{"lab": {"plan": SMALL, "site": 1, "folder": "f", "form": 3}}]
         entries += [{"made": {"seat": 1 + count % 20, "operation": {
@@ -99,7 +99,7 @@ class Reading(unittest.TestCase):
             state, _, _ = Keeper(self.path.parent, "", Settings())._read(Entries(self.path))
             self.assertEqual(len(state.shared.road.layers), size)
 
-    def test_a_folder_is_held_by_one(self) -> None:
+    def test_only_one_server_locks_a_folder(self) -> None:
         with lock(self.path.parent), self.assertRaisesRegex(Broken, "another server"), lock(self.path.parent):
             self.fail("held twice")
         with lock(self.path.parent):
@@ -116,7 +116,7 @@ class Writing(unittest.IsolatedAsyncioTestCase):
             await journal.write(entry)
             self.assertEqual(read_entries(self.path)[0], GESTURES[:count])
 
-    async def test_after_a_failed_write_all_that_wait_are_refused_and_it_is_cut_back(self) -> None:
+    async def test_after_a_failed_write_waiting_entries_are_refused_and_the_file_is_cut_back(self) -> None:
         journal = Journal(self.path, 0)
         await journal.write(GESTURES[0])
         old = resource.getrlimit(resource.RLIMIT_FSIZE)
@@ -130,15 +130,15 @@ class Writing(unittest.IsolatedAsyncioTestCase):
             resource.setrlimit(resource.RLIMIT_FSIZE, old)
         self.assertEqual([type(one) for one in results], [NotWritten] * 3)
         self.assertEqual(self.path.read_bytes(), line_of(GESTURES[0]))
-        with self.assertRaises(NotWritten):  # what it stands on may not be there
+        with self.assertRaises(NotWritten):  # the entry before it may be missing
             await journal.write(GESTURES[1])
         self.assertEqual(journal.confirmed(), GESTURES[:1])
         await journal.mend(GESTURES[1])
         await journal.write(GESTURES[2])
         self.assertEqual(read_entries(self.path)[0], GESTURES)
 
-    async def test_a_fault_behind_a_write_keeps_nobody_waiting(self) -> None:
-        """What is on the disk is confirmed, and what comes is written."""
+    async def test_a_fault_after_a_write_keeps_nobody_waiting(self) -> None:
+        """Entries on the disk are confirmed, and later ones are written."""
         journal = Journal(self.path, 0)
 
         def fails() -> None:
@@ -148,27 +148,26 @@ class Writing(unittest.IsolatedAsyncioTestCase):
         await journal.write(GESTURES[2])
         self.assertEqual(read_entries(self.path)[0], GESTURES)
 
-    async def test_lines_of_one_write_say_so(self) -> None:
+    async def test_lines_of_one_write_are_marked(self) -> None:
         journal = Journal(self.path, 0)
         await journal.write(GESTURES[0])
         await asyncio.gather(*map(journal.write, GESTURES[1:]))
         self.assertEqual(self.path.read_bytes(),
                          b"".join(map(line_of, GESTURES, ("crc", "crc", "and"))))
 
-    async def test_compaction_loses_nothing_that_is_written_meanwhile(self) -> None:
+    async def test_compaction_loses_no_entry_that_is_written_during_it(self) -> None:
         journal = Journal(self.path, 0)
         await journal.write(GESTURES[0])
-        short = asyncio.ensure_future(journal.compact(lambda: [GESTURES[1]]))
-        await asyncio.sleep(0)
+        compaction = asyncio.ensure_future(journal.compact(lambda: [GESTURES[1]]))  # replaces GESTURES[0] by GESTURES[1]
+        await asyncio.sleep(0)  # lets the process start that writes the new journal
         await journal.write(GESTURES[2])
-        await short
+        await compaction
         self.assertEqual(read_entries(self.path)[0], GESTURES[1:])
         self.assertEqual(journal.size, self.path.stat().st_size)
         self.assertEqual(self.path.stat().st_mode & 0o777, 0o600)
 
-
-    async def test_nobody_waits_while_it_is_shortened(self) -> None:
-        """What is written meanwhile, much of it, stands behind; what is changed meanwhile is not in what stands before."""
+    async def test_nobody_waits_for_a_compaction(self) -> None:
+        """Entries written during compaction follow the compacted ones; changes made during it are not in the compacted ones."""
         journal, held, gate = Journal(self.path, 0), [GESTURES[1]], running.new_folder() / "gate"
         await journal.write(GESTURES[0])
 
@@ -177,21 +176,21 @@ class Writing(unittest.IsolatedAsyncioTestCase):
             while not gate.exists() and time.monotonic() < until:
                 time.sleep(0.02)
             yield from held
-        short = asyncio.ensure_future(journal.compact(entries))
+        compaction = asyncio.ensure_future(journal.compact(entries))
         await asyncio.sleep(0)
         held.append(GESTURES[0])
         many: list[Any] = [{"gesture": {"note": "x" * 60_000, "number": number}} for number in range(20)]
         for entry in many:
             await journal.write(entry)
-        self.assertFalse(short.done())
+        self.assertFalse(compaction.done())
         gate.touch()
-        await short
+        await compaction
         await journal.write(GESTURES[2])
         self.assertEqual(read_entries(self.path)[0], [GESTURES[1], *many, GESTURES[2]])
         self.assertEqual([one.name for one in self.path.parent.iterdir()], [self.path.name])
 
-    async def test_a_shorter_journal_that_cannot_be_written_leaves_the_old_one(self) -> None:
-        """Whichever call fails in the process that writes it, or here."""
+    async def test_a_compaction_that_fails_leaves_the_old_journal(self) -> None:
+        """Whichever call fails in the process that writes it, or in this one."""
         journal, here = Journal(self.path, 0), os.getpid()
         await journal.write(GESTURES[0])
 
@@ -206,8 +205,8 @@ class Writing(unittest.IsolatedAsyncioTestCase):
             await journal.write(GESTURES[2])
         self.assertEqual(read_entries(self.path)[0], [GESTURES[0], *[GESTURES[2]] * 4])
 
-    async def test_a_shorter_journal_that_may_not_last_takes_nothing(self) -> None:
-        """Where the folder cannot be synced the old one may stand there again, without what came since."""
+    async def test_a_compacted_journal_that_may_not_be_durable_takes_no_entries(self) -> None:
+        """If the folder cannot be synced, the old file may be there again later, without newer entries."""
         journal = Journal(self.path, 0)
         await journal.write(GESTURES[0])
         with Disk() as disk:
@@ -219,8 +218,8 @@ class Writing(unittest.IsolatedAsyncioTestCase):
             await journal.mend(GESTURES[2])
         self.assertEqual(journal.confirmed(), GESTURES[1:])
 
-    async def test_where_the_old_file_cannot_be_closed_lines_go_to_no_strangers_socket(self) -> None:
-        """Its number is free all the same, and the next socket gets it."""
+    async def test_no_line_goes_to_a_strangers_socket_if_the_old_file_cannot_be_closed(self) -> None:
+        """Its descriptor is free nevertheless, and the next socket gets it."""
         journal = Journal(self.path, 0)
         await journal.write(GESTURES[0])
 
@@ -243,7 +242,7 @@ class Writing(unittest.IsolatedAsyncioTestCase):
                 one.recv(1_000)
         self.assertEqual(read_entries(self.path)[0], GESTURES[1:])
 
-    async def test_what_is_put_in_place_is_whole_or_not_there(self) -> None:
+    async def test_a_file_is_replaced_completely_or_not_at_all(self) -> None:
         """Whichever call fails: the old file or the new one."""
         self.path.write_bytes(b"old")
         with Disk() as disk:
@@ -258,7 +257,7 @@ class Writing(unittest.IsolatedAsyncioTestCase):
 
 
 def seen(state: State) -> Any:
-    """What a state says, in a form that can be compared."""
+    """Return a state in a form that can be compared."""
     return (state.plan, state.site, state.folder, state.rate, state.now, state.stop, state.bound, state.shares,
             sorted(one.stamp for one in state.unsent),
             [(seat.name, seat.key, seat.count, seat.upto, dict(seat.done), seat.used * bool(seat.key),
@@ -272,7 +271,7 @@ class Folders(Case):
         await seat.ask("gesture", key=f"g{number}", edits=[["limit", number % 6, 10 + number, number % 5]])
 
     async def test_twenty_cuts_by_a_server(self) -> None:
-        """A server starts from each, and has all lines that are whole."""
+        """A server starts from each cut, and has all complete lines."""
         server = self.server()
         async with server.seat() as seat:
             for number in range(4):
@@ -285,7 +284,7 @@ class Folders(Case):
         ends = [data.index(b"\n", at) + 1 for at in gestures]
         for cut in range(gestures[-2], ends[-1] + 1, (ends[-1] - gestures[-2]) // 19):
             path.write_bytes(data[:cut])
-            server.again()
+            server.restart()
             async with server.seat(key=key) as seat:
                 held: Any = (await seat.ask("operations"))["operations"]
                 self.assertEqual([one["stamp"][0] for one in held], list(range(1, 1 + sum(cut >= end for end in ends))))
@@ -305,7 +304,7 @@ class Folders(Case):
                 server.start()
             self.assertEqual(path.read_bytes(), good + broken + line_of({"clock": {"rate": 0, "now": 5}}))
 
-    async def test_a_token_is_written_whole_and_one_that_is_not_lets_nobody_in(self) -> None:
+    async def test_a_token_is_written_completely_and_a_partial_one_admits_nobody(self) -> None:
         server = self.server()
         server.kill()
         path = server.folder / "token"
@@ -323,8 +322,8 @@ class Folders(Case):
         self.assertNotEqual(path.read_text(), token)
         self.assertFalse((server.folder / "token.new").exists())
 
-    async def test_a_server_starts_where_little_can_be_written(self) -> None:
-        """What is there can be looked at."""
+    async def test_a_server_starts_on_an_almost_full_disk(self) -> None:
+        """Existing roads can be viewed."""
         server = self.server()
         async with server.seat() as seat:
             await self.shared(seat, 1)
@@ -363,8 +362,8 @@ class Folders(Case):
         self.assertIn("another server runs in", ran.stderr)
         self.assertNotIn("Traceback", ran.stderr)
 
-    async def test_a_second_server_says_so_where_the_file_lock_was_removed(self) -> None:
-        """Also after the journal was shortened, which is another file then."""
+    async def test_a_second_server_says_so_even_if_the_lock_file_was_removed(self) -> None:
+        """Also after a compaction, which makes the journal a new file."""
         server = self.server(LIVE_MOST_JOURNAL="2000")
         path = server.folder / "journal.jsonl"
         first = path.stat().st_ino
@@ -384,8 +383,8 @@ class Folders(Case):
                 self.assertIn("another server runs in", ran.stderr)
             await self.shared(ada, 5)
 
-    async def test_a_server_starts_where_nothing_can_be_written(self) -> None:
-        """All can be looked at, and what is put is refused until the disk takes it."""
+    async def test_a_server_starts_on_a_read_only_disk(self) -> None:
+        """All can be viewed, and changes are refused until the disk accepts them."""
         server = self.server()
         async with server.seat() as ada:
             await self.shared(ada, 1)
@@ -416,11 +415,11 @@ class Folders(Case):
                     return any(entry["seat"]["name"] == "Ben" for entry in server.journal() if "seat" in entry)
                 await running.until(is_kept, "his seat is written down")
         server.prefix = []
-        server.again()
+        server.restart()
         async with server.seat(key=ben.key) as ben:
             self.assertEqual(len((await ben.ask("scenario"))["edits"]), 1)
 
-    async def test_a_full_disk_is_told_and_what_was_not_written_is_nowhere(self) -> None:
+    async def test_a_full_disk_is_reported_and_unwritten_changes_are_nowhere(self) -> None:
         server = self.server()
         async with server.seat() as ada, server.seat("Ben") as ben:
             await ada.say("clock", to=100)
@@ -441,15 +440,15 @@ class Folders(Case):
             self.assertEqual((await ben.ask("scenario"))["edits"], [])
             resource.prlimit(server.process.pid, resource.RLIMIT_FSIZE, (resource.RLIM_INFINITY, resource.RLIM_INFINITY))
             self.assertEqual((await ada.ask("gesture", key="full 10", edits=[["block", 60, 10, 1]]))["stamp"], [2, 65])
-            await ada.reply("ping")  # what is told comes behind the reply
+            await ada.reply("ping")  # pushed messages come after the reply
             troubles = [one["trouble"] for one in ada.told if "trouble" in one]
             self.assertEqual([bool(one) for one in troubles][-2:], [True, False])
             held = numbers((await ada.ask("scenario"))["edits"])
-        server.again()
+        server.restart()
         async with server.seat(key=ada.key) as ada:
             self.assertEqual(numbers((await ada.ask("scenario"))["edits"]), held)
 
-    async def test_a_long_journal_is_shortened_and_says_the_same(self) -> None:
+    async def test_a_long_journal_is_compacted_and_gives_the_same_state(self) -> None:
         server = self.server(LIVE_MOST_JOURNAL="6000", LIVE_DAY="40")
         async with server.seat() as ada, server.seat("Ben") as ben:
             path = server.folder / "journal.jsonl"
@@ -471,13 +470,13 @@ class Folders(Case):
             held = [await seat.ask("scenario", at=at) for seat, at in ((ada, ada.at), (ben, ben.at), (ada, "shared"))]
             again = await ada.ask("gesture", key="g0", edits=[["limit", 0, 1, 1]])
             self.assertEqual((again["stamp"], again["again"]), ([1, 65], True))
-        server.again()
+        server.restart()
         async with server.seat(key=ada.key) as ada, server.seat(key=ben.key) as ben:
             now = [await seat.ask("scenario", at=at) for seat, at in ((ada, ada.at), (ben, ben.at), (ada, "shared"))]
             self.assertEqual([numbers(one["edits"]) for one in held], [numbers(one["edits"]) for one in now])
             self.assertEqual((await ada.ask("gesture", key="g0", edits=[["limit", 0, 1, 1]]))["stamp"], [1, 65])
 
-    async def test_the_shortened_journal_gives_the_same_state(self) -> None:
+    async def test_the_compacted_journal_gives_the_same_state(self) -> None:
         server = self.server()
         async with server.seat() as ada, server.seat("Ben") as ben:
             for number in range(6):

@@ -11,7 +11,7 @@ const meets = ([x, y], [left, top, right, bottom]) =>
   x < right && left < x + SIZE[0] && y < bottom && top < y + SIZE[1];
 const isWithin = ([x, y]) => x >= 60 && x + SIZE[0] <= 960 && y >= 50 && y + SIZE[1] <= 550;
 
-test("a label stands in its frame where nothing is in the way", () => {
+test("a label is in its frame if nothing is in the way", () => {
   const [left, top] = placeOfLabel([100, 100, 400, 300], SIZE, BOUNDS, []);
   assert.ok(left >= 100 && left < 110 && top >= 100 && top < 110);
 });
@@ -34,7 +34,7 @@ test("a label at the right edge is whole", () => {
   assert.ok(isWithin(place) && !meets(place, closure));
 });
 
-test("a label stands on what is computed, and is left out where nothing is", () => {
+test("a label is only on computed rows, and is left out if there are none", () => {
   const computed = [60, 50, 960, 250];
   const [, top] = placeOfLabel([100, 240, 300, 500], SIZE, computed, []);
   assert.ok(top + 17 <= 250);

@@ -1,4 +1,4 @@
-// Lines of changes, what of them is in force, and what the lists say of them. The lines are written
+// Lines of changes, which parts are in force, and what the lists say about them. The lines are written
 // as the server would tell them.
 
 import assert from "node:assert/strict";
@@ -139,7 +139,7 @@ test("places are said where parts of the road differ", () => {
     + "0:20:00\u20130:40:00 by Ben's limit of 81 km/h.");
 });
 
-test("of many parts four are told", () => {
+test("four of many parts are listed", () => {
   const parts = Array.from({length: 9}, (_, turn) =>
     [1200 + 60 * turn, 1260 + 60 * turn, turn % 2 ? [2, BEN] : null]);
   const layers = road(ada(parts), ben([[1500, 1800, null]]));
@@ -164,7 +164,7 @@ test("the lists have what stands and what is not shared, newest first", () => {
                    [["Withdrew: it", "own"]]);
 });
 
-test("who stands in two closures is told of once, where the road opens", () => {
+test("a car in two closures is reported once, with the time when the road opens", () => {
   const lower = line([1, ADA], "Ada", ["block", 10, 19, 1200, 2400, 1], []);
   const upper = line([2, BEN], "Ben", ["block", 15, 24, 1800, null, 1], [[1800, null, null]]);
   lower.shown = [["block", 10, 14, 1200, 2400, 1, null], ["block", 15, 19, 1200, 1800, 1, null],
@@ -176,7 +176,7 @@ test("who stands in two closures is told of once, where the road opens", () => {
                    [[10, 2400, 1], [15, 1800, 0], [15, null, 1]]);
 });
 
-test("a line says who made it, and who else has laid it since", () => {
+test("a line says who made it, and who else has changed it since", () => {
   const raised = {stamp: [5, BEN], who: "Ben", note: "", when: 0, does: "top", shared: true,
                   lost: null};
   const mine = ada([[1200, 2400, null]]);
@@ -188,7 +188,7 @@ test("a line says who made it, and who else has laid it since", () => {
   assert.deepEqual(metas(), ["you", "Ada"]);
 });
 
-test("who undid or redid a change is told, each by its own word", () => {
+test("the list names who undid or redid a change, each with its own word", () => {
   const done = {stamp: [5, BEN], who: "Ben", note: "", when: 0, shared: true, lost: null,
                 undoes: [1, ADA]};
   const metas = (does) => [ADA, BEN].map((number) => listChanges(road(ada(
@@ -225,7 +225,7 @@ test("all that was done is listed, withdrawals too", () => {
   assert.match(historyOf(layers, ADA)[2].cover, /^In force 0:20:00\u20130:25:00; covered/);
 });
 
-test("who lost to another at the same time is told, until it is laid again", () => {
+test("the list names who won at the same time, until the change is put again", () => {
   const mine = ben([]);
   mine.operations = [...mine.operations,
     {stamp: [5, BEN], who: "Ben", note: "", when: 0, does: "change", shared: true, lost: [5, 67]},
@@ -250,7 +250,7 @@ test("before it is done it is said what would be covered, and what would be in f
      + "0:20:00\u20130:25:00; covered 0:25:00\u20130:30:00 by Ben's limit of 81 km/h; in force "
      + "0:30:00\u20130:40:00."]);
   const effect = (line) => said.effect(road(line).find(nameOf(...line.name)));
-  assert.match(effect(ada([[1200, 2400, null]])), /then: in force whole\.$/);
+  assert.match(effect(ada([[1200, 2400, null]])), /then: fully in force\.$/);
   assert.match(effect({...ada([]), standing: false}), /then: withdrawn by you\.$/);
   assert.deepEqual(affectedBy([{...ada([]), shown: was, was}]), []);
 });
@@ -266,7 +266,7 @@ test("what is to be shared and what is to be taken is listed newest first", () =
   assert.deepEqual(counts(untaken()), [3, 2, 1]);
 });
 
-test("what is lost when it is taken is told as it was, with who won", () => {
+test("a change that is lost when it is taken is described as it was, with who won", () => {
   const [put] = ada([]).operations;
   const theirs = {...put, stamp: [5, BEN], who: "Ben", does: "change", lost: [6, ADA], shape: BS};
   const mine = {...put, stamp: [6, ADA], does: "change", shared: false};

@@ -1,4 +1,4 @@
-"""What a site made and makes is left out for all, by whoever has the token, and comes back."""
+"""Test excluding a site: its changes, past and future, are ignored for all, whoever excludes it, and come back."""
 from __future__ import annotations
 
 import contextlib
@@ -26,13 +26,13 @@ ORACLE = oracle_of(SMALL, 50)
 
 
 def by_shapes(operations: Iterable[Operation]) -> dict[tuple[int, int], int]:
-    """Which cells are closed at which steps, by the rules alone."""
+    """Return which cells are closed at which steps, from the rules alone."""
     values = ORACLE.painted(operations)
     return {(cell, step): values["block", cell][step] for cell in CELLS for step in range(50)}
 
 
 def closed(edits: Iterable[Any]) -> dict[tuple[int, int], int]:
-    """Which cells are closed at which steps, by what wins."""
+    """Return which cells are closed at which steps, from the edits in force."""
     puts: dict[int, dict[int, int]] = {cell: {} for cell in CELLS}
     for kind, cell, step, _, _, value in edits:
         if kind == "block" and value is not None:
@@ -42,7 +42,7 @@ def closed(edits: Iterable[Any]) -> dict[tuple[int, int], int]:
 
 
 class LeftOut(Case):
-    """What a site made and makes is left out for all, and comes back."""
+    """Three sites: one is excluded and included again."""
 
     async def asyncSetUp(self) -> None:
         self.bus = Bus()
@@ -53,7 +53,7 @@ class LeftOut(Case):
             await here.lab.timing.set_clock(to=100)
 
     async def shape(self, place: int, *shape: Any, **more: Any) -> Any:
-        """A shared gesture of a site."""
+        """Make a gesture at a site, and share it."""
         here = self.here[place]
         said = await here.ask(1, "gesture", key=secrets.token_hex(8), note="", shape=list(shape), **more)
         await self.share(place)
@@ -70,14 +70,14 @@ class LeftOut(Case):
         return rows
 
     def road(self, *edits: tuple[Any, ...]) -> list[str]:
-        """The rows of a road by these edits alone."""
+        """Return the rows of a road with only these edits."""
         with RoadLab(read_plan_line({**SMALL, "replicas": ["A"]})) as lab:
             lab.take_in("A", [Edit.read((kind, index, step, 1, 64, value)) for kind, index, step, value in edits])
             lab.advance("A", 100)
             rows: list[str] = lab.diagram("A", 0, 100)
             return rows
 
-    async def test_what_a_site_made_and_makes_is_left_out_for_all_and_comes_back(self) -> None:
+    async def test_past_and_future_changes_of_a_site_are_excluded_for_all_and_come_back(self) -> None:
         limit, closure = ("limit", 1, 20, 2), (("block", 60, 30, 1), ("block", 60, 50, 0))
         later = ("block", 80, 10, 1)
         await self.shape(0, "limit", 1, 1, 20, None, 2)
@@ -114,8 +114,8 @@ class LeftOut(Case):
         await self.share(2)
         await self.everywhere(self.road(limit, later, extra))
 
-    async def test_who_left_a_site_out_for_all_has_the_road_without_it_after_a_start(self) -> None:
-        """It took what that site made, and not yet that it is left out on the shared road."""
+    async def test_a_seat_that_excluded_a_site_has_the_road_without_it_after_a_restart(self) -> None:
+        """The seat took that site's changes, and not yet the exclusion on the shared road."""
         await self.shape(2, "block", 52, 53, 30, 45, 1)
         await self.here[1].take(1)
         await self.here[1].ask(1, "site", key="out", site=3, out=True)
@@ -127,8 +127,8 @@ class LeftOut(Case):
         for place, here in enumerate(self.here, 1):
             self.assertEqual(await self.rows(here), rows, f"site {place}")
 
-    async def test_random_histories_give_the_road_of_the_shapes_that_count(self) -> None:
-        """The same at all sites, whoever is left out when, and in whatever order that comes."""
+    async def test_random_histories_give_the_road_of_the_active_shapes(self) -> None:
+        """All sites have the same road, whoever is excluded when, and in whatever order messages arrive."""
         for seed in range(24 if ALL else 8):
             chance = random.Random(seed)
             for number in range(24):
@@ -153,7 +153,7 @@ class LeftOut(Case):
             self.assertEqual(numbers, [numbers[0]] * 3, seed)
 
     def starts_again(self, here: Here, what: str) -> None:
-        """By its journal the seat has the road of the shapes that count."""
+        """Read the journal again: the seat has the road of the active shapes."""
         state = State()
         for entry in here.entries():
             state.read(entry)
@@ -177,11 +177,11 @@ class LeftOut(Case):
             await here.share(1)
 
     async def numbers(self, here: Here) -> dict[tuple[int, int], int]:
-        """Which cells are closed at which steps of the shared road, by what wins in the program."""
+        """Return which cells are closed at which steps of the shared road, from the edits in force in the program."""
         reply = await here.keeper.ask(0, (0,), lambda: here.keeper.say(b'{"scenario":{"at":"shared"}}', {}))
         return closed(json.loads(reply)["edits"])
 
-    async def test_at_the_site_that_is_left_out_people_are_told_and_all_goes_on(self) -> None:
+    async def test_the_excluded_site_warns_its_users_and_goes_on(self) -> None:
         await self.shape(2, "block", 60, 60, 30, None, 1)
         await self.here[2].ask(1, "gesture", key="private", note="", shape=["limit", 1, 1, 20, None, 2])
         await self.here[0].ask(1, "site", key="out", site=3, out=True)
@@ -201,7 +201,7 @@ class LeftOut(Case):
         await self.share(2)
         await self.everywhere(self.road(("block", 60, 30, 1), ("limit", 1, 20, 2)))
 
-    async def test_who_is_left_out_lets_nobody_in(self) -> None:
+    async def test_an_excluded_site_cannot_include_anybody(self) -> None:
         await self.shape(2, "block", 60, 60, 30, None, 1)
         await self.here[0].ask(1, "site", key="out", site=3, out=True)
         await self.share(0)
@@ -217,8 +217,8 @@ class LeftOut(Case):
             await self.bus.give(self.sites[0], Message(f"road/{self.sites[0]._road}/operations", body))
             self.assertNotIn((9, 70), self.here[0].lab.state.by_stamp)
 
-    async def test_of_two_of_one_stamp_the_same_counts_at_all_sites(self) -> None:
-        """One leaves a site out, the other lets it in; they come in one order or the other."""
+    async def test_all_sites_choose_the_same_of_two_twins(self) -> None:
+        """One twin excludes a site, the other includes it; they arrive in either order."""
         await self.shape(2, "block", 60, 60, 30, None, 1)
         stamp = [stamps.next_count(0, stamps.milliseconds(), 0), 70 * 64 + 1]
         twins = [message_of(self.sites[0], exclude((stamp[0], stamp[1]), 3, out)) for out in (True, False)]

@@ -1,4 +1,4 @@
-"""The model: what may surprise, and is settled by a rule. Each case has the name of its rule."""
+"""Test surprising cases of the model. A rule decides each case, and gives it its name."""
 from __future__ import annotations
 
 import itertools
@@ -21,7 +21,7 @@ BASE = EMPTY.adding([CLOSURE])
 
 
 def in_every_order(operations: list[Operation]) -> Road:
-    """The road of these operations, which is the same in whatever order they come."""
+    """Return the road of these operations, after checking that every order gives the same."""
     roads = [EMPTY]
     for order in itertools.islice(itertools.permutations(operations), 24):
         road = EMPTY
@@ -42,19 +42,19 @@ class Cases(unittest.TestCase):
             self.assertEqual(road.layers, BASE.adding([bens]).layers)
             self.assertEqual(seen.lost(road, LINE), {})
 
-    def test_an_undone_pair_that_is_private_is_not_shared_and_says_nothing(self) -> None:
+    def test_a_private_undone_pair_is_not_shared_and_has_no_effect(self) -> None:
         withdrawal = change(BASE, (2, ADA), LINE, None)
         road = BASE.adding([withdrawal, undo((3, ADA), withdrawal)])
         self.assertEqual(choices.shareable(road, BASE, ADA), [])
         self.assertEqual(road.layers, BASE.layers)
 
-    def test_a_change_without_its_put_stands(self) -> None:
+    def test_a_change_without_its_put_is_in_force(self) -> None:
         bens = change(BASE, (2, BEN), LINE, LONGER)
         alone = EMPTY.adding([bens])
         self.assertEqual(alone.layers[LINE].end, 25)
         self.assertEqual(alone.layers, alone.adding([CLOSURE]).layers)
 
-    def test_the_undo_of_a_put_takes_nothing_of_a_change_by_another_and_he_is_named(self) -> None:
+    def test_the_undo_of_a_put_leaves_anothers_change_and_names_its_author(self) -> None:
         bens = change(BASE, (2, BEN), LINE, LONGER)
         road = BASE.adding([bens])
         self.assertFalse(choices.would_change(road, CLOSURE))
@@ -68,19 +68,19 @@ class Cases(unittest.TestCase):
         self.assertEqual(road.layers[LINE].end, 15)
         self.assertEqual(seen.lost(road, LINE), {taken: on_it})
 
-    def test_of_two_changes_at_once_one_stands_and_the_other_comes_up_when_it_is_undone(self) -> None:
+    def test_one_of_two_changes_at_once_wins_and_its_undo_shows_the_other(self) -> None:
         adas, bens = change(BASE, (2, ADA), LINE, WIDE), change(BASE, (2, BEN), LINE, LONGER)
         road = in_every_order([CLOSURE, adas, bens])
         self.assertEqual((seen.lost(road, LINE), road.layers[LINE].end), ({adas: bens}, 25))
         self.assertEqual(road.adding([undo((3, BEN), bens)]).layers, BASE.adding([adas]).layers)
 
-    def test_a_change_and_a_lift_at_once_both_hold(self) -> None:
+    def test_a_change_and_a_lift_at_once_both_take_effect(self) -> None:
         bens, adas = change(BASE, (2, BEN), LINE, LONGER), lift((2, ADA), LINE)
         road = in_every_order([CLOSURE, bens, adas])
         self.assertEqual((road.layers[LINE].end, road.layers[LINE].height), (25, (2, ADA)))
         self.assertEqual(seen.lost(road, LINE), {})
 
-    def test_z_goes_back_and_redo_goes_forth(self) -> None:
+    def test_z_goes_back_and_redo_goes_forward(self) -> None:
         road, past = BASE, [{}, BASE.layers]
         for count, shape in ((2, LONGER), (3, None), (4, WIDE)):
             road = road.adding([change(road, (count, ADA), LINE, shape)])
@@ -99,8 +99,8 @@ class Cases(unittest.TestCase):
         self.assertIsNone(choices.undoable(road, ADA).redo)
         self.assertEqual((road.layers[LINE].first, road.layers[LINE].last), (1, 6))
 
-    def test_z_says_who_changed_the_last_own_change_since(self) -> None:
-        """It is not silently the one before that is taken back."""
+    def test_z_names_who_has_changed_the_last_own_change(self) -> None:
+        """Z does not silently undo the change before it."""
         other = put((1, BEN), WIDE)
         first, bens = change(BASE, (2, ADA), LINE, LONGER), None
         road = BASE.adding([first, other])
@@ -110,7 +110,7 @@ class Cases(unittest.TestCase):
         self.assertEqual(choices.overruling(road.adding([bens]), first), [bens])
 
     def test_z_where_an_older_change_by_another_lies_between(self) -> None:
-        """It gives what the other said, who is not undone."""
+        """Z restores the other's shape, which is not undone."""
         bens = change(BASE, (2, BEN), LINE, WIDE)
         last = change(BASE, (3, ADA), LINE, LONGER)
         road = BASE.adding([last, bens])
@@ -126,8 +126,8 @@ class Cases(unittest.TestCase):
         road = road.adding([undo((3, BEN), bens)])
         self.assertEqual((road.layers, choices.undoable(road, ADA).redo), ({}, adas))
 
-    def test_two_who_withdraw_at_once_and_one_takes_it_back(self) -> None:
-        """The closure stays away, since the other's withdrawal still counts; and that is what Z says."""
+    def test_two_withdraw_at_once_and_one_undoes_it(self) -> None:
+        """The closure stays withdrawn, since the other withdrawal is still active; Z says so."""
         adas, bens = change(BASE, (2, ADA), LINE, None), change(BASE, (2, BEN), LINE, None)
         road = in_every_order([CLOSURE, adas, bens])
         self.assertEqual(seen.lost(road, LINE), {adas: bens})
@@ -139,13 +139,13 @@ class Cases(unittest.TestCase):
         road = BASE.adding([lid])
         self.assertEqual(road.adding([undo((3, ADA), CLOSURE)]).layers, EMPTY.adding([lid]).layers)
 
-    def test_what_was_withdrawn_comes_on_top_when_it_is_changed(self) -> None:
+    def test_a_change_of_a_withdrawn_line_puts_it_on_top(self) -> None:
         lid = put((2, BEN), WIDE)
         road = BASE.adding([lid, change(BASE, (3, ADA), LINE, None)])
         road = road.adding([change(road, (4, ADA), LINE, LONGER)])
         self.assertGreater(road.layers[LINE].height, road.layers[lid.stamp].height)
 
-    def test_at_equal_heights_a_raw_edit_lies_on_a_shape_and_else_the_greater_name(self) -> None:
+    def test_at_equal_heights_a_raw_edit_lies_above_a_shape_else_the_later_name(self) -> None:
         values = {("block", 3, 7): 0}
         both = Operation((2, BEN), {**edit((2, BEN), values).sets, (2, BEN): WIDE})
         layers = EMPTY.adding([both]).on_object("block", 3)
@@ -181,7 +181,7 @@ class Cases(unittest.TestCase):
         self.assertEqual(EMPTY.adding(twins).layers, EMPTY.adding(reversed(twins)).layers)
         self.assertEqual(EMPTY.adding([*twins, undo((2, ADA), twins[0])]).layers, {})
 
-    def test_a_line_that_was_changed_very_often_is_shown_as_soon(self) -> None:
+    def test_a_line_that_was_changed_very_often_is_shown_just_as_fast(self) -> None:
         many = [Operation((count, ADA), {LINE: LONGER}, seen=(count - 1, ADA)) for count in range(2, 20_002)]
         with takes_at_most(5):
             self.assertEqual(seen.lost(BASE.adding(many), LINE), {})
@@ -193,25 +193,25 @@ class Cases(unittest.TestCase):
 
 
 class Exclusions(unittest.TestCase):
-    def test_who_is_excluded_lets_nobody_in_but_by_the_undo_of_who_excluded_it(self) -> None:
+    def test_an_excluded_site_stays_out_unless_its_excluder_undoes_that(self) -> None:
         out, bens = exclude((2, ADA), 2, True), put((1, BEN), SHAPE)
         road = in_every_order([bens, out, undo((3, BEN), out), exclude((4, BEN), 2, False)])
         self.assertEqual((road.record.excluded, road.layers), ({2}, {}))
         self.assertEqual(road.adding([undo((5, ADA), out)]).layers.keys(), {(1, BEN)})
 
-    def test_another_site_lets_an_excluded_one_in_and_does_not_undo_the_exclusion(self) -> None:
+    def test_another_site_includes_an_excluded_one_without_undoing_the_exclusion(self) -> None:
         out, bens = exclude((2, ADA), 2, True), put((1, BEN), SHAPE)
         road = EMPTY.adding([bens, out])
         self.assertEqual(road.adding([undo((3, CLEO), out)]).record.excluded, {2})
         self.assertEqual(road.adding([exclude((3, CLEO), 2, False)]).layers.keys(), {(1, BEN)})
 
-    def test_an_exclusion_that_comes_behind_its_undo_by_a_site_that_is_excluded(self) -> None:
+    def test_an_exclusion_by_an_excluded_site_that_arrives_after_its_undo(self) -> None:
         late = exclude((2, BEN), 1, True)
         some = [undo((3, BEN), late), exclude((4, CLEO), 2, True)]
         self.assertEqual(EMPTY.adding(some).adding([late]).record.excluded, EMPTY.adding([late, *some]).record.excluded)
         self.assertEqual(EMPTY.adding([late, *some]).record.excluded, {2})
 
-    def test_of_two_sites_that_exclude_each_other_the_older_exclusion_holds(self) -> None:
+    def test_if_two_sites_exclude_each_other_the_older_exclusion_is_active(self) -> None:
         road = in_every_order([exclude((2, ADA), 2, True), exclude((3, BEN), 1, True), CLOSURE])
         self.assertEqual(road.record.excluded, {2})
 
@@ -234,7 +234,7 @@ class Raw(unittest.TestCase):
         self.base = EMPTY.adding([self.edits])
         self.line: Stamp = self.edits.stamp
 
-    def test_two_changes_at_once_give_one_shape_and_one_is_told(self) -> None:
+    def test_two_changes_at_once_give_one_shape_and_one_is_lost(self) -> None:
         adas, bens = (change(self.base, (2, number), self.line, shape) for number, shape in ((ADA, WIDE), (BEN, LONGER)))
         road = in_every_order([self.edits, adas, bens])
         self.assertEqual(road.layers.keys(), {self.line})
@@ -263,7 +263,7 @@ class Raw(unittest.TestCase):
         self.assertEqual([one[:6] for one in seen.shown(road, self.line)],
                          [("block", 3, 4, 5, 15, 1), ("block", 3, 4, 15, None, 0)])
 
-    def test_both_who_withdraw_them_at_once_stand_in_the_line(self) -> None:
+    def test_both_withdrawals_at_once_are_in_the_line(self) -> None:
         adas, bens = (change(self.base, (2, number), self.line, None) for number in (ADA, BEN))
         road = in_every_order([self.edits, adas, bens])
         self.assertEqual(changes.operations_on(road, self.line), [self.edits, adas, bens])
@@ -275,14 +275,14 @@ class Raw(unittest.TestCase):
         self.assertEqual(changes.lines_of(road, one), {self.line})
         self.assertEqual(changes.lines_of(EMPTY.adding([one]), one), {one.stamp})
 
-    def test_who_puts_a_raw_edit_in_the_place_of_anothers_stands_in_his_line_too(self) -> None:
+    def test_a_raw_edit_that_replaces_anothers_is_in_the_others_line_too(self) -> None:
         bens = edit((2, BEN), {("block", 3, 5): 0})
         road = in_every_order([self.edits, bens])
         self.assertEqual(changes.lines_of(road, bens), {self.line, bens.stamp})
         self.assertEqual(changes.operations_on(road, self.line), [self.edits, bens])
 
-    def test_an_act_on_a_line_of_which_nothing_is_left(self) -> None:
-        """Raw edits that others put over all of it take its place: a change puts a shape on top, a lift lifts nothing."""
+    def test_an_act_on_an_empty_line(self) -> None:
+        """Others' raw edits have replaced all of it: a change puts a shape on top, and *put on top* changes nothing."""
         others = edit((2, BEN), {**self.VALUES})
         road = self.base.adding([others])
         self.assertFalse(stands(road, self.line))
@@ -291,8 +291,8 @@ class Raw(unittest.TestCase):
         self.assertEqual(changed.layers[self.line].height, (3, ADA))
         self.assertEqual(len(changed.layers), 5)
 
-    def test_the_greatest_line_can_be_dragged(self) -> None:
-        """A closure of 600 cells in raw edits has 1,200, and its change withdraws them all."""
+    def test_the_largest_line_can_be_dragged(self) -> None:
+        """A closure of 600 cells has 1,200 raw edits, and a change withdraws them all."""
         values = {("block", cell, step): value for cell in range(600) for step, value in ((5, 1), (15, 0))}
         closure = edit((1, ADA), values)
         road = EMPTY.adding([closure])
@@ -303,8 +303,8 @@ class Raw(unittest.TestCase):
 
 
 class Lists(unittest.TestCase):
-    def test_a_line_is_told_when_what_covered_it_goes_in_what_was_never_taken(self) -> None:
-        """A puts P on top and shares; B, who has not taken that, withdraws P and shares: Q is covered no more."""
+    def test_a_line_is_listed_again_when_its_cover_goes_by_a_change_that_was_never_taken(self) -> None:
+        """A puts P on top and shares; B, who has not taken that, withdraws P and shares: Q is no longer covered."""
         below, above = put((1, ADA), SHAPE), put((2, ADA), WIDE)
         base = EMPTY.adding([below, above])
         lifted, withdrawn = lift((3, ADA), above.stamp), change(base, (3, BEN), above.stamp, None)
@@ -315,8 +315,8 @@ class Lists(unittest.TestCase):
         self.assertEqual([one.by for one in seen.shown(then, below.stamp)], [None])
 
 
-    def test_an_older_exclusion_of_a_site_names_its_line_anew(self) -> None:
-        """The name that the line had goes."""
+    def test_an_older_exclusion_of_a_site_renames_its_line(self) -> None:
+        """The line loses its old name."""
         before = EMPTY.adding([exclude((8, ADA), 2, False)])
         older = exclude((4, CLEO), 2, False)
         after = before.adding([older])
@@ -326,14 +326,14 @@ class Lists(unittest.TestCase):
 
 
 class Reading(unittest.TestCase):
-    """What is written is read, and whatever else comes is refused with a sentence."""
+    """Written operations are read, and all else is refused with a sentence."""
 
     def some(self) -> list[Operation]:
         return [CLOSURE, change(BASE, (2, ADA), LINE, None), lift((3, ADA), LINE), undo((4, BEN), CLOSURE),
                 exclude((5, CLEO), 1, True), edit((6, ADA), {("limit", 2, 7): 3, ("limit", 2, 9): None}, About(
                     "Ada", "note", 1_760_000_000, Shape("limit", 2, 2, 7, None, 3)))]
 
-    def test_what_is_written_is_read(self) -> None:
+    def test_written_operations_are_read_back(self) -> None:
         for one in self.some():
             again = read_operation(json.loads(json.dumps(one.written())))
             self.assertEqual((again.written(), again.text()), (one.written(), one.text()))
@@ -359,13 +359,13 @@ class Reading(unittest.TestCase):
                     else:
                         timeline(EMPTY.adding([found]) if name == "who" else EMPTY)
 
-    def test_an_operation_refers_to_older_ones_alone(self) -> None:
+    def test_an_operation_refers_only_to_older_ones(self) -> None:
         cases: list[dict[str, Json]] = [
             {"undoes": [2, ADA]}, {"seen": [3, ADA]}, {"heights": [[[1, ADA], [3, ADA]]]}, {"sets": [[[3, ADA], None]]}]
         for more in cases:
             with self.assertRaisesRegex(Malformed, "older ones"):
                 read_operation({"stamp": [2, ADA], **more})
 
-    def test_what_does_nothing_is_refused(self) -> None:
+    def test_an_operation_without_effect_is_refused(self) -> None:
         with self.assertRaisesRegex(Malformed, "nothing"):
             read_operation({"stamp": [2, ADA], "note": "?"})

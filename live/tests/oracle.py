@@ -1,6 +1,6 @@
-"""What operations say, painted object by object and step by step: from their definition alone, without the model.
+"""Paint what operations mean, object by object and step by step: from their definition alone, without the model.
 
-    oracle = Oracle({"limit": 3, ..}, plan, last)     how many objects there are, their values by the plan, so many steps
+    oracle = Oracle({"limit": 3, ..}, plan, last)     how many objects there are, their values by the plan, how many steps
     oracle.painted(operations)                        the value of each object at each step
     oracle.by_the_program(edits)                      the same by the program's rule for edits
 """
@@ -21,7 +21,7 @@ def text_order(one: Operation) -> tuple[Stamp, str]:
 
 
 def counting_operations(held: Iterable[Operation]) -> list[Operation]:
-    """The operations that count, the greatest first: those that no operation that counts undoes, of sites that are in. An
+    """Return the active operations, the latest first: those of included sites that no active operation undoes. An
     exclusion is undone by its own site alone, excluded or not."""
     down = sorted(held, key=text_order, reverse=True)
     of_exclusions = {one.stamp for one in down if one.excludes is not None}
@@ -48,7 +48,7 @@ def counting_operations(held: Iterable[Operation]) -> list[Operation]:
 
 
 def with_starts(values: Values) -> Values:
-    """Cars that start have the slowing chance of their zone where nothing else is said."""
+    """Let slow-to-start chances default to the slowing chance of their zone."""
     for (kind, index), line in values.items():
         if kind == "start":
             slow = values["slow", index]
@@ -57,13 +57,13 @@ def with_starts(values: Values) -> Values:
 
 
 class Oracle:
-    """What holds on one road."""
+    """Computes what is in force on one road."""
 
     def __init__(self, there: Mapping[str, int], plan: Callable[[str, int], int | None], last: int) -> None:
         self.there, self.plan, self.last = there, plan, last
 
     def tops(self, held: Iterable[Operation]) -> dict[tuple[str, int], list[tuple[Any, Any]]]:
-        """Of each object at each step the value and the line of the topmost layer; (None, None): the plan's."""
+        """Return for each object and step the value and the line of the topmost layer; (None, None): the plan's value."""
         shapes: dict[Any, Shape | None] = {}
         lines: dict[Any, Stamp] = {}
         heights: dict[Any, Stamp] = {}
@@ -94,7 +94,7 @@ class Oracle:
                             for thing, line in self.tops(held).items()})
 
     def by_the_program(self, edits: dict[tuple[str, int], dict[int, tuple[int, Any]]]) -> Values:
-        """The same by the program's rule: at each step the last value that was not withdrawn."""
+        """Return the values by the program's rule: at each step the last value that was not withdrawn."""
         found: Values = {}
         for kind, many in self.there.items():
             for index in range(many):
@@ -109,14 +109,14 @@ class Oracle:
 
 
 def oracle_of(plan: dict[str, Any], last: int) -> Oracle:
-    """The oracle of a plan line, for the steps before `last`."""
+    """Return the oracle of a plan line, for the steps before `last`."""
     line = read_plan_line(plan)
     there = {kind: plan[name] if kind == "block" else len(plan[name]) for kind, name in COUNTED.items()}
     return Oracle(there, lambda kind, index: plan_value(line, kind, index), last)
 
 
 def by_rows(edits: Iterable[Any]) -> dict[tuple[str, int], dict[int, tuple[int, Any]]]:
-    """Edits as an `import` has them, by objects and steps."""
+    """Return edits as an `import` has them, by object and step."""
     found: dict[tuple[str, int], dict[int, tuple[int, Any]]] = {}
     for kind, index, step, count, _, value in edits:
         found.setdefault((kind, index), {})[step] = count, value

@@ -1,4 +1,4 @@
-"""However a server ends: nothing that it has started goes on without it."""
+"""Test that nothing that a server has started outlives it, however it ends."""
 from __future__ import annotations
 
 import asyncio
@@ -20,7 +20,7 @@ LONG: dict[str, Any] = {**SMALL, "length": 2_000, "zone": 1_000, "zones": [[5, 6
 
 
 def marked(mark: str) -> set[int]:
-    """The processes that have a mark among their variables, but for those that have ended."""
+    """Return the running processes that have a mark among their environment variables."""
     found = set()
     for path in Path("/proc").glob("[0-9]*"):
         with contextlib.suppress(OSError):
@@ -75,12 +75,12 @@ class Orphans(Case):
     async def test_nothing_outlives_a_server_that_is_killed(self) -> None:
         await self.ends(signal.SIGKILL)
 
-    async def test_nothing_outlives_a_server_that_is_told_to_end(self) -> None:
+    async def test_nothing_outlives_a_server_that_gets_a_signal(self) -> None:
         await self.ends(signal.SIGTERM)
 
 
 class Termination(unittest.TestCase):
-    def test_a_signal_in_the_midst_of_a_task_cancels_the_start_alone(self) -> None:
+    def test_a_signal_during_a_task_cancels_only_the_start(self) -> None:
         serve = importlib.machinery.SourceFileLoader("serve", str(HERE.parent / "serve")).load_module()
 
         async def starts() -> None:

@@ -16,7 +16,7 @@ SEEDED = {**FREE_ROAD, "length": 200, "zone": 200, "words": 1, "zones": [[3, 6_5
 
 
 def over_days(tab: Tab, within: str) -> dict[str, list[str]]:
-    """The table over many days, once it is there: each cell with its small line."""
+    """Return the table over many days, once it is there: each cell with its small line."""
     def is_there() -> bool:
         return bool(tab.script("return document.querySelector(`${arguments[0]} .over`) !== null", within))
     for _ in range(3):  # what is nice comes late where the machine has other work
@@ -32,7 +32,7 @@ def over_days(tab: Tab, within: str) -> dict[str, list[str]]:
 
 
 def numbers(cell: str) -> list[float]:
-    """A mean, and how far its interval reaches."""
+    """Return a mean and the half-width of its interval."""
     mean, _, half = cell.split(",")[0].partition(" ± ") if "may" in cell else cell.replace(",", "").partition(" ± ")
     return [float(part.replace("−", "-").replace("+", "").replace(",", "")) for part in (mean, half)]
 
@@ -53,7 +53,7 @@ class TwoTabs(BrowserCase):
         tab.tool("block")
         tab.in_figures(kmFrom="0.18", kmTo="0.19", timeFrom="0:05", timeTo="0:07")
 
-    def test_mine_beside_shared_and_what_is_looked_at_before(self) -> None:
+    def test_mine_against_shared_and_the_preview(self) -> None:
         ada, _ = self.over_three(SEEDED)
         self.run_a_quarter(ada)
         self.closed(ada)
@@ -88,7 +88,7 @@ class TwoTabs(BrowserCase):
         ada.until(lambda: ada.part("oneDay").is_displayed(), "one day")
         self.assertEqual(ada.lines("own"), ["Closed 0.18–0.188 km, 0:05:00–0:07:00 private"] * 2)
 
-    def test_it_is_stopped_and_who_asks_is_told(self) -> None:
+    def test_it_can_be_stopped_and_a_refusal_names_who_asks(self) -> None:
         """Stop many days while the third waits for a file to go."""
         folder = new_folder()
         path, file = folder / "road_lab", folder / "wait"
@@ -102,7 +102,7 @@ class TwoTabs(BrowserCase):
         ada.press("Over 3 days")
         ada.until(lambda: " of 3 days" in ada.text("days"), "it runs")
         ben.press("Over 3 days")
-        ben.until(lambda: "Ada asks about 3 days just now" in ben.text("said"), "he is told who asks")
+        ben.until(lambda: "Ada asks about 3 days just now" in ben.text("said"), "he sees who asks")
         self.assertEqual(ben.text("days"), "Over 3 days")
         ada.press("Stop")
         ada.until(lambda: ada.text("days") in ("Over 3 days", "One day"), "it is stopped")  # one may be done
@@ -111,7 +111,7 @@ class TwoTabs(BrowserCase):
         ben.press("Over 3 days")
         self.assertEqual(over_days(ben, "#over")["Vehicle hours"][2], "0 the same each day")
 
-    def test_where_it_is_stopped_the_days_that_are_done_are_shown(self) -> None:
+    def test_stopping_shows_the_days_that_are_done(self) -> None:
         """The third day never ends."""
         path = new_folder() / "road_lab"
         path.write_text("#!/bin/sh\n" + PROGRAM_OF_DAYS.format(days=2, program=program()), encoding="utf-8")
@@ -130,7 +130,7 @@ class TwoTabs(BrowserCase):
         ada.press("One day", "#days")
         self.assertTrue(ada.part("oneDay").is_displayed())
 
-    def test_what_is_saved_of_both_roads_is_compared_as_it_is(self) -> None:
+    def test_saved_tables_of_both_roads_are_compared_unchanged(self) -> None:
         ada, = self.over_three(SEEDED)[:1]
         self.run_a_quarter(ada)
         self.closed(ada)
@@ -150,5 +150,5 @@ class TwoTabs(BrowserCase):
         ada, = self.over_three(FREE_ROAD)[:1]
         self.run_a_quarter(ada)
         ada.press("Over 3 days")
-        ada.until(lambda: "it has one day" in ada.text("said"), "it is told")
+        ada.until(lambda: "so all days are the same" in ada.text("said"), "the page says so")
         self.assertEqual(ada.text("days"), "Over 3 days")

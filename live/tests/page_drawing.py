@@ -52,7 +52,7 @@ class OnePicture(BrowserCase):
         self.assertEqual([name for name, _ in second["sets"]], [first["stamp"]])
         self.assertEqual(tab.lines("own"), ["Closed 0.18–0.188 km, 0:00:12–0:00:30 private"])
 
-    def test_undo_gives_the_picture_back(self) -> None:
+    def test_undo_restores_the_picture(self) -> None:
         tab = self.closed_by_a_drag()
         tab.keys("z")
         tab.settled()
@@ -75,7 +75,7 @@ class OnePicture(BrowserCase):
         tab.settled()
         self.assertEqual(tab.lines("own"), [])
 
-    def test_cars_in_a_closure_are_told(self) -> None:
+    def test_the_page_warns_of_cars_in_a_closure(self) -> None:
         tab, = self.open(FREE_ROAD)
         tab.run_an_hour()
         tab.show(60)
@@ -134,7 +134,7 @@ class OneFreeway(BrowserCase):
 
     names = ("Ada",)
 
-    def test_what_was_read_is_read_again_where_the_road_is_another(self) -> None:
+    def test_a_place_is_read_out_again_after_the_road_changed(self) -> None:
         tab, = self.open(FREEWAY)
         tab.run_an_hour()
         self.assertNotIn("closed", tab.point(400, 1500))
@@ -176,7 +176,7 @@ class OneFreeway(BrowserCase):
         self.assertEqual(tab.text("readout"), "Closed, 3.75–4.2 km, 0:20:00–0:25:00")
         tab.drop()
 
-    def test_what_is_said_of_a_drag_is_what_it_does(self) -> None:
+    def test_a_drag_does_what_its_text_says(self) -> None:
         """Also where the diagram follows the clock meanwhile."""
         tab, = self.open(FREEWAY)
         tab.run_an_hour()
@@ -190,7 +190,7 @@ class OneFreeway(BrowserCase):
         tab.drop()
         self.assertEqual(tab.lines("own"), ["Closed 3–3.3 km, 0:20:00–0:25:00 private"])
 
-    def test_the_diagram_keeps_its_size_whatever_is_said_of_a_drag(self) -> None:
+    def test_the_diagram_keeps_its_size_whatever_the_text_of_a_drag(self) -> None:
         """Else its end lies elsewhere below the same pointer."""
         tab, = self.open(FREEWAY)
         tab.run_an_hour()
@@ -234,7 +234,7 @@ class OneFreeway(BrowserCase):
         self.assertEqual([tab.value_at("limit", 0, step) for step in (600, 1199, 1200, 2399, 2400)],
                          [[2], [2], [3], [3], [5]])  # the later one has all of its rectangle
 
-    def test_too_great_a_closure_is_refused_before_it_is_let_go(self) -> None:
+    def test_too_large_a_closure_is_refused_before_the_drag_ends(self) -> None:
         tab, = self.open(FREEWAY)
         tab.run_an_hour()
         tab.tool("block")
@@ -244,13 +244,13 @@ class OneFreeway(BrowserCase):
         tab.drop()
         self.assertEqual(operations_of(self.server), [])
 
-    def test_a_look_ahead_goes_as_far_as_a_road_may(self) -> None:
+    def test_a_look_ahead_stops_at_the_limit_of_a_road(self) -> None:
         tab, = self.open(FREEWAY)
         tab.run_an_hour()
         tab.script("store.ahead = now() + 35_000; lookAhead()")
         self.assertEqual(tab.script("return store.ahead"), 39_600)  # by 36,000 steps
         tab.press("Look 30 min ahead")
-        self.assertEqual(tab.text("said"), "Your road is already 10 hours ahead of the clock, and may be no farther.")
+        self.assertEqual(tab.text("said"), "Your road is already 10 hours ahead of the clock, which is the limit.")
         self.assertEqual(tab.script("return store.ahead"), 39_600)
 
     def test_a_look_ahead_is_private(self) -> None:
@@ -264,7 +264,7 @@ class OneFreeway(BrowserCase):
         tab.press("Back to the clock")
         self.assertFalse(tab.part("back").is_displayed())
 
-    def test_a_short_closure_is_seen_whole_at_ten_hours(self) -> None:
+    def test_a_short_closure_is_completely_visible_at_ten_hours(self) -> None:
         tab, = self.open(FREEWAY)
         tab.run_an_hour()
         tab.tool("block")
@@ -278,7 +278,7 @@ class OneFreeway(BrowserCase):
             seen = {tab.pixel(cell, step) for cell in (404, 410, 416) for step in range(1400, 1601, 50)}
             self.assertEqual(seen, {COLOURS["#"]}, whose)
 
-    def test_labels_leave_closures_and_what_is_not_computed(self) -> None:
+    def test_labels_avoid_closures_and_rows_that_are_not_computed(self) -> None:
         tab, = self.open(FREEWAY)
         tab.run_an_hour()
         tab.tool("block")
@@ -314,7 +314,7 @@ class OneFreeway(BrowserCase):
             tab.settled()
             self.assertEqual(tab.text("period"), "0:00:00 to 1:00:00", seconds)
 
-    def test_a_click_holds_from_there_on(self) -> None:
+    def test_a_click_sets_a_value_from_there_on(self) -> None:
         tab, = self.open(FREEWAY)
         tab.run_an_hour()
         tab.tool("limit")

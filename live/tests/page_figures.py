@@ -1,4 +1,4 @@
-"""One browser on a freeway: what is written in figures, the figures that it shows, what it saves; names and tokens."""
+"""Test one browser on a freeway: the form in figures, the figures that it shows, what it saves; names and tokens."""
 from __future__ import annotations
 
 import csv
@@ -16,7 +16,7 @@ from selenium.webdriver.common.keys import Keys
 
 
 def demand_is(demand: float, chance: int, plan: dict[str, Any]) -> bool:
-    """Whether a chance at the first inlet admits a demand, by 400,000 steps of another seed on a short road."""
+    """Return whether a chance at the first inlet admits a demand, in 400,000 steps with another seed on a short road."""
     from zegdrut import RoadLab
     road: Any = {**plan, "length": 100, "zone": 100, "zones": [plan["zones"][0]], "inlets": [[0, chance]], "detectors": [50], "words": 77,
             "replicas": ["A"]}
@@ -152,7 +152,7 @@ class OneFreeway(BrowserCase):
         tab.in_figures(kmFrom="3.3", kmTo="3.3")
         self.assertEqual(shapes_of(operations_of(self.server)[-1]), [["block", 440, 440, 1200, None, 1]])
 
-    def test_wrong_figures_are_told_and_change_nothing(self) -> None:
+    def test_invalid_figures_are_reported_and_change_nothing(self) -> None:
         tab, = self.open(FREEWAY)
         tab.tool("block")
         for fields, said in (
@@ -169,17 +169,17 @@ class OneFreeway(BrowserCase):
         self.assertEqual(operations_of(self.server), [])
 
     def figures(self, tab: Tab, name: str) -> list[float]:
-        """A row of the main figures: mine, shared, and the difference."""
+        """Return a row of the main figures: mine, shared, and the difference."""
         texts = tab.script("return [...document.querySelectorAll('#figures tbody tr')].filter((line) => "
                            "line.firstChild.textContent === arguments[0]).flatMap((line) => "
                            "[...line.children].slice(1).map((one) => one.firstChild?.data ?? one.textContent))", name)
         return [float(text.replace(",", "").replace("−", "-").replace("+", "") or "nan") for text in texts]
 
     def exact(self, tab: Tab) -> None:
-        """Waits for what is counted car by car."""
+        """Wait for what is counted car by car."""
         tab.until(lambda: "…" not in tab.text("figures"), "the lost demand")
 
-    def test_lost_demand_is_counted_and_told(self) -> None:
+    def test_lost_demand_is_counted_and_shown(self) -> None:
         tab, = self.open(FREEWAY)
         tab.run_an_hour()
         self.exact(tab)
@@ -191,10 +191,10 @@ class OneFreeway(BrowserCase):
         # Some 1,250 cars an hour come, for 30 minutes but those that fill 300 m.
         self.assertTrue(480 <= more <= 640, more)
         self.assertAlmostEqual(more, mine - shared, delta=1)
-        self.assertRegex(tab.text("warnings"), r"The inlet at 0 km admits [\d,]+ of the [\d,]+ cars that it is asked for\. The other \d+ are lost")
+        self.assertRegex(tab.text("warnings"), r"The inlet at 0 km admits [\d,]+ of [\d,]+ cars\. The other \d+ never enter")
 
     def test_figures_wait_for_the_picture(self) -> None:
-        """Nothing else is asked for while rows that are seen are on their way, here for a second."""
+        """The page asks for nothing else while visible rows are on their way, here for a second."""
         tab, = self.open(FREEWAY)
         tab.run_an_hour()
         self.exact(tab)
@@ -252,7 +252,7 @@ class OneFreeway(BrowserCase):
         rows = before_rows(tab)
         self.assertEqual(rows["Vehicle hours"], (hours[1], hours[0], hours[2]))
         self.assertEqual(rows["Lost demand, cars"], (lost[1], lost[0], lost[2]))
-        self.assertEqual(rows["Delay of cars on both roads, vehicle hours"][2], delay[2])
+        self.assertEqual(rows["Delay of the cars that both roads have, vehicle hours"][2], delay[2])
         parts = [rows[name][2] for name in ("– at 0 km", "– at 1.5 km")]
         self.assertEqual(sum(parts), lost[2])
         # On the free road no more is lost than by chance: two standard deviations of some 1,250 arrivals.
@@ -289,7 +289,7 @@ class OneFreeway(BrowserCase):
         self.assertGreater(drawn, 100)  # the line of mine
 
     def point_at(self, ident: str, part: float) -> None:
-        """Moves the pointer to a part of a chart's time."""
+        """Move the pointer to a part of a chart's time."""
         tab = self.tabs[0]
         tab.script("$(arguments[0]).scrollIntoView({block: 'center'})", ident)
         wide = tab.script("return $(arguments[0]).clientWidth", ident)
@@ -303,12 +303,12 @@ class OneFreeway(BrowserCase):
         tab.driver.refresh()
         tab.until(lambda: tab.text("me") == "Ada (seat 1)", "the same seat")
 
-    def test_an_address_without_its_token_is_told(self) -> None:
+    def test_an_address_without_its_token_gets_a_message(self) -> None:
         tab, = self.open(FREEWAY)
         tab.script("sessionStorage.clear()")
         tab.driver.get(tab.driver.current_url)  # as it was copied from the address bar
         said = "The server closed the connection: the address lacks the right token: open it as live/serve printed it."
-        tab.until(lambda: tab.part("helloSaid").text == said, "it is told where a name is asked for")
+        tab.until(lambda: tab.part("helloSaid").text == said, "the form that asks for a name says so")
         tab.script("$('helloSaid').textContent = ''")
         tab.part("name").send_keys("Ben", Keys.ENTER)
         tab.until(lambda: tab.part("helloSaid").text == said, "it is told to who joins")
@@ -352,8 +352,8 @@ class OneFreeway(BrowserCase):
         self.assertEqual(commands[:-1], lines[0:2 * len(commands) - 2:2])  # the same road
         self.assertEqual(json.loads(commands[-1]), {"advance": {"at": "Ada", "to": 3_600}})  # up to the clock
 
-    def test_the_menu_closes_by_what_is_saved_and_by_escape(self) -> None:
-        """It would lie over the sentence that says what was saved."""
+    def test_the_menu_closes_after_saving_and_on_escape(self) -> None:
+        """An open menu would cover the sentence that says what was saved."""
         tab, = self.open(FREE_ROAD)
         tab.run_an_hour()
         names = {tab.save("Counts", "counts.csv").name for _ in range(3)}  # none in the place of another
@@ -402,7 +402,7 @@ class OneFreeway(BrowserCase):
                        "<li>54 km/h, 0–0.3 km, 0:20:00–0:30:00 (new)</li>", "delay, vehicle hours"):
             self.assertIn(wanted, page)
 
-    def test_what_is_saved_waits_for_figures(self) -> None:
+    def test_saving_waits_for_figures(self) -> None:
         tab, = self.open(FREE_ROAD)
         tab.run_an_hour()
         refused = tab.driver.execute_async_script("""

@@ -1,4 +1,4 @@
-"""The page for those who use no mouse, see little, or want less motion; names and tokens as they must be."""
+"""Test the page for people who use no mouse, see little, or want less motion; names and tokens as they must be."""
 from __future__ import annotations
 
 from typing import Any
@@ -63,7 +63,7 @@ class ForAll(BrowserCase):
             self.assertEqual(too_wide, [], width)
             self.assertLessEqual(tab.script("return document.documentElement.scrollWidth - innerWidth"), 0)
 
-    def test_what_is_asked_before_sharing_is_seen(self) -> None:
+    def test_the_preview_of_sharing_is_visible(self) -> None:
         tab, = self.open(FREEWAY)
         tab.run_an_hour()
         tab.script("for (let zone = 0; zone < 12; zone++) applyArea(areaOfShape({kind: 'limit', first: zone, "
@@ -97,7 +97,7 @@ class ForAll(BrowserCase):
         self.assertEqual(tab.script("return document.querySelectorAll('.awaited').length"), 0)
         self.assertAlmostEqual(tab.script(high), before, delta=LINE)
 
-    def test_all_is_in_sight_beside_the_picture(self) -> None:
+    def test_everything_is_visible_next_to_the_picture(self) -> None:
         tab, = self.open(FREEWAY)
         tab.run_an_hour()
         tab.tool("block")
@@ -128,8 +128,8 @@ class ForAll(BrowserCase):
             self.assertLessEqual(boxes["all"][0][3], height)  # the page itself does not scroll
             self.assertLess(top, 160)
 
-    def test_figures_are_in_sight_beneath_a_warning(self) -> None:
-        """In what a browser's own bars leave of 1366 x 768."""
+    def test_figures_are_visible_below_a_warning(self) -> None:
+        """On a screen of 1366 x 768 less the browser's own bars."""
         tab, = self.open(FREEWAY)
         tab.run_an_hour()
         tab.tool("block")
@@ -145,7 +145,7 @@ class ForAll(BrowserCase):
             top, bottom = tab.script("const {top, bottom} = $(arguments[0]).getBoundingClientRect(); return [top, bottom]", ident)
             self.assertTrue(0 <= top < bottom <= 629, (ident, top, bottom))
 
-    def test_the_program_that_is_not_proved_is_told_calmly_and_can_be_closed(self) -> None:
+    def test_the_note_that_the_program_is_not_proved_is_calm_and_can_be_closed(self) -> None:
         tab, = self.open(FREEWAY)
         tab.script("store.programNote = 'road_lab is not proved: it is tested, and slower'; notify('siteFaults')")
         said = "Results are tested, not proved: road_lab is not proved: it is tested, and slower"
@@ -157,13 +157,13 @@ class ForAll(BrowserCase):
         tab.script("store.trouble = 'the disk is full'; notify('siteFaults')")
         self.assertEqual(tab.text("stays"), "the disk is full")
 
-    def test_a_long_status_leaves_the_name_of_who_is_here(self) -> None:
+    def test_a_long_status_does_not_hide_the_names_of_who_is_here(self) -> None:
         tab, = self.open(FREEWAY)
         self.addCleanup(tab.driver.execute_cdp_cmd, "Emulation.clearDeviceMetricsOverride", {})
         for width in (1366, 1920):
             tab.driver.execute_cdp_cmd("Emulation.setDeviceMetricsOverride",
                                        {"width": width, "height": 768, "deviceScaleFactor": 1, "mobile": False})
-            tab.script("store.connectionText = ['connected; ' + 'the broker is away since 10:15, what is shared waits '.repeat(4), true];"
+            tab.script("store.connectionText = ['connected; ' + 'the broker is unreachable since 10:15, what is shared waits '.repeat(4), true];"
                        "notify('connectionText')")
             whole = tab.script("return $('me').getBoundingClientRect().right <= $('who').getBoundingClientRect().right + 1")
             self.assertTrue(whole, width)
@@ -192,7 +192,7 @@ class ForAll(BrowserCase):
             return found;""")
         self.assertIn("6", texts)
 
-    def test_what_is_said_is_seen_beside_the_diagram(self) -> None:
+    def test_messages_are_visible_next_to_the_diagram(self) -> None:
         tab, = self.open(FREEWAY)
         tab.run_an_hour()
         self.addCleanup(tab.driver.execute_cdp_cmd, "Emulation.clearDeviceMetricsOverride", {})
@@ -210,7 +210,7 @@ class ForAll(BrowserCase):
             self.assertTrue(0 <= said[1] < said[3] <= 768, (width, said))
             self.assertTrue(said[3] <= diagram[1] or said[0] >= diagram[2], (width, said, diagram))
 
-    def test_the_menu_is_seen_whole(self) -> None:
+    def test_the_whole_menu_is_visible(self) -> None:
         tab, = self.open(FREEWAY)
         tab.script("$('others').textContent = ', with Benjamin and Cleopatra'")  # who make the head wider
         tab.open_part("save")

@@ -23,12 +23,12 @@ class OneTab(BrowserCase):
         tab.in_figures(kmFrom="0.75", kmTo="4.5", timeFrom=begin, timeTo=end)
 
     def pointer(self, tab: Tab, cell: float, step: float) -> str:
-        """What the pointer looks like at a place."""
+        """Return the shape of the pointer at a place."""
         ActionChains(tab.driver, duration=0).move_to_element_with_offset(
             tab.part("diagram"), *tab.place(cell, step)).perform()
         return str(tab.script("return $('diagram').style.cursor"))
 
-    def test_what_is_covered_wholly_has_no_edges_to_draw(self) -> None:
+    def test_a_fully_covered_change_has_no_edges_to_draw(self) -> None:
         tab, = self.open(FREEWAY)
         tab.run_an_hour()
         self.limit(tab, "2", "0:20", "0:30")
@@ -44,14 +44,14 @@ class OneTab(BrowserCase):
         self.assertEqual(tab.script(spans), [[1200, 1800], [600, 2400]])
         self.assertEqual(tab.script("return store.extent.step"), max(0, step - 200) if step else 0)
 
-    def test_edges_that_are_not_seen_cannot_be_drawn(self) -> None:
+    def test_hidden_edges_cannot_be_drawn(self) -> None:
         tab, = self.open(FREEWAY)
         tab.run_an_hour()
         tab.tool("block")
         tab.in_figures(kmFrom="3", kmTo="3.15", timeFrom="0:20", timeTo="0:30")
         tab.tool("look")
         self.assertEqual(self.pointer(tab, 410, 1800), "ns-resize")
-        tab.script("document.querySelector('[name=whose][value=shared]').click()")  # where nothing is closed
+        tab.script("document.querySelector('[name=whose][value=shared]').click()")  # which has no closure
         tab.settled()
         self.assertEqual(self.pointer(tab, 410, 1800), "grab")
         tab.drag((410, 1800), (410, 2400))
@@ -59,7 +59,7 @@ class OneTab(BrowserCase):
         tab.keys("z")
         tab.settled()
         said = "Undone: Closed 3–3.15 km, 0:20:00–0:30:00"
-        self.assertEqual(tab.text("said"), f"{said}, on your own road.")  # of which nothing is seen
+        self.assertEqual(tab.text("said"), f"{said}, on your own road.")  # which the picture does not show
 
     def test_one_rectangle_after_the_other_is_drawn_at_one_place(self) -> None:
         tab, = self.open(FREEWAY)
@@ -84,8 +84,8 @@ class OneTab(BrowserCase):
         self.assertEqual(tab.lines("own"), ["Slowing 25 %, 0–0.75 km, 0:20:00–0:40:00 private",
                                             "Demand 1,000 cars/h, at 0 km, 0:10:00–0:30:00 private"])
 
-    def test_where_many_lines_are_others_at_once_all_are_told_of(self) -> None:
-        """The server tells a part with its answer, and the page asks for the rest: also after many gestures at once."""
+    def test_all_of_many_lines_that_change_at_once_are_listed(self) -> None:
+        """The server sends a part with its answer, and the page asks for the rest, even after many gestures at once."""
         tab, = self.open(FREEWAY)
         tab.script("""for (let put_ = 0; put_ < 120; put_++) {
             const shape = {kind: "limit", first: 0, last: 15, from: 10 * put_, to: 7200 - 10 * put_, value: put_ % 5};
@@ -104,8 +104,8 @@ class OneTab(BrowserCase):
         tab.settled()
         self.assertEqual([any(one) for one in tab.script(shown)], [False] * 120 + [True])
 
-    def test_what_is_dragged_back_is_no_change(self) -> None:
-        """Else Z does nothing that is seen, and a line that is shared has something private."""
+    def test_a_drag_back_to_the_start_changes_nothing(self) -> None:
+        """Otherwise Z would change nothing visible, and a shared line would have something private."""
         tab, = self.open(FREEWAY)
         tab.run_an_hour()
         self.limit(tab, "2", "0:20", "0:30")
@@ -122,7 +122,7 @@ class OneTab(BrowserCase):
         self.assertEqual(tab.lines("own"), [])
 
     def written(self, tab: Tab) -> list[str]:
-        """The labels that are drawn."""
+        """Return the labels that are drawn."""
         found = tab.script("""
             const found = [], {prototype} = CanvasRenderingContext2D, fillText = prototype.fillText;
             prototype.fillText = function (text, ...rest) {
@@ -154,12 +154,12 @@ class OneForm(BrowserCase):
     names = ("Ada",)
 
     def closed(self, tab: Tab) -> None:
-        """A closure from 0:20 to 0:30, which is to be changed."""
+        """Put a closure from 0:20 to 0:30, and begin to change it."""
         tab.tool("block")
         tab.in_figures(kmFrom="3", kmTo="3.15", timeFrom="0:20", timeTo="0:30")
         tab.press("Change: Closed")
 
-    def test_a_change_in_figures_begins_where_the_line_is(self) -> None:
+    def test_a_change_in_the_form_starts_from_the_line(self) -> None:
         tab, = self.open(FREEWAY)
         tab.run_an_hour()
         self.closed(tab)
@@ -171,7 +171,7 @@ class OneForm(BrowserCase):
         tab.settled()
         self.assertEqual(tab.lines("own"), ["Closed 3–3.3 km, 0:20:00–0:40:00 private"])
 
-    def test_a_demand_is_said_of_the_time_from_which_it_is_put(self) -> None:
+    def test_a_demand_is_shown_for_the_time_from_which_it_holds(self) -> None:
         tab, = self.open(FREEWAY)
         tab.run_an_hour()
         tab.tool("inflow")
@@ -189,7 +189,7 @@ class OneForm(BrowserCase):
         self.assertGreater(beside, 1.05 * alone)
         self.assertEqual(now, alone)  # without a time it is that of the clock, at 1:00
 
-    def test_what_does_not_stand_is_not_changed(self) -> None:
+    def test_a_line_that_is_not_in_force_is_not_changed(self) -> None:
         tab, = self.open(FREEWAY)
         self.closed(tab)
         tab.press("Withdraw: Closed")
@@ -218,7 +218,7 @@ class TwoTabs(BrowserCase):
             next(file)  # of what it is
             return list(csv.DictReader(file))
 
-    def test_all_that_was_done_and_what_covers_it_is_listed_and_saved(self) -> None:
+    def test_the_history_with_covers_is_listed_and_saved(self) -> None:
         ada, ben = self.open(FREEWAY)
         ada.run_an_hour()
         for tab, begin, end in ((ada, "0:20", "0:40"), (ben, "0:25", "0:30")):
@@ -246,8 +246,8 @@ class TwoTabs(BrowserCase):
         self.assertEqual(len(covered), 1)
         self.assertEqual(covered[0], "0.75–4.5 km, 0:25:00–0:30:00 by Ben's limit of 54 km/h")
 
-    def test_of_a_list_what_stays_is_not_touched(self) -> None:
-        """Else each gesture lays out all lines anew, which with a hundred takes longer than the picture."""
+    def test_unchanged_lines_of_a_list_are_not_touched(self) -> None:
+        """Otherwise each gesture would lay out all lines again, which takes longer than the picture if there are a hundred."""
         ada, = self.open(FREE_ROAD, ("Ada",))
         for limit, begin, end in (("2", "0:10", "0:15"), ("1", "0:20", "0:25"), ("2", "0:30", "0:35")):
             ada.limit(limit, begin, end)
@@ -264,7 +264,7 @@ class TwoTabs(BrowserCase):
         self.assertEqual(ada.script("return touched"), [2])
         self.assertEqual([line[:6] for line in ada.lines("own")], ["0 km/h", "54 km/", "27 km/"])
 
-    def test_figures_are_whole_beside_the_picture(self) -> None:
+    def test_figures_are_complete_next_to_the_picture(self) -> None:
         """Four digits on both roads, a warning that makes the column scroll, and over many days."""
         with mock.patch.dict(os.environ, {"LIVE_DAYS": "2"}):
             ada, _ = self.open(FREEWAY)
@@ -292,7 +292,7 @@ class TwoTabs(BrowserCase):
                 who = ada.script("const {scrollWidth, clientWidth} = $('who'); return scrollWidth - clientWidth")
                 self.assertEqual((who, ada.text("who")), (0, "You are Ada (seat 1), with Ben"), width)
 
-    def test_figures_are_saved_as_they_are_shown(self) -> None:
+    def test_saved_figures_equal_those_shown(self) -> None:
         ada, _ = self.open(FREEWAY)
         ada.run_an_hour()
         ada.tool("block")
@@ -300,12 +300,12 @@ class TwoTabs(BrowserCase):
         ada.until(lambda: "…" not in ada.text("figures"), "the lost demand")
         shown = ada.script("return [...document.querySelectorAll('#figures tbody tr')].map((line) => "
                            "[...line.children].map((one) => one.firstChild?.data ?? ''))")
-        rows = {row["figure"]: [row["mine"], row["shared"], row["mine less shared"]]
+        rows = {row["figure"]: [row["mine"], row["shared"], row["mine minus shared"]]
                 for row in self.rows(ada.save("Figures as CSV", "figures.csv"))}
         def number(text: str) -> float:
             return float(text.replace(",", "").replace("−", "-").replace("+", "") or "nan")
         for name, saved, digits in (("Vehicle hours", "vehicle hours", 1), ("Lost demand, cars", "lost demand", 0),
-                                    ("Delay, vehicle hours", "delay of cars on both roads", 1),
+                                    ("Delay, vehicle hours", "delay of the cars that both roads have", 1),
                                     ("Cars at 2.25 km", "cars at 2.25 km", 0)):
             wanted, = ([number(text) for text in values] for head, *values in shown if head == name)
             for one, other in zip(rows[saved], wanted):

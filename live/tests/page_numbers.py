@@ -1,4 +1,4 @@
-"""What the page shows and saves of two roads, beside what numpy finds in the cars of each step, on random roads."""
+"""Compare the figures of two roads that the page shows and saves with what numpy finds in the cars of each step, on random roads."""
 from __future__ import annotations
 
 import csv
@@ -24,7 +24,7 @@ class Numbers(BrowserCase):
 
     names = ("Ada",)
 
-    def test_page_and_saved_figures_are_those_of_the_cars(self) -> None:
+    def test_page_and_saved_figures_equal_those_of_the_cars(self) -> None:
         for case in range(ROADS):
             chance = random.Random(500 + case)
             plan = random_plan(chance)
@@ -52,7 +52,7 @@ class Numbers(BrowserCase):
             self.saved_is(tab, plan, before, after, cost)
 
     def shown_is(self, tab: Tab, plan: object, before: Run, after: Run, cost: dict[str, Any]) -> None:
-        """The table of the page, as far as its digits go."""
+        """Check the table of the page, to the digits that it shows."""
         rows = {cells[0]: cells[1:] for cells in tab.script(
             "return [...document.querySelectorAll('#figures tbody tr')].map((line) => [...line.children].map((one) =>"
             " [one.firstChild?.data ?? '', one.querySelector('.trip')?.textContent ?? '', one.querySelector('small')?.textContent ?? '']))"
@@ -73,7 +73,7 @@ class Numbers(BrowserCase):
                 self.assertEqual(trip.strip(), "" if seconds is None else f"{int(seconds + 0.5):,} s")
 
     def saved_is(self, tab: Tab, plan: object, before: Run, after: Run, cost: dict[str, Any]) -> None:
-        """figures.csv, to four digits."""
+        """Check figures.csv to four digits."""
         with open(tab.save("Figures as CSV", "figures.csv"), encoding="utf-8", newline="") as file:
             self.assertEqual(next(file), "# the road of Ada and the shared one, plan.json, 0:00:00 to 0:07:00\n")
             rows = {row["figure"]: row for row in csv.DictReader(file)}
@@ -83,16 +83,16 @@ class Numbers(BrowserCase):
                 found = rows[name][column]
                 self.assertTrue(found == "" if one is None else abs(float(found) - float(str(one))) < 6e-5, (name, column, found, one))
         near("vehicle hours", [run.hours(0, STEPS) for run in (after, before)])
-        near("delay of cars on both roads", [cost["delay_hours"]], ("mine less shared",))
+        near("delay of the cars that both roads have", [cost["delay_hours"]], ("mine minus shared",))
         near("admitted cars", [sum(run.admitted(0, STEPS)) for run in (after, before)])
         places = [*(f"{one} km" for one in self.places(rows)), "the road's end"]
         for index, place in enumerate(places):
             near(f"travel time to {place}", [run.travel(0, STEPS)[index][1] for run in (after, before)])
-            near(f"delay of cars on both roads to {place}", [cost["later"][index][1]], ("mine less shared",))
+            near(f"delay of the cars that both roads have to {place}", [cost["later"][index][1]], ("mine minus shared",))
         for index, place in enumerate(places[:-1]):
             for name, field in (("cars", "cars"), ("flow", "flow"), ("time-mean speed", "speed"), ("time on", "on")):
                 near(f"{name} at {place}", [run.detector(index, 0, STEPS)[field] for run in (after, before)])
 
     def places(self, rows: dict[str, dict[str, str]]) -> list[str]:
-        """The detectors' places, as the table has them in their order."""
+        """Return the places of the detectors, in the order of the table."""
         return [match[1] for name in rows if (match := re.fullmatch(r"time on at ([\d.]+) km", name))]

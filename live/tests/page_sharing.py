@@ -10,7 +10,7 @@ from selenium.webdriver.common.keys import Keys
 class Sharing(BrowserCase):
     """Two browsers."""
 
-    def test_shared_looked_at_and_taken(self) -> None:
+    def test_shared_previewed_and_taken(self) -> None:
         ada, ben = self.open(FREE_ROAD)
         ada.run_an_hour()
         for tab in (ada, ben):
@@ -21,7 +21,7 @@ class Sharing(BrowserCase):
         ada.press("Share all")
         ada.settled()
         self.assertIn("Nothing would be covered.", ada.text("previewBody"))
-        self.assertIn("then sloweras fastthen faster", ada.text("legend"))
+        self.assertIn("slower afteras fastfaster after", ada.text("legend"))
         jam = ada.pixel(17.5, 22.5)
         ada.press("Share now")
         ben.until(lambda: "Ada shared 1 change." in ben.text("news"), "news")
@@ -35,9 +35,9 @@ class Sharing(BrowserCase):
         red, green, blue = ben.pixel(17.5, 22.5)
         self.assertTrue(green < 160 and green < blue < red, (red, green, blue))
         self.assertEqual((red, green, blue), jam)
-        self.assertIn("then sloweras fastthen faster", ben.text("legend"))
+        self.assertIn("slower afteras fastfaster after", ben.text("legend"))
         ben.press("Take now")
-        ben.until(lambda: ben.text("said") == "Took 1 change of Ada. They cover nothing of yours.", "taken")
+        ben.until(lambda: ben.text("said") == "Took 1 change from Ada. They cover nothing of yours.", "taken")
         ben.settled()
         ben.script("store.layers.mine.frames = []; draw()")
         ben.settled()
@@ -54,7 +54,7 @@ class Sharing(BrowserCase):
         ben.limit("2", "0:25", "0:30")
         ben.share_all()
         ada.take()
-        self.assertEqual(ada.text("said"), "Took 1 change of Ben. 1 change of yours is covered by them, wholly or in part.")
+        self.assertEqual(ada.text("said"), "Took 1 change from Ben. 1 change of yours is covered by them, wholly or in part.")
         self.assertIn("27 km/h, 0–0.3 km, 0:20:00–0:40:00 shared", ada.lines("held"))
         self.assertEqual(ada.covers("held"), ["In force 0:20:00–0:25:00; covered 0:25:00–0:30:00 by Ben's limit of "
                                                     "54 km/h; in force 0:30:00–0:40:00."])
@@ -80,7 +80,7 @@ class Sharing(BrowserCase):
         self.assertEqual(ben.lines("own"), ["Withdrew: 54 km/h, 0–0.3 km, 0:25:00–0:30:00 private"])
         self.assertEqual(ben.value_at("limit", 0, 1200, 1500, 1800, 2400), [1, 1, 1, 3])
 
-    def test_news_are_in_sight_beside_long_figures(self) -> None:
+    def test_news_is_visible_next_to_long_figures(self) -> None:
         ada, ben = self.open(FREEWAY)
         height = 560
         ben.driver.execute_cdp_cmd("Emulation.setDeviceMetricsOverride",
@@ -95,7 +95,7 @@ class Sharing(BrowserCase):
         top, bottom = ben.script("const {top, bottom} = $('news').getBoundingClientRect(); return [top, bottom];")
         self.assertTrue(0 <= top < bottom <= height, (top, bottom))
 
-    def test_what_is_pressed_stays_until_it_is_let_go(self) -> None:
+    def test_a_pressed_button_stays_until_it_is_released(self) -> None:
         ada, ben = self.open(FREE_ROAD)
         ben.limit("1", "0:20", "0:30")
         ben.share_all()
@@ -108,9 +108,9 @@ class Sharing(BrowserCase):
         ada.until(lambda: ada.script("return store.news.text") == "Ben shared 2 changes.", "more news")
         self.assertTrue(ada.text("news").startswith("Ben shared 1 change."))
         ActionChains(ada.driver, duration=0).release().perform()
-        ada.until(lambda: ada.text("said") == "Took 2 changes of Ben. They cover nothing of yours.", "taken")
+        ada.until(lambda: ada.text("said") == "Took 2 changes from Ben. They cover nothing of yours.", "taken")
 
-    def test_a_double_click_presses_nothing_that_comes_there(self) -> None:
+    def test_a_double_click_does_not_press_a_button_that_appears_there(self) -> None:
         ada, _ = self.open(FREE_ROAD)
         ada.limit("1", "0:20", "0:30")
         ada.press("Share all")
@@ -131,7 +131,7 @@ class Sharing(BrowserCase):
         ActionChains(ada.driver, duration=0).move_by_offset(0, 3).pause(1).click().perform()
         self.assertEqual(ada.script("return pressed"), 1)
 
-    def test_two_who_lay_one_line_at_once(self) -> None:
+    def test_two_change_one_line_at_once(self) -> None:
         ada, ben = self.open(FREE_ROAD)
         ada.run_an_hour()
         ada.limit("1", "0:20", "0:30")
@@ -152,7 +152,7 @@ class Sharing(BrowserCase):
         self.assertEqual(ada.value_at("limit", 0, 1200, 2000, 2100), [1, 1, 3])
         self.assertEqual(ada.lines("own"), ["27 km/h, 0–0.3 km, 0:20:00–0:35:00 private"])
 
-    def test_who_withdraws_one_of_two_closures_opens_what_it_alone_closed(self) -> None:
+    def test_withdrawing_one_of_two_closures_opens_what_only_it_closed(self) -> None:
         ada, ben = self.open(FREE_ROAD)
         ada.run_an_hour()
         ada.tool("block")
@@ -180,7 +180,7 @@ class Sharing(BrowserCase):
         rows = [tab.script("return store.roads.mine.level(everyShown()).rows.filter(Boolean)") for tab in (ada, ben)]
         self.assertEqual(*rows)
 
-    def test_picture_sentences_and_table_are_of_the_same_two_roads(self) -> None:
+    def test_picture_sentences_and_table_show_the_same_two_roads(self) -> None:
         ada, ben = self.open(FREEWAY)
         ada.run_an_hour()
         for tab, first, last in ((ada, "4.5", "4.6"), (ben, "3", "3.1")):
@@ -209,7 +209,7 @@ class Sharing(BrowserCase):
             ada.settled()
         self.assertEqual(ada.faults(), [])
 
-    def test_what_is_taken_back_and_put_again(self) -> None:
+    def test_undo_and_redo(self) -> None:
         ada, _ = self.open(FREE_ROAD)
         ada.limit("1", "0:20", "")
         ada.limit("2", "0:20", "")
@@ -243,7 +243,7 @@ class Sharing(BrowserCase):
         self.assertNotIn("Withdrew: Withdrew", ada.text("own"))
         self.assertEqual(ada.faults(), [])
 
-    def test_of_what_was_taken_back_nothing_is_to_be_shared(self) -> None:
+    def test_nothing_undone_is_shareable(self) -> None:
         ada, ben = self.open(FREE_ROAD)
         ada.limit("1", "0:20", "0:30")
         ada.share_all()
@@ -265,9 +265,9 @@ class Sharing(BrowserCase):
         ben.share_all()
         ada.take()
         self.assertEqual((ada.text("said"), ada.lines("held"), ben.lines("own")),
-                         ("Took 1 change of Ben. They cover nothing of yours.", [], []))
+                         ("Took 1 change from Ben. They cover nothing of yours.", [], []))
 
-    def test_a_part_is_looked_at_before_it_is_shared(self) -> None:
+    def test_a_part_is_previewed_before_it_is_shared(self) -> None:
         ada, _ = self.open(FREE_ROAD)
         ada.run_an_hour()
         ada.limit("1", "0:20", "0:30")
@@ -275,7 +275,7 @@ class Sharing(BrowserCase):
         ada.press("Share…: 27 km/h")
         rows = before_rows(ada)
         self.assertEqual(list(rows), ["Vehicle hours", "Cars admitted", "Lost demand, cars",
-                                      "Delay of cars on both roads, vehicle hours", "Cars an hour at 0.21 km", "Seconds to 0.21 km",
+                                      "Delay of the cars that both roads have, vehicle hours", "Cars an hour at 0.21 km", "Seconds to 0.21 km",
                                       "Seconds to the road's end"])
         # A car every other step drives over the 39 cells at 3 cells a step, and in ten of sixty minutes at 1.
         self.assertAlmostEqual(rows["Vehicle hours"][0], 1_800 * 13 / 3_600, delta=0.5)
@@ -284,8 +284,8 @@ class Sharing(BrowserCase):
         ada.settled()
         self.assertEqual([text[-7:] for text in ada.lines("own") + ada.lines("held")], ["private", " shared"])
 
-    def test_what_is_looked_at_before_sharing_is_what_is_shared(self) -> None:
-        """Also where it was changed, or taken back, while it was looked at."""
+    def test_the_preview_shows_exactly_what_is_shared(self) -> None:
+        """Also if it was changed, or undone, during the preview."""
         ada, ben = self.open(FREE_ROAD)
         ada.run_an_hour()
         ada.limit("1", "0:20", "0:30")
@@ -316,11 +316,11 @@ class Sharing(BrowserCase):
         self.assertEqual(ben.lines("held"), ["27 km/h, 0–0.3 km, 0:20:00–0:35:00 shared"])
 
     def looked_at(self, tab: Tab) -> list[str]:
-        """What is looked at before it is shared or taken: how much, and what."""
+        """Return what the preview lists: how many changes, and which."""
         return [tab.text("previewTitle"), *tab.script(
             "return [...document.querySelectorAll('#previewBody > ul > li')].map((one) => one.firstChild.data)")]
 
-    def test_what_comes_while_it_is_looked_at_is_looked_at_too(self) -> None:
+    def test_changes_that_arrive_during_a_preview_are_in_it(self) -> None:
         ada, ben = self.open(FREE_ROAD)
         ada.limit("1", "0:20", "0:30")
         ada.share_all()
@@ -334,7 +334,7 @@ class Sharing(BrowserCase):
         self.assertEqual(self.looked_at(ben), ["Take 2 changes?", "54 km/h, 0–0.3 km, 0:40:00–0:50:00",
                                                "27 km/h, 0–0.3 km, 0:20:00–0:30:00"])
 
-    def test_what_taking_costs_is_said_before(self) -> None:
+    def test_the_preview_shows_what_taking_costs(self) -> None:
         ada, ben = self.open(FREE_ROAD)
         ada.run_an_hour()
         ada.limit("1", "0:20", "0:30")

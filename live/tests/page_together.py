@@ -16,7 +16,7 @@ ACTIVE = "const one = document.activeElement; return one.getAttribute('aria-labe
 
 
 def tab_to(tab: Tab, name: str) -> None:
-    """Moves the focus on until it is at what is called so."""
+    """Move the focus on until it is at the element with this name."""
     for _ in range(80):
         if tab.script(ACTIVE).startswith(name):
             return
@@ -30,9 +30,9 @@ def type_in(tab: Tab, *keys: str) -> None:
 
 
 class TwoTabs(BrowserCase):
-    """Two browsers, or one and who works without a browser."""
+    """Two browsers, or one and somebody without a browser."""
 
-    def test_what_came_from_the_shell_is_said(self) -> None:
+    def test_changes_from_the_shell_are_described(self) -> None:
         ada, = self.open(FREEWAY, ("Ada",))
         asyncio.run(self.at_night())
         ada.until(lambda: ada.text("news").startswith("Cron shared 3 changes: “night”, “works”."), "news")
@@ -57,7 +57,7 @@ class TwoTabs(BrowserCase):
             await cron.ask("gesture", key="k", edits=[["block", 100, 600, 1], ["block", 101, 600, 1], ["block", 100, 700, 0]])
             await cron.ask("send", name="shared", title="works")
 
-    def test_what_came_from_the_shell_can_be_changed(self) -> None:
+    def test_changes_from_the_shell_can_be_changed(self) -> None:
         ada, = self.open(FREEWAY, ("Ada",))
         asyncio.run(self.by_a_script())
         ada.take()
@@ -90,7 +90,7 @@ class TwoTabs(BrowserCase):
                 await cron.ask("gesture", key=f"k{number}", edits=edits)
             await cron.ask("send", name="shared")
 
-    def test_how_to_begin_is_told_to_who_comes_later_too(self) -> None:
+    def test_late_comers_see_how_to_begin_too(self) -> None:
         ada, ben = self.open(FREE_ROAD)
         self.assertTrue(ben.part("emptyHint").is_displayed())
         ada.run_an_hour()
@@ -119,7 +119,7 @@ class TwoTabs(BrowserCase):
         passed = [int(text.split()[0].replace(",", "")) for text in (mine, shared)]
         self.assertEqual(change, f"−{passed[1] - passed[0]:,}\n0 s")
 
-    def test_by_the_keyboard_alone(self) -> None:
+    def test_with_the_keyboard_alone(self) -> None:
         ada, ben = self.open(FREE_ROAD)
         tab_to(ada, "Run an hour")
         type_in(ada, Keys.ENTER)
@@ -150,14 +150,14 @@ class TwoTabs(BrowserCase):
         type_in(ada, Keys.ENTER)
         ada.until(lambda: "Withdrew: Closed" in "".join(ada.lines("own")), "withdrawn")
 
-    def test_who_withdraws_the_last_change_goes_on_at_the_diagram(self) -> None:
+    def test_withdrawing_the_last_change_moves_the_focus_to_the_diagram(self) -> None:
         ada, = self.open(FREE_ROAD, ("Ada",))
         ada.limit("2", "0:10", "0:20")
         ada.press("Withdraw: 54 km/h")
         ada.settled()
         self.assertEqual((ada.lines("own"), ada.script("return document.activeElement.id")), ([], "diagram"))
 
-    def test_who_looks_again_draws_nothing(self) -> None:
+    def test_opening_the_same_view_again_draws_nothing(self) -> None:
         ada, = self.open(FREE_ROAD, ("Ada",))
         ada.run_an_hour()
         ada.keys(Keys.HOME, "c", " ", Keys.ARROW_RIGHT, Keys.ARROW_DOWN)
@@ -190,7 +190,7 @@ class TwoTabs(BrowserCase):
         ada, _ = self.open(FREE_ROAD)
         ada.run_an_hour()
         self.server.kill()
-        ada.until(lambda: ada.text("line") == "no connection, retrying", "it is told")
+        ada.until(lambda: ada.text("line") == "no connection, retrying", "the page says so")
         ada.tool("limit")
         ada.part("timeFrom").send_keys("0:20")
         ada.part("kmFrom").send_keys("0")
@@ -207,11 +207,11 @@ class TwoTabs(BrowserCase):
         self.assertEqual(ada.lines("own")[0], "135 km/h, 0–0.3 km, from 0:20:00 on private")
         self.assertEqual(ada.value_at("limit", 0, 1200), [5])
         ada.settled()
-        self.server.again()
+        self.server.restart()
         ada.until(lambda: ada.text("said") == "The connection is back.", "what was said is over")
         self.assertEqual(ada.text("line"), "connected")
 
-    def test_what_is_taken_back_and_put_again_is_said_and_drawn(self) -> None:
+    def test_undone_and_redone_changes_are_reported_and_drawn(self) -> None:
         ada, _ = self.open(FREE_ROAD)
         ada.run_an_hour()
         ada.limit("1", "0:20", "0:30")
@@ -221,7 +221,7 @@ class TwoTabs(BrowserCase):
             ada.settled()
             self.assertEqual(ada.text("said"), wanted)
         self.server.kill()
-        ada.until(lambda: ada.text("line") == "no connection, retrying", "it is told")
+        ada.until(lambda: ada.text("line") == "no connection, retrying", "the page says so")
         ada.fill(kmFrom="0", kmTo="0.3", timeFrom="0:40", timeTo="0:50")
         ada.press_in("#apply")
         shapes = "return framesShown().map(({from, to, pending}) => [from, to, pending])"
@@ -234,8 +234,8 @@ class TwoTabs(BrowserCase):
         self.server.start()
         ada.until(lambda: ada.lines("own") == ["27 km/h, 0–0.3 km, 0:40:00–0:50:00 private"], "confirmed")
 
-    def test_what_is_taken_back_or_put_again_is_named_as_it_was_done(self) -> None:
-        """A place on top, and not the change that lay there; a change with the shape that comes back."""
+    def test_undo_and_redo_name_what_they_undo_and_redo(self) -> None:
+        """The undo of *put on top* names that, and not the change; the undo of a change names the shape that comes back."""
         ada, _ = self.open(FREE_ROAD)
         ada.run_an_hour()
         ada.limit("1", "0:20", "0:30")
@@ -265,7 +265,7 @@ class TwoTabs(BrowserCase):
         ada.press("Share all")
         ada.settled()
         self.server.kill()
-        ada.until(lambda: ada.text("line") == "no connection, retrying", "it is told")
+        ada.until(lambda: ada.text("line") == "no connection, retrying", "the page says so")
         for name, said in (("Share now", "Nothing was shared: there is no connection. Share again once it is back."),
                            ("Run an hour", "The clock was not set: there is no connection. Try again once it is back."),
                            ("Take", "Nothing was taken: there is no connection. Take again once it is back.")):
@@ -277,12 +277,12 @@ class TwoTabs(BrowserCase):
         self.assertEqual((ada.lines("own"), ada.lines("held"), ada.text("clock")),
                          (["27 km/h, 0–0.3 km, 0:20:00–0:30:00 private"], [], "1:00:00"))
 
-    def test_what_is_pending_is_kept_in_the_tab(self) -> None:
+    def test_pending_changes_are_kept_in_the_tab(self) -> None:
         ada, _ = self.open(FREE_ROAD)
         ada.run_an_hour()
-        ada.script("store.connection.connect = () => {}")  # so that it stays away until it is loaded anew
+        ada.script("store.connection.connect = () => {}")  # so that it stays away until it is reloaded
         self.server.kill()
-        ada.until(lambda: "are stored in this tab, and sent once it is back" in ada.text("said"), "it is told")
+        ada.until(lambda: "are stored in this tab, and sent once the connection is back" in ada.text("said"), "the page says so")
         ada.tool("limit")
         for limit in ("1", "2"):
             ada.choose("limit", limit)
@@ -295,10 +295,10 @@ class TwoTabs(BrowserCase):
         wanted = [f"{speed} km/h, 0–0.3 km, from 0:20:00 on private" for speed in (54, 27)]
         ada.until(lambda: ada.lines("own") == wanted, "what was pending")
         ada.settled()
-        # Where nothing is kept, it is not said.
+        # If nothing is stored, the page does not claim it.
         ada.script("Storage.prototype.setItem = () => { throw new Error('full') }; store.connection.connect = () => {}")
         self.server.kill()
-        ada.until(lambda: "unless you close or reload this tab" in ada.text("said"), "it is told")
+        ada.until(lambda: "unless you close or reload this tab" in ada.text("said"), "the page says so")
         ada.tool("limit")
         for ident, text in (("kmFrom", "0"), ("kmTo", "0.3"), ("timeFrom", "0:20")):
             ada.part(ident).send_keys(text)
@@ -306,13 +306,13 @@ class TwoTabs(BrowserCase):
         self.assertIn("Pending changes are not stored in this tab.", ada.text("said"))
         ada.driver.get("about:blank")
 
-    def test_the_broker_is_told(self) -> None:
+    def test_the_state_of_the_broker_is_shown(self) -> None:
         broker = Broker()
         self.addCleanup(broker.kill)
         ada, = self.open(FREE_ROAD, ("Ada",), "--broker", broker.address)
         there = Server(None, FREE_ROAD, "--broker", broker.address, "--site", "2")
         self.addCleanup(there.kill)
-        ada.until(lambda: ada.text("line") == "connected, with 1 other site, trusted without a seal", "the other site")
+        ada.until(lambda: ada.text("line") == "connected, with 1 other site (messages are not authenticated)", "the other site")
         ada.open_part("sites")
         ada.press("Exclude: site 2")
         ada.until(lambda: ada.lines("own") == ["Site 2 is excluded private"], "site 2 is excluded")
@@ -322,13 +322,13 @@ class TwoTabs(BrowserCase):
         broker.kill()
         ada.limit("1", "0:20", "0:30")
         ada.share_all()
-        ada.until(lambda: ada.text("line") == "connected; the broker is away, 1 change to be sent", "it is away")
+        ada.until(lambda: ada.text("line") == "connected; the broker is unreachable, 1 change to be sent", "it is away")
         self.assertEqual(ada.part("line").get_attribute("class"), "away")
         broker.start()
-        ada.until(lambda: ada.text("line") == "connected, with 1 other site, trusted without a seal", "it is back")
+        ada.until(lambda: ada.text("line") == "connected, with 1 other site (messages are not authenticated)", "it is back")
         broker.say(f"road/{reference(self.server)}/operations", "good morning")
         ada.until(lambda: ada.text("said") == "A message from the broker was ignored: it is not JSON: good morning",
-                  "rubbish is told")
+                  "the page reports garbage")
 
     def test_a_seat_is_taken_over(self) -> None:
         ada, ben = self.open(FREE_ROAD, LIVE_HELLO="5")

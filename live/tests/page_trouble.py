@@ -1,4 +1,4 @@
-"""What the page says of a program that hangs, and of a disk that does not answer."""
+"""Test what the page says about a program that hangs, and about a disk that does not answer."""
 from __future__ import annotations
 
 import os
@@ -22,13 +22,13 @@ class OneTab(BrowserCase):
     names = ("Ada",)
 
     def begin_limit(self, tab: Tab, limit: str, begin: str = "0:20", end: str = "0:30") -> None:
-        """Puts a limit on the whole road, and does not wait until it is there."""
+        """Put a limit on the whole road, without waiting for it."""
         tab.tool("limit")
         tab.choose("limit", limit)
         tab.fill(kmFrom="0", kmTo="0.3", timeFrom=begin, timeTo=end)
         tab.press_in("#apply")
 
-    def test_a_program_that_was_replaced_is_told_with_why_and_stands_for_a_while(self) -> None:
+    def test_a_replaced_program_is_reported_with_the_reason_for_a_while(self) -> None:
         ada, = self.open(FREE_ROAD)
         ada.run_an_hour()
         began = time.monotonic()
@@ -36,7 +36,7 @@ class OneTab(BrowserCase):
         self.begin_limit(ada, "1")
         sentence = f"The program was restarted: the program owed an answer and used no processor for {HANGS} seconds"
         ada.until(lambda: ada.text("said").endswith(": done."), "it is confirmed, whatever the program does")
-        ada.until(lambda: sentence in ada.text("stays"), "it is told")
+        ada.until(lambda: sentence in ada.text("stays"), "the page says so")
         self.assertGreater(time.monotonic() - began, HANGS * 0.8)
         ada.until(lambda: ada.lines("own") == ["27 km/h, 0–0.3 km, 0:20:00–0:30:00 private"], "done by the next program")
         ada.settled()
@@ -48,7 +48,7 @@ class OneTab(BrowserCase):
         self.assertNotIn(sentence, ada.text("stays"))
         ada.until(lambda: "restarted" not in ada.text("stays"), "it has been read")
 
-    def test_a_disk_that_does_not_answer_is_told_until_it_does(self) -> None:
+    def test_a_disk_that_does_not_answer_is_reported_until_it_does(self) -> None:
         with mock.patch.object(Server, "serve", LIVE / "tests" / "stalling.py"):
             ada, = self.open(FREE_ROAD)
         ada.run_an_hour()
@@ -56,7 +56,7 @@ class OneTab(BrowserCase):
         stalled.touch()
         began = time.monotonic()
         self.begin_limit(ada, "1")
-        ada.until(lambda: "the disk has not answered for 5 seconds: what is put is pending" in ada.text("stays"), "it is told")
+        ada.until(lambda: "the disk has not answered for 5 seconds: what is put is pending" in ada.text("stays"), "the page says so")
         self.assertGreater(time.monotonic() - began, STALLS)
         self.assertEqual(ada.lines("own"), ["27 km/h, 0–0.3 km, 0:20:00–0:30:00 pending"])
         ada.choose("span", "60")
@@ -66,8 +66,8 @@ class OneTab(BrowserCase):
         ada.until(lambda: ada.lines("own") == ["27 km/h, 0–0.3 km, 0:20:00–0:30:00 private"], "it is confirmed")
         ada.until(lambda: "disk" not in ada.text("stays"), "the trouble is over")
 
-    def test_what_a_disk_refused_at_last_is_neither_listed_nor_drawn(self) -> None:
-        """Though the page was loaded anew while it was pending."""
+    def test_a_change_that_the_disk_refused_in_the_end_is_neither_listed_nor_drawn(self) -> None:
+        """Even if the page was reloaded while it was pending."""
         with mock.patch.object(Server, "serve", LIVE / "tests" / "stalling.py"):
             ada, = self.open(FREE_ROAD)
         ada.run_an_hour()
@@ -78,14 +78,14 @@ class OneTab(BrowserCase):
         ada.until(lambda: ada.lines("own") and "1" in self.signs_at_35(ada), "it is seen")
         failing.touch()
         stalled.unlink()
-        ada.until(lambda: "the disk does not take it" in ada.text("stays"), "it is told")
+        ada.until(lambda: "the disk does not accept it" in ada.text("stays"), "the page says so")
         ada.until(lambda: not ada.lines("own") and set(self.signs_at_35(ada)) == {"3", "."}, "it is gone")
         failing.unlink()
         ada.until(lambda: "disk" not in ada.text("stays"), "the trouble is over")
         self.assertEqual((ada.lines("own"), set(self.signs_at_35(ada))), ([], {"3", "."}))
 
     def signs_at_35(self, tab: Tab) -> str:
-        """What is drawn of step 35 behind the inlet, where cars drive as fast as they may."""
+        """Return what is drawn of step 35 after the inlet, where cars drive at the limit."""
         tab.choose("span", "60")
         tab.keys(Keys.HOME)
         return tab.signs(35, 1, 40)[0][10:]

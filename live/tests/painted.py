@@ -1,6 +1,6 @@
-"""The model beside a painted oracle: random histories of sites and seats, with messages late, twice and in any order.
+"""Compare the model with a painted oracle, on random histories of sites and seats, with messages late, twice and in any order.
 
-The oracle paints what operations say, object by object and step by step, from their definition alone. After each act the
+The oracle paints what operations mean, object by object and step by step, from their definition alone. After each act the
 differences that a program was given, by its rule that the latest edit wins, must give the oracle's road.
 """
 from __future__ import annotations
@@ -34,7 +34,7 @@ ORACLE = Oracle(THERE, plan, LAST)
 # Replicas, seats and sites
 
 class Replica:
-    """A road, a program that was given differences alone, and a list that was told increments alone."""
+    """A road, a program that got only differences, and a list that got only increments."""
 
     def __init__(self, counted: Counter[str]) -> None:
         self.road, self.count, self.counted = EMPTY, 0, counted
@@ -54,7 +54,7 @@ class Replica:
         self.counted["roads"] += 1
 
     def check_list(self, altered: set[Stamp]) -> None:
-        """What the list shows by increments is the whole list."""
+        """Check that the list from increments equals the whole list."""
         for line in altered:
             self.listed[line] = entry(self.road, line)
         whole = {line: entry(self.road, line) for line in changes.all_lines(self.road)}
@@ -65,7 +65,7 @@ class Replica:
 
 
 def entry(road: Road, line: Stamp) -> Any:
-    """What a line of the list shows."""
+    """Return what a line of the list shows."""
     losses = seen.lost(road, line)
     return {"shown": seen.shown(road, line), "standing": stands(road, line), "operations": [
         (one.text(), road.record.counts(one), losses[one].stamp if one in losses else None)
@@ -107,7 +107,7 @@ class Site:
 
 
 def stamp_of(seat: Seat, chance: random.Random) -> Stamp:
-    """A stamp above all that is held, sometimes far above, as clocks of other sites may be."""
+    """Return a stamp above all that are held, sometimes far above, as from clocks of other sites."""
     return max([0, *(stamp[0] for stamp in seat.road.record.held)]) + chance.choice([1, 1, 1, 2, 9]), seat.number
 
 
@@ -208,7 +208,7 @@ class History:
             site.shares(some, self.chance)
 
     def twin(self, site: Site, seat: Seat) -> None:
-        """A copied folder stamps once more what was stamped before."""
+        """Let a copied folder use a stamp again."""
         old = self.chance.choice(list(seat.road.record.operations()))
         if old.stamp[1] == seat.number and old.sets and not any(map(is_raw, old.sets)):
             site.shares([Operation(old.stamp, {next(iter(old.sets)): random_shape(self.chance)}, old.heights, seen=old.seen,
@@ -216,7 +216,7 @@ class History:
             self.counted["twins"] += 1
 
     def deliver(self, to: Site, likely: float = 0.5) -> None:
-        """Messages of others in any order, some twice; many are late."""
+        """Deliver messages of others in any order, some twice; many are late."""
         some = [(other, at) for other in self.sites if other is not to for at in range(len(other.sent))
                 if (to.number, other.number, at) not in self.heard or self.chance.random() < 0.1]
         some = [one for one in some if self.chance.random() < likely]
@@ -228,7 +228,7 @@ class History:
     # What holds
 
     def check_undo(self, before: Road, one: Operation) -> None:
-        """An undo gives the road on which that was never done, and its own undo the road before."""
+        """Check that an undo gives the road without the operation, and that undoing the undo gives the road before."""
         record = before.record
         if any(each.excludes is not None for each in record.operations()):
             return
@@ -258,7 +258,7 @@ class History:
             self.counted["shown"] += 1
 
     def check_seat(self, site: Site, seat: Seat) -> None:
-        """Z and Redo change something. What is to be shared counts, and makes the shared road the seat's."""
+        """Check that Z and Redo change something, and that the shareable operations are active and make the shared road the seat's."""
         road, shared, chance = seat.road, site.shared.road, self.chance
         found = choices.undoable(road, seat.number)
         for one in (found.undo, found.redo):
@@ -281,7 +281,7 @@ class History:
             seat.becomes(left, chance)
 
     def end(self) -> None:
-        """All is shared and heard: all sites have one road, and nothing was sent because something came."""
+        """Share and deliver everything: all sites have one road, and no message was sent in reply to another."""
         for site in self.sites:
             for seat in site.seats:
                 some = choices.shareable(seat.road, site.shared.road, seat.number)

@@ -1,4 +1,4 @@
-"""Parts of a server that last as long as it does: one that ends is told, and goes on."""
+"""Test the tasks of a server that run as long as it does: if one fails, the server reports it and restarts it."""
 from __future__ import annotations
 
 import asyncio
@@ -14,7 +14,7 @@ from server.turns import Turns
 
 
 def failing_once(does: Any) -> Any:
-    """Calls it, but for the first time, when it fails."""
+    """Return a function that fails the first time, and then calls `does`."""
     calls: list[Any] = []
 
     def call(*given: Any) -> Any:
@@ -32,7 +32,7 @@ class Parts(Case):
         self.enterContext(self.assertLogs(level="ERROR"))
 
     async def ends(self, here: Here, call: Any, what: str) -> None:
-        """Waits until it has failed, and does what it does again; people are told."""
+        """Wait until the task has failed and works again, and the server has reported it."""
         tabs = Tabs(here.lab, "token")
         self.addAsyncCleanup(tabs.close)
         said: list[str] = []
@@ -45,15 +45,15 @@ class Parts(Case):
         tabs._part_ended(None)
         self.assertIsNone(tabs._trouble)
 
-    async def test_what_keeps_the_clock_goes_on(self) -> None:
-        """And what shortens the journal and frees seats."""
+    async def test_the_task_that_keeps_the_clock_goes_on(self) -> None:
+        """So do compaction and the freeing of seats."""
         call = failing_once(lambda lab: None)
         with mock.patch.object(Timing, "keep", call):
             here = await self.enterAsyncContext(Here())
             await self.ends(here, call, "the clock, seats that nobody uses and a long journal")
 
-    async def test_who_asks_is_answered(self) -> None:
-        """Also the seat whose turn it was."""
+    async def test_questions_are_answered(self) -> None:
+        """Even the seat whose turn it was."""
         here = await self.enterAsyncContext(Here())
         ada, ben = await here.join("Ada", "Ben")
         call = failing_once(Turns._one_turn)

@@ -39,7 +39,7 @@ class Pictures(Case):
         """Return the counts of detectors: pairs, for each span if there are spans."""
         return (await self.ada.ask("counts", **fields))["counts"]
 
-    async def test_every_so_manieth_row_and_stretches(self) -> None:
+    async def test_every_nth_row_and_stretches(self) -> None:
         self.assertEqual(await self.diagram(**{"from": 0, "to": LAST}), self.picture)
         for every, first, last in ((2, 0, LAST), (3, 10, 99), (7, 5, 5), (8, 0, LAST), (100, 3, LAST)):
             for left, right in ((0, 119), (50, 70), (119, 119)):

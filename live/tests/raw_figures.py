@@ -1,4 +1,4 @@
-"""The figures of two roads, worked out by numpy from the cars of each step alone; and random roads to try them on."""
+"""Compute the figures of two roads with numpy, from the cars of each step alone; and make random roads to test them on."""
 from __future__ import annotations
 
 import random
@@ -15,7 +15,7 @@ LONG = 200_000  # steps of a run that shows what a chance admits
 
 
 def random_plan(chance: random.Random) -> dict[str, Any]:
-    """A road of 0.9 to 1.8 km, with a ramp or without, whose detectors are all behind the first inlet."""
+    """Return a road of 0.9 to 1.8 km, with a ramp or without, whose detectors are all downstream of the first inlet."""
     length = chance.randrange(120, 241)
     slowing = chance.choice([0, 0, 6_554, 16_384])
     ramp = [[chance.randrange(30, 70), chance.randrange(2_000, 9_000)]] if chance.random() < 0.6 else []
@@ -25,7 +25,7 @@ def random_plan(chance: random.Random) -> dict[str, Any]:
 
 
 def random_shapes(plan: dict[str, Any], chance: random.Random) -> list[list[Any]]:
-    """Shapes of all kinds, each of which ends or not."""
+    """Return shapes of all kinds, with an end or without."""
     found = []
     for kind, there in (("limit", len(plan["zones"])), ("slow", len(plan["zones"])), ("start", len(plan["zones"])),
                         ("block", plan["length"] - 1), ("inflow", len(plan["inlets"])), ("watch", 3)):
@@ -40,7 +40,7 @@ def random_shapes(plan: dict[str, Any], chance: random.Random) -> list[list[Any]
 
 
 class Run:
-    """What `cars` says of each step: for each car its cell and speed in each row, -1 where it is not on the road."""
+    """The replies to `cars` at each step: for each car its cell and speed in each row, -1 while it is not on the road."""
 
     def __init__(self, plan: dict[str, Any], edits: Sequence[Any], steps: int) -> None:
         self.plan, self.edits = plan, edits
@@ -63,13 +63,13 @@ class Run:
         self.before[self.entries, np.arange(len(numbers))] = starts
 
     def left(self) -> Array:
-        """The step in which each car leaves, or a step that never comes."""
+        """Return the step in which each car leaves, or one after the last."""
         gone = (self.cells[:-1] >= 0) & (self.cells[1:] < 0)
         found: Array = np.where(gone.any(axis=0), gone.argmax(axis=0), 1 << 30)
         return found
 
     def passed(self, site: int) -> Array:
-        """The step in which each car passes a cell, or a step that never comes."""
+        """Return the step in which each car passes a cell, or one after the last."""
         now = np.where((self.before >= 0) & (self.cells[1:] < 0), 1 << 20, self.cells[1:])
         crossed = (self.before >= 0) & (self.before < site) & (now >= site)
         found: Array = np.where(crossed.any(axis=0), crossed.argmax(axis=0), 1 << 30)
@@ -79,13 +79,13 @@ class Run:
         return [*map(self.passed, self.plan["detectors"]), self.left()]
 
     def on(self, detector: int, first: int, last: int) -> Array:
-        """Whether a detector is on in each step of a window."""
+        """Return whether a detector is on in each step of a window."""
         watch = sorted((edit[2], edit[-1]) for edit in self.edits if edit[:2] == ["watch", detector] and edit[-1] is not None)
         found: Array = np.array([next((value for begin, value in reversed(watch) if begin <= step), 1) for step in range(first, last)], dtype=bool)
         return found
 
     def detector(self, detector: int, first: int, last: int) -> dict[str, Any]:
-        """What a detector counts in a window."""
+        """Return what a detector counts in a window."""
         is_on, steps = self.on(detector, first, last), self.passed(self.plan["detectors"][detector])
         seen = np.array([first <= step < last and bool(is_on[step - first]) for step in steps], dtype=bool)
         speeds = self.speeds[1:][steps[seen], np.flatnonzero(seen)].sum()
@@ -101,7 +101,7 @@ class Run:
         return [int((seen & (self.inlets == inlet)).sum()) for inlet in range(len(self.plan["inlets"]))]
 
     def travel(self, first: int, last: int) -> list[list[float | None]]:
-        """To each detector and to the end: the cars that arrive in a window, and their mean seconds."""
+        """Return for each detector and the end the number of cars that arrive in a window, and their mean seconds."""
         found: list[list[float | None]] = []
         for steps in self.arrivals():
             seen = (steps >= first) & (steps < last)
@@ -110,18 +110,18 @@ class Run:
         return found
 
     def chance_at(self, inlet: int, step: int) -> int:
-        """The inflow chance of an inlet at a step."""
+        """Return the inflow chance of an inlet at a step."""
         puts = sorted((edit[2], edit[-1]) for edit in self.edits if edit[:2] == ["inflow", inlet] and edit[-1] is not None)
         value: int = next((value for begin, value in reversed(puts) if begin <= step), self.plan["inlets"][inlet][1])
         return value
 
     def start(self, cell: int) -> int | None:
-        """The slow-to-start chance that the zone of a cell has from step 0 on."""
+        """Return the slow-to-start chance of a cell's zone from step 0 on."""
         zone = ["start", cell // self.plan["zone"], 0]
         return next((edit[-1] for edit in self.edits if edit[:3] == zone), None)
 
     def asked(self, inlet: int, first: int, last: int) -> float:
-        """The demand of an inlet in cars: what its chances admit on the road as it is planned, by a long run."""
+        """Return the demand of an inlet in cars: what its chances admit on the planned road, from a long run."""
         states = [tuple(self.chance_at(one, step) for one in range(len(self.plan["inlets"]))) for step in range(first, last)]
         return sum(states.count(state) / 3_600 * flow(self.plan, state, inlet, self.start(self.plan["inlets"][inlet][0]))
                    for state in sorted(set(states)))
@@ -131,7 +131,7 @@ KNOWN: dict[Any, float] = {}
 
 
 def flow(plan: dict[str, Any], chances: tuple[int, ...], inlet: int, start: int | None) -> float:
-    """The cars per hour that an inlet lets in by some chances on a road without works, in a long run of another seed."""
+    """Return the cars per hour that an inlet admits with some chances on a road without works, from a long run with another seed."""
     key = str(plan["zones"][0]), str([cell for cell, _ in plan["inlets"]]), chances[:inlet + 1], inlet, start
     if key not in KNOWN:
         cells = [cell for cell, _ in plan["inlets"]]
@@ -148,7 +148,7 @@ def flow(plan: dict[str, Any], chances: tuple[int, ...], inlet: int, start: int 
 
 
 def compare(before: Run, after: Run, first: int, last: int) -> dict[str, Any]:
-    """What the change from one road to another costs in a window: delay in vehicle hours, and to each place the cars and how much
+    """Return the cost of the change from one road to another in a window: delay in vehicle hours, and for each place the cars and how much
     later they are."""
     both, ones, others = np.intersect1d(before.numbers, after.numbers, return_indices=True)
     time = [(run.cells[first + 1:last + 1] >= 0).sum(axis=0)[index] for run, index in ((before, ones), (after, others))]

@@ -1,7 +1,7 @@
-"""A reader's hour: two seats on each of two sites put, change, raise, withdraw and take back closures and limits that overlap,
+"""Let two seats on each of two sites put, change, raise, withdraw and undo closures and limits that overlap,
 look first, share some or all, and take, all at once, while servers and broker are killed. After each round each seat's road
-is, row by row, that of the shapes that stand by what the seat did and was told that it took, and its list says who covers
-whom; all of that is worked out here, from the rules alone.
+equals, row by row, the road of the shapes in force, given what the seat did and took, and its list says which change covers
+which; all of that is computed here, from the rules alone.
 """
 from __future__ import annotations
 
@@ -39,7 +39,7 @@ class Reader:
         self.count = 0
 
     def layers(self) -> dict[Stamp, tuple[Stamp, Shape | None]]:
-        """Of each layer its height and its shape, as the operations that count say."""
+        """Return the height and the shape of each layer, from the active operations."""
         shapes: dict[Stamp, Shape | None] = {}
         heights: dict[Stamp, Stamp] = {}
         for one in counting_operations(self.made[stamp] for stamp in self.held):
@@ -53,7 +53,7 @@ class Reader:
         return {name: (heights.get(name, name), shapes.get(name)) for name in names}
 
     def standing(self) -> list[tuple[Stamp, Stamp, Shape]]:
-        """Height, name and shape of what stands, the highest first."""
+        """Return height, name and shape of the layers in force, the highest first."""
         return sorted(((height, name, shape) for name, (height, shape) in self.layers().items() if shape), reverse=True)
 
     # What it does
@@ -84,7 +84,7 @@ class Reader:
         return [kind, first, min(THERE[kind] - 1, first + self.chance.randrange(12)), begin, end, int(value)]
 
     async def makes(self, verb: str, makes: Callable[[Stamp], Operation], **fields: Any) -> None:
-        """Asks for something, and knows what operation it was."""
+        """Send a command, and note which operation it made."""
         key = f"{self.seat.at}-{self.count}"
         try:
             count, number = (await self.seat.ask(verb, key=key, **fields))["stamp"]
@@ -97,11 +97,11 @@ class Reader:
         self.private.append((count, number))
 
     def is_forgotten(self, name: Stamp | None, stamp: Stamp | None) -> bool:
-        """Whether a line may be forgotten, since it was put in private and withdrawn long ago; or an operation."""
+        """Return whether a line or an operation may be forgotten: it was put in private and withdrawn long ago."""
         return stamp in self.old if name is None else name in self.old and self.layers()[name][1] is None
 
     async def acts_on(self, some: Sequence[Stamp]) -> None:
-        """Something that is done to what is there."""
+        """Do something random to an existing line."""
         if not some:
             return
         name = self.chance.choice(some)
@@ -128,7 +128,7 @@ class Reader:
         await self.sends(**({} if self.chance.random() < 0.6 else {"stamps": some}))
 
     async def sends(self, **some: Any) -> int:
-        """How many operations were shared."""
+        """Share operations. Return how many."""
         said = await self.seat.ask("send", name="shared", **some)
         given = {(count, number) for count, number in said["stamps"]}
         self.private = [stamp for stamp in self.private if stamp not in given]
@@ -140,7 +140,7 @@ class Reader:
             looked = (await self.seat.ask("preview", what="take"))["size"]
             after = await self.rows("after")
         said = await self.seat.ask("take", message="shared")
-        assert said["size"] == len(said["changes"]), "all that was taken is told"
+        assert said["size"] == len(said["changes"]), "the reply lists all that was taken"
         self.held.update((count, number) for count, number in (one["stamp"] for one in said["changes"]))
         if looked is not None and looked == said["size"]:
             assert await self.rows(self.seat.at) == after, "the road is not what was looked at first"
@@ -156,7 +156,7 @@ class Reader:
                      and shape[1] <= index <= shape[2] and shape[3] <= step and (shape[4] is None or step < shape[4])), None)
 
     async def look(self, case: Case) -> None:
-        """The road, and the list, beside what stands."""
+        """Compare the road and the list with the layers in force."""
         self.standing_now = self.standing()
         tops = {(kind, index, step): self.covering(kind, index, step) for kind, there in THERE.items() for index in range(there)
                 for step in range(LAST + 1)}
@@ -219,14 +219,14 @@ class Readers(Case):
                 await self.all_have_all(readers)
 
     async def killed(self, site: Server, readers: list[Reader]) -> None:
-        site.again()
+        site.restart()
         for reader in readers:
             if reader.server is site:
                 reader.seat = await self.enterAsyncContext(site.seat(key=reader.seat.key))
                 reader.old.update(reader.private[:-KEPT])
 
     async def all_have_all(self, readers: list[Reader]) -> None:
-        """All is shared, exchanged and taken, until nothing is left to share: there is one road. (What laid what was so
+        """Share, exchange and take until nothing is left to share: there is one road. (What put what was so
         anyway need not be shared, and is something again where another laid the line meanwhile.)"""
         async def are_same() -> bool:
             one, other = [numbers((await reader.seat.ask("scenario", at="shared"))["edits"]) for reader in readers[::2]]

@@ -1,4 +1,4 @@
-"""A program that ends or hangs is replaced, one that is busy is not."""
+"""Test that a program that ends or hangs is replaced, and a busy one is not."""
 from __future__ import annotations
 
 import asyncio
@@ -21,7 +21,7 @@ def state_of(process: int) -> str:
 
 
 class Programs(Case):
-    async def test_one_that_hangs_is_replaced_and_people_are_told(self) -> None:
+    async def test_a_hanging_program_is_replaced_and_users_are_warned(self) -> None:
         async with Here() as here:
             keeper = here.keeper
             ada, = await here.join("Ada")
@@ -34,7 +34,7 @@ class Programs(Case):
             self.assertEqual([[*edit[:3], edit[5]] for edit in json.loads(reply)["edits"]], [["limit", 2, 50, 3]])
             self.assertEqual(told, [(1, "the program owed an answer and used no processor for 1 seconds")])
 
-    async def test_one_that_was_killed_is_replaced_and_people_are_told(self) -> None:
+    async def test_a_killed_program_is_replaced_and_users_are_warned(self) -> None:
         async with Here() as here:
             keeper = here.keeper
             ada, = await here.join("Ada")
@@ -43,8 +43,8 @@ class Programs(Case):
             self.assertEqual(len((await here.ask(ada, "scenario"))["edits"]), 1)
             self.assertEqual((keeper.changes, keeper.why_changed), (1, "the program ended with status -9"))
 
-    async def test_one_that_is_busy_is_not_replaced(self) -> None:
-        """It works for much longer than one that hangs is waited for."""
+    async def test_a_busy_program_is_not_replaced(self) -> None:
+        """It works for much longer than the server waits for one that hangs."""
         here = await start([str(program())], json.dumps({**LONG, "replicas": ["A"]}).encode())
         self.addAsyncCleanup(here.close)
         with mock.patch("server.program.HANGS", 0.2):

@@ -1,5 +1,5 @@
-"""Robots put, change, withdraw, raise and take back shapes and raw edits, share and take, on one server or on several with a
-broker; at each end every road is, row by row, that of a program that got what the shapes say, step by step."""
+"""Let robots put, change, withdraw, raise and undo shapes and raw edits, share and take, on one server or on several with a broker.
+At the end every road equals, row by row, that of a program given the settings of the shapes, step by step."""
 from __future__ import annotations
 
 import random
@@ -16,7 +16,7 @@ from server.records import read_plan_line
 LAST = 80
 ROBOTS = 4
 RUNS, ACTS = (20 if ALL else 3), 100
-SITES = 12 if ALL else 3  # runs of several servers
+SITE_RUNS = 12 if ALL else 3  # runs with several servers
 PLAN: dict[str, Any] = {**SMALL, "length": 60, "zones": [[4, 9_000]] * 3, "inlets": [[0, 30_000], [25, 9_000]], "detectors": [20, 45]}
 OBJECTS = [("limit", 3, 5), ("slow", 3, 40_000), ("block", 60, 1), ("inflow", 2, 65_536), ("watch", 2, 1),
            ("start", 3, 50_000)]
@@ -24,7 +24,7 @@ ORACLE = oracle_of(PLAN, LAST + 1)
 
 
 def random_edits(chance: random.Random) -> list[list[Any]]:
-    """Edits of few objects and steps, so that they meet."""
+    """Return edits of few objects and steps, so that they collide."""
     edits: dict[tuple[str, int, int], list[Any]] = {}
     for _ in range(chance.randrange(1, 6)):
         kind, there, most = chance.choice(OBJECTS)
@@ -35,6 +35,7 @@ def random_edits(chance: random.Random) -> list[list[Any]]:
 
 
 def random_shape(chance: random.Random) -> list[Any]:
+    """Return a shape of random objects, steps and value."""
     kind, there, most = chance.choice(OBJECTS)
     first, begin = chance.randrange(there), chance.randrange(0, LAST, 5)
     end = None if chance.random() < 0.2 else begin + chance.randrange(1, 40)
@@ -42,7 +43,7 @@ def random_shape(chance: random.Random) -> list[Any]:
 
 
 class Acts(Case):
-    """What robots do, and what must be so then."""
+    """Random acts of a robot, and the check of a road."""
 
     async def act(self, seat: Seat, chance: random.Random, key: str) -> None:
         what = chance.random()
@@ -63,7 +64,7 @@ class Acts(Case):
             self.assertIn(fault.reply["refused"], ("NothingToUndo", "NothingToPut", "NoEffect", "NoSuchChange"))
 
     async def act_on(self, seat: Seat, chance: random.Random, key: str) -> None:
-        """Something that is done to what is there."""
+        """Change, raise, withdraw, undo or repeat a random line."""
         held = (await seat.ask("layers"))["layers"]
         if not held:
             return
@@ -77,7 +78,7 @@ class Acts(Case):
             await seat.ask("gesture", key=key, layer=line["name"], **of[what])
 
     async def compare(self, server: Server, seat: Seat, at: str) -> list[str]:
-        """A road beside one of the journal's operations alone: who holds what is worked out here again. Gives its rows."""
+        """Compare a road with one built from the journal's operations alone. Return its rows."""
         await seat.ask("advance", at=at, to=LAST)
         values = {(*thing, step): value for thing, line in ORACLE.painted(operations(server.journal(), at)).items()
                   for step, value in enumerate(line)}
@@ -96,7 +97,7 @@ class Acts(Case):
 
 
 class Robots(Acts):
-    async def test_roads_are_those_of_the_shapes(self) -> None:
+    async def test_roads_equal_those_of_the_shapes(self) -> None:
         for seed in range(RUNS):
             chance = random.Random(seed)
             server = self.server(plan=PLAN, LIVE_MOST_LINES=str(chance.choice([50, 900_000])),
@@ -106,13 +107,13 @@ class Robots(Acts):
             for number in range(ACTS):
                 await self.act(chance.choice(seats), chance, f"k{number}")
                 if number in (40, 80) and seed % 2:
-                    server.again()
+                    server.restart()
                     seats = [await self.enterAsyncContext(server.seat(key=seat.key)) for seat in seats]
             for at, seat in [("shared", seats[0]), *((seat.at, seat) for seat in seats)]:
                 await self.compare(server, seat, at)
 
-    async def test_roads_of_several_sites_are_those_of_the_shapes(self) -> None:
-        for seed in range(SITES):
+    async def test_roads_of_several_sites_equal_those_of_the_shapes(self) -> None:
+        for seed in range(SITE_RUNS):
             chance = random.Random(seed)
             broker = self.broker(keeps=bool(seed % 2))
             sites = [self.server("--broker", broker.address, "--site", str(number + 1), plan=PLAN)
@@ -129,22 +130,23 @@ class Robots(Acts):
                 elif number in (40, 70):
                     broker.start()
             while any([(await seat.ask("send", name="shared"))["size"] for _, seat in seats]):
-                await until(lambda: self.have_one_road([seat for _, seat in seats]), "all have the same")
-                for _, seat in seats:  # by which something may be to share that was so anyway before
+                await until(lambda: self.hold_the_same([seat for _, seat in seats]), "all have the same")
+                for _, seat in seats:  # a take can make further private operations worth sharing
                     await seat.ask("take", message="shared")
             roads = [await self.compare(site, seat, at) for site, seat in seats for at in (seat.at, "shared")]
             self.assertEqual(roads, [roads[0]] * len(roads), seed)
 
-    async def have_one_road(self, seats: list[Seat]) -> bool:
-        """Whether all sites hold the same, and nothing is on its way."""
+    async def hold_the_same(self, seats: list[Seat]) -> bool:
+        """Return whether all sites hold the same operations and nothing is unsent."""
+        # One seat of each site
         held = [{tuple(one["stamp"]) for one in (await seat.ask("operations", at="shared"))["operations"]} for seat in seats[::2]]
-        brokers = [next((one["broker"] for one in reversed(seat.told) if "broker" in one), {"unsent": 1})
-                   for seat in seats[::2]]
-        return all(one == held[0] for one in held) and not any(one["unsent"] for one in brokers)
+        states = [next((one["broker"] for one in reversed(seat.told) if "broker" in one), {"unsent": 1})
+                  for seat in seats[::2]]
+        return all(one == held[0] for one in held) and not any(one["unsent"] for one in states)
 
 
 def operations(entries: list[dict[str, Any]], at: str) -> list[Operation]:
-    """All operations that a replica holds, by the journal's entries."""
+    """Return all operations that a replica holds according to the entries of the journal."""
     own: dict[int, list[Operation]] = {}
     shared: list[Operation] = []
     upto: dict[int, int] = {}

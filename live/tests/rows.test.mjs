@@ -24,7 +24,7 @@ test("from the first step of a change on rows are wanted again, and shown until 
   assert.deepEqual(level.findMissing(0, 3, 20), {from: 2, to: 3, count: 2});
   assert.equal(level.rows[2], ".1");
   level.mark(2, 2, 1);
-  // Row 2 is as it was: what is painted anew is step 3 alone.
+  // Row 2 is unchanged: only step 3 is painted again.
   assert.deepEqual(level.put(2, [".1", "#."]), [3, 4]);
   assert.equal(level.put(2, [".1", "#."]), null);
 });

@@ -73,7 +73,7 @@ def end(process: subprocess.Popen[Any]) -> None:
 
 
 def descendants(process: int | str = "self") -> Iterator[int]:
-    """All that was started here, and by those."""
+    """Yield all processes that were started here, and their descendants."""
     for path in Path(f"/proc/{process}/task").glob("*/children"):
         with contextlib.suppress(OSError):
             for child in map(int, path.read_text().split()):
@@ -82,7 +82,7 @@ def descendants(process: int | str = "self") -> Iterator[int]:
 
 
 def kill_all() -> None:
-    """Kills what was started, browsers too, and takes the folders away."""
+    """Kill all that was started, browsers too, and remove the folders."""
     for child in list(descendants()):
         with contextlib.suppress(OSError):
             os.kill(child, signal.SIGKILL)
@@ -93,7 +93,7 @@ def kill_all() -> None:
 
 @atexit.register
 def end_all() -> None:
-    """Ends what was started."""
+    """End all that was started."""
     for process in STARTED:
         end(process)
     STARTED.clear()
@@ -101,7 +101,7 @@ def end_all() -> None:
 
 
 def leave(*_: Any) -> None:
-    """When it is told to end, wherever it is: an exception would end one test alone."""
+    """End on a signal, wherever the program is: an exception would end only one test."""
     try:
         kill_all()
     finally:
@@ -117,7 +117,7 @@ def new_folder() -> Path:
 
 
 async def until(holds: Callable[[], Awaitable[Any]], what: str, patience: float = PATIENCE) -> None:
-    """Waits until something holds."""
+    """Wait until a condition holds."""
     end_of_patience = time.monotonic() + patience
     while not await holds():
         if time.monotonic() > end_of_patience:
@@ -140,7 +140,7 @@ class Server:
         self.start()
 
     def start(self) -> None:
-        """Starts it, and waits until it answers."""
+        """Start the server, and wait until it answers."""
         with open(self.log, "ab") as log:
             self.process = started(
                 [sys.executable, *self.prefix, str(self.serve), "--folder", str(self.folder), "--port", "0", *self.arguments,
@@ -160,23 +160,23 @@ class Server:
         end(self.process)
 
     def stop(self) -> int:
-        """Ends it as by Ctrl-C."""
+        """End the server as Ctrl-C does."""
         self.process.send_signal(signal.SIGINT)
         return self.process.wait(PATIENCE)
 
-    def again(self) -> None:
-        """After a kill: the same command."""
+    def restart(self) -> None:
+        """Kill the server, and start it again with the same command."""
         self.kill()
         self.start()
 
     @property
     def program(self) -> int:
-        """The process of the program behind it."""
+        """Return the process id of its program."""
         path = Path(f"/proc/{self.process.pid}/task/{self.process.pid}/children")
         return int(path.read_text().split()[0])
 
     def journal(self) -> list[dict[str, Any]]:
-        """Its entries, without their checksums."""
+        """Return the entries of its journal, without their checksums."""
         lines = map(json.loads, (self.folder / "journal.jsonl").read_bytes().splitlines())
         return [{name: value for name, value in line.items() if name not in ("crc", "and")} for line in lines]
 
@@ -217,7 +217,7 @@ class Broker:
         return f"127.0.0.1:{self.port}"
 
     def say(self, topic: str, message: str) -> None:
-        """Publishes as somebody else would."""
+        """Publish a message as somebody else would."""
         subprocess.run(["mosquitto_pub", "-h", "127.0.0.1", "-p", str(self.port), "-q", "1", "-t", topic,
                         *(["-s"] if message else ["-n"])], input=message.encode(), check=True, timeout=PATIENCE)
 
@@ -234,7 +234,7 @@ def socket_to(port: int) -> Iterator[None]:
 
 
 def free_port() -> int:
-    """A port that is free, and that no connection of others is given meanwhile."""
+    """Return a free port that no outgoing connection gets meanwhile."""
     import socket
     while True:
         port = random.randrange(10_000, 32_000)
@@ -245,7 +245,7 @@ def free_port() -> int:
 
 @functools.cache
 def watch() -> Watch:
-    """Looks at the servers in this process from now on."""
+    """Watch the servers in this process from now on."""
     return Watch(LONGEST, HELD_UP.append, is_of_server)
 
 
@@ -279,7 +279,7 @@ class Case(Watched, unittest.IsolatedAsyncioTestCase):
         self._asyncioRunner = asyncio.Runner()  # without the debug mode, in which 63 tabs take minutes
 
     def assertEqual(self, first: Any, second: Any, msg: Any = None) -> None:
-        """Shows where the two differ; unittest's own search takes minutes for rows."""
+        """Show where the two differ; unittest's own search takes minutes for rows."""
         if first != second:
             texts = repr(first), repr(second)
             at = max(0, len(os.path.commonprefix(texts)) - 100)
@@ -302,7 +302,7 @@ def program() -> Path:
 
 
 def told(what: str, values: list[float], goal: float | None = None, least: float | None = None, unit: str = "ms") -> None:
-    """A figure of live/measure or live/measure_page: the median, beside what is aimed at and what it must be at the
+    """Print a figure of live/measure or live/measure_page: the median, the goal, and what it must be at the
     least."""
     median = statistics.median(values)
     greatest = f", greatest {max(values):.0f}" if len(values) > 1 else ""

@@ -1,4 +1,4 @@
-"""Who gets which seat when many come at once, and a clock that goes slowly or fast."""
+"""Test who gets which seat when many join at once, and a clock that is slow or fast."""
 from __future__ import annotations
 
 import asyncio
@@ -26,7 +26,7 @@ class Seats(Case):
         self.time = 1_000_000.0
 
     async def together(self, *names: str) -> list[Any]:
-        """The seats of those who come at once, or why they get none."""
+        """Return the seats of tabs that join at once, or why they get none."""
         said = await soon(asyncio.gather(*(self.here.lab.seating.join(name, "", None) for name in names), return_exceptions=True))
         return [one.text if isinstance(one, Refused) else one[0] for one in said]
 
@@ -42,7 +42,7 @@ class Seats(Case):
         self.assertEqual(await self.together("Fay"), ["AllSeatsTaken"])
 
     async def test_a_name_that_looks_like_anothers_is_refused(self) -> None:
-        """By case, width, style, what is not seen, how it is composed, and letters of other scripts."""
+        """Names are compared without case, width, style, invisible characters, composition, and look-alikes of other scripts."""
         await self.here.join("Ada", "Zoé 1", "straße", "Βίκα")
         for name in ("ada", "ADA", "Ａｄａ", "\U0001d400da", "A da", "Ad\ufe0fa", "Аdа", "Ad\u034fa", "Zoe\u0301 1",
                      "ZOÉ 1", "zoé  1", "Zoé ①", "STRASSE", "strasse", "Bίκα"):
@@ -52,7 +52,7 @@ class Seats(Case):
             self.assertIn(f"{name} looks like it", caught.exception.why)
         await self.here.join("Adam", "Zoe 1", "Zoé 2", "語", "語語", "Ad-a")
 
-    async def test_of_two_who_take_a_seat_over_one_gets_it(self) -> None:
+    async def test_one_of_two_tabs_that_take_a_seat_over_gets_it(self) -> None:
         index, = await self.here.join("Ada")
         self.here.keeper.here.discard(index)
         lab = self.here.lab
@@ -60,7 +60,7 @@ class Seats(Case):
         self.assertEqual([getattr(one, "text", "seat") for one in said], ["seat", "SeatConnected"])
 
     async def test_a_seat_that_was_used_until_a_kill_is_not_free_after_it(self) -> None:
-        """Though its tab came days ago, and never left."""
+        """Even if its tab joined days ago, and never left."""
         now = [1_000_000.0]
         with mock.patch("server.seating.time.time", lambda: now[0]):
             self.here.lab.seating.steady = SteadyClock(3_600, lambda: now[0], lambda: now[0])
@@ -80,11 +80,11 @@ class Seats(Case):
                 await again.lab.seating.join("", self.here.keys[ben], None)
 
     async def test_a_clock_that_jumps_frees_no_seats(self) -> None:
-        """Ahead by three days for a moment, or when the server starts; days that have passed free them an hour later."""
+        """The clock is three days ahead for a moment, or when the server starts; if days have passed, seats are freed an hour later."""
         wall, passed = [1_000_000.0], [0.0]
         with mock.patch("server.seating.time.time", lambda: wall[0]):
             def looks(lab: Lab, minutes: int) -> str:
-                """Who has a seat after so many minutes."""
+                """Return who has a seat after this many minutes."""
                 for _ in range(minutes):
                     wall[0], passed[0] = wall[0] + 60, passed[0] + 60
                     lab.seating.free_unused()
@@ -103,7 +103,7 @@ class Seats(Case):
             self.assertEqual(looks(lab, 50), "Ada")
             self.assertEqual(looks(lab, 11), "")
 
-    async def test_a_freed_seats_changes_bear_the_name_of_who_made_them(self) -> None:
+    async def test_changes_of_a_freed_seat_keep_the_name_of_their_maker(self) -> None:
         ada, = await self.here.join("Ada")
         await self.here.put(ada, ["limit", 2, 50, 3])
         await self.here.share(ada)
@@ -118,8 +118,8 @@ class Seats(Case):
             line, = (await self.here.ask(others[0], "layers", at="shared"))["layers"]
             self.assertEqual([line["who"], line["operations"][0]["who"]], ["Ada", "Ada"])
 
-    async def test_whole_lists_take_their_turn(self) -> None:
-        """What a seat asks before is done first, and so are others while it waits."""
+    async def test_complete_lists_wait_for_their_turn(self) -> None:
+        """Earlier questions of the seat are answered first, and so are others while it waits."""
         keeper, is_free = self.here.keeper, asyncio.Event()
         ada, ben = await self.here.join("Ada", "Ben")
         busy = keeper.turns.ask(ada, is_free.wait)
@@ -131,7 +131,7 @@ class Seats(Case):
         await soon(asyncio.gather(busy, *asked))
         self.assertEqual((await self.here.ask(ben, "layers"))["layers"], [])
 
-    async def test_no_question_reaches_further_than_a_clock_may_be_set(self) -> None:
+    async def test_no_question_may_reach_beyond_the_limit_of_the_clock(self) -> None:
         ada, = await self.here.join("Ada")
         now = self.here.keeper.now()
         cases: list[tuple[str, dict[str, Any]]] = [
@@ -144,7 +144,7 @@ class Seats(Case):
             await self.here.lab.timing.set_clock(to=now + 36_001)
 
     async def clock(self, rate: float, seconds: float) -> int:
-        """How far a clock of this rate goes in some seconds."""
+        """Return how far a clock of this rate goes in some seconds."""
         keeper, lab = self.here.keeper, self.here.lab
         with mock.patch("server.keeper.time.monotonic", lambda: self.time):
             await verbs.answer(lab, self.here.questions, 1, Asked("clock", {"rate": rate}), {})
@@ -156,7 +156,7 @@ class Seats(Case):
                 await asyncio.sleep(0)
             return keeper.now() - before
 
-    async def test_a_clock_goes_forward_alone_and_keeps_what_others_set_at_once(self) -> None:
+    async def test_a_clock_only_goes_forward_and_keeps_what_others_set_at_once(self) -> None:
         keeper, lab, is_free = self.here.keeper, self.here.lab, asyncio.Event()
         await soon(asyncio.gather(lab.timing.set_clock(rate=60), lab.timing.set_clock(to=3_600), lab.timing.set_clock(to=3_500)))
         self.assertEqual(keeper.clock().rate, 60)
@@ -185,8 +185,8 @@ class Seats(Case):
         self.assertEqual(told[-1], {"rate": 0, "now": 12_600})
         self.assertEqual(self.here.keeper.state.rate, 0)
 
-    async def test_what_several_save_at_once_is_whole(self) -> None:
-        """Piece by piece, by turns; those who come too late are told to ask again."""
+    async def test_files_that_several_save_at_once_are_complete(self) -> None:
+        """They get pieces in turn; a tab that comes too late gets `Busy`."""
         with mock.patch("server.saving.MOST_PIECE", 2_000):
             seats = await self.here.join("Ada", "Ben", "Cleo", "Dan", "Eve")
             alone = [await self.saved(seat) for seat in seats]
@@ -208,7 +208,7 @@ class Seats(Case):
         return await self.here.ask(seat, "transcript", **{"from": 0, "to": 60, "next": number})
 
     async def saved(self, seat: int) -> str:
-        """All pieces."""
+        """Return all pieces."""
         said = [await self.piece(seat, 0)]
         while said[-1]["next"] is not None:
             said.append(await self.piece(seat, said[-1]["next"]))

@@ -59,7 +59,7 @@ test("a shape in a few words", () => {
 
 const editsOf = (...edits) => decodeChange({name: [1, 65], shown: [], operations: [], edits}).edits;
 
-test("edits without a note are told by the first ones, and how many more there are", () => {
+test("edits without a note are described by the first ones, and how many more there are", () => {
   assert.equal(editsText(ROAD, editsOf(["limit", 11, 5400, null])),
                "Limit withdrawn, 4.125\u20134.5 km, from 1:30:00 on");
   const edits = editsOf(["block", 100, 600, 1], ["block", 101, 600, 1], ["block", 100, 700, 0]);

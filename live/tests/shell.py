@@ -1,4 +1,4 @@
-"""`live/road`, the command for the shell: what a script does, six at once, and what it says where it cannot."""
+"""Test `live/road`, the command for the shell: what scripts do with it, six at once, and its error messages."""
 from __future__ import annotations
 
 import asyncio
@@ -36,10 +36,10 @@ class Written(unittest.TestCase):
             self.assertEqual(([*written.shape], written.sentence), (shape, said))
         self.assertEqual(written.demand, 1_200.5)
 
-    def test_what_is_written_wrongly_is_told(self) -> None:
-        for words, why in ((("jump", "1"), "'jump' is not a change: write close, limit"), (("limit", "54", "0"), "limit is followed by KMH"),
+    def test_a_wrong_change_is_refused_with_a_reason(self) -> None:
+        for words, why in ((("jump", "1"), "'jump' is not a change: write close, limit"), (("limit", "54", "0"), "write limit KMH"),
                            (("limit", "300", "0", "0.1", "1"), "0 to 243 km/h, not 300"), (("close", "2", "3", "1"), "0 to 0.9 km"),
-                           (("close", "0.2", "0.1", "1"), "the greater one second"), (("slowing", "101", "0", "0.1", "1"), "0 to 100 percent"),
+                           (("close", "0.2", "0.1", "1"), "the smaller first"), (("slowing", "101", "0", "0.1", "1"), "0 to 100 percent"),
                            (("detector", "1", "0", "1"), "on or off"), (("close", "a", "0.1", "1"), "'a' is not a number of km"),
                            (("close", "0", "0.1", "soon"), "BEGIN: 'soon' is not a time"), (("close", "0", "0.1", "9", "8"), "not later than"),
                            ((), "'' is not a change")):
@@ -71,7 +71,7 @@ class Shell(Case):
         self.assertNotIn("Traceback", said.decode())
         return process.returncode or 0, out.decode().strip(), said.decode().strip()
 
-    async def test_names_of_64_signs_in_any_script_have_seats_of_their_own(self) -> None:
+    async def test_names_of_64_characters_in_any_script_have_their_own_seats(self) -> None:
         names = ["a b", "a_b", "a/b", "../a", "\U00013000" * 64, "\U00013000" * 63 + "b", "語" * 64]
         for _ in range(2):  # the second time by the key that was kept
             said = await asyncio.gather(*(self.road(name, "ask", '{"scenario":{}}') for name in names))
@@ -90,13 +90,13 @@ class Shell(Case):
         self.assertEqual(await self.road("Ada", "edit", "limit", "0", "50", "4"), (0, "[2, 66]", ""))
         self.assertEqual(await self.road("Ada", "edit", "limit", "2", "50", "4"), (0, "[3, 66]", ""))
         self.assertEqual((await self.road("Ada", "share"))[1], "shared 2 changes")
-        self.assertEqual((await self.road("cron", "take"))[1], "took 2 changes\nchanged: limit of stamp [1, 65], by Ada")
+        self.assertEqual((await self.road("cron", "take"))[1], "took 2 changes\nchanged: limit with stamp [1, 65], by Ada")
         self.assertEqual(await self.road("cron", "withdraw", "limit", "2", "50"), (0, "[4, 65]", ""))
         held = json.loads((await self.road("cron", "ask", '{"scenario":{"at":"shared"}}'))[1])["edits"]
         self.assertEqual([[*one[:3], one[5]] for one in held], [["limit", 0, 50, 4], ["limit", 2, 50, 4]])
         said = [await self.road("cron", *words) for words in (("out", "2"), ("in", "2"), ("out", "1"))]
         self.assertEqual([status for status, _, _ in said], [0, 0, 1])
-        self.assertIn("1 is this site", said[2][2])
+        self.assertIn("site 1 cannot exclude itself", said[2][2])
         self.assertEqual((await self.road("cron", "tell"))[:2], (0, "all came back"))
         self.here.kill()
         await self.road("cron", "share")
@@ -104,7 +104,7 @@ class Shell(Case):
         self.assertEqual((status, why.split(";")[0]), (1, "1 change has not come back"))
 
     async def test_changes_are_written_in_km_and_clock_times(self) -> None:
-        """The demand is that of the package's curve: within half a car per hour."""
+        """A demand agrees with the package's curve, within half a car per hour."""
         (self.a6.folder / "freeway.json").write_text('{"begin": "06:30"}', encoding="utf-8")
         said = [await self.road("cron", "put", *words) for words in (
             ("limit", "50", "0.2", "0.45", "6:40"), ("demand", "1200", "0", "06:45", "07:00"), ("demand", "1900", "0", "1"))]
@@ -131,7 +131,7 @@ class Shell(Case):
         self.assertEqual(sorted(json.loads(out) for _, out, _ in said), [[count, 65] for count in range(1, 7)])
 
     async def test_two_hundred_edits_after_an_advance_take_seconds(self) -> None:
-        """A long log is not run again for each command."""
+        """The program does not rerun a long log for each command."""
         await self.road("cron", "ask", '{"clock":{"to":200}}')
         await self.road("cron", "ask", '{"advance":{"to":200}}')
         async with self.a6.seat("Ada") as ada:
@@ -140,18 +140,18 @@ class Shell(Case):
                 await ada.ask("edit", object=["limit", number % 6], step=number, value=number // 6 % 5)
             self.assertEqual(len((await ada.ask("scenario"))["edits"]), 200)
 
-    async def test_faults_are_told(self) -> None:
+    async def test_faults_are_reported(self) -> None:
         for words, status, why in (
                 (("cron", "edit", "limit", "99", "50", "1"), 1, "no zone 99"),
                 (("cron", "edit", "limt", "2", "50", "1"), 1, "use `limit`"),
-                (("cron", "edit", "limit", "2", "50"), 2, "wrong words"),
-                (("cron", "edit", "limit", "2", "x", "1"), 2, "no whole number"),
-                (("cron", "ask", "nonsense"), 2, "JSON is wanted"),
-                (("cron", "ask", '{"scenario":{"at":"cron"}}'), 1, 'here `at` is "seat1" or "shared"'),
-                (("cron", "ask", '{"take":{"at":"shared","message":"shared"}}'), 1, 'here `at` is "seat1"'),
-                (("cron", "ask", '{"crowd":{}}'), 1, "no command of a tab"),
+                (("cron", "edit", "limit", "2", "50"), 2, "unknown command or wrong arguments"),
+                (("cron", "edit", "limit", "2", "x", "1"), 2, "is not a whole number"),
+                (("cron", "ask", "nonsense"), 2, "expected JSON"),
+                (("cron", "ask", '{"scenario":{"at":"cron"}}'), 1, 'here `at` must be "seat1" or "shared"'),
+                (("cron", "ask", '{"take":{"at":"shared","message":"shared"}}'), 1, 'here `at` must be "seat1"'),
+                (("cron", "ask", '{"crowd":{}}'), 1, "is not a command of a tab"),
                 (("cron",), 2, "NAME and a command"), (("cron",), 2, "live/road Cron edit limit 11 5400 2"),
-                (("cron", "dance"), 2, "wrong words")):
+                (("cron", "dance"), 2, "unknown command or wrong arguments")):
             ended, _, said = await self.road(*words)
             self.assertEqual(ended, status, words)
             self.assertIn(why, said)

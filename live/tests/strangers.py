@@ -1,4 +1,4 @@
-"""Sites that have another's number, a clock that is wrong, or no key, or that play again what was sent."""
+"""Test sites with another site's number, a wrong clock or no key, and sites that replay messages."""
 from __future__ import annotations
 
 import argparse
@@ -28,7 +28,7 @@ DAY = 86_400_000  # milliseconds
 
 
 def steps(here: Here) -> list[int]:
-    """The steps of the raw edits that a shared road has."""
+    """Return the steps of the raw edits that a shared road has."""
     return sorted(name[2] for one in here.lab.state.shared.places for name in one.sets if is_raw(name))
 
 
@@ -46,7 +46,7 @@ class Strangers(Case):
         return edits
 
     async def put(self, here: Here, *edit: Any) -> tuple[int, int]:
-        """A shared gesture."""
+        """Make a gesture, and share it."""
         if 1 not in here.keys:
             await here.join("Ada")
         stamp = await here.put(1, list(edit))
@@ -54,7 +54,7 @@ class Strangers(Case):
         return stamp
 
     def leave(self, site: Sites) -> None:
-        """It is heard no more."""
+        """Let a site fall silent."""
         self.bus.sites.remove(site)
         for one in self.bus.sites:
             one._peers.known.clear()
@@ -71,7 +71,7 @@ class Strangers(Case):
         stamp = await self.put(again, "limit", 2, 50, 3)
         await self.bus.rounds(3)
         self.assertEqual((await self.shared(one), len(other.state()["sites"])), ([], 1))
-        self.assertIn("This site's number, 2, is another folder's: nothing is sent", " ".join(other.state()["stays"]))
+        self.assertIn("This site's number, 2, belongs to another folder: nothing is sent", " ".join(other.state()["stays"]))
         self.assertEqual(first.state()["sites"], [])
         self.leave(other)
         await again.keeper.close()
@@ -103,7 +103,7 @@ class Strangers(Case):
         every = [*before, *later, *cloned]
         self.assertEqual((len(set(every)), every), (9, sorted(every)))  # and the later one wins
 
-    async def test_two_clones_at_once_are_told_and_send_nothing(self) -> None:
+    async def test_two_running_clones_are_reported_and_send_nothing(self) -> None:
         first, one = await self.here(7)
         copy = new_folder() / "copy"
         shutil.copytree(first.folder, copy)
@@ -122,15 +122,15 @@ class Strangers(Case):
         self.assertEqual(len(await self.shared(third)), 1)
 
     async def ask(self, here: Here, verb: str, **fields: Any) -> Any:
-        """What a person is answered."""
+        """Ask a question as a tab. Return the answer."""
         return await verbs.answer(here.lab, here.questions, 1, Asked(verb, fields), {})
 
     async def announce(self, site: Sites, folder: str, number: int, **more: Any) -> None:
         value = {"folder": folder, "run": "r", "site": number, "road": site._road, "form": 3, **more}
         await self.bus.give(site, Message("road/sites", json.dumps(value).encode()))
 
-    async def test_a_person_revokes_what_one_message_said_of_a_number(self) -> None:
-        """Else the site would be mute for ever; it stays so after a restart, whatever is said again."""
+    async def test_a_user_revokes_what_a_message_said_about_a_number(self) -> None:
+        """Otherwise the site would be mute for ever. It stays revoked after a restart, whatever is sent again."""
         (one, first), (two, _) = await self.here(1), await self.here(2)
         await self.bus.rounds()
         with self.assertRaisesRegex(Refused, "NotBound"):
@@ -143,7 +143,7 @@ class Strangers(Case):
         self.assertIn({"site": 1, "folder": "nowhere"}, (await self.ask(one, "numbers"))["numbers"])
         await self.ask(one, "unbind", site=1)
         await self.announce(first, "f" * 16, 9, bound={"1": "nowhere"})
-        self.assertIn("Site 9 says that this site's number, 1, is another folder's", told(first))
+        self.assertIn("Site 9 says that this site's number, 1, belongs to another folder", told(first))
         await self.bus.rounds()
         self.assertEqual(len(await self.shared(two)), 1)
         await one.keeper.close()
@@ -158,13 +158,13 @@ class Strangers(Case):
             await self.announce(first, f"{number:016x}", number)
         bound = (await self.ask(one, "numbers"))["numbers"]
         self.assertEqual(len(bound), 64)
-        self.assertIn("64 numbers of sites are written down with their folders, and no more", told(first))
+        self.assertIn("64 site numbers are bound to folders, which is the limit", told(first))
         await self.put(two, "limit", 2, 50, 3)  # who came later exchanges all the same
         await self.bus.rounds(2)
         self.assertEqual(len(await self.shared(one)), 1)
         self.assertNotIn({"site": 900, "folder": two.lab.state.folder}, bound)
         await self.ask(one, "unbind", site=bound[0]["site"])
-        self.assertNotIn("and no more", told(first))
+        self.assertNotIn("which is the limit", told(first))
         await self.bus.rounds()
         self.assertIn({"site": 900, "folder": two.lab.state.folder}, (await self.ask(one, "numbers"))["numbers"])
         await one.keeper.close()
@@ -172,7 +172,7 @@ class Strangers(Case):
         self.assertEqual(len((await self.ask(again, "numbers"))["numbers"]), 64)
 
     async def test_two_clones_of_a_machine_have_two_names_at_the_broker(self) -> None:
-        """Else it lets in one and then the other, neither hears of the other, and both send."""
+        """Otherwise the broker admits one and then the other, neither hears of the other, and both send."""
         first, _ = await self.here(7)
         options = argparse.Namespace(broker="127.0.0.1:1", broker_user=None, broker_authority=None, site_key=None)
         names = {getattr(Sites(first.lab, lambda: None, options)._client, "_client_id") for _ in range(2)}
@@ -181,7 +181,7 @@ class Strangers(Case):
             self.assertIn(first.lab.state.folder.encode(), name)
 
     async def test_an_older_site_is_the_same_folder_when_it_is_new(self) -> None:
-        """It said its folder's place behind the token, which moves with the folder."""
+        """Older sites add the place of the folder to its token, which moves with the folder."""
         (one, first), (two, second) = await self.here(1), await self.here(2)
         cases: list[tuple[dict[str, Any], str]] = [({"form": 2}, "site 2"), ({"form": 4}, "this site"), ({}, "site 2")]
         for form, update in cases:
@@ -195,7 +195,7 @@ class Strangers(Case):
         await self.bus.carry()
         self.assertEqual(len(await self.shared(one)), 1)
 
-    async def test_two_gestures_of_one_stamp_are_told_and_all_have_one_road(self) -> None:
+    async def test_two_gestures_with_one_stamp_are_reported_and_all_have_one_road(self) -> None:
         sites = [await self.here(number) for number in (1, 2, 3)]
         stamp = [stamps.next_count(0, stamps.milliseconds(), 0), 70 * 64 + 1]
         messages = [message_of(sites[0][1], edit((stamp[0], stamp[1]), {("limit", 2, 50): value}, About(who, note, 1)))
@@ -207,16 +207,16 @@ class Strangers(Case):
         roads = [numbers(await self.shared(here)) for here, _ in sites]
         self.assertEqual(roads, [roads[0]] * 3)
         for here, site in sites:
-            self.assertIn(f"Two changes have one stamp, {stamp}: of Eva and of Eve, slow", told(site))
+            self.assertIn(f"Two changes have the same stamp, {stamp}: of Eva and of Eve, slow", told(site))
             self.assertEqual(sorted(one.about.who for one in here.lab.state.shared.places), ["Eva", "Eve"])
 
     async def test_a_gesture_is_one_message_and_then_there_is_silence(self) -> None:
-        """With five sites, of which two share at once what meets on the road."""
+        """Two of five sites share overlapping changes at once."""
         sites = [await self.here(number) for number in range(1, 6)]
         await self.bus.rounds(2)
 
         async def told() -> int:
-            """Messages with gestures until all sites have said twice what they hold."""
+            """Return the number of messages with operations until all sites have announced twice what they hold."""
             self.bus.seen.clear()
             await self.bus.carry()
             await self.bus.rounds(4)
@@ -237,7 +237,7 @@ class Strangers(Case):
         roads = [numbers(await self.shared(here)) for here, _ in sites]
         self.assertEqual(roads, [roads[0]] * 5)
 
-    async def test_what_was_not_sent_is_sent_after_a_start(self) -> None:
+    async def test_unsent_changes_are_sent_after_a_restart(self) -> None:
         here = await self.enterAsyncContext(Here(site=1))
         for seat, begin, end in zip(await here.join("Ada", "Ben"), (10, 20), (30, 40)):
             await here.ask(seat, "gesture", key="k", note="", shape=["block", 60, 60, begin, end, 1])
@@ -250,7 +250,7 @@ class Strangers(Case):
         message, = self.bus.sent
         self.assertEqual([tuple(one["stamp"]) for one in json.loads(message.payload)["operations"]], shared)
 
-    async def test_a_restored_folder_whose_private_change_was_shared_since_holds_it_once(self) -> None:
+    async def test_a_restored_folder_holds_a_private_change_that_was_shared_since_only_once(self) -> None:
         (one, first), (two, second) = await self.here(1), await self.here(2)
         await self.bus.rounds()
         await one.join("Ada")
@@ -278,8 +278,8 @@ class Strangers(Case):
 
     # Clocks
 
-    async def test_what_is_more_than_a_day_ahead_is_told_and_taken_when_its_day_has_come(self) -> None:
-        """By all sites, whatever they hold."""
+    async def test_operations_more_than_a_day_ahead_are_reported_and_taken_on_their_day(self) -> None:
+        """All sites do so, whatever they hold."""
         clock = [now := stamps.milliseconds()]
         with mock.patch("server.stamps.milliseconds", lambda: clock[0]):
             (one, first), (two, second) = await self.here(1), await self.here(2)
@@ -300,7 +300,7 @@ class Strangers(Case):
             self.assertEqual([here.lab.state.shared.size for here in (one, two)], [3, 3])
             self.assertNotIn("1 changes are dated more than a day ahead", told(first))
 
-    async def test_what_is_early_keeps_nothing_else_and_waits_once(self) -> None:
+    async def test_early_operations_hold_up_no_others_and_wait_once(self) -> None:
         """Another change of the same message is taken at once; what is sent again and again waits once, and not much waits."""
         now = stamps.milliseconds()
         clock = [now]
@@ -308,7 +308,7 @@ class Strangers(Case):
             here, site = await self.here(1)
 
             async def comes(*some: tuple[int, int]) -> None:
-                """Operations of so many milliseconds ahead, each with a limit from a step on."""
+                """Deliver operations this many milliseconds ahead, each with a limit from a step on."""
                 await self.bus.give(site, message_of(site, *(edit((32 * (now + ahead), 70), {("limit", 2, step): 3}, About("Eve"))
                                                              for ahead, step in some)))
             for _ in range(3):
@@ -326,7 +326,7 @@ class Strangers(Case):
             self.assertEqual(steps(here), [1, 2])
             self.assertIn("9 changes are dated more than a day ahead", told(site))
 
-    async def test_what_a_wrong_clock_stamped_in_private_is_stamped_anew(self) -> None:
+    async def test_private_operations_stamped_by_a_wrong_clock_get_new_stamps(self) -> None:
         """Three days ahead for one gesture: all goes on, and other sites take it as soon as it is shared."""
         clock = [stamps.milliseconds()]
         with mock.patch("server.stamps.milliseconds", lambda: clock[0]):
@@ -350,14 +350,14 @@ class Strangers(Case):
             again = await self.enterAsyncContext(Here(one.folder))
             self.assertEqual(sorted(each.stamp for each in again.lab.state.seats[1].own), held)
 
-    async def test_a_clock_ahead_of_all_others_is_told_there(self) -> None:
-        """By more than five minutes, of those that were heard within the last one."""
+    async def test_a_site_reports_that_its_clock_is_ahead_of_all_others(self) -> None:
+        """It is more than five minutes ahead of all sites that were heard in the last minute."""
         (_, first), (_, second), (_, third) = [await self.here(number) for number in (1, 2, 3)]
         await self.bus.rounds()
         real, steady = time.time, time.monotonic
 
         async def told_ahead(site: Sites, seconds: float) -> bool:
-            """Whether a site whose clock is so far ahead says so, and no other does."""
+            """Return whether a site whose clock is this far ahead reports it, and no other does."""
             self.bus.sites.remove(site)
             for other in self.bus.sites:
                 other._present()
@@ -385,8 +385,8 @@ class Strangers(Case):
             later[0] += 61
             self.assertNotIn("ahead of all", told(first))
 
-    async def test_who_is_ahead_of_all_others_stamps_by_their_clocks(self) -> None:
-        """From the greatest stamp of theirs on, so what is put here beats nothing that is put there later."""
+    async def test_a_site_ahead_of_all_others_stamps_with_their_clocks(self) -> None:
+        """Stamps begin after the greatest one of the others, so a change made here beats no later change made there."""
         for seconds in (310, 86_000, 3 * 86_400):
             here, site = await self.here(1)
             await here.join("Ada")
@@ -401,7 +401,7 @@ class Strangers(Case):
             stamp = await here.put(1, ["limit", 2, 50, 1])
             self.assertGreater(stamp[0], 32 * (stamps.milliseconds() - 300_000))
 
-    async def test_what_was_stamped_far_ahead_before_others_were_heard_is_stamped_anew(self) -> None:
+    async def test_stamps_far_ahead_from_before_others_were_heard_are_replaced(self) -> None:
         here, site = await self.here(1)
         await here.join("Ada")
         early = await here.put(1, ["limit", 1, 40, 2])
@@ -415,7 +415,7 @@ class Strangers(Case):
 
     # Roads
 
-    async def test_who_has_another_road_is_not_counted(self) -> None:
+    async def test_a_site_with_another_road_is_not_counted(self) -> None:
         (_, first), _ = await self.here(1), await self.here(2, plan={**SMALL, "words": 2})
         await self.bus.rounds()
         self.assertEqual(first.state()["sites"], [])
@@ -445,7 +445,7 @@ class Keys(Case):
     def held(self, here: Here) -> int:
         return here.lab.state.shared.size
 
-    async def test_what_bears_the_seal_is_taken_and_nothing_else(self) -> None:
+    async def test_only_sealed_messages_are_taken(self) -> None:
         await self.share(50)
         self.assertEqual(self.held(self.two), 1)
         edits = next(one for one in self.bus.seen if one.topic.endswith("/operations"))
@@ -464,10 +464,10 @@ class Keys(Case):
             self.assertEqual((self.held(self.two), self.second.state()["left_out"]), (1, number), payload)
         await self.bus.give(self.second, Message("road/sites", edits.payload))  # at another topic
         self.assertEqual(self.second.state()["left_out"], 10)
-        self.assertIn("10 messages were ignored: they are not sealed with this site's --site-key", " ".join(self.second.state()["stays"]))
+        self.assertIn("10 messages were ignored: they have no seal of this site's --site-key", " ".join(self.second.state()["stays"]))
 
-    async def test_a_flood_without_the_seal_is_paused_and_named(self) -> None:
-        """It costs the loop nothing, and who bears the seal is heard."""
+    async def test_a_flood_without_a_seal_is_ignored_and_reported(self) -> None:
+        """It costs the event loop nothing, and sealed messages are heard."""
         now = [0.0]
         await self.bus.rounds()
         with mock.patch("server.floods.BURST", 20), mock.patch("server.floods.A_SECOND", 1):
@@ -478,14 +478,14 @@ class Keys(Case):
                     await self.bus.give(self.second, Message("road/sites", json.dumps({"folder": f"{number:x}"}).encode()))
             self.assertLess(len(said), 30)
             self.assertEqual(self.second.state()["left_out"], 300)
-            self.assertIn("A sender without this site's --site-key sends too much", told(self.second))
+            self.assertIn("A sender without this site's --site-key sends too many messages", told(self.second))
             await self.share(50)
             self.assertEqual(self.held(self.two), 1)
             now[0] += 31
             self.assertNotIn("too much", told(self.second))
 
-    async def test_a_flood_of_many_names_is_paused_and_named(self) -> None:
-        """Where sites have no key each message may say another name; a site that is there is heard."""
+    async def test_a_flood_from_many_names_is_ignored_and_reported(self) -> None:
+        """If sites have no key, each message may name another folder; a known site is still heard."""
         here = await self.enterAsyncContext(Here(site=3))
         bus, now, came = Bus(), [0.0], []
         site, _ = bus.site(here), bus.site(self.one)
@@ -499,13 +499,13 @@ class Keys(Case):
                     await bus.give(site, Message("road/sites", json.dumps({"folder": f"{number:040x}"}).encode()
                                                  .replace(b": ", b":")))
             self.assertLess(len(came), 30)
-            self.assertIn("A sender that names no folder sends too much", told(site))
+            self.assertIn("A sender that names no folder sends too many messages", told(site))
             await self.one.put(1, ["limit", 2, 50, 3])
             await self.one.share(1)
             await bus.carry()
             self.assertEqual(self.held(here), 1)
 
-    async def test_what_is_played_again_is_left_out(self) -> None:
+    async def test_replayed_messages_are_ignored(self) -> None:
         await self.share(50)
         seen = []
         with mock.patch.object(Sites, "_came", lambda _, topic, folder, body: came(body)):
@@ -515,8 +515,8 @@ class Keys(Case):
                 await self.bus.give(self.second, message)
         self.assertEqual((seen, self.second.state()["left_out"]), ([], 0))
 
-    async def test_what_is_played_again_after_a_restart_is_left_out(self) -> None:
-        """Else an announcement of this very folder, or of another with its number, would mute it."""
+    async def test_messages_replayed_after_a_restart_are_ignored(self) -> None:
+        """Otherwise an announcement of this folder, or of another with its number, would mute it."""
         with mock.patch("server.seals.AHEAD", 1):
             await self.bus.rounds(2)
             await self.share(50)
@@ -533,8 +533,8 @@ class Keys(Case):
             await self.bus.rounds(2)  # and it is heard
             self.assertEqual([one["site"] for one in self.first.state()["sites"]], [2])
 
-    async def test_what_is_sent_after_a_restart_is_heard_at_once(self) -> None:
-        """The server ended, or was killed; what was there before is not."""
+    async def test_messages_sent_after_a_restart_are_heard_at_once(self) -> None:
+        """The server ended, or was killed; messages from before are not heard."""
         for is_killed in (True, False):
             with mock.patch("server.seals.AHEAD", 200 if is_killed else 3_600_000):
                 await self.bus.rounds(2)
@@ -554,8 +554,8 @@ class Keys(Case):
                 await self.share(60 + is_killed)
                 self.assertEqual(self.held(self.two), held + 1)
 
-    def test_of_what_was_taken_a_number_above_it_is_on_the_disk_first(self) -> None:
-        """Whenever the server is killed; it is not written for each message."""
+    def test_a_number_above_a_taken_one_is_on_the_disk_first(self) -> None:
+        """Whenever the server is killed, although it is not written for each message."""
         path = new_folder() / "seen.json"
         for number in range(10_000, 20_000, 100):
             seals.Taken(path).take("a1", number, 9_000)
@@ -570,8 +570,8 @@ class Keys(Case):
         path.write_text("[")
         self.assertEqual(seals.Taken(path).bound("b2"), 0)
 
-    async def test_what_is_old_is_left_out(self) -> None:
-        """A message that was caught a quarter of an hour ago, and never came."""
+    async def test_old_messages_are_ignored(self) -> None:
+        """A message was intercepted a quarter of an hour ago, and never arrived."""
         with mock.patch.object(self.first._seal, "_clock", lambda: time.time() - 900):
             await self.share(50)
         self.assertEqual(self.held(self.two), 0)
@@ -579,14 +579,14 @@ class Keys(Case):
         await self.bus.rounds(3)  # what it told comes again
         self.assertEqual(self.held(self.two), 1)
 
-    async def test_what_is_of_a_clock_far_ahead_is_left_out(self) -> None:
-        """Else it could be played again for longer."""
+    async def test_messages_from_a_clock_far_ahead_are_ignored(self) -> None:
+        """Otherwise it could be replayed for longer."""
         with mock.patch.object(self.first._seal, "_clock", lambda: time.time() + 900):
             await self.share(50)
         self.assertEqual(self.held(self.two), 0)
-        self.assertIn("more than 10 minutes old, by this site's clock", told(self.second))
+        self.assertIn("more than 10 minutes old by this site's clock", told(self.second))
 
-    async def test_a_clock_days_ahead_is_told_though_what_others_send_is_old_there(self) -> None:
+    async def test_a_clock_days_ahead_is_reported_even_though_others_messages_look_old_there(self) -> None:
         self.first._present()
         clock = time.time
         with mock.patch("server.peers.time.time", lambda: clock() + 86_400), \
@@ -604,20 +604,20 @@ class Keys(Case):
 
     def test_a_key_that_is_too_short_is_refused(self) -> None:
         self.key.write_text(" 15 bytes, here \n")
-        with self.assertRaisesRegex(Broken, "has 14 bytes, and 16 are the least"):
+        with self.assertRaisesRegex(Broken, "has 14 bytes, but the key of the sites must have at least 16"):
             seals.key_of(self.key)
 
 
 class Counting(unittest.TestCase):
-    def test_a_count_is_above_what_is_held_and_at_least_the_clocks(self) -> None:
+    def test_a_count_is_above_all_held_ones_and_at_least_the_clock(self) -> None:
         self.assertEqual(stamps.next_count(7, 0, 0), 8)
         self.assertEqual(stamps.next_count(7, 1_000, 5), 32_005)
         self.assertEqual(stamps.next_count(32_005, 1_000, 31), 32_031)
         self.assertEqual(stamps.next_count(40_000, 1_000, 31), 40_001)
         self.assertLess(stamps.next_count(0, 4_102_444_800_000, 31), 1 << 48)  # in the year 2100, too
 
-    def test_a_new_stamp_is_above_all_that_the_clock_allows_without_a_look_at_all(self) -> None:
-        """What is more than a day ahead does not count, until its day has come, or again if the clock goes back."""
+    def test_a_new_stamp_is_above_all_that_the_clock_allows_without_scanning_them(self) -> None:
+        """Counts more than a day ahead are ignored until their day, and again if the clock goes back."""
         class Looked(dict[Any, Any]):
             def __iter__(self) -> Iterator[Any]:
                 looks.append(True)
@@ -635,12 +635,12 @@ class Counting(unittest.TestCase):
                 found.append((state.stamp(state.seats[1])[0], len(looks)))
         self.assertEqual(found, [(8, 0), (8, 0), (soon + 1, 0), (late + 1, 0), (soon + 1, 1), (soon + 1, 1)])
 
-    def test_clones_that_stamp_in_one_millisecond_differ_by_five_bits(self) -> None:
+    def test_clones_that_stamp_in_one_millisecond_differ_in_five_random_bits(self) -> None:
         with mock.patch("server.stamps.milliseconds", lambda: 1_000):
             counts = {stamps.StampClock().count_after(7) for _ in range(2_000)}
         self.assertEqual(counts, set(range(32_000, 32_032)))
 
-    def test_the_numbers_of_a_window_count_once(self) -> None:
+    def test_each_number_of_a_window_is_new_once(self) -> None:
         seen = seals.Seen()
         order = [*range(10, 20_000, 2), *range(19_999, 18_001, -2)]
         self.assertTrue(all(map(seen.is_new, order)))

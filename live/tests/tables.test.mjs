@@ -18,19 +18,19 @@ const SAID = decodeFigures({delay_hours: 41.5025, later: [[1190, 12.25], [1180, 
 
 test("a saved table says what it is of, and has units, mine beside the shared road", () => {
   assert.deepEqual(csvOf("the road of Ada, 06:30 to 07:30", tableOfFigures(PLAN, "mine", SAID)).split("\n"), [
-    "# the road of Ada, 06:30 to 07:30", "figure,unit,mine,shared,mine less shared", "vehicle hours,h,102.5,62.25,40.25",
-    "delay of cars on both roads,vehicle hours,,,41.5025", "demand,cars,1466.5,1466.5,0",
+    "# the road of Ada, 06:30 to 07:30", "figure,unit,mine,shared,mine minus shared", "vehicle hours,h,102.5,62.25,40.25",
+    "delay of the cars that both roads have,vehicle hours,,,41.5025", "demand,cars,1466.5,1466.5,0",
     "admitted cars,cars,1400,1437,-37", "lost demand,cars,66.5,29.5,37", "demand at 0 km,cars,1224,1224,0",
     "admitted cars at 0 km,cars,1216,1224,-8", "lost demand at 0 km,cars,8,0,8", "demand at 1.5 km,cars,242.5,242.5,0",
     "admitted cars at 1.5 km,cars,184,213,-29", "lost demand at 1.5 km,cars,58.5,29.5,29", "cars at 0.375 km,cars,1211,1219,-8",
     "flow at 0.375 km,cars/h,,1219,", "time-mean speed at 0.375 km,km/h,,133.55,", "time on at 0.375 km,s,0,3600,-3600",
-    "travel time to 0.375 km,s,26.75,14.5,12.25", "delay of cars on both roads to 0.375 km,s,,,12.25",
-    "travel time to the road's end,s,,210,", "delay of cars on both roads to the road's end,s,,,", ""]);
+    "travel time to 0.375 km,s,26.75,14.5,12.25", "delay of the cars that both roads have to 0.375 km,s,,,12.25",
+    "travel time to the road's end,s,,210,", "delay of the cars that both roads have to the road's end,s,,,", ""]);
 });
 
 test("before sharing or taking it is what is, and what would be", () => {
   const [head, hours] = tableOfFigures(PLAN, "preview", SAID);
-  assert.deepEqual(head, ["figure", "unit", "now", "then", "then less now"]);
+  assert.deepEqual(head, ["figure", "unit", "before", "after", "after minus before"]);
   assert.deepEqual(hours, ["vehicle hours", "h", "62.25", "102.5", "40.25"]);
 });
 
@@ -39,7 +39,7 @@ test("many days are saved with their intervals", () => {
                    {name: "cars 0", before: [2, 1], after: [1, 1], difference: [-1, 0]},
                    {name: "seconds 1", before: [200, 1], after: [201, 1], difference: [1, 0.5]}];
   assert.deepEqual(tableOfDays(PLAN, "mine", decodeDays({days: 20, figures})), [
-    ["mean of 20 days", "unit", "mine", "±", "shared", "±", "mine less shared", "±"],
+    ["mean of 20 days", "unit", "mine", "±", "shared", "±", "mine minus shared", "±"],
     ["lost demand", "cars", "84.8", "5.9", "29.75", "2.1", "55.05", "4.5"],
     ["cars at 0.375 km", "cars", "1", "1", "2", "1", "-1", "0"],
     ["travel time to the road's end", "s", "201", "1", "200", "1", "1", "0.5"]]);
@@ -81,7 +81,7 @@ test("travel times are saved by the minute of entry and the place, with the cars
   const day = new DayClock({begin: 6.5 * 3600});
   assert.deepEqual(tableOfTravel(PLAN, "mine", said, day), [
     ["minute of entry", "travel time to", "cars, mine", "travel time (s), mine", "cars, shared", "travel time (s), shared",
-     "mine less shared (s)"],
+     "mine minus shared (s)"],
     ["06:32", "0.375 km", "9", "17.25", "10", "15", "2.25"], ["06:32", "the road's end", "9", "230", "0", "", ""],
     ["06:33", "0.375 km", "0", "", "20", "14.5", ""], ["06:33", "the road's end", "0", "", "18", "210", ""]]);
   assert.equal(tableOfTravel({...PLAN, detectors: [187]}, "mine", said, day)[1][1], "1.4025 km");     // exactly, in all tables

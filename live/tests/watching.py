@@ -1,4 +1,4 @@
-"""The watch that is on in all tests: a piece of a server's work that keeps all others waiting fails them."""
+"""Test the watch that is on in all tests: they fail if a piece of a server's work keeps all others waiting."""
 from __future__ import annotations
 
 import asyncio
@@ -24,7 +24,7 @@ SHAPES = 130
 
 
 def works(seconds: float) -> None:
-    """Use the processor for so long."""
+    """Use the processor for this long."""
     until = time.thread_time() + seconds
     while time.thread_time() < until:
         pass
@@ -37,7 +37,7 @@ class Watching(unittest.IsolatedAsyncioTestCase):
         self.addCleanup(watch.end)
         return said
 
-    async def test_a_long_piece_is_told_with_its_place_and_a_short_one_is_not(self) -> None:
+    async def test_a_long_piece_is_reported_with_its_place_and_a_short_one_is_not(self) -> None:
         said = self.watched()
 
         async def long() -> None:
@@ -56,7 +56,7 @@ class Watching(unittest.IsolatedAsyncioTestCase):
         await asyncio.sleep(0.01)
         self.assertIn("works", said[1])
 
-    async def test_of_a_test_only_what_the_server_does_counts(self) -> None:
+    async def test_only_the_work_of_the_server_counts_in_a_test(self) -> None:
         said = self.watched(is_of_server)
 
         async def long() -> None:
@@ -73,8 +73,8 @@ class Collections(unittest.TestCase):
     def tearDown(self) -> None:
         gc.unfreeze()
 
-    def test_what_lives_is_looked_at_once(self) -> None:
-        """When it is there from the start, and when so much has come since that a collection took long."""
+    def test_living_objects_are_scanned_once(self) -> None:
+        """Both objects that are there from the start, and so many new ones that a collection takes long."""
         held: list[Any] = []
         self.addCleanup(gc.callbacks.pop)
         some: list[Callable[[], object]] = [keep_collections_short, gc.collect, gc.collect]
@@ -88,8 +88,8 @@ class Collections(unittest.TestCase):
 
 
 class Failing(Case):
-    async def test_a_test_fails_by_it(self) -> None:
-        """By what a server in this process did, or one beside."""
+    async def test_the_watch_fails_a_test(self) -> None:
+        """A server in this process, or in another one, was too slow."""
         class Example(Watched):
             def runTest(self) -> None:
                 HELD_UP.extend(f"{SAID} for a piece of work of {seconds} s: x" for seconds in said)
@@ -121,9 +121,9 @@ class Failing(Case):
 
 
 class Pieces(Case):
-    """What takes long is done in pieces, between which others are answered."""
+    """Long work is done in pieces, and others are answered in between."""
 
-    async def test_what_comes_and_is_taken(self) -> None:
+    async def test_operations_that_arrive_and_are_taken(self) -> None:
         """Many operations of another site, and then a take of them."""
         here = await self.enterAsyncContext(Here())
         ada, = await here.join("Ada")
@@ -144,8 +144,8 @@ class Pieces(Case):
             for at in (f"seat{ada}", "shared"):
                 self.assertEqual(len((await here.ask(ada, "layers", at=at))["layers"]), 60)
 
-    async def test_what_many_tabs_are_told_is_worked_out_for_one_at_a_time(self) -> None:
-        """When its turn comes; the first step of all that it was not told of is in it."""
+    async def test_news_for_many_tabs_is_computed_for_one_at_a_time(self) -> None:
+        """When its turn comes. The message has the first step of all that the tab has not heard of."""
         here = await self.enterAsyncContext(Here())
         index, = await here.join("Ada")
         tabs, sent = Tabs(here.lab, "token"), list[str]()
@@ -171,7 +171,7 @@ class Pieces(Case):
 
             async def all_are_told() -> bool:
                 return len(sent) == 63
-            await until(all_are_told, "all are told")
+            await until(all_are_told, "all have heard")
         self.assertEqual({json.loads(text)["news"]["touched"] for text in sent}, {50})
         for writer in writers:
             writer.cancel()

@@ -1,4 +1,4 @@
-"""What is confirmed is on the disk, and what is not is told to nobody, whatever the disk does."""
+"""Test that everything confirmed is on the disk, and that nobody hears of anything else, whatever the disk does."""
 from __future__ import annotations
 
 import asyncio
@@ -32,8 +32,8 @@ class Written(Case):
         self.here = await self.enterAsyncContext(Here())
         self.ada, self.ben = await self.here.join("Ada", "Ben")
 
-    async def begun(self, act: Coroutine[Any, Any, Any]) -> asyncio.Task[Any]:
-        """An act that waits for the disk, and what the laboratory does by it is done."""
+    async def start(self, act: Coroutine[Any, Any, Any]) -> asyncio.Task[Any]:
+        """Start an act, and wait until only the disk holds it up. Return its task."""
         self.disk.is_asked.clear()
         self.disk.free.clear()
         task = asyncio.create_task(act)
@@ -43,8 +43,8 @@ class Written(Case):
         self.assertFalse(task.done())
         return task
 
-    def goes_on(self, fault: int | None = None) -> None:
-        """The disk does what it was asked; or it fails."""
+    def release_disk(self, fault: int | None = None) -> None:
+        """Let the disk do what it was asked to, or fail."""
         self.disk.fault = lambda _, name: fault if name == "write" else None
         self.disk.free.set()
 
@@ -53,66 +53,66 @@ class Written(Case):
             await soon(done)
         return caught.exception.text
 
-    async def test_a_gesture_that_is_sent_again_is_answered_after_its_first_write_and_as_that_ended(self) -> None:
+    async def test_a_resent_gesture_gets_the_answer_of_its_first_write(self) -> None:
         for key, fault in (("a", None), ("b", errno.EIO)):
-            first = await self.begun(self.here.put(self.ada, [*LIMIT, 3], key=key))
+            first = await self.start(self.here.put(self.ada, [*LIMIT, 3], key=key))
             again = asyncio.create_task(self.here.put(self.ada, [*LIMIT, 3], key=key))
             await asyncio.sleep(0.2)
             self.assertFalse(again.done())
-            self.goes_on(fault)
+            self.release_disk(fault)
             if fault:
                 self.assertEqual([await self.refused(one) for one in (first, again)], ["NotWritten"] * 2)
             else:
                 self.assertEqual(await soon(first), await soon(again))
-        self.goes_on()
+        self.release_disk()
         stamp = await self.here.put(self.ada, [*LIMIT, 3], key="b")
         self.assertEqual(stamp, await self.here.put(self.ada, [*LIMIT, 3], key="b"))
         self.assertEqual([one["made"]["key"] for one in self.here.entries() if "made" in one], ["a", "b"])
 
     async def test_a_take_and_a_share_across_a_failed_write_end(self) -> None:
         await self.here.put(self.ada, [*LIMIT, 3])
-        share = await self.begun(self.here.share(self.ada))
+        share = await self.start(self.here.share(self.ada))
         take = asyncio.create_task(self.here.take(self.ben))
         await asyncio.sleep(0.1)
-        self.goes_on(errno.EIO)
+        self.release_disk(errno.EIO)
         self.assertEqual(await self.refused(share), "NotWritten")
         self.assertEqual((await soon(take))["size"], 0)
-        self.goes_on()
+        self.release_disk()
         await self.here.share(self.ada)
-        take = await self.begun(self.here.take(self.ben))
-        self.goes_on(errno.EIO)
+        take = await self.start(self.here.take(self.ben))
+        self.release_disk(errno.EIO)
         self.assertEqual(await self.refused(take), "NotWritten")
-        self.goes_on()
+        self.release_disk()
         self.assertEqual((await soon(self.here.take(self.ben)))["size"], 1)
 
-    async def test_what_is_in_pieces_ends_where_a_write_fails(self) -> None:
-        """Each piece of it may stand on what is forgotten."""
+    async def test_work_in_pieces_ends_if_a_write_fails(self) -> None:
+        """Each piece may depend on what is forgotten."""
         keeper, rounds = self.here.keeper, 0
 
         async def piece() -> Any:
             nonlocal rounds
             rounds += 1
             if rounds == 2:
-                self.goes_on(errno.EIO)
+                self.release_disk(errno.EIO)
                 await asyncio.wait([keeper.record(SeatUsed(1, 0))])
             return MORE
         self.assertEqual(await self.refused(keeper.ask(self.ben, (), piece)), "NotWritten")
         self.assertEqual(rounds, 2)
 
-    async def test_nothing_is_written_upon_what_the_disk_refused(self) -> None:
-        """A job beside which a write fails may stand on that: it is refused, though the disk takes more."""
+    async def test_nothing_is_written_after_what_the_disk_refused(self) -> None:
+        """A job during which a write fails may depend on it: it is refused, even if the disk accepts more."""
         keeper = self.here.keeper
 
         async def body() -> None:
-            self.goes_on(errno.EIO)
+            self.release_disk(errno.EIO)
             await asyncio.wait([keeper.record(SeatUsed(1, 0))])
-            self.goes_on()
+            self.release_disk()
             await keeper.writable()
         self.assertEqual(await self.refused(keeper.ask(self.ben, (), body)), "NotWritten")
         await self.here.put(self.ben, [*LIMIT, 3])
 
-    async def test_what_is_on_the_disk_was_done_whatever_becomes_of_anothers_write(self) -> None:
-        """The program is given the rest of it later, by way of another."""
+    async def test_a_change_on_the_disk_was_done_even_if_another_write_fails(self) -> None:
+        """The program gets the rest of it later, with another write."""
         keeper, is_free = self.here.keeper, asyncio.Event()
         ask_all = Program.ask_all
 
@@ -128,15 +128,15 @@ class Written(Case):
             async def is_kept() -> bool:
                 return any("share" in one for one in self.here.entries())
             await until(is_kept, "the share is on the disk")
-            self.goes_on(errno.EIO)
+            self.release_disk(errno.EIO)
             await asyncio.wait([keeper.record(SeatUsed(self.ben, 0))])
             is_free.set()
             self.assertEqual(len((await soon(share))["stamps"]), 3)
-        self.goes_on()
+        self.release_disk()
         self.assertEqual((await self.here.take(self.ben))["size"], 3)
 
-    async def test_what_is_on_the_disk_was_done_though_there_is_no_program(self) -> None:
-        """It ended, and none can be started for a while: the next one is given it."""
+    async def test_a_change_on_the_disk_was_done_even_without_a_program(self) -> None:
+        """The program ended, and none can be started for a while: the next one gets it."""
         async def none(*_: Any) -> Program:
             raise ProgramExited("the program cannot be started")
         await self.here.put(self.ben, ["limit", 1, 50, 4])
@@ -151,17 +151,17 @@ class Written(Case):
         self.assertEqual(self.here.heard[-1:], [50])
         self.assertEqual((await self.edits(self.ben), len((await self.here.ask(self.ada, "scenario"))["edits"])), (1, 2))
 
-    async def test_nobody_is_told_before_it_is_on_the_disk(self) -> None:
+    async def test_nobody_hears_of_a_change_before_it_is_on_the_disk(self) -> None:
         lab, keeper = self.here.lab, self.here.keeper
         cleo, = await self.here.join("Cleo")
         await self.here.put(self.ada, [*LIMIT, 3])
         await self.here.put(self.ben, ["limit", 1, 50, 4])
         await self.here.share(self.ben)
         for fault, edits in ((errno.EIO, 1), (None, 2)):
-            self.goes_on()
+            self.release_disk()
             await keeper.until_writable()
             self.here.heard.clear()
-            share = await self.begun(self.here.share(self.ada))
+            share = await self.start(self.here.share(self.ada))
             questions: list[tuple[str, dict[str, Any]]] = [("layers", {}), ("operations", {}), ("transcript", {"from": 0, "to": 0})]
             looks = [asyncio.create_task(self.here.ask(cleo, verb, at="shared", **more)) for verb, more in questions]
             self.assertEqual((lab.news(cleo, 9)["size"], lab.news(cleo, 9)["shares"][1:]), (1, []))
@@ -170,7 +170,7 @@ class Written(Case):
             await asyncio.sleep(0.2)
             self.assertEqual([look for look in (*looks, first) if look.done()], [])
             self.assertEqual(self.here.heard, [])
-            self.goes_on(fault)
+            self.release_disk(fault)
             layers, gestures, transcript = [await soon(look) for look in looks]
             self.assertEqual([len(layers["layers"]), len(gestures["operations"]), transcript["lines"].count('["limit",')],
                              [edits] * 3)
@@ -180,15 +180,15 @@ class Written(Case):
                 await soon(share)
             self.assertEqual((lab.news(cleo, 9)["size"], (await soon(first))["size"], await self.edits(cleo)), (edits,) * 3)
 
-    async def test_who_goes_while_a_seat_is_given_harms_nobody(self) -> None:
+    async def test_a_tab_that_leaves_while_it_gets_a_seat_harms_nobody(self) -> None:
         """Others, who wait for the same write, are answered, and the seat can be taken over."""
-        join = await self.begun(self.here.lab.seating.join("Cleo", "", None))
+        join = await self.start(self.here.lab.seating.join("Cleo", "", None))
         looks = [asyncio.create_task(self.here.lab.seating.seats_kept(turn)) for turn in (self.ben, None)]
         await asyncio.sleep(0.1)
         join.cancel()
         looks.append(asyncio.create_task(self.here.lab.seating.seats_kept()))
         await asyncio.sleep(0.1)
-        self.goes_on()
+        self.release_disk()
         for look in looks:
             self.assertEqual([one["name"] for one in await soon(look)][:2], ["Ada", "Ben"])
         seats = {one["name"]: one for one in await soon(self.here.lab.seating.seats_kept())}
@@ -197,21 +197,21 @@ class Written(Case):
         await soon(self.here.put(index, [*LIMIT, 3]))
 
     async def test_the_list_is_whole_after_a_failed_write(self) -> None:
-        """Who was told of a change that was pending shall not go on from there."""
+        """A tab that saw a pending change must not continue from that version."""
         await self.here.put(self.ada, ["limit", 1, 40, 3])
-        put = await self.begun(self.here.put(self.ada, [*LIMIT, 3]))
+        put = await self.start(self.here.put(self.ada, [*LIMIT, 3]))
         pending = await soon(self.here.ask(self.ada, "layers"))
-        self.goes_on(errno.EIO)
+        self.release_disk(errno.EIO)
         self.assertEqual(await self.refused(put), "NotWritten")
         said = await soon(self.here.ask(self.ada, "layers", **{"from": pending["next"]}))
         self.assertEqual((len(pending["layers"]), len(said["layers"]), said["since"]), (2, 1, 0))
         said = await soon(self.here.ask(self.ada, "layers", **{"from": said["next"]}))
         self.assertEqual((said["layers"], said["since"]), ([], said["next"]))
 
-    async def test_what_is_being_forgotten_is_told_to_nobody(self) -> None:
-        """Who asks while the journal is read again, since a write failed, is told what is there."""
+    async def test_nobody_hears_of_what_is_being_forgotten(self) -> None:
+        """A tab that asks while the journal is read again after a failed write gets what is there."""
         await self.here.put(self.ada, [*LIMIT, 3])
-        share = await self.begun(self.here.share(self.ada))
+        share = await self.start(self.here.share(self.ada))
         reads, is_read, may_read = Journal.confirmed, threading.Event(), threading.Event()
         self.addCleanup(may_read.set)
 
@@ -220,7 +220,7 @@ class Written(Case):
             may_read.wait()
             return reads(journal)
         with mock.patch.object(Journal, "confirmed", held_up):
-            self.goes_on(errno.EIO)
+            self.release_disk(errno.EIO)
             await asyncio.get_running_loop().run_in_executor(None, is_read.wait)
             asked: list[tuple[str, dict[str, Any]]] = [
                 ("layers", {"at": "shared"}), ("operations", {"at": "shared"}), ("figures", {"of": "mine", "from": 0, "to": 60})]
@@ -232,16 +232,16 @@ class Written(Case):
         self.assertEqual(figures_of["before"], figures_of["after"])
         self.assertEqual(await self.refused(share), "NotWritten")
 
-    async def test_what_comes_from_another_site_is_told_once_it_is_on_the_disk(self) -> None:
-        def one() -> Operation:
+    async def test_operations_of_another_site_are_announced_only_after_they_are_on_the_disk(self) -> None:
+        def new_operation() -> Operation:
             return edit((StampClock().count_after(0), 2 * 64 + 1), {("limit", 2, 50): 3}, About("Sam"))
         lab = self.here.lab
         for fault, size in ((errno.EIO, 0), (None, 1)):
-            self.goes_on()
+            self.release_disk()
             await self.here.keeper.until_writable()
             self.here.heard.clear()
-            operations = [one()]
-            came = await self.begun(lab.came(operations, "", {}))
+            operations = [new_operation()]
+            came = await self.start(lab.came(operations, "", {}))
             again = asyncio.create_task(lab.came(operations, "", {}))
             self.assertEqual((lab.news(self.ben, 9)["size"], lab.news(self.ben, 9)["shares"], self.here.heard), (0, [], []))
             self.assertEqual(await self.edits(self.ben), 0)
@@ -249,21 +249,21 @@ class Written(Case):
             look = asyncio.create_task(self.first(self.ben))
             await asyncio.sleep(0.2)
             self.assertFalse(look.done() or again.done())
-            self.goes_on(fault)
+            self.release_disk(fault)
             said = await soon(asyncio.gather(came, again, return_exceptions=True))
             self.assertEqual([getattr(one, "text", one) for one in said], ["NotWritten"] * 2 if fault else [True, False])
             seen = (await soon(look))["size"], lab.news(self.ben, 9)["size"], await self.edits(self.ben)
             self.assertEqual(seen, (size,) * 3)
 
     async def test_figures_are_of_what_is_on_the_disk(self) -> None:
-        """Of a share by which nobody enters at the first inlet: the first detector counts the cars of this one alone."""
+        """The share closes the first inlet, so the first detector counts no car if the share is on the disk."""
         span = {"from": 0, "to": 60}
         self.here.keeper.settings = Settings(days=2)
         await self.here.put(self.ada, ["inflow", 0, 0, 0])
         for fault in (errno.EIO, None):
-            self.goes_on()
+            self.release_disk()
             await self.here.keeper.until_writable()
-            share = await self.begun(self.here.share(self.ada))
+            share = await self.start(self.here.share(self.ada))
             with counted() as computed:
                 looks = [asyncio.create_task(self.here.ask(self.ben, verb, of="mine", **span)) for verb in ("figures", "days")]
 
@@ -272,7 +272,7 @@ class Written(Case):
                 await until(both, "they are computed")
                 await asyncio.sleep(0.2)
                 self.assertEqual([look for look in looks if look.done()], [])
-                self.goes_on(fault)
+                self.release_disk(fault)
                 day, days = [await soon(look) for look in looks]
             before, after = (day[side]["detectors"][0][0] for side in ("before", "after"))
             cars = next(one for one in days["figures"] if one["name"] == "cars 0")
@@ -284,31 +284,31 @@ class Written(Case):
                 self.assertEqual((before, cars["before"]), (0, [0, 0]))
             self.assertGreater(min(after, cars["after"][0]), 0)
 
-    async def test_the_roads_of_a_preview_are_asked_once_they_are_on_the_disk(self) -> None:
+    async def test_the_roads_of_a_preview_are_computed_once_they_are_on_the_disk(self) -> None:
         await self.here.put(self.ada, [*LIMIT, 3])
         for fault, size in ((errno.EIO, 0), (None, 1)):
-            self.goes_on()
+            self.release_disk()
             await self.here.keeper.until_writable()
-            share = await self.begun(self.here.share(self.ada))
+            share = await self.start(self.here.share(self.ada))
             preview = asyncio.create_task(self.first(self.ben))
             await asyncio.sleep(0.2)
             self.assertFalse(preview.done())
             self.assertEqual(await self.refused(self.here.ask(self.ben, "advance", at="after", to=60)), "NoPreview")
-            self.goes_on(fault)
+            self.release_disk(fault)
             self.assertEqual((await soon(preview))["size"], size)
             await soon(asyncio.gather(share, return_exceptions=True))
             await soon(self.here.ask(self.ben, "advance", at="after", to=60))
             await self.here.ask(self.ben, "preview", what=None)
 
     async def edits(self, seat: int) -> int:
-        """How many win on the shared road."""
+        """Return how many edits are in force on the shared road."""
         return len((await soon(self.here.ask(seat, "scenario", at="shared")))["edits"])
 
     async def first(self, seat: int) -> Any:
-        """What `Look first` shows."""
+        """Return what `Look first` shows."""
         return await self.here.ask(seat, "preview", what="take")
 
-    async def test_a_full_disk_beside_a_running_clock_starts_one_program(self) -> None:
+    async def test_a_full_disk_with_a_running_clock_starts_one_program(self) -> None:
         lab, keeper = self.here.lab, self.here.keeper
         told: list[Any] = []
         keeper.listeners.trouble.on(lambda: told.append(keeper.trouble))
@@ -344,7 +344,7 @@ class Written(Case):
             return keeper.trouble is None
         await until(is_over, "it is found")
 
-    async def test_a_disk_that_turned_read_only_can_be_looked_at(self) -> None:
+    async def test_a_folder_on_a_read_only_disk_can_be_viewed(self) -> None:
         lab, keeper = self.here.lab, self.here.keeper
         await self.here.put(self.ada, [*LIMIT, 3])
         self.disk.is_read_only()
@@ -366,8 +366,8 @@ class Written(Case):
         self.assertEqual(kinds, ["seat", "made"])  # in this order
 
 
-    async def test_a_seat_that_was_given_while_the_disk_took_nothing_is_given_again_after_a_kill(self) -> None:
-        """By its key alone, as often as the server is killed, and to nobody by another key."""
+    async def test_a_seat_given_while_the_disk_was_full_is_given_again_after_a_kill(self) -> None:
+        """With its key, as often as the server is killed, and with no other key."""
         self.disk.is_read_only()
         self.assertEqual(await self.refused(self.here.put(self.ada, [*LIMIT, 4])), "NotWritten")
         index, key = await soon(self.here.lab.seating.join("Zoé Ü", "", None))
@@ -390,7 +390,7 @@ class Written(Case):
 
 @contextlib.contextmanager
 def counted() -> Iterator[list[Any]]:
-    """What programs that run both roads beside have computed so far."""
+    """Yield a list of what the programs that run both roads have computed so far."""
     computed: list[Any] = []
 
     def kept(does: Any) -> Any:
@@ -424,7 +424,7 @@ class Stalled(Case):
         await self.here.lab.seating.seats_kept()
 
     async def stalls(self, *names: str) -> None:
-        """From the next such call on."""
+        """Stall from the next call with such a name on."""
         held, is_stalled = self.disk.free, threading.Event()
         self.is_stalled = is_stalled
         held.clear()
@@ -442,11 +442,11 @@ class Stalled(Case):
     async def is_told(self, count: int) -> None:
         async def is_so() -> bool:
             return len(self.told) >= count
-        await until(is_so, "people are told")
+        await until(is_so, "the server reports it")
         self.assertEqual(len(self.told), count)
 
     async def looks(self, edits: int) -> None:
-        """Who reads goes on, and sees what is confirmed."""
+        """Check that readers go on, and see what is confirmed."""
         ben, ask = self.ben, self.here.ask
         self.assertEqual(len((await soon(ask(ben, "scenario", at="shared")))["edits"]), edits)
         for at in (f"seat{ben}", "shared"):
@@ -456,7 +456,7 @@ class Stalled(Case):
         for turn in (ben, None):
             self.assertEqual([one["name"] for one in await soon(self.here.lab.seating.seats_kept(turn))], ["Ada", "Ben"])
 
-    async def test_what_is_put_is_pending_and_all_else_goes_on(self) -> None:
+    async def test_changes_are_pending_and_all_else_goes_on(self) -> None:
         await self.here.lab.timing.set_clock(rate=60)
         for names in (("write",), ("fsync",)):
             self.told.clear()
@@ -488,7 +488,7 @@ class Stalled(Case):
             self.assertEqual(held[before:], stamps)
             self.assertEqual(self.keeper.changes, 0)  # of the program
 
-    async def test_who_reads_the_shared_road_goes_on_while_a_share_is_pending(self) -> None:
+    async def test_readers_of_the_shared_road_go_on_while_a_share_is_pending(self) -> None:
         bus = Bus()
         there = await self.enterAsyncContext(Here(site=2))
         first, second = bus.site(self.here), bus.site(there)
@@ -519,7 +519,7 @@ class Stalled(Case):
         self.assertEqual(there.lab.state.shared.size, 3)
         await self.looks(3)
 
-    async def test_a_stalled_try_of_a_disk_that_took_nothing_and_a_stalled_compaction(self) -> None:
+    async def test_a_stalled_retry_on_a_full_disk_and_a_stalled_compaction(self) -> None:
         self.disk.is_full()
         with self.assertRaises(Refused):
             await self.here.put(self.ada, [*LIMIT, 3])

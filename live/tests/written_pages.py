@@ -1,4 +1,4 @@
-"""The report of two roads, beside the figures that live gives of them, and as the recipe writes it."""
+"""Compare the report of two roads with the figures of live, and with the report of the recipe."""
 from __future__ import annotations
 
 import html
@@ -14,7 +14,7 @@ ASKED = {"of": "mine", "title": "The road of <Ada>: 0:01:00 to 0:10:00", "works"
 
 
 def rows_of(page: str) -> dict[str, list[str]]:
-    """The lines of its table of figures."""
+    """Return the lines of its table of figures."""
     found = re.findall(r"<tr>(<td>.*?)</tr>", page)
     return {html.unescape(cells[0]): cells[1:] for cells in (re.findall(r"<td>(.*?)</td>", line) for line in found)}
 
@@ -38,7 +38,7 @@ class Reports(Case):
             self.assertEqual(rows["delay, vehicle hours"][4], f"{figures['delay_hours']:.2f}")
             self.assertEqual(figures["after"]["flows"][2]["on"], 340)
 
-    async def test_a_report_stands_by_itself_and_has_no_marks_of_others(self) -> None:
+    async def test_a_report_is_self_contained_and_has_no_markup_of_others(self) -> None:
         async with Here() as here:
             seat, = await here.join("<b>")
             await here.lab.timing.set_clock(to=600)
@@ -50,7 +50,7 @@ class Reports(Case):
         self.assertNotIn("<b>", page)
         self.assertIsNone(re.search(r'(src|href)="(?!data:)|<script|<button', page))
 
-    async def test_what_is_no_report_is_refused(self) -> None:
+    async def test_an_invalid_report_is_refused(self) -> None:
         async with Here() as here:
             seat, = await here.join("Ada")
             cases: list[tuple[dict[str, Any], str]] = [

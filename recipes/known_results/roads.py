@@ -12,7 +12,7 @@ JAM, FRONT = 2_400, 2_000
 """The cells of a jam, and the steps in which its front moves back."""
 CARS = 400
 """The number of cars that leave a jam at limit 1."""
-OUTFLOW, BEHIND = 1_500, 200
+OUTFLOW, DOWNSTREAM = 1_500, 200
 """The steps in which the flow out of a jam is counted, and the cells to the detector after the jam."""
 WIDE, QUEUE = 2_000, 500
 """The steps in which a wide jam is observed, and about the number of cars that it has at first."""
@@ -28,15 +28,15 @@ def flow(limit: int, slowing: int, steps: int, seed: int) -> Counted:
         return {"counted": lab.count("A", 0, WARM, WARM + steps).cars}
 
 
-def jam(limit: int, slowing: int, start: int, cells: int, behind: int, seed: int) -> tuple[RoadLab, int]:
+def jam(limit: int, slowing: int, start: int, cells: int, after: int, seed: int) -> tuple[RoadLab, int]:
     """Return a lab with a jam before a cell that opens at some step, and this step.
 
     Nobody is slowed until then, so a car enters in every other step, and they stop without gaps. Fault: the jam has gaps.
     """
     opened = 2 * cells + cells // limit + 100
-    width = -(-(cells + behind + 2) // 64)
-    zones = -(-(cells + behind + 2) // width)
-    plan = Plan(length=cells + behind + 2, inlets=[(0, ALWAYS)], zones=[(limit, 0)] * zones, zone=width, detectors=[cells, cells + behind],
+    width = -(-(cells + after + 2) // 64)
+    zones = -(-(cells + after + 2) // width)
+    plan = Plan(length=cells + after + 2, inlets=[(0, ALWAYS)], zones=[(limit, 0)] * zones, zone=width, detectors=[cells, cells + after],
                 words=seed)
     lab = RoadLab(plan)
     lab.edit("A", ("block", cells), 0, 1)
@@ -76,9 +76,9 @@ def time(slowing: int, seed: int) -> Counted:
 
 def outflow(limit: int, start: int, seed: int) -> Counted:
     """Return the cars that leave a jam whose cars are slow to start but are not slowed otherwise."""
-    lab, opened = jam(limit, 0, start, JAM, BEHIND, seed)
+    lab, opened = jam(limit, 0, start, JAM, DOWNSTREAM, seed)
     with lab:
-        begin = opened + 2 * BEHIND
+        begin = opened + 2 * DOWNSTREAM
         lab.advance("A", begin + OUTFLOW, SOON)
         if count_cars(lab.cells("A", begin + OUTFLOW)[:100]) < 90:
             raise Fault("the jam has gone")

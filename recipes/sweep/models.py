@@ -1,4 +1,4 @@
-"""Define three models for sweeps: a road before a zone of more slowing, a work zone behind a wide jam, and the capacity drop.
+"""Define three models for sweeps: a road before a zone of more slowing, a work zone downstream of a wide jam, and the capacity drop.
 
     python3 -m zegdrut sweep recipes/sweep/models.py:before_a_zone --grid slowing=16384,32768 --grid inflow=12288,65536
 

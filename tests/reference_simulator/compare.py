@@ -1,5 +1,5 @@
 #!/usr/bin/env python3
-"""Compares the program with the simulator of this folder, line by line, on the scripts written by hand and on random ones.
+"""Compare the program with the simulator of this folder, line by line, on the scripts written by hand and on random ones.
 
     tests/reference_simulator/compare.py --program P --scripts 300 --seed 0
 """

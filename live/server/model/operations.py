@@ -1,12 +1,12 @@
-"""Operations: what people do to a road, once and for all.
+"""Operations: what people do to a road. Operations never change.
 
-    put(stamp, shape)               a new layer on top
-    lift(stamp, line)               a line comes on top
-    edit(stamp, values)             raw edits
-    undo(stamp, operation)          as if that had never been done; redo undoes an undo
-    exclude(stamp, site, is_out)    nothing counts that a site made or makes
+    put(stamp, shape)               puts a new layer on top
+    lift(stamp, line)               puts a line on top
+    edit(stamp, values)             makes raw edits
+    undo(stamp, operation)          undoes an operation, as if it had never been made; redo undoes an undo
+    exclude(stamp, site, is_out)    ignores everything a site made or makes, or includes it again
 
-and `change`, which depends on what stands, in `road`.
+`change` is in `road`, since it depends on the current layers.
 
 An operation has one stamp. It names layers by the stamp of their put; a raw edit's layer is named by kind, object and step.
 """
@@ -23,7 +23,7 @@ Stamp = tuple[int, int]
 RawName = tuple[str, int, int]
 """Kind, object and step of a raw edit."""
 Name = Union[Stamp, RawName]
-"""What names a layer."""
+"""The name of a layer."""
 
 SEATS = 64  # numbers of a site; 0 is the site itself
 END = 1 << 20  # after every step
@@ -33,7 +33,7 @@ V = TypeVar("V", covariant=True)
 
 
 def same_int(value: int) -> int:
-    """Return the same object for equal small numbers: most objects and steps of a large room are among them."""
+    """Return the same object for equal small numbers: most objects and steps of a large road are among them."""
     return SMALL[value] if 0 <= value < len(SMALL) else value
 
 
@@ -100,21 +100,21 @@ NOTHING = About()
 
 @dataclass(frozen=True, eq=False, slots=True)
 class Operation:
-    """An act of somebody. Two operations with one stamp are twins: the one with the greater text counts as the later one."""
+    """An act of somebody. Two operations with one stamp are twins: the one with the greater text is the later one."""
 
     stamp: Stamp
-    sets: Mapping[Name, Shape | None] = field(default_factory=lambda: NO_LAYERS)  # what layers are from now on; None: nothing
-    heights: Mapping[Name, Stamp] = field(default_factory=lambda: NO_HEIGHTS)  # the height at which layers lie from now on
+    sets: Mapping[Name, Shape | None] = field(default_factory=lambda: NO_LAYERS)  # the new shape of each layer; None withdraws it
+    heights: Mapping[Name, Stamp] = field(default_factory=lambda: NO_HEIGHTS)  # the new height of each layer
     undoes: Stamp | None = None
-    excludes: tuple[int, bool] | None = None  # a site, and whether nothing of it counts
-    seen: Stamp | None = None  # the operation that had set the line last, as far as the maker knew
+    excludes: tuple[int, bool] | None = None  # a site, and whether it is excluded
+    seen: Stamp | None = None  # the latest change of the line that the maker had seen
     about: About = NOTHING
 
     def __post_init__(self) -> None:
         older = [one for one in (self.undoes, self.seen) if one is not None]
         others = [*self.heights.values(), *(name for name in self.names if not is_raw(name))]
         if any(one >= self.stamp for one in older) or any(one > self.stamp for one in others):
-            raise ValueError("an operation can only refer to older ones, and lifts nothing above itself")
+            raise ValueError("an operation may refer only to older ones, and may lift nothing above its own stamp")
         object.__setattr__(self, "sets", small_mapping(self.sets, NO_LAYERS))
         object.__setattr__(self, "heights", small_mapping(self.heights, NO_HEIGHTS))
 
@@ -135,11 +135,11 @@ class Operation:
 
     @property
     def is_empty(self) -> bool:
-        """Return whether it says nothing at all."""
+        """Return whether it has no effect at all."""
         return not self.sets and not self.heights and self.undoes is None and self.excludes is None
 
     def written(self) -> dict[str, Json]:
-        """Return it as journals and messages have it. Empty fields are left out."""
+        """Return its JSON value, as in journals and messages. Empty fields are left out."""
         about = self.about
         fields: dict[str, Json] = {
             "sets": [[list(name), written_shape(name, shape)] for name, shape in self.sets.items()],
@@ -151,12 +151,12 @@ class Operation:
         return {"stamp": [*self.stamp], **{name: value for name, value in fields.items() if value not in (None, [], "")}}
 
     def text(self) -> str:
-        """Return a text that equal operations have alike."""
+        """Return a text that is the same for equal operations."""
         return json.dumps(self.written(), sort_keys=True)
 
 
 def in_order(operations: Iterable[Operation]) -> list[Operation]:
-    """Return operations by their stamps, twins by their texts."""
+    """Return operations in the order of their stamps, and twins in the order of their texts."""
     found = sorted(operations, key=lambda one: one.stamp)
     has_twins = any(one.stamp == other.stamp for one, other in zip(found, found[1:]))
     return sorted(found) if has_twins else found
@@ -176,21 +176,21 @@ def written_stamp(stamp: Stamp | None) -> Json:
 
 
 def written_shape(name: Name, shape: Shape | None) -> Json:
-    """Return a shape as it is written: of a raw edit the value alone."""
+    """Return the JSON value of a shape; for a raw edit only its value."""
     if shape is None:
         return None
     return shape.value if is_raw(name) else [*shape]
 
 
 def raw_shape(name: RawName, value: int) -> Shape:
-    """Return the shape of a raw edit, which holds until the next one of its object."""
+    """Return the shape of a raw edit, which is in force until the next one of its object."""
     kind, index, step = name
     return Shape(kind, index, index, step, None, value)
 
 
 def line_of(one: Operation, name: Name) -> Stamp:
-    """Return the line to which a layer belongs that an operation set: of a shape its name, of a raw edit the operation's
-    stamp, or what form 2 said."""
+    """Return the line of a layer that an operation set: for a shape its name; for a raw edit the operation's stamp, or the line
+    that form 2 gave it."""
     return name if is_line(name) else one.heights.get(name, one.stamp)
 
 
@@ -202,12 +202,12 @@ def put(stamp: Stamp, shape: Shape, about: About = NOTHING) -> Operation:
 
 
 def lift(stamp: Stamp, line: Stamp, about: About = NOTHING) -> Operation:
-    """Lift a line on top, whatever its shape is and will be."""
+    """Put a line on top, whatever its shape is and will be."""
     return Operation(stamp, heights={line: stamp}, about=about)
 
 
 def edit(stamp: Stamp, values: Mapping[RawName, int | None], about: About = NOTHING) -> Operation:
-    """Make raw edits. Each holds until the next one of its object; None withdraws one."""
+    """Make raw edits. Each is in force until the next one of its object; None withdraws one."""
     return Operation(stamp, {name: None if value is None else raw_shape(name, value) for name, value in values.items()},
                      about=about)
 
@@ -218,13 +218,13 @@ def undo(stamp: Stamp, undone: Operation, about: About = NOTHING) -> Operation:
 
 
 def exclude(stamp: Stamp, site: int, is_out: bool, about: About = NOTHING) -> Operation:
-    """Let nothing count that a site made or makes, or let all of it count again."""
+    """Ignore everything that a site made or makes, or include it again."""
     return Operation(stamp, excludes=(site, is_out), about=about)
 
 
 def stamped_anew(operations: Iterable[Operation], stamps: Mapping[Stamp, Stamp]) -> list[Operation]:
-    """Return these operations under new stamps, by the old ones. They refer to the new ones of each other. Raise
-    ValueError if one refers to an operation that keeps a later stamp."""
+    """Return these operations with new stamps, which `stamps` maps from the old ones. They refer to each other by the new ones.
+    Raise ValueError if one refers to an operation that keeps a later stamp."""
     def renamed(name: Name) -> Name:
         return stamps.get(name, name) if is_line(name) else name
     return [Operation(stamps[one.stamp], {renamed(name): shape for name, shape in one.sets.items()},

@@ -136,7 +136,7 @@ def read_row(value: Json, size: int, why: str) -> Sequence[Json]:
 def whole(value: Json, most: int, what: str) -> int:
     """Return a whole number from 0 on."""
     if type(value) is not int or not 0 <= value <= most:
-        raise Malformed(f"{what} {str(value)[:40]} is no whole number from 0 to {most}")
+        raise Malformed(f"{what} {str(value)[:40]} is not a whole number from 0 to {most}")
     return same_int(value)
 
 

@@ -1,5 +1,5 @@
-// What the compiler must refuse: names that the store does not have. It is compiled and never run:
-// `tsc -p live/page` fails if one of these lines is no error.
+// Names that the store does not have, which the compiler must refuse. This file is compiled and never run:
+// `tsc -p live/page` fails if one of these lines compiles.
 
 import {assign} from "../../page/assign.mjs";
 import {need, notify, store, watch} from "../../page/store.mjs";

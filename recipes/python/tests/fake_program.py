@@ -1,5 +1,5 @@
 #!/usr/bin/env python3
-"""Replies to lines as a test tells it to: late, in pieces, with signals between them, twice, or not at all.
+"""Reply to lines as a test tells it to: late, in pieces, with signals between them, twice, or not at all.
 
 The first line is the plan; each later one is {"echo": {"text": .., ..}} with some of these fields:
 

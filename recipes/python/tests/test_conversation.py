@@ -208,7 +208,7 @@ class Ends(unittest.TestCase):
 
     def test_a_plan_that_is_refused(self) -> None:
         before = {*threading.enumerate()}
-        with self.assertRaisesRegex(Refused, "^Length: a road has 8 to 8,192 cells"):
+        with self.assertRaisesRegex(Refused, "^Length: a road must have 8 to 8,192 cells"):
             RoadLab(Plan(length=4, inlets=[(0, 1)], zones=[(5, 0)]))
         self.assertEqual({*threading.enumerate()} - before, set())  # one of an earlier test may end meanwhile
 

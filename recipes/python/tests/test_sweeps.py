@@ -173,8 +173,8 @@ class Sweeps(Folder):
                            ("there are no seeds: give at least one", lambda: sweep(plain_model, {"x": [1]}, [])),
                            ("point 1 has the parameters y, and the first one x", lambda: sweep(plain_model, [{"x": 1}, {"y": 1}])),
                            ("a parameter cannot be named seed: this is a column of the results", lambda: sweep(plain_model, [{"seed": 1}])),
-                           ("a point or a seed is duplicate: remove one", lambda: sweep(plain_model, {"x": [1, 1]})),
-                           ("jobs is 1 or more, not 0", lambda: sweep(plain_model, {"x": [1]}, jobs=0)),
+                           ("a point or a seed appears twice: remove one", lambda: sweep(plain_model, {"x": [1, 1]})),
+                           ("jobs must be 1 or more, not 0", lambda: sweep(plain_model, {"x": [1]}, jobs=0)),
                            ("part 3 of 2 does not exist", lambda: sweep(plain_model, {"x": [1]}, part=(3, 2)))):
             with self.subTest(said), self.assertRaisesRegex(Fault, f"^{said}$"):
                 call()
@@ -320,7 +320,7 @@ class Goes(Folder):
                 (["model.py:slow"], "name the points: --grid NAME=VALUES or --points FILE"),
                 (["model.py:slow", "--grid", "a"], "--grid a: write NAME=VALUES"),
                 (["model.py:slow", "--points", "none.csv"], "No such file"),
-                (["model.py:slow", *GRID, "--part", "1"], "--part K/N"), (["model.py:slow", *GRID, "--seeds", "x"], "--seeds is 1-4")):
+                (["model.py:slow", *GRID, "--part", "1"], "--part as K/N"), (["model.py:slow", *GRID, "--seeds", "x"], "--seeds as 1-4")):
             ran = self.run_command(*words)
             self.assertEqual(ran.returncode, 2, words)
             self.assertIn(said, ran.stderr)

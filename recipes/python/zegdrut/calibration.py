@@ -10,19 +10,19 @@ the next round is drawn from a normal distribution with these. The first round f
 has new seeds, so that no point wins by a lucky seed. The result is the minimum of a quadratic, fitted by least squares to all points
 of the later rounds. If it has no minimum within the bounds, the result is the mean of the elites of the last two rounds.
 
-The error of a point is a sum of squares. Each is the deviation of a quantity that one of the three parameters decides, in units of
-its uncertainty:
+The error of a point is a sum of squares. Each is the deviation of a quantity that one of the three parameters determines, in units
+of its uncertainty:
 
 - totals, for the demand factor: the cars of each station in the whole window, to 0.5 %, averaged over the stations;
-- free speed, for the slowing chance: the mean difference of speeds if both are free (at most 10 km/h below the station's greatest
+- free speed, for the slowing chance: the mean difference of speeds if both are free (at most 10 km/h below the station's highest
   measured speed), to 0.3 km/h;
 - delay, for slow-to-start: cars times seconds per km above the free travel time, summed over stations and intervals. It grows fast
   with slow-to-start and scatters widely from day to day, so its logarithm is compared, to 0.5;
-- half the mean of (simulated - measured)^2 over stations and intervals: for flows over the measured cars, for speeds over
-  (1 + 0.5 d)^2 in km/h, where d is how far the lower of the two is below the free speed.
+- half the mean of (simulated - measured)^2 over stations and intervals: for flows divided by the measured cars, for speeds divided
+  by (1 + 0.5 d)^2 in km/h, where d is how far the lower of the two is below the free speed.
 
 Simulated values are means over the days of a point. The flows of a day are multiplied by demand / admitted cars of that day (at most
-5 %), so that random arrivals do not count as a demand factor.
+5 %), so that random arrivals are not mistaken for a demand factor.
 """
 from __future__ import annotations
 
@@ -35,7 +35,7 @@ from typing import Callable, NamedTuple, Sequence
 
 from . import demand
 from .comparison import Day, Model, make_model, simulate_day, with_measured_demand, with_stations
-from .demand import QUICK, BeyondCapacity, count_demand, count_processors
+from .demand import QUICK, BeyondCapacity, count_demand, thread_count
 from .errors import Fault, LabError
 from .freeway import ENTRY, Figures
 from .measured import Measured
@@ -53,7 +53,7 @@ class Point(NamedTuple):
 
 
 class Bounds(NamedTuple):
-    """The least and the greatest value of each parameter."""
+    """The smallest and the largest value of each parameter."""
 
     slowing: tuple[float, float] = (0.0, 0.4)
     start: tuple[float, float] = (0.0, 0.7)
@@ -63,11 +63,11 @@ class Bounds(NamedTuple):
     def read(cls, given: object, where: str) -> Bounds:
         """Read bounds from a JSON object such as {"slowing": [0, 0.4]}. Fault: one of them is invalid."""
         if not isinstance(given, dict) or set(given) - set(NAMES):
-            raise Fault(f"{where}: bounds must be an object of {', '.join(NAMES)}, each [least, greatest]")
+            raise Fault(f"{where}: bounds must be an object of {', '.join(NAMES)}, each [smallest, largest]")
         for name, pair in given.items():
             numbers = isinstance(pair, list) and len(pair) == 2 and all(isinstance(one, (int, float)) for one in pair)
             if not numbers or not 0 <= pair[0] <= pair[1] or name != "factor" and pair[1] > 1:
-                raise Fault(f"{where}: bounds: {name}: {pair} must be [least, greatest]" + " from 0 to 1" * (name != "factor"))
+                raise Fault(f"{where}: bounds: {name}: {pair} must be [smallest, largest]" + " from 0 to 1" * (name != "factor"))
         return cls(**{name: (float(low), float(high)) for name, (low, high) in given.items()})
 
 
@@ -128,10 +128,10 @@ def make_calibrated(figures: Figures, measured: Measured, point: Point) -> Figur
     return found
 
 
-KNOWN_TOTAL, KNOWN_SPEED, KNOWN_DELAY = 0.005, 0.3, 0.5
-"""The uncertainty of totals (a share), free speeds (km/h) and delays (a logarithm)."""
+TOTAL_UNCERTAINTY, SPEED_UNCERTAINTY, DELAY_UNCERTAINTY = 0.005, 0.3, 0.5
+"""The uncertainties of totals (a share), free speeds (km/h) and delays (a logarithm)."""
 FREE = 10.0
-"""Traffic is free down to this many km/h below the greatest measured speed of a station."""
+"""Traffic is free down to this many km/h below the highest measured speed of a station."""
 LEAST_DELAY = 1_000.0
 """Seconds per km, summed over all cars, that do not count as a delay."""
 
@@ -159,16 +159,16 @@ def compute_error(model: Model, days: Sequence[Day], scales: Sequence[float]) ->
             delays[0] += math.fsum(one.cars * excess_seconds_per_km(one.speeds / one.cars * KMH, free) for one in known) / len(days)
             delays[1] += cars * excess_seconds_per_km(measured, free)
         if total[1]:
-            totals.append(((total[0] / total[1] - 1) / KNOWN_TOTAL) ** 2)
+            totals.append(((total[0] / total[1] - 1) / TOTAL_UNCERTAINTY) ** 2)
             ratios.append(total[1] / max(total[0], 1.0))
-    delay = math.log((delays[0] + LEAST_DELAY) / (delays[1] + LEAST_DELAY)) / KNOWN_DELAY
-    error = (mean_or_zero(totals) + (mean_or_zero(free_speeds) / KNOWN_SPEED) ** 2 + delay ** 2
+    delay = math.log((delays[0] + LEAST_DELAY) / (delays[1] + LEAST_DELAY)) / DELAY_UNCERTAINTY
+    error = (mean_or_zero(totals) + (mean_or_zero(free_speeds) / SPEED_UNCERTAINTY) ** 2 + delay ** 2
              + (mean_or_zero(flows) + mean_or_zero(speeds)) / 2)
     return error, mean_or_zero(ratios) or 1.0
 
 
 def is_congested(measured: Measured) -> bool:
-    """Return whether a compared station has an interval whose speed is not free. Only congestion decides the slow-to-start chance."""
+    """Return whether a compared station has an interval whose speed is not free. Only congestion determines the slow-to-start chance."""
     for series in measured.main[1:]:
         speeds = [speed for speed in series.speeds if speed is not None]
         if speeds and min(speeds) < max(speeds) - FREE:
@@ -222,17 +222,17 @@ def draw_first_points(bounds: Bounds, factor: float, number: int) -> list[Point]
     return [Point(value(index, 2, *bounds.slowing), value(index, 3, *bounds.start), factor) for index in range(1, number + 1)]
 
 
-def draw_next_points(bounds: Bounds, factor: float, elite: Sequence[Trial], number: int, chance: random.Random) -> list[Point]:
+def draw_next_points(bounds: Bounds, factor: float, elite: Sequence[Trial], number: int, rng: random.Random) -> list[Point]:
     """Draw points from a normal distribution with the mean and 1.2 times the spread of the elite, within the bounds."""
-    middle, spread = find_centre([one.point for one in elite])
-    found = []
+    means, spreads = find_centre([one.point for one in elite])
+    points = []
     for _ in range(number):
         values = []
-        for (low, high), mean, wide in zip(bounds[:2], middle, spread):
-            value = chance.gauss(mean, 1.2 * wide + 0.005 * (high - low))
+        for (low, high), mean, spread in zip(bounds[:2], means, spreads):
+            value = rng.gauss(mean, 1.2 * spread + 0.005 * (high - low))
             values.append(min(max(value, low), high))
-        found.append(Point(values[0], values[1], factor))
-    return found
+        points.append(Point(values[0], values[1], factor))
+    return points
 
 
 def correct_factor(bounds: Bounds, elite: Sequence[Trial]) -> float:
@@ -243,45 +243,45 @@ def correct_factor(bounds: Bounds, elite: Sequence[Trial]) -> float:
 
 def find_centre(points: Sequence[Point]) -> tuple[Point, Point]:
     """Return the mean of points and their spread (the standard deviation) in each direction."""
-    middle = [math.fsum(values) / len(points) for values in zip(*points)]
-    spread = [math.sqrt(math.fsum((value - mean) ** 2 for value in values) / max(len(points) - 1, 1))
-              for values, mean in zip(zip(*points), middle)]
-    return Point(*middle), Point(*spread)
+    means = [math.fsum(values) / len(points) for values in zip(*points)]
+    spreads = [math.sqrt(math.fsum((value - mean) ** 2 for value in values) / max(len(points) - 1, 1))
+               for values, mean in zip(zip(*points), means)]
+    return Point(*means), Point(*spreads)
 
 
 def fit_minimum(bounds: Bounds, tried: Sequence[Trial]) -> tuple[float, float] | None:
     """Return both chances at the minimum of a quadratic that is fitted to the points of the later rounds by least squares.
 
-    Points with great errors weigh less. Return None if the quadratic has no minimum within the bounds."""
+    Points with large errors get less weight. Return None if the quadratic has no minimum within the bounds."""
     used = [one for one in tried if one.round and math.isfinite(one.error)]
     if len(used) < 20:
         return None
-    middle, spread = find_centre([one.point for one in used])
-    wide = [max(one, 1e-6) for one in spread]
-    least = min(one.error for one in used)
+    mean_point, spread_point = find_centre([one.point for one in used])
+    spreads = [max(one, 1e-6) for one in spread_point]
+    smallest = min(one.error for one in used)
     rows, weights = [], []
     for one in used:
-        x, y = ((value - mean) / size for value, mean, size in zip(one.point[:2], middle, wide))
+        x, y = ((value - mean) / spread for value, mean, spread in zip(one.point[:2], mean_point, spreads))
         rows.append([1.0, x, y, x * x, y * y, x * y])
-        weights.append((least / one.error) ** 2 if one.error > 0 else 1.0)
+        weights.append((smallest / one.error) ** 2 if one.error > 0 else 1.0)
     normal = [[math.fsum(weight * row[i] * row[j] for row, weight in zip(rows, weights)) for j in range(6)] for i in range(6)]
-    right = [math.fsum(weight * row[i] * one.error for row, one, weight in zip(rows, used, weights)) for i in range(6)]
-    fitted = solve(normal, right)
+    rhs = [math.fsum(weight * row[i] * one.error for row, one, weight in zip(rows, used, weights)) for i in range(6)]
+    fitted = solve(normal, rhs)
     if fitted is None:
         return None
     _, first, second, xx, yy, xy = fitted
     if not (xx > 0 and 4 * xx * yy > xy * xy):
         return None
     place = solve([[2 * xx, xy], [xy, 2 * yy]], [-first, -second])
-    if place is None or max(abs(one) for one in place) > 2:
+    if place is None or max(abs(one) for one in place) > 2:  # no further than two spreads from the mean
         return None
-    x, y = (mean + size * value for value, mean, size in zip(place, middle, wide))
+    x, y = (mean + spread * value for value, mean, spread in zip(place, mean_point, spreads))
     return (x, y) if all(low <= value <= high for value, (low, high) in zip((x, y), bounds)) else None
 
 
-def solve(matrix: Sequence[Sequence[float]], right: Sequence[float]) -> list[float] | None:
+def solve(matrix: Sequence[Sequence[float]], rhs: Sequence[float]) -> list[float] | None:
     """Solve linear equations by elimination with pivots. Return None if there is no solution."""
-    rows = [[*row, value] for row, value in zip(matrix, right)]
+    rows = [[*row, value] for row, value in zip(matrix, rhs)]
     size = len(rows)
     for place in range(size):
         pivot = max(range(place, size), key=lambda row: abs(rows[row][place]))
@@ -307,14 +307,14 @@ def calibrate(name: str, figures: Figures, measured: Measured, bounds: Bounds = 
     progress: gets the number of points tried, the number of all points, and the best trial of the round.
 
     Fault: no point within the bounds admits the demand, or the road cannot be made."""
-    chance = random.Random(search.seed)
+    rng = random.Random(search.seed)
     tried: list[Trial] = []
     elites: list[list[Trial]] = []
-    with ProcessPoolExecutor(count_processors(), initializer=use_one_thread) as pool:
+    with ProcessPoolExecutor(thread_count(), initializer=use_one_thread) as pool:
         try:
             factor = min(max(1.0, bounds.factor[0]), bounds.factor[1])
             for number in range(search.rounds):
-                points = (draw_next_points(bounds, factor, elites[-1], search.points, chance) if number
+                points = (draw_next_points(bounds, factor, elites[-1], search.points, rng) if number
                           else draw_first_points(bounds, factor, search.first_points))
                 days = search.days if number else search.first_days
                 seeds = range(10_000 * (number + 1), 10_000 * (number + 1) + days)
@@ -334,8 +334,8 @@ def calibrate(name: str, figures: Figures, measured: Measured, bounds: Bounds = 
             pool.shutdown(cancel_futures=True)
             raise
     last = [one for elite in elites[-2:] for one in elite]
-    middle, spread = find_centre([one.point for one in last])
+    mean, spread = find_centre([one.point for one in last])
     fitted = fit_minimum(bounds, tried)
-    slowing, start = fitted or middle[:2]
+    slowing, start = fitted or mean[:2]
     _, of_ratios = find_centre([Point(0, 0, one.point.factor * one.ratio) for one in last])
     return Calibration(Point(slowing, start, correct_factor(bounds, last)), spread._replace(factor=of_ratios.factor), tried, fitted is not None)

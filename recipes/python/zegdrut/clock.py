@@ -68,7 +68,7 @@ class Clock:
         if isinstance(value, (int, float)) and not isinstance(value, bool):
             return round(value * 60)
         if not isinstance(value, str) or TIME.fullmatch(value.strip()) is None:
-            raise InvalidTime(f"{field}: {value!r} is not a time: {ACCEPTED}")
+            raise InvalidTime(f"{field}: {value!r} is not a time: write {ACCEPTED}")
         seconds = read_clock_time(value, field)
         after = seconds - self.begin if seconds >= self.begin else seconds - self.begin + DAY
         if self.zone is None:

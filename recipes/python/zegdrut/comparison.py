@@ -16,7 +16,7 @@ from concurrent.futures import ThreadPoolExecutor
 from dataclasses import dataclass
 from typing import Any, Callable, NamedTuple, Sequence
 
-from .demand import Effort, Rates, convert_demands, count_processors
+from .demand import Effort, Rates, convert_demands, thread_count
 from .errors import Fault
 from .freeway import Figures, Road, make_road, to_rates, warm_up_minutes, widen_inlet, with_warm_up
 from .intervals import Estimate, average_known, estimate_mean
@@ -174,7 +174,7 @@ def simulate_day(model: Model, seed: int, with_rows: bool = False, with_entries:
 def simulate_days(model: Model, days: int, progress: Callable[[int, int], None] | None = None) -> list[Day]:
     """Simulate days in parallel: the seed of the road, and the ones after it."""
     found: list[Day] = []
-    with ThreadPoolExecutor(count_processors()) as pool:
+    with ThreadPoolExecutor(thread_count()) as pool:
         for day, _, _ in pool.map(lambda seed: simulate_day(model, seed), range(model.seed, model.seed + days)):
             found.append(day)
             if progress:

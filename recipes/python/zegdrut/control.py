@@ -93,9 +93,9 @@ class RampMeter(Controller):
 
     Each minute the rate becomes rate + gain * (setpoint - occupancy), within [least, most]. Rates are in cars per hour, occupancies in
     per cent, measured at a cell downstream of the ramp. Cars wait before the ramp in a vertical queue: `queue` is arrivals minus
-    admitted cars at the last decision (`measure_queue` has each second). Before step `start` the rate is `most`.
+    admitted cars at the last decision (`measure_queue` computes it for each second). Before step `start` the rate is `most`.
 
-    gates: the detector after the inlet, the detector at it, and its cell. They show who has entered.
+    gates: the detector after the inlet, the detector at it, and its cell. They show which cars have entered.
     """
 
     def __init__(self, inlet: int, gates: tuple[int, int, int], cell: int, arrivals: Rates, admission: Callable[[int], Admission],
@@ -103,16 +103,16 @@ class RampMeter(Controller):
         self.inlet, self.gates, self.cell, self.arrivals, self.admission = inlet, gates, cell, arrivals, admission
         self.setpoint, self.gain, self.least, self.most, self.start = setpoint, gain, least, most, start
         self.rate = most
-        self.queue, self.standing = 0.0, False
+        self.queue, self.in_inlet_cell = 0.0, False
         self.rates: list[tuple[int, float, float, float]] = []
         """For each minute: the step, the occupancy in per cent, the rate in cars per hour, and the queue in cars."""
 
     def decide(self, view: View) -> list[Setting]:
         """Set the ramp's inflow chance for the next minute."""
-        behind, before, cell = self.gates
-        standing = view.lab.cells(view.at, view.last)[cell].isdigit()  # (only the detector at the inlet may have counted it)
-        admitted = view.cars(behind) - view.cars(before) + standing - self.standing
-        self.standing = standing
+        after, at, cell = self.gates
+        in_inlet_cell = view.lab.cells(view.at, view.last)[cell].isdigit()  # this car has entered, but `after` has not counted it yet
+        admitted = view.cars(after) - view.cars(at) + in_inlet_cell - self.in_inlet_cell
+        self.in_inlet_cell = in_inlet_cell
         self.queue += count_demand(self.arrivals, view.first, view.last) - admitted
         occupancy = view.occupancy(self.cell)
         if view.last >= self.start:
@@ -125,7 +125,7 @@ class RampMeter(Controller):
 
 
 class Queue(NamedTuple):
-    """The vertical queue before an inlet in a run: its sum over all seconds in vehicle hours, and the greatest one in cars."""
+    """The vertical queue before an inlet in a run: its sum over all seconds in vehicle hours, and the longest one in cars."""
 
     vehicle_hours: float
     longest: float
@@ -134,7 +134,7 @@ class Queue(NamedTuple):
 def measure_queue(trips: Trips, inlet: int, arrivals: Rates) -> Queue:
     """Measure the queue before an inlet in the whole run: in each second the arrivals up to then, minus the cars admitted up to then.
 
-    Arrivals are a steady flow and cars enter at random, so that the queue of a free inlet scatters around 0 and is negative at times."""
+    Arrivals are a steady flow and cars enter at random, so the queue of a free inlet varies around 0 and is negative at times."""
     admitted = [0] * trips.horizon
     for number in trips.left:
         if entry_inlet(number) == inlet:

@@ -71,7 +71,7 @@ def run_over_days(before: Script, after: Script, days: int, at: str | None = Non
     Refused: there is no such replica.
     """
     if days not in DAYS:
-        raise Fault(f"the number of days is {DAYS[0]} to {DAYS[-1]:,}, not {days:,}")
+        raise Fault(f"the number of days must be {DAYS[0]} to {DAYS[-1]:,}, not {days:,}")
     pairs = list(zip(names, (before, after)))
     for name, script in pairs:
         with open_edited(name, script) as lab:

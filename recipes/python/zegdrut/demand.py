@@ -5,14 +5,14 @@
     admission.chance(1_200), admission.capacity           # 1/65,536; cars per hour
 
     ramp = measure_admission(drivers, cell=100, before=[Inlet(0, admission.chance(1_200))])
-    ramp.chance(250)                                      # beside the passing flow
+    ramp.chance(250)                                      # with the passing flow
 
 Definitions
 - *Demand* is what the user requests: cars per hour at an inlet, over time. Nobody waits before an inlet.
 - *Admitted* cars are those that enter.
 - *Lost demand* is the demand of a window in cars, minus the cars admitted in it. It depends on nothing else. Arrivals are random, so
   even a free road has a small lost demand of either sign: `scatter` is how large it may be by chance.
-- *Capacity* of an inlet is the flow that it admits at chance 1, beside the passing flow, on a road that is free downstream.
+- *Capacity* of an inlet is the flow that it admits at chance 1, with the passing flow, on a road that is free downstream.
 
 How the conversion works. The program itself simulates the inlets on a road that is free downstream, for several chances and seeds.
 Let q be the chance and f the admitted cars per step. q / f is 1 if nothing hinders a car, and a smooth function of q. It is interpolated
@@ -38,7 +38,7 @@ from .units import ALWAYS, HOUR, KMH
 
 WARM_UP = 1_000
 """The steps before cars are counted."""
-BEHIND = 50
+DOWNSTREAM = 50
 """The cells after an inlet where its cars are counted, or fewer if there is another inlet before that."""
 SHORT_ROAD, LONG_ROAD = 100, 250
 """The cells of free road after the last inlet. A slow road has less capacity than its inlet, and needs the long one."""
@@ -46,7 +46,7 @@ FIRST_SEED = 1_000
 FIRST_CHANCES = (0.125, 0.25, 0.4, 0.55, 0.7, 0.85, 1.0)
 FINE_CHANCES = (0.06, 0.19, 0.32, 0.475, 0.625)
 SMALL_CHANCES = (0.0, 0.06)
-"""Simulated only beside a passing flow."""
+"""Simulated only with a passing flow."""
 SMALL = 0.1
 TOLERANCE = 0.003
 """The share by which an interpolated flow may differ from a simulated one."""
@@ -114,15 +114,15 @@ def count_admitted(inlets: Sequence[Inlet], drivers: Drivers, bounds: Sequence[i
 
     The road has one limit and one kind of drivers, and is free downstream. The cars of an inlet are those that pass a cell after it,
     minus those that pass its own cell."""
-    behind = [inlet.cell + BEHIND for inlet in inlets]
-    behind = [min(cell, inlet.cell) for cell, inlet in zip(behind, inlets[1:])] + behind[-1:]
-    sites = sorted({inlet.cell for inlet in inlets if inlet.cell} | set(behind))
+    downstream = [inlet.cell + DOWNSTREAM for inlet in inlets]
+    downstream = [min(cell, inlet.cell) for cell, inlet in zip(downstream, inlets[1:])] + downstream[-1:]
+    sites = sorted({inlet.cell for inlet in inlets if inlet.cell} | set(downstream))
     pieces = []
     with open_road(inlets, drivers, sites, seed) as lab:
         lab.command("advance", "A", to=bounds[-1])
         for first, to in zip(bounds, bounds[1:]):
             passed = {0: 0, **{site: lab.count("A", index, first, to).cars for index, site in enumerate(sites)}}
-            pieces.append([passed[site] - passed[inlet.cell] for site, inlet in zip(behind, inlets)])
+            pieces.append([passed[site] - passed[inlet.cell] for site, inlet in zip(downstream, inlets)])
     return pieces
 
 
@@ -146,29 +146,29 @@ def simulate_flow(inlets: tuple[Inlet, ...], drivers: Drivers, effort: Effort) -
 
     def of_seed(seed: int) -> int:
         return count_admitted(inlets, drivers, bounds, seed)[0][-1]
-    with ThreadPoolExecutor(count_processors()) as pool:
+    with ThreadPoolExecutor(thread_count()) as pool:
         cars = list(pool.map(of_seed, range(FIRST_SEED, FIRST_SEED + effort.seeds)))
     return sum(cars) / len(cars) / effort.steps
 
 
 @functools.lru_cache(maxsize=100_000)
 def simulate_hindrance(inlets: tuple[Inlet, ...], drivers: Drivers, effort: Effort) -> float:
-    """Return all steps over the steps in which the cell of the last inlet is free, for an inlet with a small chance.
+    """Return the ratio of all steps to the steps in which the cell of the last inlet is free, for an inlet with a small chance.
 
-    With a small chance the number of cars that enter scatters more than the number of steps in which a car could enter."""
+    With a small chance the number of cars that enter varies more than the number of steps in which a car could enter."""
     steps = effort.steps // 4
 
     def of_seed(seed: int) -> int:
         with open_road(inlets, drivers, [], seed) as lab:
             lab.command("advance", "A", to=WARM_UP + steps)
             return sum(row[inlets[-1].cell] == "." for row in lab.diagram("A", WARM_UP, WARM_UP + steps - 1))
-    with ThreadPoolExecutor(count_processors()) as pool:
+    with ThreadPoolExecutor(thread_count()) as pool:
         free = sum(pool.map(of_seed, range(FIRST_SEED, FIRST_SEED + effort.seeds)))
     return steps * effort.seeds / free if free else math.inf
 
 
 def simulate_admitted(chance: int, drivers: Drivers, cell: int = 0, before: Sequence[Inlet] = (), effort: Effort = Effort()) -> float:
-    """Return the cars per hour that one chance in 1/65,536 admits beside the inlets before it. This is cheaper than a whole `Admission`."""
+    """Return the cars per hour that one chance in 1/65,536 admits, with the inlets before it. This is cheaper than a whole `Admission`."""
     if chance == 0 or drivers.limit == 0:
         return 0.0
     part = chance / ALWAYS
@@ -179,11 +179,11 @@ def simulate_admitted(chance: int, drivers: Drivers, cell: int = 0, before: Sequ
 
 
 MOST_THREADS = 64
-"""The number of threads that simulate at a time. A process that is one of many sets it to 1."""
+"""The most threads that simulate at a time. A process that is one of many sets it to 1."""
 
 
-def count_processors() -> int:
-    """Return the number of processors that this process may use, or fewer if it is one of many."""
+def thread_count() -> int:
+    """Return the number of processors that this process may use, at most MOST_THREADS."""
     return min(len(os.sched_getaffinity(0)), MOST_THREADS)
 
 
@@ -251,7 +251,7 @@ class Admission:
     def chance(self, demand: float) -> int:
         """Return the chance in 1/65,536 that admits a demand in cars per hour. BeyondCapacity: no chance admits it."""
         if demand < 0 or math.isnan(demand):
-            raise ValueError(f"a demand is 0 or more cars per hour, not {demand:g}")
+            raise ValueError(f"a demand must be 0 or more cars per hour, not {demand:g}")
         if demand == 0:
             return 0
         if demand > self.flow(self.chances[-1]):
@@ -267,7 +267,7 @@ class Admission:
 
 def measure_admission(drivers: Drivers, cell: int = 0, before: Sequence[Inlet] = (), effort: Effort = Effort(),
                       demands: Iterable[float] = ()) -> Admission:
-    """Simulate what an inlet at a cell admits by each chance, beside the inlets before it, each with its chance.
+    """Simulate what an inlet at a cell admits by each chance, with the inlets before it, each with its chance.
 
     With `demands` in cars per hour the result is accurate for these only, and takes half the time. It takes one to four seconds on four
     processors, and is cached in the process."""
@@ -327,13 +327,13 @@ def _refine_at(demand: float, admission: Callable[[], Admission], simulate: Call
 
 
 @dataclass(frozen=True)
-class AdmissionBeside:
-    """The flow that an inlet admits beside a passing flow, measured at some passing flows in cars per hour and interpolated."""
+class AdmissionByFlow:
+    """The admission of an inlet as a function of the passing flow: measured at some flows in cars per hour, and interpolated."""
 
     nodes: tuple[tuple[float, Admission], ...]
 
-    def at(self, passing: float) -> Admission:
-        """Return the admission beside a passing flow, by a quadratic through the three nearest measured flows."""
+    def at_flow(self, passing: float) -> Admission:
+        """Return the admission at a passing flow, by a quadratic through the three nearest measured flows."""
         nearest = sorted(self.nodes, key=lambda node: abs(node[0] - passing))[:3]
         chances = tuple(sorted(set.intersection(*(set(admission.chances) for _, admission in nearest))))
         hindrances = []
@@ -363,7 +363,7 @@ def convert_demands(cells: Sequence[int], demands: Sequence[Rates], drivers: Dri
                     progress: Callable[[int], None] = lambda inlet: None) -> list[list[tuple[int, int]]]:
     """Convert the demands of some inlets, in the order of the road, to inflow chances over time, as (step, 1/65,536).
 
-    Each inlet is measured beside the flow of the inlets before it. `progress` is called with the index of an inlet before it is measured.
+    Each inlet is measured with the flow of the inlets before it. `progress` is called with the index of an inlet before it is measured.
     BeyondCapacity: a demand exceeds the capacity of its inlet."""
     found: list[list[tuple[int, int]]] = []
     for index, (cell, rates) in enumerate(zip(cells, demands)):
@@ -385,22 +385,22 @@ def convert_demands(cells: Sequence[int], demands: Sequence[Rates], drivers: Dri
 
 def _admissions(cells: Sequence[int], cell: int, wanted: dict[tuple[float, ...], set[float]], drivers: Drivers,
                 effort: Effort) -> dict[tuple[float, ...], Admission]:
-    """Measure an inlet beside each state of the demands before it, for the demands that it has then.
+    """Measure an inlet in each state of the demands before it, for the demands that it has then.
 
-    If there are many states, it is measured beside a few states for all demands, and interpolated."""
-    def beside(state: tuple[float, ...], effort: Effort, demands: Iterable[float]) -> Admission:
+    If there are many states, it is measured in a few states for all demands, and interpolated."""
+    def measure_in(state: tuple[float, ...], effort: Effort, demands: Iterable[float]) -> Admission:
         chances = convert_demands(cells, [[(0, rate)] for rate in state], drivers, effort)
         before = [Inlet(one, chance[0][1]) for one, chance in zip(cells, chances)]
         return measure_admission(drivers, cell, [inlet for inlet in before if inlet.chance], effort, demands)
     if len(wanted) <= MOST_MEASURED:
-        return {state: beside(state, effort, demands) for state, demands in wanted.items()}
+        return {state: measure_in(state, effort, demands) for state, demands in wanted.items()}
     least, most = min(wanted, key=sum), max(wanted, key=sum)
     fixed = dataclasses.replace(effort, may_refine=False, is_fine=effort.may_refine)
     every = set().union(*wanted.values())
     parts = [part / (NODES - 1) for part in range(NODES)]
     measured = [tuple(low + part * (high - low) for low, high in zip(least, most)) for part in parts]
-    beside_all = AdmissionBeside(tuple((sum(state), beside(state, fixed, every)) for state in measured))
-    return {state: beside_all.at(sum(state)) for state in wanted}
+    by_flow = AdmissionByFlow(tuple((sum(state), measure_in(state, fixed, every)) for state in measured))
+    return {state: by_flow.at_flow(sum(state)) for state in wanted}
 
 
 # Lost demand

@@ -212,7 +212,7 @@ class Reader:
         for place, (minute, cars_per_hour) in enumerate(pairs):
             self.rate(name, cars_per_hour)
             if place and minute <= pairs[place - 1][0]:
-                raise self.fault(name, value, f"in rising order of time: {self.clock.to_text(to_steps(minute))} is duplicate or out of order")
+                raise self.fault(name, value, f"in rising order of time: {self.clock.to_text(to_steps(minute))} appears twice or is out of order")
         return pairs
 
     def rate(self, name: str, value: Json) -> float:

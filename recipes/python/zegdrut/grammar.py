@@ -162,7 +162,7 @@ def name(value: object) -> Faults:
     """Yield the faults of a name."""
     yield from text(value)
     if type(value) is str and not 1 <= len(value.encode()) <= 64:
-        yield f"a name has 1 to 64 bytes, not {len(value.encode())}"
+        yield f"a name must have 1 to 64 bytes, not {len(value.encode())}"
 
 
 def list_of(part: Part, what: str, most: int | None = None) -> Part:

@@ -42,7 +42,7 @@ class Linter:
         self._line += 1
         if "refused" in reply:
             return None
-        said = [f"`{name}` is duplicate: the last one counts" for name in find_duplicates(line)]
+        said = [f"`{name}` appears twice: the last one counts" for name in find_duplicates(line)]
         value = value_of(line)
         if self._line == 1:
             said += self._of_plan(cast(PlanLine, value))

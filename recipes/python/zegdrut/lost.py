@@ -5,7 +5,7 @@
     [supply.lost for supply in compute_supplies(rates, count_admitted_cars(trips, window), window)]
 
 A script has inflow chances, not cars per hour. The demand of an inlet is what its chance admits with the limit and the drivers of
-the plan, beside the flow of the inlets before it, on a road that is free downstream. Edits of inflows change the demand. Edits of
+the plan, with the flow of the inlets before it, on a road that is free downstream. Edits of inflows change the demand. Edits of
 limits and drivers and closures do not: the cars that they hold back are lost demand. Where the demand that a chance stands for is
 known, it is given as `asked`, and nothing is simulated.
 """

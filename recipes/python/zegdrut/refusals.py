@@ -32,12 +32,12 @@ def check_names(plan: PlanLine, units: Units) -> Faults:
 
 def check_length(plan: PlanLine, units: Units) -> Faults:
     """Yield the fault of the road's length."""
-    yield f"a road has 8 to 8,192 cells{units.km(8_192)}, not {plan['length']}{units.km(plan['length'])}"
+    yield f"a road must have 8 to 8,192 cells{units.km(8_192)}, not {plan['length']}{units.km(plan['length'])}"
 
 
 def check_exit(plan: PlanLine, units: Units) -> Faults:
     """Yield the fault of the deleted zone."""
-    yield f"the deleted zone has 1 to {min(64, plan['length'] - 1)} cells, not {plan['exit']}{units.km(plan['exit'])}"
+    yield f"the deleted zone must have 1 to {min(64, plan['length'] - 1)} cells, not {plan['exit']}{units.km(plan['exit'])}"
 
 
 def check_zones(plan: PlanLine, units: Units) -> Faults:
@@ -84,12 +84,12 @@ def check_default(plan: PlanLine, units: Units) -> Faults:
     """Yield the faults of the limits and chances of zones and inlets."""
     for index, (limit, slow) in enumerate(plan["zones"]):
         if limit > 9:
-            yield f"zone {index}: the limit is 0 to 9 cells a step, not {limit}{explain_kmh(limit, units)}"
+            yield f"zone {index}: the limit must be 0 to 9 cells a step, not {limit}{explain_kmh(limit, units)}"
         if slow > CHANCE:
-            yield f"zone {index}: the slowing chance is 0 to {CHANCE}, not {slow}"
+            yield f"zone {index}: the slowing chance must be 0 to {CHANCE}, not {slow}"
     for index, (_, inflow) in enumerate(plan["inlets"]):
         if inflow > CHANCE:
-            yield f"inlet {index}: the inflow chance is 0 to {CHANCE}, not {inflow}"
+            yield f"inlet {index}: the inflow chance must be 0 to {CHANCE}, not {inflow}"
 
 
 def explain_kmh(limit: int, units: Units) -> str:
@@ -185,7 +185,7 @@ class Reasons:
             if given and type(given) is dict and given.get("form") == 1:
                 yield "form 1 has no `start` edits: use form 2"
         elif refusal == "unknown form":
-            yield f"`form` is 1 or 2, not {given['form']}"
+            yield f"`form` must be 1 or 2, not {given['form']}"
         else:
             yield from self._faults_by_name(verb, given, refusal)
 
@@ -215,10 +215,10 @@ class Reasons:
             return "NoObject", f"the plan has no {noun} {index}{km(index)}: {format_count(noun, number_of)}{km(number_of)}"
         if step > LAST_STEP:
             minutes = self._units.minutes
-            return "Step", f"the step of an edit is at most {LAST_STEP}{minutes(LAST_STEP)}, not {step}{minutes(step)}"
+            return "Step", f"the step of an edit must be at most {LAST_STEP}{minutes(LAST_STEP)}, not {step}{minutes(step)}"
         if value is not None and value > KINDS[kind]:
             unit, meant = (" cells a step", explain_kmh(value, self._units)) if kind == "limit" else ("", "")
-            return "ValueOutOfRange", f"the value of `{kind}` is 0 to {KINDS[kind]}{unit}, not {value}{meant}"
+            return "ValueOutOfRange", f"the value of `{kind}` must be 0 to {KINDS[kind]}{unit}, not {value}{meant}"
         if count is not None and not 1 <= count <= GREATEST_COUNT:
             return "Count", f"the count must be 1 to {GREATEST_COUNT}, not {count}"
         if number is not None and number < 64:
@@ -275,13 +275,13 @@ class Reasons:
 
     def _past_horizon(self, verb: str, given: CommandFields) -> str:
         minutes = self._units.minutes
-        return f"`to` is at most {LAST_HORIZON}{minutes(LAST_HORIZON)}, not {given['to']}{minutes(given['to'])}"
+        return f"`to` must be at most {LAST_HORIZON}{minutes(LAST_HORIZON)}, not {given['to']}{minutes(given['to'])}"
 
     def _bad_range(self, verb: str, given: CommandFields) -> str:
         first, to, minutes = given["from"], given["to"], self._units.minutes
         if first > to:
             return f"`from` {first}{minutes(first)} is above `to` {to}{minutes(to)}"
-        return f"a diagram has at most {MOST_ROWS} rows, not {to - first + 1}"
+        return f"a diagram can have at most {MOST_ROWS} rows, not {to - first + 1}"
 
 
 def format_count(what: str, count: int) -> str:

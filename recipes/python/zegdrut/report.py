@@ -10,7 +10,7 @@ from concurrent.futures import ThreadPoolExecutor
 from dataclasses import dataclass
 from typing import Any, Callable, NamedTuple, Sequence
 
-from .demand import Rates, count_demand, count_processors
+from .demand import Rates, count_demand, thread_count
 from .intervals import Estimate, average_known, estimate_mean, estimate_paired, may_be_chance
 from .lab import RoadLab
 from .scripts import Script
@@ -66,7 +66,7 @@ def run_sides(sides: Sequence[Side], seeds: Sequence[int | str], window: Window,
     """Run each side on each day, side by side; the first day keeps its rows."""
     jobs = [(side, seed, place == 0) for place, seed in enumerate(seeds) for side in sides]
     found: list[SideDay] = []
-    with ThreadPoolExecutor(count_processors()) as pool:
+    with ThreadPoolExecutor(thread_count()) as pool:
         for day in pool.map(lambda job: run_side(job[0], job[1], window, job[2]), jobs):
             found.append(day)
             if progress:

@@ -10,8 +10,8 @@ if TYPE_CHECKING:
 EMPTY, BLOCKED = -1, -2
 """The values of empty and of blocked cells in an array of rows."""
 FASTEST = 9
-"""The greatest speed, in cells per step."""
-NO_NUMPY = "numpy is not installed: for the system's python3 Debian's package is python3-numpy, else `pip install numpy`"
+"""The highest speed, in cells per step."""
+NO_NUMPY = "numpy is not installed: on Debian run `apt install python3-numpy`, else `pip install numpy`"
 
 
 class Traffic(NamedTuple):

@@ -98,9 +98,9 @@ def read_stations(path: Path, units: Mapping[str, str] | None = None) -> dict[st
         kilometres = read_number(path, number, header, line, columns[place]) * (MILE if place == "miles" else 1)
         lanes = int(read_number(path, number, header, line, columns["lanes"]))
         if lanes < 1:
-            raise Fault(f"{path}, line {number}: lanes: {lanes} is invalid: 1 or more")
+            raise Fault(f"{path}, line {number}: lanes must be 1 or more, not {lanes}")
         if name in found:
-            raise Fault(f"{path}, line {number}: station {name} is duplicate: remove one line")
+            raise Fault(f"{path}, line {number}: station {name} appears twice: remove one line")
         found[name] = Station(name, kilometres, lanes, is_ramp(line[columns["type"]] if "type" in columns else ""),
                               place == "miles")
     return found
@@ -270,7 +270,7 @@ def read_time(path: Path, number: int, text: str) -> datetime.datetime | datetim
         return datetime.datetime.fromisoformat(text)
     except ValueError:
         pass
-    raise Fault(f'{path}, line {number}: {text!r} is not a time: "07:05", "2026-03-02 07:05" or "03/02/2026 07:05:00"')
+    raise Fault(f'{path}, line {number}: {text!r} is not a time: write "07:05", "2026-03-02 07:05" or "03/02/2026 07:05:00"')
 
 
 # Checks

@@ -155,13 +155,13 @@ def sweep(model: Model, points: Points, seeds: Iterable[int] = (1,), *, measure:
     if not drawn or not 1 <= part[0] <= part[1]:
         raise Fault("there are no seeds: give at least one" if not drawn else f"part {part[0]} of {part[1]} does not exist")
     if jobs is not None and jobs < 1:
-        raise Fault(f"jobs is 1 or more, not {jobs}")
+        raise Fault(f"jobs must be 1 or more, not {jobs}")
     names = list(listed[0])
     mark = make_mark(model, measure)
     runs = [(point, seed) for point in listed for seed in drawn]
     keys = [[*map(format_cell, point.values()), str(seed), mark] for point, seed in runs]
     if len({tuple(key) for key in keys}) < len(keys):
-        raise Fault("a point or a seed is duplicate: remove one")
+        raise Fault("a point or a seed appears twice: remove one")
     mine = range(part[0] - 1, len(runs), part[1])
     results = Results(out, [*names, "seed", "model"])
     failures: dict[int, Failure] = {}

@@ -212,7 +212,7 @@ class Trips:
 def count_passings(row: str, following: str, site: int, leaving: int, end: int) -> int:
     """Return how many cars pass a site between two rows of a road whose deleted zone begins at cell `end`.
 
-    A car passes if it stands behind the site and came from before it, or if it is one of the `leaving` cars and was before it."""
+    A car passes if it is downstream of the site and came from upstream of it, or if it is one of the `leaving` cars and was before it."""
     seen = sum(character.isdigit() and ahead < int(character) for ahead, character in enumerate(following[site:site + FASTEST]))
     if leaving and site + FASTEST > end:
         places = [cell for cell, character in enumerate(row) if character.isdigit()][-leaving:]

@@ -72,12 +72,12 @@ def report_progress(doing: str) -> None:
 # Demand
 
 def measure_chances_aloud(road: Road) -> Chances:
-    """Measure the inflow chances that admit the demand of each inlet, beside the inlets before it. Report the progress."""
+    """Measure the inflow chances that admit the demand of each inlet, with the inlets before it. Report the progress."""
     def tell(inlet: int) -> None:
         cell, demand = road.inlets[inlet]
         most = max(cars for _, cars in demand)
         report_progress(f"measuring the inflow chance for {'up to ' * (len(demand) > 1)}{most:g} cars per hour at km "
-                        f"{cell / CELLS_A_KM:g}" + ", beside the inlets before it" * bool(inlet))
+                        f"{cell / CELLS_A_KM:g}" + ", with the inlets before it" * bool(inlet))
     return measure_chances(road, tell)
 
 

@@ -3,7 +3,7 @@
     python3 -m zegdrut inflow [STEPS]     each over STEPS steps (default: 200,000)
 
 For each slowing chance it prints the inflow chances for several demands, the capacity of an inlet (inflow chance 1), and the cars per
-hour that leave a wide jam: 15 km of standing cars behind a closed cell, which is then opened. ± is half the 95 % interval. Without
+hour that leave a wide jam: 15 km of standing cars upstream of a closed cell, which is then opened. ± is half the 95 % interval. Without
 slowing the flow is exactly q / (1 + q q) cars per step for the chance q.
 """
 from __future__ import annotations

@@ -75,15 +75,15 @@ def add_count_options(parser: argparse.ArgumentParser) -> None:
     parser.add_argument("--stations", type=Path, metavar="TABLE.csv", help="table with station, km or miles, and lanes")
     parser.add_argument("--origin", type=float, metavar="KM", help="km of the table that is km 0 of the road (default: 0, or the first station if the table has miles)")
     parser.add_argument("--reverse", action="store_true", help="the km of the table fall in the direction of travel")
-    parser.add_argument("--column", action="append", default=[], metavar="speed=NAME", help="title of the column of a quantity")
-    parser.add_argument("--unit", action="append", default=[], metavar="speed=mph", help="unit of a speed: km/h, mph or m/s")
+    parser.add_argument("--column", action="append", default=[], metavar="QUANTITY=COLUMN", help="title of the column of a quantity, such as speed=v_mean")
+    parser.add_argument("--unit", action="append", default=[], metavar="speed=UNIT", help="unit of the speeds: km/h, mph or m/s")
 
 
-def read_pairs(given: list[str], word: str) -> dict[str, str]:
+def read_pairs(given: list[str], word: str, example: str) -> dict[str, str]:
     """Read arguments such as speed=mph into a dictionary. Fault: one has no =."""
     found = dict(one.partition("=")[::2] for one in given)
     if "" in found.values() or any("=" not in one for one in given):
-        raise Fault(f"--{word} must be QUANTITY=NAME, such as speed=mph, not {' '.join(given)}")
+        raise Fault(f"--{word} must be QUANTITY={word.upper()}, such as {example}, not {' '.join(given)}")
     return found
 
 
@@ -93,7 +93,8 @@ def read_data(given: argparse.Namespace) -> tuple[Figures, Measured]:
     if figures.begin is None:
         raise Fault(f'{given.road} has no begin: add the clock time at which the window begins, such as "begin": "06:30"')
     table = read_stations(given.stations) if given.stations else None
-    counts = read_counts(given.counts, table, read_pairs(given.column, "column"), read_pairs(given.unit, "unit"))
+    counts = read_counts(given.counts, table, read_pairs(given.column, "column", "speed=v_mean"),
+                         read_pairs(given.unit, "unit", "speed=mph"))
     figures = with_date_of(figures, counts)
     measured = put_on_road(counts, figures.clock, round(figures.minutes * 60), given.origin, given.reverse)
     make_road(with_measured_demand(with_stations(figures, measured), measured)[0])
@@ -272,7 +273,7 @@ def choose_factor(given: argparse.Namespace) -> float | None:
 def check_days(days: int, least: int) -> None:
     """Check a number of days. Fault: it is out of range."""
     if not least <= days <= 1_000:
-        raise Fault(f"--days is {least} to 1,000, not {days:,}")
+        raise Fault(f"--days must be {least} to 1,000, not {days:,}")
 
 
 def write_measured_road(given: argparse.Namespace, figures: Figures, measured: Measured) -> None:

@@ -1,6 +1,6 @@
 """Meter an on-ramp by ALINEA in a closed loop, and compare it with no control over some days.
 
-    python3 -m zegdrut metering ROAD.json CONTROL.json [--days N] [--then TIME] [--out FOLDER]
+    python3 -m zegdrut metering ROAD.json CONTROL.json [--days N] [--as-if-from TIME] [--out FOLDER]
 
 ROAD.json is a freeway with a ramp, as `zegdrut freeway` reads it. CONTROL.json has
 
@@ -8,13 +8,13 @@ ROAD.json is a freeway with a ramp, as `zegdrut freeway` reads it. CONTROL.json 
 
 ramp and detector are the km of the ramp and of a detector downstream of it. setpoint is in per cent of occupancy (the share of steps in
 which a car is in the cell of the detector). gain is in cars per hour and per cent. least and most are the bounds of the rate in cars per
-hour. begin is the time when metering begins. Only the first three are required.
+hour. begin is the time when metering starts. Only the first three are required.
 
 Cars wait before the ramp in a vertical queue (arrivals minus admitted cars), metered or not. Its waiting time is the sum of the queue
-over all seconds, in vehicle hours, beside those on the road. With --then TIME the first day is simulated without control, and then again
-with metering that had begun at that time, by edits in the past. The two are compared.
+over all seconds, in vehicle hours, listed next to the hours on the road. With --as-if-from TIME the first day is simulated without
+control, and then again as if metering had started at TIME, by edits in the past. The two are compared.
 The command prints a table of means and 95 % intervals (Student's t, paired by day), and writes it to metering-NAME.csv. It writes the
-first day to minutes-NAME.csv. With --then it writes then-NAME.csv and then-minutes-NAME.csv.
+first day to minutes-NAME.csv. With --as-if-from it writes as-if-NAME.csv and as-if-minutes-NAME.csv.
 """
 from __future__ import annotations
 
@@ -31,7 +31,7 @@ from typing import Sequence
 from ..bars import Bar
 from ..clock import InvalidTime
 from ..control import RampMeter, measure_queue, run_control
-from ..demand import Admission, AdmissionBeside, Drivers, Inlet, count_demand, measure_admission, count_processors, find_rate
+from ..demand import Admission, AdmissionByFlow, Drivers, Inlet, count_demand, measure_admission, thread_count, find_rate
 from ..errors import Fault, LabError
 from ..freeway import Figures, Road, measure_chances, make_road, widen_inlet
 from ..freeway_files import is_number, check_names
@@ -59,11 +59,11 @@ class Control:
     gain: float = 70.0
     """Cars per hour and per cent."""
     least: float = 240.0
-    """The least rate in cars per hour."""
+    """The lowest rate in cars per hour."""
     most: float = 1_200.0
-    """The greatest rate in cars per hour."""
+    """The highest rate in cars per hour."""
     begin: int = 0
-    """The step at which metering begins."""
+    """The step at which metering starts."""
 
 
 @dataclass(frozen=True)
@@ -77,14 +77,14 @@ class Site:
     inlet: int
     cell: int
     control: Control
-    beside: AdmissionBeside
+    admissions: AdmissionByFlow
 
     def admission(self, step: int) -> Admission:
-        """Return the admission of the ramp beside the main demand of a step."""
-        return self.beside.at(sum(find_rate(demand, step) for _, demand in self.road.inlets[:self.inlet]))
+        """Return the admission of the ramp at the main demand of a step."""
+        return self.admissions.at_flow(sum(find_rate(demand, step) for _, demand in self.road.inlets[:self.inlet]))
 
     def meter(self, start: float) -> RampMeter:
-        """Return a meter of the ramp that begins at a step (infinity: never)."""
+        """Return a ramp meter that starts at a step (infinity: never)."""
         gates = (len(self.road.detectors) - 1, len(self.road.detectors) - 2, self.road.inlets[self.inlet][0])
         control = self.control
         return RampMeter(self.inlet, gates, self.cell, self.road.inlets[self.inlet][1], self.admission, control.setpoint, control.gain,
@@ -114,13 +114,13 @@ def read_control(path: Path, figures: Figures) -> Control:
 
 
 def make_site(name: str, figures: Figures, control: Control) -> Site:
-    """Make the road with detectors at and after the ramp, and measure the admission of the ramp beside the main demand."""
+    """Make the road with detectors at and after the ramp, and measure the admission of the ramp at several main demands."""
     road = make_road(widen_inlet(figures))
     wanted = to_cells(control.ramp)
     inlet = next((index for index, (cell, _) in enumerate(road.inlets) if index and cell == wanted), None)
     if inlet is None:
-        ramps = ", ".join(f"{km:g}" for km, _ in figures.ramps) or "none"
-        raise Fault(f"ramp: the road has no ramp at km {control.ramp:g}: its ramps are at km {ramps}")
+        ramps = ", ".join(f"{km:g}" for km, _ in figures.ramps)
+        raise Fault(f"ramp: the road has no ramp at km {control.ramp:g}: " + (f"its ramps are at km {ramps}" if ramps else "it has no ramps"))
     if not wanted < to_cells(control.detector) < road.length - 1:
         raise Fault(f"detector: km {control.detector:g} must be downstream of the ramp at km {control.ramp:g}, and on the road")
     road.detectors += [wanted, wanted + 1]
@@ -131,7 +131,7 @@ def make_site(name: str, figures: Figures, control: Control) -> Site:
     for flow in sorted({min(main), (min(main) + max(main)) / 2, max(main)}) if max(main) > min(main) else [0.0, max(main) / 2, max(main)]:
         first = measure_admission(road.drivers, demands=[flow]).chance(flow)
         nodes.append((flow, measure_admission(road.drivers, wanted, [Inlet(0, first)] if first else [], demands=[control.most])))
-    return Site(name, figures, road, chances, inlet, to_cells(control.detector), control, AdmissionBeside(tuple(nodes)))
+    return Site(name, figures, road, chances, inlet, to_cells(control.detector), control, AdmissionByFlow(tuple(nodes)))
 
 
 # Days
@@ -215,9 +215,9 @@ def compare(given: argparse.Namespace, out: Path) -> None:
     check_days(given.days, 2)
     figures = FIGURES.override(given.road)
     control = read_control(given.control, figures)
-    start = None if given.then is None else figures.clock.to_step(given.then, "--then")
+    start = None if given.as_if_from is None else figures.clock.to_step(given.as_if_from, "--as-if-from")
     if start is not None and not 0 <= start < figures.minutes * 60:
-        raise Fault(f"--then: {given.then} is not in the run, which lasts from {figures.clock.to_text(0)} to "
+        raise Fault(f"--as-if-from: {given.as_if_from} is not in the run, which lasts from {figures.clock.to_text(0)} to "
                     f"{figures.clock.to_text(round(figures.minutes * 60))}")
     site = make_site(given.road.stem, figures, control)
     print("".join(f"{note}\n" for note in site.road.notes), end="", file=sys.stderr, flush=True)
@@ -227,12 +227,12 @@ def compare(given: argparse.Namespace, out: Path) -> None:
         report_progress("simulating a day, and the same day again")
         before, after, *both = run_again(site, figures.seed, start)
         titles = [f"seed {figures.seed}", "as it was", f"with metering from {figures.clock.to_text(start)} on"]
-        write_tables(folder, site.name, {"then": format_days([before, after], titles), "then-minutes": format_minutes(site, both)})
+        write_tables(folder, site.name, {"as-if": format_days([before, after], titles), "as-if-minutes": format_minutes(site, both)})
         return
     print("".join(f"{one}\n" for one in warn_few_days(given.days)), end="", file=sys.stderr, flush=True)
     bar, found = Bar("days", in_log=True), []
     report_progress(f"simulating {given.days} days without control and with it")
-    with ThreadPoolExecutor(count_processors()) as pool:
+    with ThreadPoolExecutor(thread_count()) as pool:
         for one in pool.map(lambda seed: run_day(site, seed), range(figures.seed, figures.seed + given.days)):
             found.append(one)
             bar.show(len(found), given.days)
@@ -254,7 +254,7 @@ def read_arguments(words: Sequence[str] | None) -> argparse.Namespace:
     parser.add_argument("road", type=Path, metavar="ROAD.json")
     parser.add_argument("control", type=Path, metavar="CONTROL.json")
     parser.add_argument("--days", type=int, default=DAYS, metavar="N", help="number of days to compare (default: %(default)s)")
-    parser.add_argument("--then", metavar="TIME", help='compare one day with the same day with metering from a time on, such as "07:10"')
+    parser.add_argument("--as-if-from", metavar="TIME", help='rerun one day as if metering had started at TIME, such as "07:10"')
     parser.add_argument("--out", type=Path, metavar="FOLDER", help="folder of the tables")
     return parser.parse_args(words)
 

@@ -79,7 +79,7 @@ def read_request(given: argparse.Namespace) -> Request:
     """Read and check everything. Fault: a file is invalid, or the two files describe different roads or times."""
     check_days(given.days, 1)
     if given.warm_up is not None and not 0 <= given.warm_up <= MOST_WARM_UP:
-        raise Fault(f"--warm-up is 0 to {MOST_WARM_UP:,} minutes, not {given.warm_up:g}")
+        raise Fault(f"--warm-up must be 0 to {MOST_WARM_UP:,} minutes, not {given.warm_up:g}")
     figures = FIGURES.override(given.road)
     other, names = None, ("without works", "with works")
     if given.against is not None:

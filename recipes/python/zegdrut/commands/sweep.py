@@ -179,7 +179,7 @@ def run_sweep(given: argparse.Namespace) -> int:
     try:
         seeds, part = read_seeds(given.seeds), read_pair(given.part, "/")
     except ValueError:
-        raise Fault("--seeds is 1-4 or 1,5,9, and --part K/N") from None
+        raise Fault("write --seeds as 1-4 or 1,5,9, and --part as K/N") from None
     shown = ProgressDisplay()
     signal.signal(signal.SIGTERM, raise_interrupt)
     try:
