@@ -82,7 +82,10 @@ class Model:
 def with_stations(figures: Figures, measured: Measured) -> Figures:
     """Return the figures of a road with a detector at each compared station. Fault: there are too few stations, or one is not on the road."""
     if len(measured.main) < 2:
-        raise Fault("only one main-line station is left: it gives the demand, and none is left to compare. Give more stations")
+        last = measured.main[0].station
+        raise Fault(f"only the main-line station {last.name} (km {last.km:g}) is left: it gives the demand, and none is left to compare: "
+                    + (f"{measured.cut}. Check the counts of both stations, or give more stations" if measured.cut else
+                       "the counts have no other main-line station. Give more stations"))
     places = [min(max(one.station.km, 0.0075), figures.length - 0.015) for one in measured.main[1:]]
     for one, place in zip(measured.main[1:], places):
         if abs(one.station.km - place) > 0.02:

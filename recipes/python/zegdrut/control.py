@@ -13,6 +13,7 @@ Later edits of an object that a controller sets are withdrawn first.
 """
 from __future__ import annotations
 
+import math
 from dataclasses import dataclass
 from itertools import accumulate
 from typing import Callable, Iterable, NamedTuple, Sequence
@@ -93,7 +94,8 @@ class RampMeter(Controller):
 
     Each minute the rate becomes rate + gain * (setpoint - occupancy), within [least, most]. Rates are in cars per hour, occupancies in
     per cent, measured at a cell downstream of the ramp. Cars wait before the ramp in a vertical queue: `queue` is arrivals minus
-    admitted cars at the last decision (`measure_queue` computes it for each second). Before step `start` the rate is `most`.
+    admitted cars at the last decision (`measure_queue` computes it for each second). Before step `start` the ramp is not metered: each
+    minute it admits the queue and the arrivals, up to its capacity, whatever the parameters are.
 
     gates: the detector after the inlet, the detector at it, and its cell. They show which cars have entered.
     """
@@ -105,7 +107,8 @@ class RampMeter(Controller):
         self.rate = most
         self.queue, self.in_inlet_cell = 0.0, False
         self.rates: list[tuple[int, float, float, float]] = []
-        """For each minute: the step, the occupancy in per cent, the rate in cars per hour, and the queue in cars."""
+        """For each minute: the step, the occupancy in per cent, the rate in cars per hour (infinite if the ramp is not metered), and the
+        queue in cars."""
 
     def decide(self, view: View) -> list[Setting]:
         """Set the ramp's inflow chance for the next minute."""
@@ -115,13 +118,13 @@ class RampMeter(Controller):
         self.in_inlet_cell = in_inlet_cell
         self.queue += count_demand(self.arrivals, view.first, view.last) - admitted
         occupancy = view.occupancy(self.cell)
+        rate = math.inf
         if view.last >= self.start:
-            self.rate = min(max(self.rate + self.gain * (self.setpoint - occupancy), self.least), self.most)
-        else:
-            self.rate = self.most
-        self.rates.append((view.last, occupancy, self.rate, self.queue))
+            rate = self.rate = min(max(self.rate + self.gain * (self.setpoint - occupancy), self.least), self.most)
+        self.rates.append((view.last, occupancy, rate, self.queue))
         wanted = max(find_rate(self.arrivals, view.last) + self.queue * HOUR / PERIOD, 0.0)
-        return [("inflow", self.inlet, self.admission(view.last).chance(min(self.rate, wanted)))]
+        admission = self.admission(view.last)
+        return [("inflow", self.inlet, admission.chance(min(rate, wanted, admission.flow(admission.chances[-1]))))]
 
 
 class Queue(NamedTuple):

@@ -388,19 +388,29 @@ def _admissions(cells: Sequence[int], cell: int, wanted: dict[tuple[float, ...],
     """Measure an inlet in each state of the demands before it, for the demands that it has then.
 
     If there are many states, it is measured in a few states for all demands, and interpolated."""
-    def measure_in(state: tuple[float, ...], effort: Effort, demands: Iterable[float]) -> Admission:
-        chances = convert_demands(cells, [[(0, rate)] for rate in state], drivers, effort)
-        before = [Inlet(one, chance[0][1]) for one, chance in zip(cells, chances)]
-        return measure_admission(drivers, cell, [inlet for inlet in before if inlet.chance], effort, demands)
     if len(wanted) <= MOST_MEASURED:
-        return {state: measure_in(state, effort, demands) for state, demands in wanted.items()}
-    least, most = min(wanted, key=sum), max(wanted, key=sum)
-    fixed = dataclasses.replace(effort, may_refine=False, is_fine=effort.may_refine)
-    every = set().union(*wanted.values())
-    parts = [part / (NODES - 1) for part in range(NODES)]
-    measured = [tuple(low + part * (high - low) for low, high in zip(least, most)) for part in parts]
-    by_flow = AdmissionByFlow(tuple((sum(state), measure_in(state, fixed, every)) for state in measured))
+        return {state: _measure_in(state, cells, cell, drivers, effort, demands) for state, demands in wanted.items()}
+    by_flow = measure_by_flow(cells, cell, list(wanted), drivers, effort, set().union(*wanted.values()))
     return {state: by_flow.at_flow(sum(state)) for state in wanted}
+
+
+def measure_by_flow(cells: Sequence[int], cell: int, states: Sequence[tuple[float, ...]], drivers: Drivers, effort: Effort = Effort(),
+                    demands: Iterable[float] = ()) -> AdmissionByFlow:
+    """Measure an inlet between the states with the least and the greatest flow of the inlets before it.
+
+    A state has the cars per hour of each of those inlets, which are at `cells`. Without `demands` all chances are measured."""
+    least, most = min(states, key=sum), max(states, key=sum)
+    fixed = dataclasses.replace(effort, may_refine=False, is_fine=effort.may_refine)
+    nodes = [part / (NODES - 1) for part in range(NODES)] if sum(least) < sum(most) else [0.0]
+    measured = [tuple(low + part * (high - low) for low, high in zip(least, most)) for part in nodes]
+    return AdmissionByFlow(tuple((sum(state), _measure_in(state, cells, cell, drivers, fixed, demands)) for state in measured))
+
+
+def _measure_in(state: tuple[float, ...], cells: Sequence[int], cell: int, drivers: Drivers, effort: Effort,
+                demands: Iterable[float]) -> Admission:
+    chances = convert_demands(cells, [[(0, rate)] for rate in state], drivers, effort)
+    before = [Inlet(one, chance[0][1]) for one, chance in zip(cells, chances)]
+    return measure_admission(drivers, cell, [inlet for inlet in before if inlet.chance], effort, demands)
 
 
 # Lost demand

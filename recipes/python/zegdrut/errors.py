@@ -6,6 +6,13 @@ STATUSES = {3: "out of memory", 4: "its output could not be written", 5: "the sc
 """Meanings of the program's exit statuses, except 0 and 2."""
 
 
+def describe_error(fault: Exception) -> str:
+    """Return a sentence on an error. For a file that cannot be read or written it has the path and what to do."""
+    if isinstance(fault, OSError) and fault.filename is not None and not isinstance(fault, LabError):
+        return f"{fault.filename}: {fault.strerror}: check the path"
+    return str(fault)
+
+
 class LabError(Exception):
     """An error of this package, except for wrong arguments, which are a TypeError or a ValueError."""
 

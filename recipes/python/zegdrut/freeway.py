@@ -142,7 +142,15 @@ def to_rates(demand: Demand) -> Rates:
 
 
 def make_road(figures: Figures) -> Road:
-    """Make the road in cells, steps and chances. Fault: a figure is out of range."""
+    """Make the road in cells, steps and chances. Fault: a figure is out of range. The message begins with the file of the figures."""
+    try:
+        return make_checked_road(figures)
+    except Fault as fault:
+        raise Fault(f"{figures.source}: {fault}" if figures.source else str(fault)) from None
+
+
+def make_checked_road(figures: Figures) -> Road:
+    """Make the road. Fault: a figure is out of range."""
     if to_cells(figures.length) not in CELLS:
         raise Fault(f"length {figures.length:g} km is out of range: {to_km(CELLS[0]):g} to {to_km(CELLS[-1]):g} km "
                     f"({CELLS[0]} to {CELLS[-1]:,} cells)")

@@ -6,7 +6,7 @@ import dataclasses
 import datetime
 import json
 import math
-from dataclasses import dataclass
+from dataclasses import dataclass, field
 from pathlib import Path
 from typing import NamedTuple, TypeGuard, TypeVar, Union, cast
 
@@ -72,6 +72,8 @@ class Figures:
     """The slowing chance of standing cars (slow-to-start); None: the same as for all cars."""
     entry: float | None = None
     """The km at the beginning of the road where nobody is slowed; None: 0, or ENTRY if the inlet needs it (`freeway.widen_inlet`)."""
+    source: Path | None = field(default=None, compare=False)
+    """The file that these figures come from. A file cannot set it."""
 
     @property
     def clock(self) -> Clock:
@@ -97,7 +99,7 @@ class Figures:
             given = json.loads(path.read_text(encoding="utf-8"))
         except ValueError as fault:
             raise Fault(f"{path} is not JSON: {fault}") from None
-        check_names(given, known or [one.name for one in dataclasses.fields(self)], str(path))
+        check_names(given, known or [one.name for one in dataclasses.fields(self) if one.name != "source"], str(path))
         try:
             found = Reader(path, given, self).figures()
         except InvalidTime as fault:
@@ -130,7 +132,7 @@ class Reader:
         plain = {name: given.get(name, getattr(base, name)) for name in ("begin", "date", "timezone")}
         self.clock = Clock.read(**plain)
         self.minutes = self.number("minutes", given["minutes"]) if "minutes" in given else base.minutes
-        self.base = dataclasses.replace(base, **plain)
+        self.base = dataclasses.replace(base, **plain, source=path)
 
     def fault(self, name: str, value: object, accepted: str) -> Fault:
         """Return an error with the field, the value, and what is accepted."""
@@ -232,7 +234,7 @@ class Reader:
             with open(path, newline="", encoding="utf-8") as file:
                 rows = list(csv.DictReader(file))
         except OSError as fault:
-            raise Fault(f"{self.path}: {name}: {path}: {fault.strerror}") from None
+            raise Fault(f"{self.path}: {name}: {path}: {fault.strerror}: check the path") from None
         header = list(rows[0]) if rows else []
         times = value.get("time", header[0] if header else "")
         for column in (times, title):

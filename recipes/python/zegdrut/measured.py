@@ -20,6 +20,8 @@ from .units import HOUR, count_things
 
 SUSPICIOUS = 10
 """A zero between two intervals with at least this many cars per lane is a fault of the detector."""
+MOST_FLOW = 3_000.0
+"""The greatest flow in cars per hour and lane that is believed."""
 COUNTING_ERROR = 0.05
 """The share of the flow that counting errors may lose between two stations."""
 
@@ -48,6 +50,8 @@ class Measured:
     main: list[Series]
     ramps: list[Series]
     notes: list[str] = field(default_factory=list)
+    cut: str = ""
+    """Why stations downstream of the last one are not compared, if there are any."""
 
     @property
     def intervals(self) -> int:
@@ -120,6 +124,8 @@ def put_on_road(counts: Counts, clock: Clock, seconds: int, origin: float | None
     Fault: the counts do not fit the run, or nothing is left to compare."""
     check_one_day(counts, clock)
     interval = find_interval(counts, clock)
+    if seconds < interval:
+        raise Fault(f"minutes: the run of {seconds / 60:g} minutes is shorter than an interval of the counts, {interval / 60:g} minutes")
     if seconds % interval:
         raise Fault(f"the run of {seconds / 60:g} minutes does not consist of whole intervals of {interval / 60:g} minutes: change `minutes`")
     sign = -1 if is_reversed else 1
@@ -132,6 +138,7 @@ def put_on_road(counts: Counts, clock: Clock, seconds: int, origin: float | None
     for placed_row in place_rows(counts, clock, notes):
         placed[placed_row.row.station].append(placed_row)
     check_clock_changes(counts, clock, seconds, notes)
+    check_window(counts, clock, seconds, placed)
     found: list[Series] = []
     for station in counts.stations.values():
         here = station._replace(km=round(sign * (station.km - start), 4))
@@ -145,20 +152,38 @@ def put_on_road(counts: Counts, clock: Clock, seconds: int, origin: float | None
     if len(lanes_differ) > 1:
         notes.append(f"the stations have {' and '.join(map(str, lanes_differ))} lanes: the model has one lane, so it cannot show how the flow "
                      "per lane changes with the number of lanes")
-    upstream, downstream = cut_at_exit(lines, ramps, notes)
+    upstream, cut = cut_at_exit(lines, ramps)
+    notes += [cut] if cut else []
     joining = [one for one in ramps if one.station.km < upstream[-1].station.km]
     for one in (upstream[0], *joining):
         note_interpolated(one, clock, interval, notes)
-    return Measured(clock, interval, upstream, joining, [*counts.notes, *notes])
+    return Measured(clock, interval, upstream, joining, [*counts.notes, *notes], cut)
+
+
+def check_window(counts: Counts, clock: Clock, seconds: int, placed: dict[str, list[PlacedRow]]) -> None:
+    """Check that a row is in the window. Fault: none is. The message has the times of the window and of the rows."""
+    steps = sorted(one.step for rows in placed.values() for one in rows)
+    if steps and not any(0 <= step < seconds for step in steps):
+        first, last = (clock.to_date_text(step) for step in (steps[0], steps[-1]))
+        raise Fault(f"{counts.path}: no row is in the window of the road, {clock.to_date_text(0)} to {clock.to_date_text(seconds)}: the rows are "
+                    f"from {first} to {last}. Change date, begin or minutes of the road")
 
 
 def note_interpolated(series: Series, clock: Clock, interval: int, notes: list[str]) -> None:
     """Add a note if a station that gives a demand has missing intervals, whose demand `make_rates` interpolates."""
-    missing = [place for place, cars in enumerate(series.cars) if cars is None]
-    if missing and len(missing) < len(series.cars):
+    known = [place for place, cars in enumerate(series.cars) if cars is not None]
+    if not known:
+        return
+    missing = [place for place in range(known[0], known[-1]) if series.cars[place] is None]
+    if missing:
         times = ", ".join(clock.to_text(place * interval) for place in missing[:MOST_TOLD]) + (", .." if len(missing) > MOST_TOLD else "")
         notes.append(f"the demand of station {series.station.name} is interpolated in {count_things(len(missing), 'interval')} without a "
                      f"count, at {times}")
+    for number, first, which in ((known[0], 0, "first"), (len(series.cars) - 1 - known[-1], known[-1] + 1, "last")):
+        if number:
+            notes.append(f"the demand of station {series.station.name} is unknown in {count_things(number, 'interval')}, "
+                         f"{clock.to_text(first * interval)} to {clock.to_text((first + number) * interval)}: it is assumed to be that of its "
+                         f"{which} count. Choose the window of the counts")
 
 
 def place_rows(counts: Counts, clock: Clock, notes: list[str]) -> list[PlacedRow]:
@@ -196,7 +221,7 @@ def make_series(counts: Counts, station: Station, rows: list[PlacedRow], lanes: 
     cars: list[float | None] = [None] * number
     speeds: list[float | None] = [None] * number
     lines = [0] * number
-    odd = []
+    odd, high, told = [], [], set[int]()
     for row, step in rows:
         if not 0 <= step < seconds:
             continue
@@ -204,9 +229,18 @@ def make_series(counts: Counts, station: Station, rows: list[PlacedRow], lanes: 
             odd.append(row.line)
             continue
         place = step // interval
-        cars[place] = row.cars / lanes * (interval / HOUR if counts.are_per_hour else 1)
-        speeds[place], lines[place] = row.speed, row.line
+        lines[place] = row.line
+        count = None if row.cars is None else row.cars * (interval / HOUR if counts.are_per_hour else 1)
+        if count is None or count > MOST_FLOW * station.lanes * interval / HOUR:
+            told.add(place)
+            if count is not None:
+                high.append(row.line)
+            continue
+        cars[place] = count / lanes
+        speeds[place] = row.speed
     own = replace(counts, notes=[])
+    note_lines(own, high, *(f"{what} more than {MOST_FLOW:,.0f} cars per hour and lane: treated as missing" for what in
+                            (f"row of station {station.name} has", f"rows of station {station.name} have")))
     note_lines(own, odd, *(f"{what} at a whole interval of {count_things(interval // 60, 'minute')}: ignored"
                            for what in (f"row of station {station.name} does not begin", f"rows of station {station.name} do not begin")))
     zero = [place for place, count in enumerate(cars) if count == 0]
@@ -217,7 +251,7 @@ def make_series(counts: Counts, station: Station, rows: list[PlacedRow], lanes: 
                                                           (f"row of station {station.name} has", f"rows of station {station.name} have")))
     for place in faulty:
         cars[place] = speeds[place] = None
-    missing = [place for place, count in enumerate(cars) if count is None and place not in faulty]
+    missing = [place for place, count in enumerate(cars) if count is None and place not in faulty and place not in told]
     if missing:
         times = ", ".join(clock.to_text(place * interval) for place in missing[:5]) + (", .." if len(missing) > 5 else "")
         after = max((line for place, line in enumerate(lines) if line and place < missing[0]), default=0)
@@ -246,8 +280,8 @@ def check_clock_changes(counts: Counts, clock: Clock, seconds: int, notes: list[
                         + ("comes twice; without an offset from UTC the first row of a time belongs to the first hour" if is_back else "is skipped"))
 
 
-def cut_at_exit(lines: list[Series], ramps: list[Series], notes: list[str]) -> tuple[list[Series], list[Series]]:
-    """Split the stations where the flow first falls by more than counting error, and add a note. Return both parts."""
+def cut_at_exit(lines: list[Series], ramps: list[Series]) -> tuple[list[Series], str]:
+    """Return the stations up to the first one after which the flow falls by more than counting error, and a sentence if there is one."""
     for place, (one, following) in enumerate(zip(lines, lines[1:])):
         both = [index for index, (before, after) in enumerate(zip(one.cars, following.cars)) if before is not None and after is not None]
         before = math.fsum(one.cars[index] or 0 for index in both)
@@ -256,8 +290,8 @@ def cut_at_exit(lines: list[Series], ramps: list[Series], notes: list[str]) -> t
                             if one.station.km <= ramp.station.km < following.station.km)
         expected = before + joining
         if expected - after > max(COUNTING_ERROR * expected, 3 * math.sqrt(expected)):
-            notes.append(f"from station {one.station.name} (km {one.station.km:g}) to {following.station.name} (km {following.station.km:g}) "
-                        f"the flow per lane falls from {expected:.0f} to {after:.0f} cars, as at an off-ramp, which the model does not have. "
-                        f"Only stations up to {one.station.name} are compared")
-            return lines[:place + 1], lines[place + 1:]
-    return lines, []
+            return lines[:place + 1], (
+                f"from station {one.station.name} (km {one.station.km:g}) to {following.station.name} (km {following.station.km:g}) "
+                f"the flow per lane falls from {expected:.0f} to {after:.0f} cars, as at an off-ramp, which the model does not have. "
+                f"Only stations up to {one.station.name} are compared")
+    return lines, ""

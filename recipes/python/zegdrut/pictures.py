@@ -18,6 +18,8 @@ from .clock import Clock
 
 MEASURED, SIMULATED, BEFORE, AFTER = "#000000", "#d55e00", "#0072b2", "#d55e00"
 """Colours that also differ for colour-blind readers."""
+INLETS = ("#000000", "#0072b2", "#d55e00", "#009e73", "#cc79a7")
+"""The colours of the demands of inlets, from km 0 on."""
 WIDTH, HEIGHT = 640, 190
 LEFT, RIGHT, TOP, BOTTOM = 58, 12, 26, 34
 SPEEDS = ((0, (120, 0, 30)), (27, (215, 48, 39)), (54, (252, 141, 89)), (81, (254, 224, 139)), (108, (145, 207, 96)), (135, (26, 152, 80)))
@@ -30,6 +32,10 @@ NARROW = 500
 LEAST_CLOSURE = 6.0
 """The least height and width of a closure in a space-time diagram, so that it is seen."""
 NO_CAR = (245, 245, 245)
+NO_DATA = math.nan
+"""The value of a piece of a measured space-time diagram for which there are no data. It is hatched."""
+HATCH = ('<pattern id="no-data" width="6" height="6" patternUnits="userSpaceOnUse" patternTransform="rotate(45)"><rect width="6" height="6" '
+         'fill="#fff"/><rect width="2" height="6" fill="#888"/></pattern>')
 BLOCKED = (0, 0, 0)
 Colour = tuple[int, int, int]
 
@@ -45,7 +51,6 @@ class Line(NamedTuple):
     colour: str
     low: Sequence[float | None] | None = None
     high: Sequence[float | None] | None = None
-    has_steps: bool = False
     is_dashed: bool = False
 
 
@@ -64,6 +69,12 @@ def choose_tick(span: float, most: int) -> float:
     raw = max(span, 1e-9) / most
     power = 10.0 ** math.floor(math.log10(raw))
     return next(float(one * power) for one in (1, 2, 5, 10) if one * power >= raw * 0.999)
+
+
+def list_ticks(low: float, high: float, most: int) -> list[float]:
+    """Return round values from one value to another, as the marks of an axis."""
+    step = choose_tick(high - low, most)
+    return [round(number * step, 12) for number in range(math.ceil(low / step - 1e-9), math.floor(high / step + 1e-9) + 1)]
 
 
 def list_time_ticks(first: int, last: int, most: int = 8) -> list[int]:
@@ -138,8 +149,11 @@ class Chart:
         return [*found, *([(BAND, "#666", "▒ ")] if any(line.low is not None for line in self.lines) else [])]
 
     def legend(self) -> str:
-        """Return the names of the lines in their colours."""
-        return "&#160;&#160; ".join(f'<tspan fill="{colour}">{mark}{escape(name)}</tspan>' for name, colour, mark in self.list_names())
+        """Return the names of the lines in their colours. The mark of the bands has the colours of all bands."""
+        bands = "".join(f'<tspan fill="{line.colour}" fill-opacity="0.4">█</tspan>' for line in self.lines if line.low is not None)
+        names = [(name, colour, mark) for name, colour, mark in self.list_names() if name != BAND]
+        found = [f'<tspan fill="{colour}">{mark}{escape(name)}</tspan>' for name, colour, mark in names]
+        return "&#160;&#160; ".join([*found, *([f'{bands} <tspan fill="#333">{BAND}</tspan>'] if bands else [])])
 
 
 def draw_line(line: Line, x: Callable[[float], float], y: Callable[[float], float]) -> list[str]:
@@ -181,15 +195,17 @@ def encode_png(rows: Sequence[Sequence[Colour]]) -> bytes:
 
 
 Field = Sequence[Sequence["float | None"]]
-"""Speeds in km/h for each period and each piece of the road, from km 0 on; None without a car."""
+"""Speeds in km/h for each period and each piece of the road, from km 0 on; None without a car, and NO_DATA without data."""
 
 
 def draw_field(speeds: Field, title: str, clock: Clock, first: int, last: int, kilometres: float, width: int = WIDTH,
-               height: int = 230, offset: int = 0, closed: Sequence[tuple[int, int, float, float]] = ()) -> str:
+               height: int = 230, offset: int = 0, closed: Sequence[tuple[int, int, float, float]] = (), ramps: Sequence[float] = (),
+               detectors: Sequence[float] = ()) -> str:
     """Return a space-time diagram as SVG: time to the right, km upwards, speeds in the colour scale.
 
-    closed: closures as (from step, to step, from km, to km), drawn in black."""
-    columns = [[NO_CAR if speed is None else find_colour(speed) for speed in reversed(one)] for one in speeds]
+    closed: closures as (from step, to step, from km, to km), drawn in black.
+    ramps, detectors: km that are marked at the right edge."""
+    columns = [[NO_CAR if speed is None or math.isnan(speed) else find_colour(speed) for speed in reversed(one)] for one in speeds]
     rows: list[list[Colour]] = [list(row) for row in zip(*columns)]
     inner, depth = width - LEFT - RIGHT, height - TOP - BOTTOM
     data = base64.b64encode(encode_png(rows)).decode()
@@ -205,6 +221,7 @@ def draw_field(speeds: Field, title: str, clock: Clock, first: int, last: int, k
         place = TOP + depth * (1 - km / kilometres)
         parts.append(f'<line x1="{LEFT - 4}" x2="{LEFT}" y1="{place:.1f}" y2="{place:.1f}" stroke="#333"/>'
                      f'<text x="{LEFT - 6}" y="{place + 4:.1f}" text-anchor="end">{km:.3g}</text>')
+    parts += draw_no_data(speeds, inner, depth)
     for begin, end, low, high in closed:
         left, right = (LEFT + inner * (min(max(date, first), last) - first) / (last - first) for date in (begin, end))
         up, down = (TOP + depth * (1 - km / kilometres) for km in (high, low))
@@ -212,16 +229,51 @@ def draw_field(speeds: Field, title: str, clock: Clock, first: int, last: int, k
             middle, tall, wide = (up + down) / 2, max(down - up, LEAST_CLOSURE), max(right - left, LEAST_CLOSURE)
             parts.append(f'<rect class="closure" x="{left:.1f}" y="{middle - tall / 2:.1f}" width="{wide:.1f}" height="{tall:.1f}" fill="#000" '
                          'stroke="#fff" stroke-width="1.2"/>')
+    right = width - RIGHT
+    parts += [draw_ramp(right, TOP + depth * (1 - km / kilometres)) for km in ramps]
+    parts += [draw_detector(right, TOP + depth * (1 - km / kilometres)) for km in detectors]
     parts.append(f'<rect x="{LEFT}" y="{TOP}" width="{inner}" height="{depth}" fill="none" stroke="#333"/></svg>')
     return "".join(parts)
 
 
-def draw_scale(width: int = WIDTH) -> str:
-    """Return the colour scale as SVG."""
+def draw_ramp(x: float, y: float) -> str:
+    """Return the mark of an on-ramp at the right edge of a diagram, as SVG."""
+    return f'<path class="ramp" d="M{x + 2:.1f} {y:.1f}l9 -5v10z" fill="#000"/>'
+
+
+def draw_detector(x: float, y: float) -> str:
+    """Return the mark of a detector at the right edge of a diagram, as SVG."""
+    return f'<path class="detector" d="M{x - 6:.1f} {y:.1f}h12" stroke="#000" stroke-width="2"/>'
+
+
+def draw_no_data(speeds: Field, inner: int, depth: int) -> list[str]:
+    """Return a hatched rectangle for each period and each run of pieces without data, as SVG."""
+    parts = []
+    for place, column in enumerate(speeds):
+        is_missing = [speed is not None and math.isnan(speed) for speed in column]
+        begins = [piece for piece, is_so in enumerate(is_missing) if is_so and not (piece and is_missing[piece - 1])]
+        for begin in begins:
+            end = next((piece for piece in range(begin, len(column)) if not is_missing[piece]), len(column))
+            parts.append(f'<rect class="no-data" x="{LEFT + inner * place / len(speeds):.1f}" y="{TOP + depth * (1 - end / len(column)):.1f}" '
+                         f'width="{inner / len(speeds):.1f}" height="{depth * (end - begin) / len(column):.1f}" fill="url(#no-data)"/>')
+    return [HATCH, *parts] if parts else []
+
+
+def draw_scale(width: int = WIDTH, has_no_data: bool = False, has_ramps: bool = False, has_detectors: bool = False) -> str:
+    """Return the colour scale as SVG, and what else the diagrams may have: pieces without data, and marks of ramps and detectors."""
     steps = 68
     inner = (width - LEFT - RIGHT) * 0.6
     parts = [f'<svg xmlns="http://www.w3.org/2000/svg" class="scale" viewBox="0 0 {width} 34" width="{width}" height="34" font-family="sans-serif" '
              f'font-size="11"><text x="{LEFT + inner + 12:.0f}" y="12">km/h (white: no car, black: closed)</text>']
+    x = LEFT + inner + 18
+    if has_no_data:
+        parts.append(f'{HATCH}<rect x="{x:.0f}" y="18" width="22" height="11" fill="url(#no-data)" stroke="#888" stroke-width="0.5"/>'
+                     f'<text x="{x + 27:.0f}" y="28">no data</text>')
+        x += 80
+    for is_drawn, draw, name in ((has_ramps, draw_ramp, "on-ramp"), (has_detectors, draw_detector, "detector")):
+        if is_drawn:
+            parts.append(f'{draw(x + 4, 24)}<text x="{x + 18:.0f}" y="28">{name}</text>')
+            x += 72
     for number in range(steps):
         red, green, blue = find_colour(135 * (number + 0.5) / steps)
         parts.append(f'<rect x="{LEFT + inner * number / steps:.1f}" y="2" width="{inner / steps + 0.5:.1f}" height="12" '
@@ -276,10 +328,12 @@ def draw_points(title: str, names: tuple[str, str], points: Sequence[tuple[float
              f'<text x="{width - RIGHT}" y="14" text-anchor="end">dark: error {least:.2f}; light: {most:.2f} or more; cross: the result</text>'
              f'<text x="{LEFT + inner / 2}" y="{height - 8}" text-anchor="middle">{escape(names[0])}</text>'
              f'<text transform="translate(12 {TOP + depth / 2}) rotate(-90)" text-anchor="middle">{escape(names[1])}</text>']
-    for value in (left, (left + right) / 2, right):
-        parts.append(f'<text x="{x(value):.1f}" y="{TOP + depth + 16}" text-anchor="middle">{value:.3g}</text>')
-    for value in (low, (low + high) / 2, high):
-        parts.append(f'<text x="{LEFT - 5}" y="{y(value) + 4:.1f}" text-anchor="end">{value:.3g}</text>')
+    for value in list_ticks(left, right, 8):
+        parts.append(f'<line x1="{x(value):.1f}" x2="{x(value):.1f}" y1="{TOP + depth}" y2="{TOP + depth + 4}" stroke="#333"/>'
+                     f'<text x="{x(value):.1f}" y="{TOP + depth + 16}" text-anchor="middle">{value:.10g}</text>')
+    for value in list_ticks(low, high, 6):
+        parts.append(f'<line x1="{LEFT - 4}" x2="{LEFT}" y1="{y(value):.1f}" y2="{y(value):.1f}" stroke="#333"/>'
+                     f'<text x="{LEFT - 6}" y="{y(value) + 4:.1f}" text-anchor="end">{value:.10g}</text>')
     for across, up, error in sorted(points, key=lambda one: -one[2]):
         part = min((error - least) / (most - least), 1.0) if most > least else 0.0
         red, green, blue = (round(dark + part * (light - dark)) for dark, light in ((8, 222), (48, 235), (107, 247)))

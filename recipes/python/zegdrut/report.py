@@ -102,9 +102,9 @@ class Row(NamedTuple):
 
     @property
     def may_be_chance(self) -> bool | None:
-        """Return whether the interval of the difference contains 0, or None if it is unknown. Roads that do not differ have no chance."""
+        """Return whether the interval of the difference contains 0, or None if it is unknown, or if the figure does not differ on any day."""
         mean, half = self.difference or (None, None)
-        return None if mean is None or half is None else may_be_chance(Estimate(mean, half))
+        return None if mean is None or half is None or mean == half == 0 else may_be_chance(Estimate(mean, half))
 
 
 def estimate_side(values: Sequence[float | None]) -> tuple[float | None, float | None]:

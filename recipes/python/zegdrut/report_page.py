@@ -4,6 +4,7 @@
 """
 from __future__ import annotations
 
+import re
 from dataclasses import dataclass, field
 from html import escape
 from pathlib import Path
@@ -15,9 +16,11 @@ from .pictures import AFTER, BEFORE, Chart, Line, draw_field, draw_scale, make_s
 from .programs import program_path, read_record, sum_file
 from .report import PERIOD, Row, Side, SideDay, make_flow_series, make_speed_series
 from .trips import Window
-from .units import CELLS_A_KM, count_things, format_fixed, format_km
+from .units import CELLS_A_KM, count_things, format_fixed, format_km, to_km
 
 CELLS_A_PIECE, STEPS_A_PIECE = 7, 30
+NO_SPEED_BANDS = ('<p class="note">The charts of speeds have no intervals: on some days no car may pass in a period, and such a day has no '
+                  'speed.</p>')
 NO_BANDS = f'<p class="note">With fewer than {FEW_DAYS} days the charts have no intervals.</p>'
 MISSING = ("more than one lane: there is no overtaking, and all figures are per lane", "off-ramps, junctions and trucks: all cars behave "
            "as their zone says", "a queue before an inlet: demand that finds no place is lost", "speeds between whole cells per second, "
@@ -60,6 +63,8 @@ class Contents:
     """For each side its closures, as (from step, to step, from km, to km)."""
     more: str = ""
     """Further HTML behind the charts."""
+    demand: str = ""
+    """A chart of the demand over time as SVG."""
 
 
 def format_number(value: float | None, digits: int = 1) -> str:
@@ -84,7 +89,7 @@ def make_table_html(sides: Sequence[Side], rows: Sequence[Row], days: int) -> st
             cells += [*(format_number(value, digits) for value in row.difference or (None, None)), CHANCE * bool(row.may_be_chance)]
         lines.append(f"<tr><td>{escape(row.name)}</td>" + "".join(f"<td>{cell}</td>" for cell in cells) + "</tr>")
     said = ("± is half the 95 % interval of the mean (Student's t), in the unit of its row; for the difference it is paired by day. "
-            f"“{CHANCE}”: the interval of the difference contains 0. A speed is the mean of the days' time-mean speeds." if days > 1
+            f"“{CHANCE}”: the interval of the difference contains 0; a figure that does not differ on any day has no remark. A speed is the mean of the days' time-mean speeds." if days > 1
             else "One day has no interval.")
     return (f'<table><thead><tr><th>{f"mean of {days} days" if days > 1 else "one day"}</th>{head}</tr></thead><tbody>{"".join(lines)}</tbody>'
             f'</table><p class="note">{said}</p>')
@@ -93,12 +98,14 @@ def make_table_html(sides: Sequence[Side], rows: Sequence[Row], days: int) -> st
 def make_fields_html(contents: Contents) -> str:
     """Return the space-time diagrams of the first day, with one scale."""
     first, last = contents.window
+    ramps = [to_km(int(cell)) for cell, _ in contents.sides[0].script.plan["inlets"] if cell]
     drawn = []
     for place, (side, day) in enumerate(zip(contents.sides, contents.days[0])):
         closed = contents.closed[place] if place < len(contents.closed) else []
         drawn.append(draw_field(make_speed_field(day.rows, STEPS_A_PIECE, CELLS_A_PIECE), f"Space-mean speed: {side.name} (seed {contents.seed})",
-                                contents.clock, first, last, contents.length / CELLS_A_KM, width=900, height=210, closed=closed))
-    return "".join([*drawn, draw_scale(900)])
+                                contents.clock, first, last, contents.length / CELLS_A_KM, width=900, height=210, closed=closed, ramps=ramps,
+                                detectors=[to_km(cell) for cell in contents.detectors]))
+    return "".join([*drawn, draw_scale(900, has_ramps=bool(ramps), has_detectors=bool(contents.detectors))])
 
 
 def make_charts_html(contents: Contents) -> str:
@@ -136,11 +143,12 @@ def format_page(contents: Contents) -> str:
     few = "".join(f'<p class="warning">{escape(one)}.</p>' for one in warn_few_days(days))
     parts = [
         f"<h1>{escape(contents.title)}</h1>", f'<p class="window">{escape(describe_window(contents))}</p>', few, make_list_html(contents.facts),
+        contents.demand,
         "<h2>Works</h2>" + make_list_html(contents.works or ["none"]),
-        f'<p class="note">Rounded to the model: {escape("; ".join(contents.notes))}.</p>' if contents.notes else "",
+        f'<p class="note">Rounded to the model: {escape_text("; ".join(contents.notes))}.</p>' if contents.notes else "",
         f"<h2>Space-time diagrams</h2>{make_fields_html(contents)}",
         f"<h2>Flow and speed by time, each {PERIOD // 60} minutes, {f'mean of {days} days' if days > 1 else 'one day'}</h2>"
-        + (NO_BANDS if 1 < days < FEW_DAYS else "") + make_charts_html(contents)
+        + (NO_BANDS if 1 < days < FEW_DAYS else NO_SPEED_BANDS if days >= FEW_DAYS else "") + make_charts_html(contents)
         if contents.detectors else "",
         f"<h2>Figures, {times}</h2>{make_table_html(contents.sides, contents.rows, days)}",
         contents.more, "<h2>What the model does not have</h2>" + make_list_html(MISSING),
@@ -161,4 +169,9 @@ def describe_window(contents: Contents) -> str:
 
 def make_list_html(sentences: Sequence[str]) -> str:
     """Return sentences as a list."""
-    return "<ul>" + "".join(f"<li>{escape(one)}</li>" for one in sentences) + "</ul>"
+    return "<ul>" + "".join(f"<li>{escape_text(one)}</li>" for one in sentences) + "</ul>"
+
+
+def escape_text(sentence: str) -> str:
+    """Return a sentence as HTML. Names between backticks are shown as code."""
+    return re.sub("`([^`]+)`", r"<code>\1</code>", escape(sentence))

@@ -16,6 +16,7 @@ from __future__ import annotations
 
 import csv
 import datetime
+import math
 import re
 from collections import Counter
 from dataclasses import dataclass, field
@@ -34,6 +35,8 @@ FIVE_MINUTES = ("time", "station", "district", "freeway", "direction", "type", "
 """The first columns of station data without a header."""
 MOST_TOLD = 5
 """The number of lines of one kind that a note names."""
+MOST_SPEED = 250.0
+"""The greatest mean speed in km/h that is believed."""
 HEADERS = {
     "time": ("time", "timestamp", "datetime", "begin", "start", "interval"),
     "km": ("km", "kilometre", "kilometer", "position"),
@@ -60,12 +63,12 @@ class Station(NamedTuple):
 
 
 class Row(NamedTuple):
-    """The count of a station in an interval: cars on all lanes, and their mean speed in km/h if it is known. `time` is its begin."""
+    """The count of a station in an interval: cars on all lanes, and their mean speed in km/h. `time` is its begin. None is missing."""
 
     line: int
     station: str
     time: datetime.datetime | datetime.time
-    cars: float
+    cars: float | None
     speed: float | None
 
 
@@ -94,14 +97,12 @@ def read_stations(path: Path, units: Mapping[str, str] | None = None) -> dict[st
         raise Fault(f"{path}: no column is named km or miles: the columns are {', '.join(header)}")
     found: dict[str, Station] = {}
     for number, line in lines:
-        name = line[columns["station"]].strip()
+        name = read_cell(line, columns["station"])
         kilometres = read_number(path, number, header, line, columns[place]) * (MILE if place == "miles" else 1)
-        lanes = int(read_number(path, number, header, line, columns["lanes"]))
-        if lanes < 1:
-            raise Fault(f"{path}, line {number}: lanes must be 1 or more, not {lanes}")
+        lanes = read_lanes(path, number, header, line, columns["lanes"])
         if name in found:
             raise Fault(f"{path}, line {number}: station {name} appears twice: remove one line")
-        found[name] = Station(name, kilometres, lanes, is_ramp(line[columns["type"]] if "type" in columns else ""),
+        found[name] = Station(name, kilometres, lanes, is_ramp(read_cell(line, columns["type"]) if "type" in columns else ""),
                               place == "miles")
     return found
 
@@ -121,7 +122,7 @@ def read_table(path: Path) -> tuple[list[tuple[int, list[str]]], list[str]]:
     try:
         text = path.read_text(encoding="utf-8-sig")
     except OSError as fault:
-        raise Fault(f"{path}: {fault.strerror}") from None
+        raise Fault(f"{path}: {fault.strerror}: check the path") from None
     except UnicodeDecodeError:
         raise Fault(f"{path} is not text in UTF-8") from None
     first = text.split("\n", 1)[0]
@@ -153,13 +154,78 @@ def find_columns(path: Path, header: list[str], needed: Iterable[str], named: Ma
     return found
 
 
+def read_cell(line: list[str], place: int) -> str:
+    """Return the text in a column of a line. It is empty if the line is too short."""
+    return line[place].strip() if place < len(line) else ""
+
+
 def read_number(path: Path, number: int, header: list[str], line: list[str], place: int) -> float:
-    """Return the number in a column of a line. Fault: it is not a number."""
+    """Return the number in a column of a line. Fault: it is not a finite number."""
+    text = read_cell(line, place)
     try:
-        return float(line[place])
-    except (IndexError, ValueError):
-        value = line[place] if place < len(line) else ""
-        raise Fault(f"{path}, line {number}: {header[place]}: {value!r} is not a number") from None
+        found = float(text)
+    except ValueError:
+        found = math.nan
+    if not math.isfinite(found):
+        raise Fault(f"{path}, line {number}: {header[place]}: {text!r} is not a number")
+    return found
+
+
+def read_lanes(path: Path, number: int, header: list[str], line: list[str], place: int) -> int:
+    """Return the number of lanes in a column of a line. Fault: it is not a number of 1 or more."""
+    lanes = int(read_number(path, number, header, line, place))
+    if lanes < 1:
+        raise Fault(f"{path}, line {number}: lanes must be 1 or more, not {lanes}")
+    return lanes
+
+
+@dataclass
+class Doubts:
+    """The lines whose count or speed is missing, because such a value does not exist. Codes such as -1 and -999 are among them."""
+
+    counts: list[int] = field(default_factory=list)
+    no_speeds: list[int] = field(default_factory=list)
+    high_speeds: list[int] = field(default_factory=list)
+
+    def read_count(self, path: Path, number: int, header: list[str], line: list[str], place: int) -> float | None:
+        """Return the count or flow of a line, or None if it is missing. Fault: it is not a number."""
+        found = read_value(path, number, header, line, place)
+        if found is None or 0 <= found < math.inf:
+            return found
+        self.counts.append(number)
+        return None
+
+    def read_speed(self, path: Path, number: int, header: list[str], line: list[str], place: int, unit: float) -> float | None:
+        """Return the speed of a line in km/h, or None if it is missing. Fault: it is not a number."""
+        found = read_value(path, number, header, line, place)
+        if found is None:
+            return None
+        speed = found * unit
+        if 0 <= speed <= MOST_SPEED:
+            return speed
+        (self.high_speeds if speed > MOST_SPEED else self.no_speeds).append(number)
+        return None
+
+    def tell(self, counts: Counts) -> None:
+        """Add notes on these lines."""
+        what = "flow" if counts.are_per_hour else "count"
+        note_lines(counts, self.counts, f"row has a {what} that is below 0 or not finite: treated as missing",
+                   f"rows have {what}s that are below 0 or not finite: treated as missing")
+        note_lines(counts, self.no_speeds, "row has a speed that is below 0 or not finite: the speed is treated as missing",
+                   "rows have speeds that are below 0 or not finite: the speeds are treated as missing")
+        note_lines(counts, self.high_speeds, f"row has a speed above {MOST_SPEED:g} km/h: the speed is treated as missing",
+                   f"rows have speeds above {MOST_SPEED:g} km/h: the speeds are treated as missing")
+
+
+def read_value(path: Path, number: int, header: list[str], line: list[str], place: int) -> float | None:
+    """Return the number in a column of a line, or None if the column is empty. It may be nan or infinite. Fault: it is not a number."""
+    text = read_cell(line, place)
+    if not text:
+        return None
+    try:
+        return float(text)
+    except ValueError:
+        raise Fault(f"{path}, line {number}: {header[place]}: {text!r} is not a number") from None
 
 
 def read_counts(path: Path, stations: Mapping[str, Station] | None = None, columns: Mapping[str, str] | None = None,
@@ -170,6 +236,8 @@ def read_counts(path: Path, stations: Mapping[str, Station] | None = None, colum
         if stations is None:
             raise Fault(f"{path} is station data without a header: give a table of its stations with km or miles, and lanes "
                         "(--stations TABLE.csv)")
+        if columns or units:
+            raise Fault(f"{path} is station data without a header, whose columns and units are known: leave out --column and --unit")
         return check_rows(read_five_minutes(path, [(1, header), *lines], stations))
     return check_rows(read_with_header(path, header, lines, stations, columns or {}, units or {}))
 
@@ -182,7 +250,10 @@ def is_five_minutes(first: list[str]) -> bool:
 def read_five_minutes(path: Path, lines: list[tuple[int, list[str]]], stations: Mapping[str, Station]) -> Counts:
     """Read station data without a header."""
     counts, used, left_out, unseen = Counts({}, [], str(path)), dict[str, Station](), Counter[str](), list[int]()
+    doubts, header = Doubts(), list(FIVE_MINUTES)
     for number, line in lines:
+        if len(line) < len(FIVE_MINUTES):
+            raise Fault(f"{path}, line {number}: station data without a header have {len(FIVE_MINUTES)} columns or more, not {len(line)}")
         values = dict(zip(FIVE_MINUTES, line))
         name, kind = values["station"], values["type"]
         if name not in stations or not is_used(kind):
@@ -196,15 +267,15 @@ def read_five_minutes(path: Path, lines: list[tuple[int, list[str]]], stations: 
         if not values["count"].strip():
             unseen.append(number)
             continue
-        speed = values["speed mph"].strip()
-        if float(values["percent observed"] or 0) == 0:
+        if not read_value(path, number, header, line, header.index("percent observed")):
             unseen.append(number)  # (estimated by the keeper of the data, not counted)
-        counts.rows.append(Row(number, name, time, read_number(path, number, list(FIVE_MINUTES), line, 9),
-                               float(speed) * MILE if speed else None))
+        counts.rows.append(Row(number, name, time, doubts.read_count(path, number, header, line, header.index("count")),
+                               doubts.read_speed(path, number, header, line, header.index("speed mph"), MILE)))
     counts.stations = used
     counts.notes += [f"{path}: {count_things(times, 'row')} of {name}: ignored" for name, times in sorted(left_out.items())]
     note_lines(counts, unseen, "row has 0 % observed or no count: its count is an estimate or empty",
                "rows have 0 % observed or no count: their counts are estimates or empty")
+    doubts.tell(counts)
     return counts
 
 
@@ -219,17 +290,23 @@ def read_with_header(path: Path, header: list[str], lines: list[tuple[int, list[
                     f"{', '.join(header)}; choose one with `--column count=NAME`")
     if place == "station" and stations is None and "km" not in columns and "miles" not in columns:
         raise Fault(f"{path} does not contain the km of its stations: give a table with km or miles, and lanes (--stations TABLE.csv)")
+    if "speed" in units and "speed" not in columns:
+        raise Fault(f"{path}: no column is named speed, so --unit speed={units['speed']} has no effect: choose one with `--column speed=NAME`")
     speeds = find_speed_unit(path, header[columns["speed"]], units) if "speed" in columns else 1.0
     is_of_interval = re.search(r"min|interval", header[columns[what]].lower()) is not None  # ("flow veh/5min")
     counts = Counts({}, [], str(path), are_per_hour=what == "flow" and not is_of_interval)
+    doubts, empty = Doubts(), list[int]()
     for number, line in lines:
-        name = line[columns[place]].strip()
+        name = read_cell(line, columns[place])
         if name not in counts.stations:
             counts.stations[name] = find_station(path, number, header, line, columns, name, stations)
-        speed = line[columns["speed"]].strip() if "speed" in columns and columns["speed"] < len(line) else ""
-        counts.rows.append(Row(number, name, read_time(path, number, line[columns["time"]]),
-                               read_number(path, number, header, line, columns[what]),
-                               read_number(path, number, header, line, columns["speed"]) * speeds if speed else None))
+        if not read_cell(line, columns[what]):
+            empty.append(number)
+        counts.rows.append(Row(number, name, read_time(path, number, read_cell(line, columns["time"])),
+                               doubts.read_count(path, number, header, line, columns[what]),
+                               doubts.read_speed(path, number, header, line, columns["speed"], speeds) if "speed" in columns else None))
+    note_lines(counts, empty, f"row has no {what}: treated as missing", f"rows have no {what}: treated as missing")
+    doubts.tell(counts)
     return counts
 
 
@@ -242,8 +319,8 @@ def find_station(path: Path, number: int, header: list[str], line: list[str], co
         return stations[name]
     place = "km" if "km" in columns else "miles"
     kilometres = read_number(path, number, header, line, columns[place]) * (1 if place == "km" else MILE)
-    lanes = int(read_number(path, number, header, line, columns["lanes"])) if "lanes" in columns else 1
-    return Station(name, kilometres, lanes, is_ramp(line[columns["type"]]) if "type" in columns else False, place == "miles")
+    lanes = read_lanes(path, number, header, line, columns["lanes"]) if "lanes" in columns else 1
+    return Station(name, kilometres, lanes, is_ramp(read_cell(line, columns["type"])) if "type" in columns else False, place == "miles")
 
 
 def find_speed_unit(path: Path, title: str, units: Mapping[str, str]) -> float:

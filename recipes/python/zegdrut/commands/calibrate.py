@@ -8,8 +8,8 @@ terminal it shows the progress and the best point; in a log, a line every ten se
 
 It prints the result and the ten best points. It writes calibrated-NAME.json (ROAD.json with the fitted drivers, and the measured demand
 of the main road and of the ramps times the fitted factor), tried-NAME.csv (all points with their errors) and surface-NAME.svg (a picture
-of the errors). zegdrut/calibration.py defines the error; an error of about
-2 is as good as chance allows.
+of the errors). zegdrut/calibration.py defines the error. An error of about 2 is as good as chance allows. The command warns if the least
+error is above 5, and if a result is within 5 % of the bounds of its range.
 """
 from __future__ import annotations
 
@@ -17,6 +17,7 @@ import argparse
 import dataclasses
 import json
 import math
+import shlex
 import sys
 from pathlib import Path
 from typing import Sequence
@@ -25,10 +26,12 @@ from ..bars import Bar
 from ..calibration import NAMES, Bounds, Calibration, Point, Search, Trial, calibrate, is_congested, make_calibrated
 from ..demand import BeyondCapacity
 from ..comparison import with_measured_demand
-from ..errors import Fault, LabError
+from ..errors import Fault, LabError, describe_error
 from ..freeway import Figures, make_road, measure_chances
 from ..freeway_files import write_road
+from ..outputs import prepare_folder
 from ..pictures import draw_points, stack_drawings
+from ..programs import program_path
 from .measured import add_data_arguments, report_progress, read_data, print_lines
 
 
@@ -38,6 +41,29 @@ NO_MINIMUM = ("the errors show no minimum, so the result is the mean of the best
               "spread. Try more points or days")
 SHORT_SEARCH = (f"fewer than {Search.points} points or {Search.days} days: the result may be off by more than its spread, which is that of the "
                 "best points (recipes/measured/README.md has examples)")
+
+
+CHANCE_ERROR, MOST_ERROR = 2, 5.0
+"""The error that chance alone makes, about, and the error above which the command warns."""
+NEAR_BOUND = 0.05
+"""The share of a range within which a result is near the bound of the range."""
+QUANTITIES = ("slowing chance", "slow-to-start chance", "demand factor")
+
+
+def list_warnings(found: Calibration, bounds: Bounds) -> list[str]:
+    """Return a sentence if the road fits the counts badly, and for each result at or near the bound of its range."""
+    warnings = []
+    least = min(one.error for one in found.best_ten())
+    if least > MOST_ERROR:
+        warnings.append(f"the least error is {least:.1f}, and about {CHANCE_ERROR} is as good as chance allows: the calibrated road does not fit "
+                        f"these counts. Compare it with them before you use it, and check the counts and the road")
+    for quantity, name, value, (low, high) in zip(QUANTITIES, NAMES, found.best, bounds):
+        bound = low if value - low < high - value else high
+        if low < high and abs(value - bound) <= NEAR_BOUND * (high - low):
+            can_widen = bound > 0 if name == "factor" else 0 < bound < 1
+            warnings.append(f"the {quantity} of {value:.3f} is at or near the bound {bound:g} of its range, {low:g} to {high:g}: "
+                            + (f'a value outside may fit better. Widen "{name}" by --bounds FILE' if can_widen else "no value beyond is possible"))
+    return warnings
 
 
 def read_arguments(words: Sequence[str] | None) -> argparse.Namespace:
@@ -90,6 +116,8 @@ def run_calibration(given: argparse.Namespace, out: Path) -> None:
         raise Fault("--points must be 10 or more, and --days 1 or more")
     bounds = read_bounds(given.bounds)
     figures, measured = read_data(given)
+    name, folder = given.road.stem, given.out or out / given.road.stem
+    prepare_folder(folder)
     print_lines(measured.notes)
     search = dataclasses.replace(Search(), points=given.points, days=given.days, elite=max(given.points // 4, 4))
     point = Point(figures.slowing, figures.start or 0.0, 1.0)
@@ -98,26 +126,35 @@ def run_calibration(given: argparse.Namespace, out: Path) -> None:
         print_lines([SHORT_SEARCH])
     if not is_congested(measured):
         print_lines([NO_CONGESTION])
+    program_path()  # (its note is printed here, and not by each process)
     report_progress(f"trying {search.total} points")
     bar = Bar("points", in_log=True)
     found = calibrate(given.road.stem, figures, measured, bounds, search, lambda done, total, best: bar.show(done, total, describe_best(best)))
     bar.end()
-    name, folder = given.road.stem, given.out or out / given.road.stem
-    folder.mkdir(parents=True, exist_ok=True)
     if not found.is_fitted:
         print_lines([NO_MINIMUM])
     print("quantity,found,spread of the best points")
-    for quantity, value, spread in zip(("slowing chance", "slow-to-start chance", "demand factor"), found.best, found.spread):
+    for quantity, value, spread in zip(QUANTITIES, found.best, found.spread):
         print(f"{quantity},{value:.3f},{spread:.3f}")
     print("\n" + "\n".join(format_trials(found.best_ten())))
+    print_lines(list_warnings(found, bounds))
     best = found.best._replace(slowing=round(found.best.slowing, 4), start=round(found.best.start, 4))
     calibrated = make_calibrated(figures, measured, best)
     write_road(folder / f"calibrated-{name}.json", given.road, calibrated)
     (folder / f"tried-{name}.csv").write_text("".join(f"{line}\n" for line in format_trials(found.tried)), encoding="utf-8")
     (folder / f"surface-{name}.svg").write_text(draw_surface(found), encoding="utf-8")
     check_admission(calibrated)
+    more = "".join(f" {word}" for word in list_count_words(given))
     print(f"The calibrated road, the points and the picture are in {folder}. Compare the road with its counts by "
-          f"`measured {folder / f'calibrated-{name}.json'} {given.counts} --demand road`", file=sys.stderr)
+          f"`recipes/measured/run {folder / f'calibrated-{name}.json'} {given.counts}{more} --demand road`", file=sys.stderr)
+
+
+def list_count_words(given: argparse.Namespace) -> list[str]:
+    """Return the options that say how the counts were read, as words of a command line."""
+    words = [f"--stations {given.stations}"] if given.stations else []
+    words += [f"--origin {given.origin:g}"] if given.origin is not None else []
+    words += ["--reverse"] if given.reverse else []
+    return [*words, *(f"--{name} {shlex.quote(one)}" for name in ("column", "unit") for one in getattr(given, name))]
 
 
 def check_admission(figures: Figures) -> None:
@@ -134,6 +171,6 @@ def main(words: Sequence[str] | None = None, out: Path = Path("out")) -> int:
     try:
         run_calibration(given, out)
     except (LabError, BeyondCapacity, OSError) as fault:
-        print(fault, file=sys.stderr)
+        print(describe_error(fault), file=sys.stderr)
         return 1
     return 0

@@ -31,10 +31,11 @@ from typing import Sequence
 from ..days import Comparison, Day, compare_days, run_over_days
 from ..delay import Delay, Entered, Group, compare_delays, to_vehicle_hours
 from ..demand import Supply
-from ..errors import Fault, LabError
+from ..errors import Fault, LabError, describe_error
 from ..intervals import Estimate, warn_few_days
 from ..lab import RoadLab
 from ..lost import compute_demands, compute_supplies
+from ..outputs import prepare_folder
 from ..scripts import open_edited, follow_both, read_script, choose_replica, check_same_road
 from ..trips import Trips, Window, count_admitted_cars
 from ..units import Units, count_things
@@ -104,7 +105,6 @@ def format_hours(steps: int, seconds: float) -> str:
 
 def write_table(folder: Path, name: str, lines: list[str]) -> None:
     """Write a table into the folder."""
-    folder.mkdir(parents=True, exist_ok=True)
     (folder / name).write_text("".join(line + "\n" for line in lines), encoding="utf-8")
 
 
@@ -157,6 +157,7 @@ def draw_differences(folder: Path, difference: Estimate, days: int) -> None:
 def compare_over_days(given: argparse.Namespace) -> None:
     """Compare both scripts over many days."""
     before, after = map(read_script, given.scripts)
+    prepare_folder(given.out)
     days = run_over_days(before, after, given.days, given.at, read_units(given), given.scripts)
     figures = compare_days(days)
     print("".join(f"{one}\n" for one in warn_few_days(given.days)), end="", file=sys.stderr, flush=True)
@@ -204,6 +205,7 @@ def compare(given: argparse.Namespace) -> None:
     if not seconds / 2 < given.minutes * 60 < float("inf"):
         raise Fault(f"--minutes {given.minutes:g} must be at least one step ({seconds:g} s)")
     scripts = list(map(read_script, given.scripts))
+    prepare_folder(given.out)
     labs = [open_edited(path, script) for path, script in zip(given.scripts, scripts)]
     try:
         plan = scripts[0].plan
@@ -231,7 +233,7 @@ def main(words: Sequence[str] | None = None, example: Sequence[str] = (), out: P
         sys.stdout.flush()
         print(f"The tables are in {given.out}", file=sys.stderr)
     except (LabError, OSError) as fault:
-        print(fault, file=sys.stderr)
+        print(describe_error(fault), file=sys.stderr)
         return 1
     return 0
 

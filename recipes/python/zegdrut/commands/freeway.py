@@ -33,11 +33,12 @@ from pathlib import Path
 from typing import Iterable, Iterator, Sequence, cast
 
 from ..demand import Inlet, Supply, count_admitted, count_demand, find_rate
-from ..errors import LabError
+from ..errors import LabError, describe_error
 from ..freeway import (Fault, Figures, Road, Section, measure_chances, find_changes, describe_changes, make_roads, make_shapes, widen_inlet,
                        widen_inlets)
 from ..inflow import run_script
 from ..lab import RoadLab
+from ..outputs import prepare_folder
 from ..road_scripts import Chances, make_commands, make_plan, make_script
 from ..scripts import Script
 from ..trips import Trips, Window, count_admitted_cars
@@ -239,6 +240,7 @@ def write_tables(folder: Path, before_name: str, tables: dict[str, Lines]) -> No
 def run_freeway(figures: Figures, folder: Path, then: Figures | None = None) -> None:
     """Run a freeway, without its works and with its later changes too, and write everything into the folder."""
     road, turned = make_roads(figures, then)
+    prepare_folder(folder)
     print_lines(road.notes)
     changed = find_changes(road, turned) if turned else []
     if turned:
@@ -249,7 +251,6 @@ def run_freeway(figures: Figures, folder: Path, then: Figures | None = None) -> 
     start = make_script(road, inlets, figures.seed)
     demand = format_demands(road, inlets, start)
     print_lines(road.notes[before:], end="\n")
-    folder.mkdir(parents=True, exist_ok=True)
     write_lines(folder, "units.json", [json.dumps({"metres": METRES, "seconds": 1})])
     script = with_commands(start, list_queries(road))
     write_tables(folder, "", make_tables(figures, road, demand, run_and_write(folder, "script.jsonl", "replies.jsonl", script)))
@@ -293,11 +294,13 @@ def main(words: Sequence[str] | None = None, out: Path = Path("out")) -> int:
             print_plan(widen_inlet(figures))
             return 0
         then = figures.override_works(given.then) if given.then else None
+        folder = given.out or out / (given.file.stem if given.file else "")
+        prepare_folder(folder)
         figures, *turned = widen_inlets([figures] if then is None else [figures, then])
         then = turned[0] if turned else None
-        run_freeway(figures, given.out or out / (given.file.stem if given.file else ""), then)
+        run_freeway(figures, folder, then)
     except (LabError, OSError) as fault:
-        print(fault, file=sys.stderr)
+        print(describe_error(fault), file=sys.stderr)
         return 1
     return 0
 

@@ -17,10 +17,8 @@ It writes the tables hours-, speeds- and intervals-NAME-0630-0930.csv, and the p
 from __future__ import annotations
 
 import argparse
-import csv
 import dataclasses
 import datetime
-import io
 import sys
 from pathlib import Path
 from typing import Optional, Sequence, cast
@@ -29,14 +27,15 @@ from ..bars import Bar
 from ..comparison import (Day, Hour, Model, compare_hours, compare_speeds, list_left_out, make_model, make_interval_records, compute_total_rmse, compute_share_below,
                           simulate_day, simulate_days, with_measured_demand, with_stations)
 from ..demand import BeyondCapacity
-from ..errors import Fault, LabError
+from ..errors import Fault, LabError, describe_error
 from ..freeway import Figures, make_road, widen_inlet
 from ..freeway_files import write_road
 from ..intervals import FEW_DAYS, warn_few_days
 from ..measured import Measured, put_on_road
-from ..pictures import MEASURED, SIMULATED, Chart, Field, Line, draw_field, draw_scale, stack_drawings, make_speed_field
-from ..stations import Counts, read_counts, read_stations
-from ..units import HOUR, count_things, format_fixed, format_km
+from ..outputs import format_csv, prepare_file, prepare_folder
+from ..pictures import MEASURED, NO_DATA, SIMULATED, Chart, Field, Line, draw_field, draw_scale, stack_drawings, make_speed_field
+from ..stations import HEADERS, Counts, read_counts, read_stations
+from ..units import CELLS_A_KM, HOUR, count_things, format_fixed, format_km, to_km
 from ..wire import Record
 from .freeway import FIGURES
 
@@ -79,11 +78,14 @@ def add_count_options(parser: argparse.ArgumentParser) -> None:
     parser.add_argument("--unit", action="append", default=[], metavar="speed=UNIT", help="unit of the speeds: km/h, mph or m/s")
 
 
-def read_pairs(given: list[str], word: str, example: str) -> dict[str, str]:
-    """Read arguments such as speed=mph into a dictionary. Fault: one has no =."""
+def read_pairs(given: list[str], word: str, example: str, known: Sequence[str]) -> dict[str, str]:
+    """Read arguments such as speed=mph into a dictionary. Fault: one has no =, or its quantity is unknown."""
     found = dict(one.partition("=")[::2] for one in given)
     if "" in found.values() or any("=" not in one for one in given):
         raise Fault(f"--{word} must be QUANTITY={word.upper()}, such as {example}, not {' '.join(given)}")
+    for name in found:
+        if name not in known:
+            raise Fault(f"--{word} {name}={found[name]}: unknown quantity {name!r}: it must be {' or '.join(known)}")
     return found
 
 
@@ -93,8 +95,8 @@ def read_data(given: argparse.Namespace) -> tuple[Figures, Measured]:
     if figures.begin is None:
         raise Fault(f'{given.road} has no begin: add the clock time at which the window begins, such as "begin": "06:30"')
     table = read_stations(given.stations) if given.stations else None
-    counts = read_counts(given.counts, table, read_pairs(given.column, "column", "speed=v_mean"),
-                         read_pairs(given.unit, "unit", "speed=mph"))
+    counts = read_counts(given.counts, table, read_pairs(given.column, "column", "speed=v_mean", list(HEADERS)),
+                         read_pairs(given.unit, "unit", "speed=mph", ["speed"]))
     figures = with_date_of(figures, counts)
     measured = put_on_road(counts, figures.clock, round(figures.minutes * 60), given.origin, given.reverse)
     make_road(with_measured_demand(with_stations(figures, measured), measured)[0])
@@ -144,30 +146,27 @@ def find_places(model: Model) -> dict[str, str]:
 
 def format_hours(model: Model, hours: Sequence[Hour]) -> list[str]:
     """Return the table of stations and hours."""
-    lines = ["station,km,from,to,measured cars/h/lane,simulated cars/h/lane,± cars/h/lane,GEH per lane,lanes,GEH all lanes"]
+    rows = ["station,km,from,to,measured cars/h/lane,simulated cars/h/lane,± cars/h/lane,GEH per lane,lanes,GEH all lanes".split(",")]
     clock, lanes = model.measured.clock, {one.station.name: one.station.lanes for one in model.measured.main}
     places = find_places(model)
     for one in hours:
-        lines.append(f"{one.station},{places[one.station]},{clock.to_text(one.first)},{clock.to_text(one.first + HOUR)},{one.measured:.1f},"
-                     f"{one.simulated:.1f},{format_number(one.half)},{one.geh:.2f},{lanes[one.station]},{one.geh_all_lanes:.2f}")
-    return lines
+        rows.append([one.station, places[one.station], clock.to_text(one.first), clock.to_text(one.first + HOUR), f"{one.measured:.1f}",
+                     f"{one.simulated:.1f}", format_number(one.half), f"{one.geh:.2f}", str(lanes[one.station]), f"{one.geh_all_lanes:.2f}"])
+    return format_csv(rows)
 
 
 def format_speeds(model: Model, days: Sequence[Day]) -> list[str]:
     """Return the table of speeds by station and for all stations."""
     errors, places = compare_speeds(model.measured, days), find_places(model)
-    lines = ["station,km,intervals,RMSE of time-mean speed km/h,simulated minus measured km/h"]
-    lines += [f"{one.station},{places[one.station]},{one.intervals},{format_number(one.rmse)},{format_number(one.bias)}" for one in errors]
-    return [*lines, f"all,,{sum(one.intervals for one in errors)},{format_number(compute_total_rmse(errors))},"]
+    rows = ["station,km,intervals,RMSE of time-mean speed km/h,simulated minus measured km/h".split(",")]
+    rows += [[one.station, places[one.station], str(one.intervals), format_number(one.rmse), format_number(one.bias)] for one in errors]
+    return format_csv([*rows, ["all", "", str(sum(one.intervals for one in errors)), format_number(compute_total_rmse(errors)), ""]])
 
 
-def format_csv(records: Sequence[Record]) -> list[str]:
+def format_records(records: Sequence[Record]) -> list[str]:
     """Return records as the lines of a CSV file."""
-    text = io.StringIO()
-    writer = csv.DictWriter(text, list(records[0]), lineterminator="\n")
-    writer.writeheader()
-    writer.writerows(records)
-    return text.getvalue().splitlines()
+    names = list(records[0])
+    return format_csv([names, *([record[name] for name in names] for record in records)])
 
 
 def write_table(folder: Path, name: str, model: Model, lines: Sequence[str]) -> None:
@@ -204,30 +203,26 @@ def make_comparison_charts(model: Model, days: Sequence[Day]) -> list[Chart]:
 
 
 def make_measured_field(model: Model, pieces: int) -> Field:
-    """Return measured speeds as a field. Each piece of the road has the speed of the nearest station with a speed."""
+    """Return measured speeds as a field. Each piece of the road has the speed of the nearest station: NO_DATA if it has none then, and None
+    if it counted no car."""
     measured = model.measured
-    last = model.road.length / (1_000 / 7.5)
-    field = []
-    for place in range(measured.intervals):
-        column: list[float | None] = []
-        for piece in range(pieces):
-            km = (piece + 0.5) * last / pieces
-            near = sorted((abs(one.station.km - km), one.speeds[place]) for one in measured.main if one.speeds[place] is not None)
-            column.append(near[0][1] if near else None)
-        field.append(column)
-    return field
+    last = model.road.length / CELLS_A_KM
+    nearest = [min(measured.main, key=lambda one: abs(one.station.km - (piece + 0.5) * last / pieces)) for piece in range(pieces)]
+    return [[NO_DATA if one.speeds[place] is None and one.cars[place] != 0 else one.speeds[place] for one in nearest]
+            for place in range(measured.intervals)]
 
 
 def draw_space_time(model: Model) -> str:
     """Return the measured and the simulated space-time diagram with the same colour scale, as SVG."""
     _, rows, _ = simulate_day(model, model.seed, with_rows=True)
-    clock, km = model.measured.clock, model.road.length / (1_000 / 7.5)
+    clock, km = model.measured.clock, model.road.length / CELLS_A_KM
     simulated = make_speed_field(rows, A_MINUTE, CELLS_A_PIECE)
-    drawn = [draw_field(simulated, f"Simulated space-mean speed, seed {model.seed}", clock, 0, model.window_steps, km)]
+    ramps, stations = [to_km(cell) for cell, _ in model.road.inlets[1:]], [min(max(one.station.km, 0.0), km) for one in model.measured.main]
+    drawn = [draw_field(simulated, f"Simulated space-mean speed, seed {model.seed}", clock, 0, model.window_steps, km, ramps=ramps, detectors=stations)]
     if any(speed is not None for one in model.measured.main for speed in one.speeds):
         measured = make_measured_field(model, len(simulated[0]))
-        drawn.insert(0, draw_field(measured, "Measured time-mean speed, nearest station", clock, 0, model.window_steps, km))
-    return stack_drawings([*drawn, draw_scale()])
+        drawn.insert(0, draw_field(measured, "Measured time-mean speed, nearest station", clock, 0, model.window_steps, km, ramps=ramps, detectors=stations))
+    return stack_drawings([*drawn, draw_scale(has_no_data=len(drawn) > 1, has_ramps=bool(ramps), has_detectors=True)])
 
 
 # The command
@@ -236,6 +231,11 @@ def compare(given: argparse.Namespace, out: Path) -> None:
     """Read the data, simulate, compare, and write the results."""
     check_days(given.days, 1)
     figures, measured = read_data(given)
+    folder = given.out or out / given.road.stem
+    if given.write_road is None:
+        prepare_folder(folder)
+    else:
+        prepare_file(given.write_road, "--write-road FILE")
     print_lines([*measured.notes, *warn_few_days(given.days)])
     if given.write_road is not None:
         write_measured_road(given, figures, measured)
@@ -250,13 +250,11 @@ def compare(given: argparse.Namespace, out: Path) -> None:
     days = simulate_days(model, given.days, bar.show)
     bar.end()
     hours = compare_hours(measured, days)
-    folder = given.out or out / given.road.stem
-    folder.mkdir(parents=True, exist_ok=True)
     tables = {"hours": format_hours(model, hours), "speeds": format_speeds(model, days)}
     for name, lines in tables.items():
         write_table(folder, name, model, lines)
         print(f"\n{make_title(model)}\n" + "\n".join(lines))
-    write_table(folder, "intervals", model, format_csv(make_interval_records(model, days)))
+    write_table(folder, "intervals", model, format_records(make_interval_records(model, days)))
     print()
     print_lines(format_shares(measured, hours))
     window = format_window(model)
@@ -294,8 +292,8 @@ def format_shares(measured: Measured, hours: Sequence[Hour]) -> list[str]:
     if not hours:
         return [*found, "so there is no GEH: it needs whole hours without a missing row"]
     one, every = [hour.geh for hour in hours], [hour.geh_all_lanes for hour in hours]
-    return [*found, f"GEH below 5: {compute_share_below(one):.0%} of {count_things(len(hours), 'compared station hour')} per lane, "
-            f"{compute_share_below(every):.0%} of all lanes (guidelines require 85 % of the links)"]
+    return [*found, f"GEH below 5 in {100 * compute_share_below(one):.0f} % of {count_things(len(hours), 'compared station hour')} by the flow per "
+            f"lane, and in {100 * compute_share_below(every):.0f} % by the flow of all lanes (guidelines require 85 % of the links)"]
 
 
 def main(words: Sequence[str] | None = None, out: Path = Path("out")) -> int:
@@ -304,6 +302,6 @@ def main(words: Sequence[str] | None = None, out: Path = Path("out")) -> int:
     try:
         compare(given, out)
     except (LabError, BeyondCapacity, OSError) as fault:
-        print(fault, file=sys.stderr)
+        print(describe_error(fault), file=sys.stderr)
         return 1
     return 0

@@ -13,8 +13,9 @@ hour. begin is the time when metering starts. Only the first three are required.
 Cars wait before the ramp in a vertical queue (arrivals minus admitted cars), metered or not. Its waiting time is the sum of the queue
 over all seconds, in vehicle hours, listed next to the hours on the road. With --as-if-from TIME the first day is simulated without
 control, and then again as if metering had started at TIME, by edits in the past. The two are compared.
-The command prints a table of means and 95 % intervals (Student's t, paired by day), and writes it to metering-NAME.csv. It writes the
-first day to minutes-NAME.csv. With --as-if-from it writes as-if-NAME.csv and as-if-minutes-NAME.csv.
+The command prints a table of means and 95 % intervals (Student's t, paired by day), and writes it to metering-NAME-0630-0930.csv, with
+the window in the name. It writes the first day to minutes-NAME-0630-0930.csv. With --as-if-from it writes as-if-NAME-0630-0930.csv and
+as-if-minutes-NAME-0630-0930.csv.
 """
 from __future__ import annotations
 
@@ -31,15 +32,16 @@ from typing import Sequence
 from ..bars import Bar
 from ..clock import InvalidTime
 from ..control import RampMeter, measure_queue, run_control
-from ..demand import Admission, AdmissionByFlow, Drivers, Inlet, count_demand, measure_admission, thread_count, find_rate
-from ..errors import Fault, LabError
+from ..demand import Admission, AdmissionByFlow, BeyondCapacity, count_demand, measure_by_flow, thread_count, find_rate
+from ..errors import Fault, LabError, describe_error
 from ..freeway import Figures, Road, measure_chances, make_road, widen_inlet
 from ..freeway_files import is_number, check_names
 from ..intervals import describe_chance, estimate_mean, estimate_paired, warn_few_days
 from ..lab import RoadLab
+from ..outputs import format_csv, format_window, make_title, prepare_folder, write_csv
 from ..road_scripts import Chances, make_base_edits, make_commands, make_plan
 from ..trips import Trips, Window, count_admitted_cars, compute_vehicle_hours
-from ..units import format_fixed, to_cells
+from ..units import format_fixed, to_cells, to_steps
 from .freeway import FIGURES, report_progress
 from .measured import check_days
 
@@ -91,6 +93,17 @@ class Site:
                          control.least, control.most, start)
 
 
+MOST_RATE = 1_800.0
+"""The cars per hour that an inlet admits at the most: one in two seconds."""
+TINY = 1e-9
+ACCEPTED = {"ramp": ("a number of km", 0.0, math.inf), "detector": ("a number of km", 0.0, math.inf),
+            "setpoint": ("an occupancy from 0 to 100 per cent", 0.0, 100.0),
+            "gain": ("a number above 0, in cars per hour and per cent of occupancy", TINY, math.inf),
+            **{name: (f"a number above 0 and up to {MOST_RATE:,.0f} cars per hour, which is the most that an inlet admits", TINY, MOST_RATE)
+               for name in ("least", "most")}}
+"""What is accepted for each field of a control, with the least and the greatest number."""
+
+
 def read_control(path: Path, figures: Figures) -> Control:
     """Read the parameters of the control. Fault: a field is missing or invalid."""
     try:
@@ -102,14 +115,19 @@ def read_control(path: Path, figures: Figures) -> Control:
     if missing:
         raise Fault(f"{path} has no {missing[0]}: add it")
     for name, value in given.items():
-        if name != "begin" and not is_number(value):
-            raise Fault(f"{path}: {name}: {json.dumps(value)} is not a number")
+        if name != "begin":
+            accepted, least, most = ACCEPTED[name]
+            if not is_number(value) or not least <= value <= most:
+                raise Fault(f"{path}: {name}: {json.dumps(value)} is not {accepted}")
     try:
         control = Control(**{**given, "begin": figures.clock.to_step(given.get("begin", 0), "begin")})
     except InvalidTime as fault:
         raise Fault(f"{path}: {fault}") from None
-    if not 0 < control.least <= control.most:
-        raise Fault(f"{path}: least: {control.least:g} must be above 0 and at most {control.most:g}")
+    if control.least > control.most:
+        raise Fault(f"{path}: least: {control.least:g} is above most, which is {control.most:g} cars per hour")
+    if not 0 <= control.begin < to_steps(figures.minutes):
+        raise Fault(f"{path}: begin: {json.dumps(given.get('begin', 0))} is not in the run, which lasts from {figures.clock.to_text(0)} to "
+                    f"{figures.clock.to_text(to_steps(figures.minutes))}")
     return control
 
 
@@ -126,12 +144,11 @@ def make_site(name: str, figures: Figures, control: Control) -> Site:
     road.detectors += [wanted, wanted + 1]
     report_progress("measuring the inflow chances for the demand")
     chances = measure_chances(road)
-    main = [rate for _, rate in road.inlets[0][1]]
-    nodes = []
-    for flow in sorted({min(main), (min(main) + max(main)) / 2, max(main)}) if max(main) > min(main) else [0.0, max(main) / 2, max(main)]:
-        first = measure_admission(road.drivers, demands=[flow]).chance(flow)
-        nodes.append((flow, measure_admission(road.drivers, wanted, [Inlet(0, first)] if first else [], demands=[control.most])))
-    return Site(name, figures, road, chances, inlet, to_cells(control.detector), control, AdmissionByFlow(tuple(nodes)))
+    before = road.inlets[:inlet]
+    states = [tuple(find_rate(demand, step) for _, demand in before) for step in sorted({step for _, demand in before for step, _ in demand})]
+    # All chances are measured, so that a day without control does not depend on the control.
+    admissions = measure_by_flow([cell for cell, _ in before], wanted, states, road.drivers)
+    return Site(name, figures, road, chances, inlet, to_cells(control.detector), control, admissions)
 
 
 # Days
@@ -185,29 +202,34 @@ def run_again(site: Site, seed: int, start: int) -> tuple[Numbers, Numbers, Ramp
 
 # Tables
 
-def format_table(days: Sequence[tuple[Numbers, Numbers]]) -> list[str]:
+Table = list[list[str]]
+"""The rows of a table, the titles first."""
+
+
+def make_table(days: Sequence[tuple[Numbers, Numbers]]) -> Table:
     """Return the table of means over the days with 95 % intervals: without control, with it, and the difference, paired by day."""
-    lines = ["mean of a day,no control,±,ALINEA,±,difference,±,remark"]
+    rows = [["mean of a day", "no control", "±", "ALINEA", "±", "difference", "±", "remark"]]
     for name in days[0][0]:
         before, after = [one[name] for one, _ in days], [other[name] for _, other in days]
         difference = estimate_paired(before, after)
         numbers = [number for one in (estimate_mean(before), estimate_mean(after), difference) for number in one]
-        lines.append(f"{name}," + ",".join(format_fixed(number, 2) for number in numbers) + "," + describe_chance(difference))
-    return lines
+        rows.append([name, *(format_fixed(number, 2) for number in numbers), describe_chance(difference)])
+    return rows
 
 
-def format_days(days: Sequence[Numbers], titles: Sequence[str]) -> list[str]:
+def make_day_table(days: Sequence[Numbers], titles: Sequence[str]) -> Table:
     """Return the table of some days."""
-    return [",".join(titles), *(",".join([name, *(format_fixed(day[name], 2) for day in days)]) for name in days[0])]
+    return [[*titles], *([name, *(format_fixed(day[name], 2) for day in days)] for name in days[0])]
 
 
-def format_minutes(site: Site, meters: Sequence[RampMeter]) -> list[str]:
-    """Return the table of occupancy, rate and queue by minute, without control and with it."""
-    lines = ["time,no control: occupancy %,no control: queue cars,ALINEA: occupancy %,ALINEA: rate cars/h,ALINEA: queue cars"]
+def make_minute_table(site: Site, meters: Sequence[RampMeter]) -> Table:
+    """Return the table of occupancy, rate and queue by minute, without control and with it. The rate is empty if the ramp is not metered."""
+    rows = [["time", "no control: occupancy %", "no control: queue cars", "ALINEA: occupancy %", "ALINEA: rate cars/h", "ALINEA: queue cars"]]
     clock = site.figures.clock
     for (step, plain, _, waiting), (_, occupancy, rate, queue) in zip(*(meter.rates for meter in meters)):
-        lines.append(f"{clock.to_text(step)},{plain:.1f},{waiting:.1f},{occupancy:.1f},{rate:.0f},{queue:.1f}")
-    return lines
+        rows.append([clock.to_text(step), f"{plain:.1f}", f"{waiting:.1f}", f"{occupancy:.1f}", "" if math.isinf(rate) else f"{rate:.0f}",
+                     f"{queue:.1f}"])
+    return rows
 
 
 def compare(given: argparse.Namespace, out: Path) -> None:
@@ -219,15 +241,16 @@ def compare(given: argparse.Namespace, out: Path) -> None:
     if start is not None and not 0 <= start < figures.minutes * 60:
         raise Fault(f"--as-if-from: {given.as_if_from} is not in the run, which lasts from {figures.clock.to_text(0)} to "
                     f"{figures.clock.to_text(round(figures.minutes * 60))}")
+    folder = given.out or out / given.road.stem
+    prepare_folder(folder)
     site = make_site(given.road.stem, figures, control)
     print("".join(f"{note}\n" for note in site.road.notes), end="", file=sys.stderr, flush=True)
-    folder = given.out or out / given.road.stem
-    folder.mkdir(parents=True, exist_ok=True)
     if start is not None:
         report_progress("simulating a day, and the same day again")
         before, after, *both = run_again(site, figures.seed, start)
         titles = [f"seed {figures.seed}", "as it was", f"with metering from {figures.clock.to_text(start)} on"]
-        write_tables(folder, site.name, {"as-if": format_days([before, after], titles), "as-if-minutes": format_minutes(site, both)})
+        write_tables(folder, site, f"seed {figures.seed}",
+                     {"as-if": make_day_table([before, after], titles), "as-if-minutes": make_minute_table(site, both)})
         return
     print("".join(f"{one}\n" for one in warn_few_days(given.days)), end="", file=sys.stderr, flush=True)
     bar, found = Bar("days", in_log=True), []
@@ -237,14 +260,18 @@ def compare(given: argparse.Namespace, out: Path) -> None:
             found.append(one)
             bar.show(len(found), given.days)
     bar.end()
-    write_tables(folder, site.name, {"metering": format_table([one[:2] for one in found]), "minutes": format_minutes(site, found[0][2:])})
+    write_tables(folder, site, f"mean of {given.days} days", {"metering": make_table([one[:2] for one in found])})
+    write_tables(folder, site, f"seed {figures.seed}", {"minutes": make_minute_table(site, found[0][2:])}, is_printed=False)
+    print(f"The tables are in {folder}", file=sys.stderr)
 
 
-def write_tables(folder: Path, road: str, tables: dict[str, list[str]]) -> None:
-    """Write tables, and print the first one."""
-    for name, lines in tables.items():
-        (folder / f"{name}-{road}.csv").write_text("".join(f"{line}\n" for line in lines), encoding="utf-8")
-    print("\n".join(next(iter(tables.values()))))
+def write_tables(folder: Path, site: Site, days: str, tables: dict[str, Table], is_printed: bool = True) -> None:
+    """Write tables, and print the first one. Their first lines have the road, the window, the date and the days."""
+    clock, steps = site.figures.clock, site.road.steps
+    for name, rows in tables.items():
+        write_csv(folder / f"{name}-{site.name}-{format_window(clock, steps)}.csv", f"{make_title(site.name, clock, steps)}, {days}", rows)
+    if is_printed:
+        print("\n".join(format_csv(next(iter(tables.values())))))
     print(f"The tables are in {folder}", file=sys.stderr)
 
 
@@ -264,7 +291,7 @@ def main(words: Sequence[str] | None = None, out: Path = Path("out")) -> int:
     given = read_arguments(words)
     try:
         compare(given, out)
-    except (LabError, InvalidTime, OSError) as fault:
-        print(fault, file=sys.stderr)
+    except (LabError, BeyondCapacity, InvalidTime, OSError) as fault:
+        print(describe_error(fault), file=sys.stderr)
         return 1
     return 0

@@ -6,7 +6,7 @@ ROAD.json is a freeway as `zegdrut freeway` reads it. It is compared with OTHER.
 compared with itself without its sections and stalled cars, if it has any. Each day is a seed: both roads of a day have the same
 drivers. Each run begins some minutes before the window, so that its road is full: twice the free travel time, unless --warm-up says
 otherwise. With --counts the report also compares ROAD.json with measured counts, by the options of `zegdrut measured`.
-It writes report-NAME-0630-0930.html, and beside it the table and the series as CSV with units.
+It writes report-NAME-0630-0930.html, and beside it the table, the series and the demand as CSV with units.
 """
 from __future__ import annotations
 
@@ -21,13 +21,16 @@ from typing import Any, Sequence
 
 from ..bars import Bar
 from ..comparison import Model, compare_hours, list_left_out, make_model, simulate_days
-from ..demand import BeyondCapacity
-from ..errors import Fault, LabError
-from ..freeway import Figures, Road, measure_chances, make_roads, warm_up_minutes, widen_inlets, with_warm_up
+from ..demand import BeyondCapacity, find_rate
+from ..errors import Fault, LabError, describe_error
+from ..freeway import Figures, Road, measure_chances, make_roads, to_rates, warm_up_minutes, widen_inlets, with_warm_up
+from ..freeway_files import Demand
 from ..intervals import warn_few_days
 from ..measured import Measured
+from ..outputs import format_window, make_title as make_csv_title, prepare_file
+from ..pictures import INLETS, Chart, Line
 from ..report import PERIOD, Row, Side, SideDay, make_flow_series, make_records, make_speed_series, make_table, run_sides
-from ..report_page import Contents, format_page
+from ..report_page import Contents, format_page, make_list_html
 from ..road_scripts import make_script
 from ..trips import Window
 from ..units import CELLS_A_KM, HOUR, KMH, count_things, format_km, to_steps
@@ -37,6 +40,8 @@ from .measured import (add_count_options, add_demand_argument, check_days, choos
                        make_comparison_charts, make_title, read_data)
 
 DAYS = 5
+MOST_TOLD = 12
+"""The number of values of a demand that the report lists in a sentence."""
 MOST_WARM_UP = 1_440
 
 
@@ -51,7 +56,7 @@ def read_arguments(words: Sequence[str] | None) -> argparse.Namespace:
     add_demand_argument(parser)
     parser.add_argument("--warm-up", type=float, metavar="MINUTES", help="minutes of the run before the window (default: twice the free "
                         "travel time, rounded up to five minutes; 0: the road is empty at the begin)")
-    parser.add_argument("--title", help="title of the report")
+    parser.add_argument("--title", help="title of the report (default: the names of the files)")
     parser.add_argument("--out", type=Path, metavar="FILE.html", help="file of the report")
     return parser.parse_args(words)
 
@@ -60,13 +65,15 @@ def read_arguments(words: Sequence[str] | None) -> argparse.Namespace:
 
 @dataclass(frozen=True)
 class Request:
-    """Hold what was read: the road, the road before it with both names, the minutes before the window, and the measured counts."""
+    """Hold what was read: the road, the road before it with both names, the minutes before the window, the measured counts and the usual
+    title."""
 
     figures: Figures
     other: Figures | None
     names: tuple[str, str]
     warm: float
     measured: Measured | None
+    title: str = ""
 
     @property
     def window(self) -> Window:
@@ -78,6 +85,11 @@ class Request:
 def read_request(given: argparse.Namespace) -> Request:
     """Read and check everything. Fault: a file is invalid, or the two files describe different roads or times."""
     check_days(given.days, 1)
+    if given.counts is None:
+        used = [f"--{name}" for name in ("stations", "origin", "reverse", "column", "unit") if getattr(given, name) not in (None, False, [])]
+        used += ["--demand"] if given.demand != "counts" else []
+        if used:
+            raise Fault(f"{used[0]} has no effect without counts: add --counts CSV, or leave it out")
     if given.warm_up is not None and not 0 <= given.warm_up <= MOST_WARM_UP:
         raise Fault(f"--warm-up must be 0 to {MOST_WARM_UP:,} minutes, not {given.warm_up:g}")
     figures = FIGURES.override(given.road)
@@ -101,7 +113,8 @@ def read_request(given: argparse.Namespace) -> Request:
         dated, measured = read_data(given)
         figures = dataclasses.replace(figures, date=dated.date)
         other = None if other is None else dataclasses.replace(other, date=dated.date)
-    return Request(figures, other, names, warm_up_minutes(figures) if given.warm_up is None else given.warm_up, measured)
+    return Request(figures, other, names, warm_up_minutes(figures) if given.warm_up is None else given.warm_up, measured,
+                   given.road.stem if given.against is None else f"{given.road.stem} compared with {given.against.stem}")
 
 
 def make_sides(request: Request) -> tuple[list[Road], list[Side]]:
@@ -131,25 +144,70 @@ def describe_works(figures: Figures) -> list[str]:
     return found
 
 
+def name_inlets(figures: Figures) -> list[tuple[str, Demand]]:
+    """Return the name and the demand of each inlet."""
+    return [("main road", figures.main), *((f"on-ramp at km {km:g}", demand) for km, demand in figures.ramps)]
+
+
 def describe_demand(figures: Figures) -> list[str]:
-    """Describe the demand of each inlet in cars per hour and clock times."""
+    """Describe the demand of each inlet in cars per hour and clock times. A long profile is in a chart and a table."""
     clock = figures.clock
     found = []
-    for km, demand in [(0.0, figures.main), *figures.ramps]:
-        if isinstance(demand, list):
-            said = ", ".join(f"{cars:,.0f} from {clock.to_text(round(minute * 60))}" for minute, cars in demand[:12])
-            said += ", .." if len(demand) > 12 else ""
+    for name, demand in name_inlets(figures):
+        if not isinstance(demand, list):
+            found.append(f"{name}: {demand:,.0f} cars/h")
+        elif len(demand) <= MOST_TOLD:
+            told = ", ".join(f"{cars:,.0f} from {clock.to_text(to_steps(minute))}" for minute, cars in demand)
+            found.append(f"{name}: {told} cars/h")
         else:
-            said = f"{demand:,.0f}"
-        found.append(f"{'main road' if km == 0 else f'on-ramp at km {km:g}'}: {said} cars/h")
+            peak, most = max(demand, key=lambda pair: pair[1])
+            found.append(f"{name}: {min(cars for _, cars in demand):,.0f} to {most:,.0f} cars/h, with the peak from {clock.to_text(to_steps(peak))} on")
     return found
+
+
+def make_demand_chart(roads: Sequence[tuple[str, Figures]]) -> str:
+    """Return the demands of roads over the window as a chart; an empty string if none changes. Roads with the same demand are drawn once."""
+    figures = roads[-1][1]
+    steps = to_steps(figures.minutes)
+    named = [(name if len(roads) > 1 else "", one) for name, one in roads]
+    if not any(isinstance(demand, list) and len(demand) > 1 for _, one in named for _, demand in name_inlets(one)):
+        return ""
+    chart = Chart("Demand", "cars/h", figures.clock, 0, steps)
+    for place, (side, one) in enumerate(named):
+        for inlet, (name, demand) in enumerate(name_inlets(one)):
+            rates = to_rates(demand)
+            ends = [step for step, _ in rates[1:]] + [steps]
+            points: list[tuple[float, float | None]] = [(date, cars) for (step, cars), end in zip(rates, ends) for date in (step, end)]
+            chart.add(Line(f"{side}: {name}" if side else name, points, INLETS[inlet % len(INLETS)], is_dashed=place < len(named) - 1))
+    return chart.draw(900, 160)
+
+
+def make_demand_records(roads: Sequence[tuple[str, Figures]]) -> list[Record]:
+    """Return the demands of roads in cars per hour as records, at each time at which one changes. They apply until the next record."""
+    columns = [(f"{side}: {name}: cars/h" if len(roads) > 1 else f"{name}: cars/h", to_rates(demand))
+               for side, one in roads for name, demand in name_inlets(one)]
+    dates = sorted({step for _, rates in columns for step, _ in rates})
+    return [{"time": roads[0][1].clock.to_text(date), **{name: round(find_rate(rates, date), 2) for name, rates in columns}} for date in dates]
+
+
+def describe_demands(request: Request) -> list[str]:
+    """Describe the demands of both roads, or only of one if they are the same."""
+    roads = list_demands(request)
+    return [f"{side}: {one}" if len(roads) > 1 else one for side, figures in roads for one in describe_demand(figures)]
+
+
+def list_demands(request: Request) -> list[tuple[str, Figures]]:
+    """Return the roads of a report by name, or only the road after if both have the same demand."""
+    if request.other is None or name_inlets(request.other) == name_inlets(request.figures):
+        return [(request.names[1], request.figures)]
+    return [(request.names[0], request.other), (request.names[1], request.figures)]
 
 
 # The page
 
 def make_lines_html(lines: Sequence[str]) -> str:
     """Return the lines of a CSV table as HTML."""
-    head, *rows = [line.split(",") for line in lines]
+    head, *rows = csv.reader(lines)
     return ("<table><thead><tr>" + "".join(f"<th>{escape(cell)}</th>" for cell in head) + "</tr></thead><tbody>"
             + "".join("<tr>" + "".join(f"<td>{escape(cell)}</td>" for cell in row) + "</tr>" for row in rows) + "</tbody></table>")
 
@@ -158,11 +216,12 @@ def make_counts_html(given: argparse.Namespace, model: Model) -> str:
     """Return the part that compares the road with measured counts, as HTML."""
     measured, days = model.measured, simulate_days(model, given.days)
     hours = compare_hours(measured, days)
-    told = "".join(f"<li>{escape(one)}</li>" for one in measured.notes)
+    told = make_list_html(measured.notes) if measured.notes else ""
     whose = "the measured demand" if given.demand == "counts" else f"the demand of {given.road.name}"
+    only = f" Only {given.road.name} is compared with the counts, with its works." if given.against or model.figures.sections else ""
     shares = "; ".join(format_shares(measured, hours)) + "."
-    return (f"<h2>Comparison with measured counts</h2><p>{escape(make_title(model))}, mean of {count_things(given.days, 'day')} with {escape(whose)}. "
-            f"{escape(shares)}</p>" + (f"<ul>{told}</ul>" if told else "") + make_lines_html(format_hours(model, hours))
+    return (f"<h2>Comparison with measured counts</h2><p>{escape(make_title(model))}, mean of {count_things(given.days, 'day')} with {escape(whose)}."
+            f"{escape(only)} {escape(shares)}</p>" + told + make_lines_html(format_hours(model, hours))
             + make_lines_html(format_speeds(model, days))
             + f'<div class="pairs">{"".join(f"<div>{one.draw(470, 175)}</div>" for one in make_comparison_charts(model, days))}</div>')
 
@@ -172,13 +231,14 @@ def make_page(given: argparse.Namespace, request: Request, roads: Sequence[Road]
     """Return the report as HTML."""
     figures, road, window = request.figures, roads[-1], request.window
     clock = with_warm_up(figures, request.warm).clock
-    title = given.title or given.road.stem
+    title = given.title or request.title
     drivers = f"limit {road.limit * KMH:g} km/h, slowing {figures.slowing:.0%}" + (
         f", slow-to-start {figures.start:.0%}" if figures.start is not None else "")
     closed = [[(window.first + to_steps(one.begin), window.first + to_steps(one.end), one.at, one.at) for one in side.stalled]
               for side in (request.other, figures) if side is not None]
     return format_page(Contents(
-        title=title, facts=[f"{road.length / CELLS_A_KM:g} km, one lane, {drivers}", *describe_demand(figures)], works=describe_works(figures),
+        title=title, facts=[f"{road.length / CELLS_A_KM:g} km, one lane, {drivers}", *describe_demands(request)],
+        demand=make_demand_chart(list_demands(request)), works=describe_works(figures),
         notes=road.notes, clock=clock, window=window, length=road.length, detectors=road.detectors, sides=sides, days=days,
         rows=rows, seed=figures.seed, closed=closed, more="" if model is None else make_counts_html(given, model)))
 
@@ -214,6 +274,9 @@ def write_report(given: argparse.Namespace, out: Path) -> None:
     """Read, run, and write the report."""
     request = read_request(given)
     figures, window, clock = request.figures, request.window, request.figures.clock
+    times = format_window(clock, window.steps)
+    path = given.out or out / f"report-{given.road.stem}-{times}.html"
+    prepare_file(path, "--out FILE.html")
     print("".join(f"{one}\n" for one in warn_few_days(given.days)), end="", file=sys.stderr, flush=True)
     model = None
     if request.measured is not None:
@@ -225,13 +288,11 @@ def write_report(given: argparse.Namespace, out: Path) -> None:
     days = run_sides(sides, range(figures.seed, figures.seed + given.days), window, bar.show)
     bar.end()
     rows = make_table(sides, days, window)
-    times = f"{clock.to_file_text(0)}-{clock.to_file_text(window.steps)}"
-    path = given.out or out / f"report-{given.road.stem}-{times}.html"
-    path.parent.mkdir(parents=True, exist_ok=True)
     path.write_text(make_page(given, request, roads, sides, days, rows, model), encoding="utf-8")
-    date = f" on {clock.date}" if clock.date else ""
-    title = f"{given.road.stem}, {clock.to_text(0)} to {clock.to_text(window.steps)}{date}, mean of {count_things(given.days, 'day')}"
+    title = f"{make_csv_title(given.road.stem, clock, window.steps)}, mean of {count_things(given.days, 'day')}"
     write_table(path.with_name(f"figures-{given.road.stem}-{times}.csv"), title, make_records(sides, rows))
+    write_table(path.with_name(f"demand-{given.road.stem}-{times}.csv"), make_csv_title(given.road.stem, clock, window.steps),
+                make_demand_records(list_demands(request)))
     series = make_series_records(request, sides, roads, days)
     if series:
         write_table(path.with_name(f"series-{given.road.stem}-{times}.csv"), title, series)
@@ -244,6 +305,6 @@ def main(words: Sequence[str] | None = None, out: Path = Path("out")) -> int:
     try:
         write_report(given, out)
     except (LabError, BeyondCapacity, OSError) as fault:
-        print(fault, file=sys.stderr)
+        print(describe_error(fault), file=sys.stderr)
         return 1
     return 0

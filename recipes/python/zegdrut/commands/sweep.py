@@ -31,7 +31,8 @@ from types import FrameType
 from typing import Sequence, cast
 
 from ..bars import Bar
-from ..errors import Fault, LabError
+from ..errors import Fault, LabError, describe_error
+from ..outputs import prepare_file
 from ..results import format_row, replace_file, read_rows, parse_cell, format_cell
 from ..sweeps import Flows, Measure, Model, Points, Sweep, make_grid, list_points, sweep
 
@@ -180,6 +181,9 @@ def run_sweep(given: argparse.Namespace) -> int:
         seeds, part = read_seeds(given.seeds), read_pair(given.part, "/")
     except ValueError:
         raise Fault("write --seeds as 1-4 or 1,5,9, and --part as K/N") from None
+    prepare_file(given.out)
+    if given.means and str(given.means) != "-":
+        prepare_file(given.means, "--means FILE")
     shown = ProgressDisplay()
     signal.signal(signal.SIGTERM, raise_interrupt)
     try:
@@ -207,5 +211,5 @@ def main(words: Sequence[str] | None = None) -> int:
     try:
         return run_sweep(given)
     except (LabError, OSError) as fault:
-        print(fault, file=sys.stderr)
+        print(describe_error(fault), file=sys.stderr)
         return 2
