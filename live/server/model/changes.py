@@ -16,8 +16,13 @@ from .road import Road, parts_of
 def lines_of(road: Road, one: Operation) -> set[Stamp]:
     """Return the lines to which an operation belongs: at least one. An undo belongs to those of what it undoes, and a raw edit
     also to the line of the one in whose place it is."""
-    record = road.record
-    root = record.root_of(one)
+    if one.undoes is not None:
+        return {line for root in road.record.roots_of(one) for line in lines_of_root(road, root)}
+    return lines_of_root(road, one)
+
+
+def lines_of_root(road: Road, root: Operation) -> set[Stamp]:
+    """Return the lines of an operation that undoes nothing that is here."""
     if root.undoes is not None:
         return {root.stamp}  # what it undoes is not here yet
     if root.excludes is not None:

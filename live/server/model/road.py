@@ -207,9 +207,10 @@ def change(road: Road, stamp: Stamp, line: Stamp, shape: Shape | None, on_top: b
 
 
 def repeat(road: Road, stamp: Stamp, old: Operation, about: About = NOTHING) -> Operation:
-    """Do once more what an operation did to its lines, on top. Raw edits stay in their line."""
+    """Do once more what an operation did to its lines, on top. Raw edits stay in their line, in the place of its shape."""
     lines = {name for name in old.names if is_line(name)} or {line_of(old, name) for name in old.sets}
     gone: dict[Name, Shape | None] = {raw: None for line in lines if line in old.sets for raw in sorted(parts_of(road, line))}
+    gone.update((line, None) for line in lines if line not in old.names and line in road.layers)
     heights: dict[Name, Stamp] = {name: line_of(old, name) for name, shape in old.sets.items()
                                   if is_raw(name) and shape is not None}
     seen = [setter.stamp for line in lines for setter in [road.setter(line)] if setter is not None]
