@@ -21,7 +21,7 @@ from .former_journal import Former
 from .journal import Broken
 from .model.changes import all_lines, altered, lines_of, operations_on
 from .model.choices import forgettable, shareable
-from .model.operations import SEATS, Operation, Stamp, same_int, stamped_anew
+from .model.operations import SEATS, Operation, Stamp, is_raw, same_int, stamped_anew
 from .model.road import Road
 from .stamps import StampClock
 
@@ -195,10 +195,13 @@ class SeatReplica(Replica):
             self._waiting = []
             self.become(self.built())
 
-    def forgot(self, lines: set[Stamp]) -> None:
-        """Build its road again, without what was forgotten on these lines. Lines that have nothing left were gone before."""
-        self._road = self.built()
-        left = {line for line in lines if operations_on(self._road, line)}
+    def forgot(self, lines: set[Stamp], others: set[Operation]) -> None:
+        """Build its road again, without what was forgotten on these lines. Lines that have nothing left were gone before, but those
+        of others' raw edits in the place of what was forgotten: they belong to other lines now."""
+        before, after = self.road, self.built()
+        self._road = after
+        left = {line for line in lines if operations_on(after, line)}
+        left |= {line for one in others for road in (before, after) for line in lines_of(road, one)}
         self.mark(sorted(left))
         if self.marks is not None:
             self.marks = {line: version for line, version in self.marks.items() if line in left or line not in lines}
@@ -399,9 +402,10 @@ class State:
         if not gone:
             return
         lines = {line for one in gone for line in lines_of(seat.road, one)}
+        others = {other for one in gone for name in one.sets if is_raw(name) for other in seat.road.setters_of(name)}
         for one in gone:
             self._drop(seat, one)
-        seat.forgot(lines)
+        seat.forgot(lines, others - gone)
 
     # Compaction
 

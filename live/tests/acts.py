@@ -446,6 +446,21 @@ class Acts(Case):
                 os.kill(server.program, signal.SIGKILL)  # another program: the same
             self.assertEqual((await ada.ask("send", name="shared"))["stamps"], [first, last])
 
+    async def test_a_change_by_the_name_of_a_change_is_one_of_its_line(self) -> None:
+        """Also by its key, before it is confirmed: who drags three times gets one shape."""
+        line, change, last = await asyncio.gather(lay(self.ada, "a", CLOSED), lay(self.ada, "b", ["block", 60, 70, 30, 60, 1], layer="a"),
+                                                  lay(self.ada, "c", ["block", 60, 71, 30, 60, 1], layer="b"))
+        undo = (await self.ada.ask("undo", key="u", stamp=last))["stamp"]
+        for key, name, cells in (("d", change, 72), ("e", undo, 73)):
+            await lay(self.ada, key, ["block", 60, cells, 30, 60, 1], layer=name)
+        self.assertEqual([(name, one["shape"][2]) for name, one in (await lines(self.ada)).items()], [(tuple(line), 73)])
+
+    async def test_a_line_that_excludes_a_site_gets_no_shape(self) -> None:
+        out = (await self.ada.ask("site", key="out", site=9, out=True))["stamp"]
+        for fields in ({"shape": CLOSED}, {"shape": None}, {"top": True}):
+            with self.assertRaisesRegex(RefusedReply, "this line excludes a site"):
+                await self.ada.ask("gesture", key="a", layer=out, **fields)
+
     async def test_what_is_forgotten_is_not_listed_any_more(self) -> None:
         server = self.server(LIVE_MOST_UNDONE="30")
         async with server.seat() as ada:
@@ -464,6 +479,33 @@ class Acts(Case):
             self.assertEqual((await ada.ask("layers", **{"from": said["next"]}))["layers"], [fresh])
             with self.assertRaisesRegex(RefusedReply, "you hold no change of the name"):
                 await ada.ask("gesture", key="late", layer=gone, top=True)
+
+    async def test_a_list_is_told_when_an_own_raw_edit_is_forgotten_that_another_has_replaced(self) -> None:
+        """The other's edit stood in its line, too, and is all that was listed of it."""
+        server = self.server(LIVE_MOST_UNDONE="20")
+        async with server.seat() as ada, server.seat("Ben") as ben:
+            line = await put(ada, "gone", [*LIMIT, 2])
+            await ada.ask("undo", key="undo", stamp=line)
+            his = await put(ben, "his", [*LIMIT, 3])
+            await ben.ask("send", name="shared")
+            await ada.ask("take", message="shared")
+            self.assertEqual((await lines(ada)).keys(), {tuple(line), tuple(his)})
+            listed: dict[tuple[int, int], Any] = {}
+            after = 0
+            for count in range(11):
+                stamp = await lay(ada, f"g{count}", SLOW)
+                await ada.ask("undo", key=f"u{count}", stamp=stamp)
+                said = await ada.ask("layers", **{"from": after})
+                after, changed = said["next"], {tuple(one["name"]): one for one in said["layers"]}
+                listed = {name: one for name, one in {**listed, **changed}.items() if "gone" not in one}
+
+            async def is_shorter() -> bool:
+                return len((await ada.ask("operations"))["operations"]) < 24
+            await until(is_shorter, "the oldest are forgotten")
+            changed = {tuple(one["name"]): one for one in (await ada.ask("layers", **{"from": after}))["layers"]}
+            listed = {name: one for name, one in {**listed, **changed}.items() if "gone" not in one}
+            self.assertEqual(listed.keys(), {tuple(his)})
+            self.assertEqual(listed, await lines(ada))
 
     async def test_z_is_the_same_after_what_a_start_forgets(self) -> None:
         """Of the newest operations one takes back one that is older."""

@@ -43,9 +43,9 @@ class Seats(Case):
 
     async def test_a_name_that_looks_like_anothers_is_refused(self) -> None:
         """By case, width, style, what is not seen, how it is composed, and letters of other scripts."""
-        await self.here.join("Ada", "Zoé 1", "straße", "Βίκα")
+        await self.here.join("Ada", "Zoé 1", "straße", "Βίκα", "Cecil")
         for name in ("ada", "ADA", "Ａｄａ", "\U0001d400da", "A da", "Ad\ufe0fa", "Аdа", "Ad\u034fa", "Zoe\u0301 1",
-                     "ZOÉ 1", "zoé  1", "Zoé ①", "STRASSE", "strasse", "Bίκα"):
+                     "ZOÉ 1", "zoé  1", "Zoé ①", "STRASSE", "strasse", "Bίκα", "Сecil", "Ceсil", "Cec\u0131l", "Ceci\u04cf"):
             with self.assertRaises(Refused, msg=name) as caught:
                 await self.here.lab.seating.join(name, "", None)
             self.assertEqual(caught.exception.text, "NameTaken")
