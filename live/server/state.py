@@ -11,6 +11,7 @@ a place, beside its own.
 from __future__ import annotations
 
 import asyncio
+import itertools
 from typing import Iterable, Iterator, Mapping
 
 from zegdrut.wire import PlanLine
@@ -29,6 +30,7 @@ TAB_FORM = 4  # the protocol of tabs
 SITE_FORM = 3  # the protocol of sites
 MOST_NEWS = 100
 AT_ONCE = 100  # operations that are worked out before others are heard
+LARGE = 12  # layers of an operation that count as one more
 MOST_ROADS = 8  # values of the shared road that are kept for those who take
 
 NO_PLAN: PlanLine = {"length": 0, "inlets": (), "zones": (), "zone": 0, "exit": 0, "detectors": (), "words": 0, "replicas": ()}
@@ -48,6 +50,12 @@ def plan_value(plan: PlanLine, kind: str, index: int) -> int | None:
     if kind in ("limit", "slow"):
         return int(plan["zones"][index][kind == "slow"])
     raise ValueError(f"no kind of object: {kind}")
+
+
+def size_of_part(some: list[Operation]) -> int:
+    """Return how many operations, of these the first, are worked out at once: of large ones fewer."""
+    work = itertools.accumulate(1 + len(one.sets) // LARGE for one in some)
+    return max(1, sum(1 for _ in itertools.takewhile(lambda done: done <= AT_ONCE, work)))
 
 
 class Replica:
@@ -83,8 +91,8 @@ class Replica:
 
     async def catch_up(self) -> None:
         """Work its road out in pieces, between which others are heard. Whoever asks for it meanwhile gets it whole."""
-        while self._road is not None and len(self._waiting) > AT_ONCE:
-            part, self._waiting = self._waiting[:AT_ONCE], self._waiting[AT_ONCE:]
+        while self._road is not None and (size := size_of_part(self._waiting)) < len(self._waiting):
+            part, self._waiting = self._waiting[:size], self._waiting[size:]
             self.become(self._road.adding(part))
             await asyncio.sleep(0)
 

@@ -481,8 +481,8 @@ class Acts(Case):
                 await ada.ask("gesture", key="late", layer=gone, top=True)
 
     async def test_a_list_is_told_when_an_own_raw_edit_is_forgotten_that_another_has_replaced(self) -> None:
-        """The other's edit stood in its line, too, and is all that was listed of it."""
-        server = self.server(LIVE_MOST_UNDONE="20")
+        """Forget a raw edit whose line was listed because of the other's edit alone."""
+        server = self.server(LIVE_MOST_UNDONE="12")
         async with server.seat() as ada, server.seat("Ben") as ben:
             line = await put(ada, "gone", [*LIMIT, 2])
             await ada.ask("undo", key="undo", stamp=line)

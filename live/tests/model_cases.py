@@ -335,6 +335,13 @@ class Lists(unittest.TestCase):
         self.assertIn(below.stamp, changes.altered(road, then))
         self.assertEqual([one.by for one in seen.shown(then, below.stamp)], [None])
 
+    def test_who_puts_the_same_raw_edits_very_often_keeps_nobody_waiting(self) -> None:
+        road = EMPTY
+        for count in range(1, 42):
+            before, road = road, road.adding([edit((count, ADA), {("block", cell, 5): count % 2 for cell in range(1_200)})])
+        with takes_at_most(0.1):
+            self.assertEqual(changes.altered(before, road), {(40, ADA), (41, ADA)})
+
     def test_an_undo_of_twins_belongs_to_the_lines_of_both(self) -> None:
         first, second = put((1, ADA), SHAPE), put((2, ADA), WIDE)
         base = EMPTY.adding([first, second])

@@ -11,9 +11,11 @@ from faulty import Here, soon
 from running import Case, new_folder
 from server import verbs
 from server.asked import Asked
+from server.model.operations import edit
 from server.refusals import Refused
 from server.seating import SteadyClock
 from server.lab import Lab
+from server.state import size_of_part
 
 
 def copied(folder: Path) -> Path:
@@ -51,6 +53,11 @@ class Seats(Case):
             self.assertEqual(caught.exception.text, "NameTaken")
             self.assertIn(f"{name} looks like it", caught.exception.why)
         await self.here.join("Adam", "Zoe 1", "Zoé 2", "語", "語語", "Ad-a")
+
+    async def test_of_large_operations_fewer_are_worked_out_at_once(self) -> None:
+        small, large = (edit((1, 65), {("block", cell, 5): 1 for cell in range(many)}) for many in (1, 1_200))
+        for some, size in (([small] * 250, 100), ([large] * 3, 1), ([small, large], 1), ([small] * 3, 3)):
+            self.assertEqual(size_of_part(some), size)
 
     async def test_of_two_who_take_a_seat_over_one_gets_it(self) -> None:
         index, = await self.here.join("Ada")
