@@ -40,7 +40,8 @@ const LONGEST_NOTE = 200;
 export function put({shape, note, taken = "", old}) {
   const first = Math.min(shape.from, old?.shape?.from ?? shape.from);
   const layer = old ? {layer: encodeStamp(old.name)} : {};
-  act({gesture: {note, shape: encodeShape(shape), ...layer}}, {note, shape, taken, first});
+  const demand = shape.demand === undefined ? {} : {demand: shape.demand};
+  act({gesture: {note, shape: encodeShape(shape), ...demand, ...layer}}, {note, shape, taken, first});
 }
 
 /** @type {(what: string, change: Change) => string} */
@@ -194,7 +195,7 @@ export async function send(key) {
   const pending = store.pending.get(key);
   if (!pending) return;
   const {command, note, first = Infinity, taken, does} = pending;
-  const said = await ask(withFields(command, {at: need("me").at, key}), {first: true});
+  const said = await ask(withFields(command, {at: need("me").at, key}), {turn: "first"});
   if (!said) return;
   store.pending.delete(key);
   persistPending();
@@ -300,7 +301,7 @@ export function refreshLists() {
  */
 async function share(changes, stamps) {
   const fields = {at: need("me").at, name: "shared", stamps: stamps.map(encodeStamp)};
-  const said = await ask({send: fields}, {away: messages.NOT_SHARED});
+  const said = await ask({send: fields}, {turn: "first", away: messages.NOT_SHARED});
   if (!said || "refused" in said) return;
   tell(messages.shared(changes.length));
   if (said.touched !== null) roadOf("shared").invalidate(said.touched);
@@ -314,7 +315,8 @@ export async function take() {
   const covered = coveredOwn();
   const fresh = untaken();
   const from = makers(fresh);
-  const said = await ask({take: {at: need("me").at, message: "shared"}}, {away: messages.NOT_TAKEN});
+  const said = await ask({take: {at: need("me").at, message: "shared"}},
+    {turn: "first", away: messages.NOT_TAKEN});
   if (!said || "refused" in said) return;
   if (said.touched !== null) roadOf("mine").invalidate(said.touched);
   await takeLayers("mine", said);

@@ -12,6 +12,12 @@ import {LAST_STEP, chanceText, kmText, limitText} from "./units.mjs";
 /** @typedef {import("./types.mjs").Kind} Kind */
 /** @typedef {import("./types.mjs").Shape} Shape */
 
+/** Return how many curves of inlets are measured, of how many that were asked for.
+ * @returns {[done: number, all: number]}
+ */
+export const countCurves = () =>
+  [[...store.curves.values()].filter((one) => "points" in one).length, store.curves.size];
+
 /** Say in a sentence why a value is invalid.
  * @param {Kind} kind
  * @param {number} first     the object
@@ -21,7 +27,7 @@ export function faultOfValue(kind, first, from) {
   if (kind !== "inflow") return messages.CHANCE_OUT_OF_RANGE;
   const [plan, mine] = [need("plan"), layersOf("mine")];
   const curve = mine.curveAt(first, from);
-  if (!curve) return messages.MEASURING_INLET;
+  if (!curve) return messages.measuringInlet(...countCurves());
   const [limit, slowing] = plan.zones[Math.floor(plan.inlets[first][0] / plan.zone)];
   const isPassed = plan.inlets.some(([cell]) => cell < plan.inlets[first][0]);
   return messages.demandOutOfRange(curve.capacity, limitText(limit), chanceText(slowing), isPassed);
@@ -34,11 +40,11 @@ export function faultOfValue(kind, first, from) {
  * @returns {Area}
  */
 export function areaOfShape(shape, old = null, few = false) {
-  const {kind, first, last, from, to, value} = shape;
+  const {kind, first, last, from, to, value, demand} = shape;
   const [plan, mine] = [need("plan"), layersOf("mine")];
   const isValid = !Number.isNaN(value);
   const note = isValid ? shapeText(mine, shape) : "";
-  const what = isValid ? valueText(mine, kind, value, first, from) : "";
+  const what = isValid ? valueText(mine, kind, value, first, from, demand) : "";
   const lines = [what, placesText(plan, kind, first, last),
                  takenZonesText(plan, kind, first, last), mine.day.spanText(from, to)].filter(Boolean);
   const fault = few ? messages.TOO_FEW_ZONES : faultOf(shape);

@@ -23,18 +23,18 @@ const always = () => true;
  * @template {keyof Answers} Verb
  * @param {Partial<Record<Verb, object>>} command
  * @param {object} how
- * @param {boolean} [how.first]         it goes before those that wait
+ * @param {import("./connection.mjs").Turn} [how.turn]     when it is sent
  * @param {string[]} [how.quiet]        refusals not to show
  * @param {() => boolean} [how.stands]  whether a refusal is still worth showing
  * @param {string} [how.away]           the message if there is no connection
  * @returns {Promise<Answers[Verb] | Refusal | null>}
  */
-export async function ask(command, {first = false, quiet = [], stands = always, away = ""} = {}) {
+export async function ask(command, {turn = "usual", quiet = [], stands = always, away = ""} = {}) {
   const connection = need("connection");
   const isAway = !connection.isAdmitted;
   const [verb] = /** @type {Verb[]} */ (Object.keys(command));
   try {
-    const said = /** @type {WireAnswers[Verb] | Refusal} */ (await connection.ask(command, first));
+    const said = /** @type {WireAnswers[Verb] | Refusal} */ (await connection.ask(command, turn));
     if (!isRefusal(said)) return decodeAnswer(verb, said);
     const isShown = !quiet.includes(said.refused) && stands();
     if (isShown) tell(said.why ?? messages.refusedWithoutReason(said.refused), true);

@@ -10,7 +10,11 @@
  * @property {Command} command
  * @property {(answer: Answer) => void} done
  * @property {(fault: Error) => void} fail
- * @property {boolean} first
+ * @property {Turn} turn
+ */
+/**
+ * When a question is sent: acts come before what is looked at, and what takes seconds comes last.
+ * @typedef {"first" | "usual" | "last"} Turn
  */
 /**
  * What is used of a WebSocket.
@@ -25,6 +29,7 @@
 
 const MOST_OPEN = 6;            // the server refuses a ninth question that waits
 const MOST_FIRST = 3;           // of these: a disk may take long, and looking goes on
+const MOST_LAST = 1;            // of these: each takes seconds, and would hold up all others
 const FIRST_WAIT = 200;         // milliseconds before it is tried again, doubled up to the last
 const LAST_WAIT = 5000;
 const OPEN = 1;                 // the state of a socket that can be written to
@@ -68,6 +73,8 @@ export class Connection {
     this.queue = [];            // questions that are not sent yet
     /** @type {Question[]} */
     this.first = [];            // those that go before them, in their own order
+    /** @type {Question[]} */
+    this.last = [];             // those that go after them, one at a time
     /** @type {Socket | null} */
     this.socket = null;
   }
@@ -82,17 +89,17 @@ export class Connection {
 
   /** Ask a question. The promise fails with Disconnected if the connection breaks before the answer.
    * @param {Command} command
-   * @param {boolean} [first]     it goes before those that wait
+   * @param {Turn} [turn]
    * @returns {Promise<Answer>}
    */
-  ask(command, first = false) {
+  ask(command, turn = "usual") {
     return new Promise((done, fail) => {
       if (!this.isAdmitted && !command.hello && !command.seats) {
         fail(new Disconnected("there is no connection"));
         return;
       }
-      const question = {command, done, fail, first};
-      (first ? this.first : this.queue).push(question);
+      const question = {command, done, fail, turn};
+      ({first: this.first, usual: this.queue, last: this.last})[turn].push(question);
       this.sendNext();
     });
   }
@@ -100,8 +107,8 @@ export class Connection {
   /** Send what may be sent now. */
   sendNext() {
     while (this.questions.size < MOST_OPEN && this.socket?.readyState === OPEN) {
-      const acts = [...this.questions.values()].filter(({first}) => first).length;
-      const question = (acts < MOST_FIRST && this.first.shift()) || this.queue.shift();
+      const question = (this.countOpen("first") < MOST_FIRST && this.first.shift())
+        || this.queue.shift() || (this.countOpen("last") < MOST_LAST && this.last.shift());
       if (!question) return;
       const id = ++this.number;
       this.questions.set(id, question);
@@ -109,9 +116,16 @@ export class Connection {
     }
   }
 
+  /** Return how many questions of a turn have no answer yet.
+   * @param {Turn} turn
+   */
+  countOpen(turn) {
+    return [...this.questions.values()].filter((one) => one.turn === turn).length;
+  }
+
   /** Return how many questions are not sent yet. */
   countWaiting() {
-    return this.first.length + this.queue.length;
+    return this.first.length + this.queue.length + this.last.length;
   }
 
   /** Take a message of the server.
@@ -138,9 +152,9 @@ export class Connection {
 
   /** Return the questions that have no answer, and forget them. */
   takeQuestions() {
-    const asked = [...this.questions.values(), ...this.first, ...this.queue];
+    const asked = [...this.questions.values(), ...this.first, ...this.queue, ...this.last];
     this.questions.clear();
-    [this.first, this.queue] = [[], []];
+    [this.first, this.queue, this.last] = [[], [], []];
     return asked;
   }
 

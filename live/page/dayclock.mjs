@@ -82,7 +82,9 @@ export class DayClock {
     const timeZone = zone ?? undefined;
     // Formats are kept, since each takes long to make.
     this.formats = {
-      time: new Intl.DateTimeFormat([], {hour: "2-digit", minute: "2-digit", timeZone}),
+      time: new Intl.DateTimeFormat([], {hour: "2-digit", minute: "2-digit", hourCycle: "h23", timeZone}),
+      whole: new Intl.DateTimeFormat("en", {year: "numeric", month: "2-digit", day: "2-digit", hour: "2-digit",
+        minute: "2-digit", second: "2-digit", hourCycle: "h23", timeZone}),
       date: new Intl.DateTimeFormat([], {day: "numeric", month: "short", timeZone}),
       day: new Intl.DateTimeFormat("en", {dateStyle: "short", timeZone})};
   }
@@ -183,6 +185,16 @@ export class DayClock {
   isSkipped(text) {
     const alone = new DayClock({begin: this.begin});
     return Number.isNaN(this.readStep(text)) && !Number.isNaN(alone.readStep(text.replace(/[+-]\d\d:\d\d/, "")));
+  }
+
+  /** Return when a change was made, as tables have it: 2026-03-02 14:05:00; "" if it is not known.
+   * @param {number} seconds   since 1970; 0: not known
+   */
+  instantText(seconds) {
+    if (!seconds) return "";
+    const parts = Object.fromEntries(this.formats.whole.formatToParts(new Date(seconds * 1000))
+      .map(({type, value}) => [type, value]));
+    return `${parts.year}-${parts.month}-${parts.day} ${parts.hour}:${parts.minute}:${parts.second}`;
   }
 
   /** Return when a change was made, as text: the time of day, and the date unless it is today.

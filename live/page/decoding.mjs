@@ -81,6 +81,15 @@ export function decodeShape(wire) {
   return {kind, first, last, from, to, value};
 }
 
+/** Return an inflow with the demand that it is for, if that is known; another shape as it is.
+ * @template {Shape | null} Some
+ * @param {Some} shape
+ * @param {unknown} demand     cars per hour
+ * @returns {Some}
+ */
+const withDemand = (shape, demand) =>
+  (shape?.kind === "inflow" && typeof demand === "number" ? {...shape, demand} : shape);
+
 /** Return [kind, first, last, from, until, value] of a shape.
  * @param {Shape} shape
  * @returns {WireShape}
@@ -112,9 +121,9 @@ function decodeEdit(wire) {
 /** Return an operation on a change.
  * @param {WireOperation} wire
  */
-const decodeOperation = ({stamp, undoes, lost, shape, ...wire}) =>
+const decodeOperation = ({stamp, undoes, lost, shape, demand, ...wire}) =>
   ({...wire, stamp: decodeStamp(stamp), undoes: decodeIfAny(undoes), lost: decodeIfAny(lost),
-    ...(shape ? {shape: decodeShape(shape)} : {})});
+    ...(shape ? {shape: withDemand(decodeShape(shape), demand)} : {})});
 
 /** Return a change, or that one is gone.
  * @param {WireChange | WireGone} wire
@@ -123,12 +132,14 @@ const decodeOperation = ({stamp, undoes, lost, shape, ...wire}) =>
 export function decodeChange(wire) {
   const name = decodeStamp(wire.name);
   if ("gone" in wire) return {name, gone: true};
-  const {shape, shown, edits, operations, was, ...rest} = wire;
+  const {shape, shown, edits, operations, was, demand, ...rest} = wire;
   const [, number] = listOf(shape);
-  return {...rest, name, shape: decodeShape(shape), shown: decodeParts(shown),
+  const decode = (/** @type {unknown} */ parts) =>
+    decodeParts(parts).map((part) => withDemand(part, demand));
+  return {...rest, name, shape: withDemand(decodeShape(shape), demand), shown: decode(shown),
           edits: listOf(edits).flatMap(decodeEdit), operations: operations.map(decodeOperation),
           site: wire.kind === "site" && isCount(number) ? number : null,
-          ...(was === undefined ? {} : {was: was && decodeParts(was)})};
+          ...(was === undefined ? {} : {was: was && decode(was)})};
 }
 
 /** Return the changes that differ from an earlier version of the list, and what Z and Redo would

@@ -30,7 +30,7 @@ function stateOf(road, inlet, step) {
  * @returns {Promise<Curve | null>}
  */
 async function fetchCurve(key, state) {
-  const said = await ask({admission: state}, {quiet: ["Failed"]});
+  const said = await ask({admission: state}, {turn: "last", quiet: ["Failed"]});
   if (!said || "refused" in said) {
     store.curves.delete(key);
     return null;
@@ -61,6 +61,21 @@ function entryOf(road, inlet, step) {
 export function curveAt(road, inlet, step) {
   const entry = entryOf(road, inlet, step);
   return entry && "points" in entry ? entry : null;
+}
+
+/** Wait until what the inlets of a road admit is measured, as far as nobody has said for which
+ * demand a chance is. Call a function before each.
+ * @param {Layers} road
+ * @param {(done: number, all: number) => void} progress
+ */
+export async function measureDemands(road, progress) {
+  const unsaid = [...road.changes.values()].filter(({standing}) => standing)
+    .flatMap(({shape}) => (shape?.kind === "inflow" && shape.demand === undefined ? [shape] : []));
+  for (const [done, {first, from}] of unsaid.entries()) {
+    if (curveAt(road, first, from)) continue;
+    progress(done, unsaid.length);
+    await curveSoon(road, first, from);
+  }
 }
 
 /** Return the same once it is measured; null if the server does not say.

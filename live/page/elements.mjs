@@ -14,7 +14,7 @@ import {assign} from "./assign.mjs";
  *            | "dropChange" | "closer" | "farther" | "wholeRoad" | "shareAll", HTMLButtonElement>
  *   & Record<"follow" | "name" | "demand" | "slow" | "start" | "kmFrom" | "kmTo" | "timeFrom"
  *            | "timeTo" | "letters", HTMLInputElement>
- *   & Record<"save" | "asTable" | "sites" | "past" | "series", HTMLDetailsElement>
+ *   & Record<"save" | "asTable" | "sites" | "past" | "series" | "fileDemand", HTMLDetailsElement>
  *   & Record<"hello", HTMLDialogElement>
  *   & Record<"helloForm" | "exact", HTMLFormElement>
  *   & Record<"previewTitle", HTMLHeadingElement>
@@ -26,7 +26,7 @@ import {assign} from "./assign.mjs";
             HTMLSelectElement>
  *   & Record<"kmFromLabel" | "kmToLabel", HTMLLabelElement>
  *   & Record<"diagram" | "flowChart" | "speedChart" | "travelChart", HTMLCanvasElement>
- *   & Record<"speeds" | "figures", HTMLTableElement>
+ *   & Record<"speeds" | "figures" | "fileDemandTable", HTMLTableElement>
  *   & Record<"own" | "held" | "siteList" | "history", HTMLOListElement>} PageElements
  */
 

@@ -34,6 +34,13 @@ export function valueOfTool(kind, first, from) {
   return percent >= 0 && percent <= 100 ? Math.round(percent / 100 * ALWAYS) : NaN;
 }
 
+/** Return the demand that is written, as a part of a shape of a kind; nothing of other kinds.
+ * @param {Kind} kind
+ * @returns {{demand?: number}}
+ */
+export const demandOfTool = (kind) =>
+  (kind === "inflow" ? {demand: numberOf(store.form.demand)} : {});
+
 /** Return the chosen inlet and the written step; NaN if that is not a time. */
 export const demandInForm = () =>
   ({inlet: Number(store.form.inlet), from: store.day.readStep(store.form.timeFrom)});
@@ -70,7 +77,7 @@ export function readForm() {
   const range = readRange(kind);
   if (typeof range === "string") return range;
   const [first, last] = range;
-  return {kind, first, last, from, to, value: valueOfTool(kind, first, from)};
+  return {kind, first, last, from, to, value: valueOfTool(kind, first, from), ...demandOfTool(kind)};
 }
 
 /** Return the first and the last object of the form, or a sentence of what is wrong.
@@ -111,10 +118,10 @@ export function takenText({kind, first, last}) {
  * @param {Shape} shape
  * @returns {Partial<FormValues>}
  */
-export function fieldsOf({kind, first, last, from, to, value}) {
+export function fieldsOf({kind, first, last, from, to, value, demand}) {
   const [start, end] = cellsOf(need("plan"), kind, first, last);
   return {kmFrom: kmText(start), kmTo: kmText(end), timeFrom: store.day.timeText(from),
-          timeTo: to === null ? "" : store.day.timeText(to), ...valuesOf(kind, first, from, value)};
+          timeTo: to === null ? "" : store.day.timeText(to), ...valuesOf(kind, first, from, value, demand)};
 }
 
 /** Return what the form has of a value, by fields.
@@ -122,15 +129,17 @@ export function fieldsOf({kind, first, last, from, to, value}) {
  * @param {number} first
  * @param {number} from
  * @param {number} value
+ * @param {number} [demand]
  * @returns {Partial<FormValues>}
  */
-function valuesOf(kind, first, from, value) {
+function valuesOf(kind, first, from, value, demand) {
   if (kind === "limit") return {limit: String(value)};
   if (kind === "watch") return {watch: String(value), site: String(first)};
   if (kind === "slow" || kind === "start") {
     return {[kind]: String(Number((100 * value / ALWAYS).toFixed(2)))};
   }
   if (kind !== "inflow") return {};
+  if (demand !== undefined) return {inlet: String(first), demand: String(demand)};
   const curve = layersOf("mine").curveAt(first, from);
   return {inlet: String(first), demand: curve ? String(Math.round(demandOfChance(value, curve))) : ""};
 }

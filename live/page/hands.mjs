@@ -8,7 +8,7 @@ import {curveSoon} from "./demand.mjs";
 import {applyArea, beginCorner, beginDrag, chooseTool, dropArea, endDrag, hasMoved, moveCursor,
         noteClick, readPlace, showArea, showDrawn, useLetters} from "./drafting.mjs";
 import {$, closest, on} from "./elements.mjs";
-import {valueOfTool} from "./formvalues.mjs";
+import {demandOfTool, valueOfTool} from "./formvalues.mjs";
 import {OF_ONE, edgeNear, nearestIn, rectangleBetween, sameShape, shapeWithEdge, snapped}
   from "./geometry.mjs";
 import {isInForce} from "./layers.mjs";
@@ -47,7 +47,7 @@ const snappedHere = (place, exact) =>
 function areaBetween(kind, one, other, how) {
   const {first, last, from, to, few} = rectangleBetween(need("plan"), kind, one, other, how);
   const value = valueOfTool(kind, first, from);
-  return areaOfShape({kind, first, last, from, to, value}, null, few);
+  return areaOfShape({kind, first, last, from, to, value, ...demandOfTool(kind)}, null, few);
 }
 
 /** Return the place of a pointer.

@@ -155,7 +155,7 @@ export function begin() {
   watch(["sites"], showSites);
   watch(["me"], showMe);
   watch(["others"], showOthers);
-  watch(["clock"], showClock);
+  watch(["clock", "me"], showClock);
   watch(["extent"], showFollow);
   watch(["hello"], showHello);
 }

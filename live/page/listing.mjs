@@ -209,7 +209,7 @@ export class Words {
   }
 }
 
-/** Ask whether the lists have a change. Of withdrawn ones they have those that are not shared yet,
+/** Ask whether the lists have a change. They have no demand of the road's file. Of withdrawn ones they have those that are not shared yet,
  * and those that others withdrew while the seat changed them; but none of raw edits that a shape
  * has replaced.
  * @param {Change} change
@@ -217,6 +217,7 @@ export class Words {
  * @param {number} number
  */
 function isListed(change, layers, number) {
+  if (change.planned) return false;
   if (change.standing) return true;
   if (layers.find(lastOf(change).stamp)?.standing) return false;
   return privateOf(change).length > 0 || lostOf(change, number) !== null;
@@ -242,13 +243,35 @@ export function listChanges(layers, number) {
     where: privateOf(change).length ? "own" : "held"}));
 }
 
+/** Return the demand of the road's file over time: from which step on each inlet is asked for how
+ * many cars per hour. Inlets are those of the plan.
+ * @param {Layers} layers
+ * @returns {{step: number, demands: number[]}[]}
+ */
+export function demandsOfFile(layers) {
+  const planned = [...layers.changes.values()].flatMap(({planned: isPlanned, shape}) =>
+    (isPlanned && shape?.kind === "inflow" ? [shape] : []));
+  planned.sort((one, other) => one.from - other.from);
+  const now = layers.plan.inlets.map(() => 0);
+  /** @type {{step: number, demands: number[]}[]} */
+  const found = [];
+  for (const {first, from, demand = 0} of planned) {
+    if (now[first] === demand) continue;
+    now[first] = demand;
+    if (found.at(-1)?.step === from) found.pop();
+    found.push({step: from, demands: [...now]});
+  }
+  return found;
+}
+
 /** Return all operations, newest first: who did what and when, and what covers it now.
  * @param {Layers} layers
  * @param {number} number
  */
 export function historyOf(layers, number) {
   const words = new Words(layers, number);
-  return [...layers.changes.values()].flatMap((change) => change.operations.map((done) => {
+  const changes = [...layers.changes.values()].filter(({planned}) => !planned);
+  return changes.flatMap((change) => change.operations.map((done) => {
     const {stamp, who, note, does, when, shared} = done;
     const name = stamp.number === number ? "you" : who || "somebody";
     const meta = [name, DONE[does] ?? does, layers.day.dateText(when), shared ? "" : "private"]

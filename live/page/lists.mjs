@@ -4,13 +4,13 @@ import {openPreview, putAgain, putOnTop, redoNewest, refreshLists, shareAll, tak
   from "./acting.mjs";
 import {next} from "./changes.mjs";
 import {editInForm} from "./drafting.mjs";
-import {$, activeIn, button, element, on, showList} from "./elements.mjs";
+import {$, activeIn, button, element, headCell, on, row, showList} from "./elements.mjs";
 import {isCovered, lostOf, privateOf} from "./layers.mjs";
-import {historyOf} from "./listing.mjs";
+import {demandsOfFile, historyOf} from "./listing.mjs";
 import {setOpen, showChange} from "./looking.mjs";
 import {keyOf} from "./stamps.mjs";
 import {need, layersOf, now, store, watch} from "./store.mjs";
-import {plural} from "./units.mjs";
+import {kmText, plural, whole} from "./units.mjs";
 
 /** @typedef {import("./elements.mjs").Item} Item */
 /** @typedef {import("./listing.mjs").Listed} Listed */
@@ -101,6 +101,22 @@ function showHistory() {
   $("pastRest").textContent = rest > 0 ? `And ${plural(rest, "earlier one")}, which Save has.` : "";
 }
 
+/** Show the demand of the road's file, in cars per hour over time. */
+function showFileDemand() {
+  const lines = store.layers.mine ? demandsOfFile(store.layers.mine) : [];
+  $("fileDemand").hidden = !lines.length;
+  const sign = JSON.stringify(lines);
+  if (!lines.length || $("fileDemandTable").dataset.sign === sign) return;
+  $("fileDemandTable").dataset.sign = sign;
+  const heads = need("plan").inlets.map(([cell]) => headCell(`at ${kmText(cell)} km`));
+  $("fileDemandTable").replaceChildren(
+    element("caption", "Cars per hour that want to enter"),
+    element("thead", "", {}, row(headCell("from"), ...heads)),
+    element("tbody", "", {}, ...lines.map(({step, demands}) =>
+      row(headCell(store.day.timeText(step), "row"),
+        ...demands.map((cars) => element("td", whole(cars)))))));
+}
+
 /** Say how to begin, until there are changes; that the road is empty only if it is. */
 function showFirstSteps() {
   $("emptyHint").hidden = now() > 0;
@@ -133,6 +149,7 @@ export function begin() {
   on("shareAll", "click", shareAll);
   on("past", "toggle", () => setOpen("past", $("past").open));
   watch(["changes"], showLists);
+  watch(["changes"], showFileDemand);
   watch(["changes", "isOpen"], showHistory);
   watch(["curves"], refreshLists);
   watch(["changes", "clock"], showFirstSteps);

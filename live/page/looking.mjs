@@ -178,9 +178,9 @@ const away = messages.CLOCK_NOT_SET;
 /** Let the clock run at a number of steps a second; 0: it stands.
  * @param {number} rate
  */
-export const setRate = (rate) => ask({clock: {rate}}, {away});
+export const setRate = (rate) => ask({clock: {rate}}, {turn: "first", away});
 /** Let the clock run an hour. */
-export const runAnHour = () => ask({clock: {to: now() + HOUR}}, {away});
+export const runAnHour = () => ask({clock: {to: now() + HOUR}}, {turn: "first", away});
 
 /** Let the own road run half an hour further than it does now, as far as it may. */
 export function lookAhead() {

@@ -87,8 +87,14 @@ export const TOO_FEW_ZONES =
   "This covers less than half of a zone. Hold Shift to take every zone that it touches in full.";
 export const END_BEFORE_BEGIN = "The end must be later than the beginning.";
 export const CHANCE_OUT_OF_RANGE = "The chance is out of range: 0 to 100 %.";
-export const MEASURING_INLET =
-  "What this inlet admits is being measured. Try again in a few seconds.";
+
+/** @type {(done: number, all: number) => string} */
+export const measuringInlet = (done, all) => "What this inlet admits is being measured"
+  + `${all > 1 ? `, ${done + 1} of ${all}` : ""}. Try again in a few seconds.`;
+
+/** @type {(done: number, all: number) => string} */
+export const measuringDemands = (done, all) =>
+  `What inlets admit is being measured, ${done + 1} of ${all}.`;
 
 /** @param {string} length   of the road, in km */
 export const placesOutOfRange = (length) =>

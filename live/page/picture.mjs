@@ -158,7 +158,8 @@ export function write(context, text, left, top, align = "left", colour = "#00000
   context.fillText(text, from, top + 2);
 }
 
-/** Return the frames of the road that is shown, and of shapes that are not confirmed yet.
+/** Return the frames of the road that is shown, without the demand of its file, and of shapes that
+ * are not confirmed yet.
  * @returns {Drawn[]}
  */
 export function framesShown() {
@@ -167,7 +168,7 @@ export function framesShown() {
   const own = {name: {count: 0, number}, who: name};
   const shapes = whoseShown()[0] === "mine" ? waitingShapes() : [];
   const waiting = shapes.map((shape) => ({...shape, by: own, pending: true}));
-  return [...layersShown().frames, ...waiting];
+  return [...layersShown().frames.filter(({by}) => !by.planned), ...waiting];
 }
 
 /** Return the box of a frame on the canvas.
@@ -209,8 +210,8 @@ export const areOfSeveral = (frames) => new Set(frames.map(({by}) => by.name.num
  * @param {Drawn} frame
  * @param {boolean} named    with whose change it is
  */
-export function labelOf({kind, first, from, value, pending, by}, named) {
-  const text = valueText(layersShown(), kind, value, first, from).toLowerCase();
+export function labelOf({kind, first, from, value, demand, pending, by}, named) {
+  const text = valueText(layersShown(), kind, value, first, from, demand).toLowerCase();
   return text + (pending ? " (pending)" : "") + (named ? `, ${wordsShown().name(by)}` : "");
 }
 

@@ -4,6 +4,7 @@
 import {EMPTY, drawLegend, pen} from "../../viewer/drawing.mjs";
 import {ask, askUntilFree} from "./asking.mjs";
 import {comparedNow, daysShown} from "./days.mjs";
+import {measureDemands} from "./demand.mjs";
 import {withoutCursor} from "./drafting.mjs";
 import {$, activeIn, closest, download, on} from "./elements.mjs";
 import {Words, newestFirst} from "./listing.mjs";
@@ -30,7 +31,8 @@ const roadShown = () => (store.whose === "shared" ? "shared" : need("me").at);
 /** Return what a road is called in the name of a file. */
 const fileRoad = (at = roadShown()) => (at === "shared" ? "shared" : need("me").name);
 
-/** Return a name that no other save has: what it is, whose road, and from when to when.
+/** Return a name that no other save has: what it is, the road's file, whose road, and from when to
+ * when.
  * @param {string} what      with an ending
  * @param {string} whose
  * @param {Span} period      steps
@@ -39,7 +41,8 @@ function nameFile(what, whose, period) {
   const dot = what.lastIndexOf(".");
   const [stem, ending] = [what.slice(0, dot), what.slice(dot)];
   const times = period.map((step) => store.day.fileText(Math.round(step)));
-  const parts = [stem, whose, ...times].map((part) => part.replace(/[^\p{L}\p{M}\p{N}_]+/gu, "-"));
+  const road = need("me").road?.replace(/\.[^.]*$/, "") ?? "";
+  const parts = [stem, road, whose, ...times].filter(Boolean).map((part) => part.replace(/[^\p{L}\p{M}\p{N}_]+/gu, "-"));
   return claimFileName(parts.join("-"), ending);
 }
 
@@ -140,6 +143,10 @@ async function saveScripts() {
   tell(messages.savedScripts(saved));
 }
 
+/** Write the name of the road's file and its date, as far as they are known. */
+const fileAndDate = () => [need("me").road, need("me").day?.date].filter(Boolean)
+  .map((one) => `, ${one}`).join("");
+
 /** Return the title of a table of the two roads.
  * @param {number} from      step
  * @param {number} to
@@ -147,7 +154,7 @@ async function saveScripts() {
 function comparedText(from, to) {
   const of = comparedNow() === "preview" ? "the road before and after"
     : `the road of ${need("me").name} and the shared one`;
-  return `${of}, ${store.day.timeText(from)} to ${store.day.timeText(to)}`;
+  return `${of}${fileAndDate()}, ${store.day.timeText(from)} to ${store.day.timeText(to)}`;
 }
 
 /** Save the figures of the roads that are compared: those of many days if these are shown. */
@@ -204,17 +211,20 @@ const MOST_SIGNS = 200;         // of a line
  * @param {Layers} layers
  */
 const textsOf = (layers) => newestFirst([...layers.changes.values()]
-  .filter(({standing, site}) => standing && site === null)).reverse()
+  .filter(({standing, site, planned}) => standing && site === null && !planned)).reverse()
   .map((change) => new Words(layers, -1).text(change));
 
 /** Return what is in force on the roads that are compared, in sentences: on the later one, then
  * what the other one has alone.
  */
-function worksText() {
+async function worksText() {
   const isPreview = comparedNow() === "preview";
-  const [one, other] = isPreview ? [layersOf("after"), layersOf(need("preview").takes ? "mine" : "shared")]
+  const both = isPreview ? [layersOf("after"), layersOf(need("preview").takes ? "mine" : "shared")]
     : [layersOf("mine"), layersOf("shared")];
-  const [after, before] = [one, other].map(textsOf);
+  for (const one of both) {
+    await measureDemands(one, (done, all) => tell(messages.measuringDemands(done, all)));
+  }
+  const [after, before] = both.map(textsOf);
   const gone = before.filter((text) => !after.includes(text));
   const fresh = after.map((text) => (before.includes(text) ? text : `${text} (new)`));
   return [...fresh, ...gone.map((text) => `${text} (only before)`)].slice(0, MOST_WORKS)
@@ -233,8 +243,9 @@ async function saveReport() {
   const date = day?.date ? `, ${day.date}` : "";
   const title = `${of === "preview" ? "A road before and after" : `The road of ${name}, and the shared one`}: `
     + `${store.day.timeText(from)} to ${store.day.timeText(to)}${date}`;
+  const works = await worksText();
   tell(messages.MAKING_REPORT);
-  const said = await askUntilFree({report: {at, of, from, to, title, works: worksText()}});
+  const said = await askUntilFree({report: {at, of, from, to, title, works}});
   if (!said || "refused" in said) return;
   const whose = of === "preview" ? "before-after" : `${name}-shared`;
   const saved = saveAs("report.html", [said.html], "text/html", whose, [from, to]);
@@ -247,7 +258,7 @@ const roadText = () => (roadShown() === "shared" ? "the shared road" : `the road
 /** Save all that was done: who did what and when, where it is in force, and what covers it. */
 function saveChanges() {
   const layers = layersOf(roadShown() === "shared" ? "shared" : "mine");
-  saveLines(`changes of ${roadText()}, up to ${store.day.timeText(now())}`, tableOfChanges(layers), "changes.csv",
+  saveLines(`changes of ${roadText()}${fileAndDate()}, up to ${store.day.timeText(now())}`, tableOfChanges(layers), "changes.csv",
     fileRoad(), [0, now()]);
 }
 

@@ -1,5 +1,6 @@
-// Sentences about changes. A road here is {plan, day, curveAt(inlet, step)}: `day` writes times, and
-// by the curve of an inlet a chance is cars per hour, once that is measured.
+// Sentences about changes. A road here is {plan, day, curveAt(inlet, step)}: `day` writes times. A
+// demand is what was asked for; if nobody has said it, it is what the chance admits by the curve of
+// its inlet, once that is measured.
 
 import {OF_ZONES, cellsOf} from "./geometry.mjs";
 import {chanceText, demandOfChance, kmText, limitText, metresText, plural, whole} from "./units.mjs";
@@ -28,23 +29,25 @@ export function placesText(plan, kind, first, last) {
  * @param {number} value
  * @param {number} index
  * @param {number} step
+ * @param {number} [demand]     cars per hour that an inflow is for, if that is known
  */
-export function valueText(road, kind, value, index, step) {
+export function valueText(road, kind, value, index, step, demand) {
   if (kind === "block") return value ? "Closed" : "Open";
   if (kind === "limit") return limitText(value);
   if (kind === "watch") return value ? "Detector on" : "Detector off";
   if (kind === "slow") return `Slowing ${chanceText(value)}`;
   if (kind === "start") return `Slow to start ${chanceText(value)}`;
-  const curve = road.curveAt(index, step);
-  return `Demand ${curve ? whole(demandOfChance(value, curve)) + " cars/h" : chanceText(value)}`;
+  const curve = demand === undefined ? road.curveAt(index, step) : null;
+  const cars = curve ? demandOfChance(value, curve) : demand;
+  return cars === undefined ? "Demand that is being measured" : `Demand ${whole(cars)} cars/h`;
 }
 
 /** Return a shape in a sentence, which becomes the note of the change, as text.
  * @param {MeasuredRoad} road
  * @param {Shape} shape
  */
-export function shapeText(road, {kind, first, last, from, to, value}) {
-  const what = valueText(road, kind, value, first, from);
+export function shapeText(road, {kind, first, last, from, to, value, demand}) {
+  const what = valueText(road, kind, value, first, from, demand);
   const where = placesText(road.plan, kind, first, last);
   return `${what}${kind === "block" ? "" : ","} ${where}, ${road.day.spanText(from, to)}`;
 }
@@ -57,10 +60,10 @@ export const THINGS = {limit: "Limit", block: "Closure", inflow: "Demand", watch
  * @param {MeasuredRoad} road
  * @param {Shape} shape
  */
-export function thingText(road, {kind, first, from, value}) {
+export function thingText(road, {kind, first, from, value, demand}) {
   if (kind === "block") return value ? "closure" : "opening";
   if (kind === "watch") return value ? "detector switched on" : "detector switched off";
-  const text = valueText(road, kind, value, first, from);
+  const text = valueText(road, kind, value, first, from, demand);
   return kind === "limit" ? `limit of ${text}` : text[0].toLowerCase() + text.slice(1);
 }
 

@@ -3,7 +3,7 @@
 
 import {Words} from "./listing.mjs";
 import {byStamp} from "./stamps.mjs";
-import {MINUTE, kmText, plural, sum} from "./units.mjs";
+import {MINUTE, kmOf, plural, roundedKm, sum} from "./units.mjs";
 
 /** @typedef {import("./dayclock.mjs").DayClock} DayClock */
 /** @typedef {import("./types.mjs").DaysFigures} DaysFigures */
@@ -16,6 +16,11 @@ import {MINUTE, kmText, plural, sum} from "./units.mjs";
 /** @typedef {"before" | "after"} Side              of two roads that are compared */
 /** @typedef {"mine" | "preview"} Comparison */
 /** @typedef {number | null | undefined} Figure     null: it is not known */
+
+/** Write the place of a cell's beginning in km, as all tables have it: a cell is 0.0075 km.
+ * @param {number} cell
+ */
+const kmText = (cell) => String(roundedKm(kmOf(cell), 4));
 
 /** @param {Figure} value */
 const plain = (value) => (typeof value === "number" ? String(Number(value.toFixed(4))) : "");
@@ -107,7 +112,7 @@ export function tableOfTravel({detectors}, of, said, day) {
   const places = [...detectors.map((cell) => `${kmText(cell)} km`), "the road's end"];
   const steps = Array.from({length: Math.ceil((said.to - said.from) / MINUTE)}, (_, minute) =>
     said.from + minute * MINUTE);
-  return [["entered from", "to", `cars, ${first}`, `travel time (s), ${first}`, `cars, ${second}`,
+  return [["minute of entry", "travel time to", `cars, ${first}`, `travel time (s), ${first}`, `cars, ${second}`,
            `travel time (s), ${second}`, `${changeOf(of)} (s)`],
           ...steps.flatMap((step) => places.map((place, index) => {
             const [cars, seconds] = cellsOf(one, step, index);
@@ -146,15 +151,16 @@ export function tableOfDays(plan, of, {figures, days}) {
 }
 
 /** Return the table of all that was done on a road: who did what and when, where it is in force,
- * and what covers it.
+ * and what covers it. The demand of the road's file is left out.
  * @param {Layers} layers
  * @returns {Cell[][]}
  */
 export function tableOfChanges(layers) {
   const words = new Words(layers, NOBODY);
-  const changes = [...layers.changes.values()].sort((one, other) => byStamp(one.name, other.name));
+  const changes = [...layers.changes.values()].filter(({planned}) => !planned)
+    .sort((one, other) => byStamp(one.name, other.name));
   return [["change", "who", "what", "when", "does", "shared", "in force", "covered"],
           ...changes.flatMap((change, index) => change.operations.map((done) =>
-            [index + 1, done.who, done.note || words.text(change), layers.day.dateText(done.when), done.does,
+            [index + 1, done.who, done.note || words.text(change), layers.day.instantText(done.when), done.does,
              done.shared ? "yes" : "no", words.parts(change, true), words.parts(change, false)]))];
 }

@@ -11,8 +11,9 @@
  * @typedef {"block" | "limit" | "slow" | "start" | "inflow" | "watch"} Kind
  *
  * Objects `first` to `last` have the value from step `from` until step `to`; `to` null: for ever.
+ * `demand` is what an inflow is for, in cars per hour, if that was said.
  * @typedef {{kind: Kind, first: number, last: number, from: number, to: number | null,
- *            value: number}} Shape
+ *            value: number, demand?: number}} Shape
  *
  * A part of a change; `by` names the change that covers it there, null: it is in force.
  * @typedef {Shape & {by: Stamp | null}} Rectangle
@@ -86,6 +87,7 @@
  * @property {boolean} isRaw          it was made of raw edits alone
  * @property {number | null} site     the site that it excludes
  * @property {Rectangle[] | null} [was]
+ * @property {boolean} [planned]      it is the demand of the road's file
  */
 
 /**
@@ -183,6 +185,7 @@
  * @property {Broker | null} broker
  * @property {string} [standing]
  * @property {WireDay | null} [day]
+ * @property {string} [road]          the name of the road's file
  */
 
 /**
@@ -331,12 +334,12 @@
  *
  * @typedef {Omit<Operation, "stamp" | "undoes" | "lost" | "shape">
  *   & {stamp: WireStamp, undoes?: WireStamp | null, lost: WireStamp | null,
- *      shape?: WireShape | null}} WireOperation
+ *      shape?: WireShape | null, demand?: unknown}} WireOperation
  *
  * Another site may have made shapes, parts and edits: they may be anything.
  * @typedef {Omit<Change, "name" | "shape" | "shown" | "operations" | "edits" | "isRaw" | "site" | "was">
  *   & {name: WireStamp, shape: unknown, shown: unknown, operations: WireOperation[], edits?: unknown,
- *      was?: unknown}} WireChange
+ *      was?: unknown, demand?: unknown}} WireChange
  * @typedef {{name: WireStamp, gone: true}} WireGone
  *
  * @typedef {object} WireLayers

@@ -6,8 +6,10 @@ As a program this module reads questions {limit, slowing, start, entry, cell, be
 from __future__ import annotations
 
 import asyncio
+import contextlib
 import json
 import sys
+from pathlib import Path
 from typing import Sequence, TypedDict
 
 from . import figures
@@ -16,28 +18,56 @@ from .journal import packed
 NICE = 8
 POINTS = 128  # of a curve: a straight line between two is off by less than 0.1 cars per hour
 MOST_KEPT = 2_000  # curves
+KEPT = "admissions.jsonl"  # in a folder: the curves, a line each
+MEASURE = 1  # changes as soon as a curve is measured in another way
 Inflow = TypedDict("Inflow", {
     "limit": int, "slowing": int, "start": "int | None", "entry": int, "cell": int, "before": Sequence["tuple[int, int]"]})
 Curve = TypedDict("Curve", {"points": Sequence["tuple[int, float]"], "capacity": float})
 
 
 class Admissions(figures.Beside[Inflow, Curve]):
-    """Measures curves one after the other, and keeps them."""
+    """Measures curves one after the other, each once for all tabs and starts: a file of the folder keeps them."""
 
-    def __init__(self) -> None:
+    def __init__(self, folder: Path) -> None:
         super().__init__(__name__, NICE)
-        self._kept: dict[str, Curve] = {}
+        self._file = folder / KEPT
+        self._kept = read_kept(self._file)
         self._lock = asyncio.Lock()
 
     async def curve(self, asked: Inflow, path: str) -> Curve:
         """Return the curve of an inlet, in some seconds if it is not known yet."""
-        key = packed(asked)
-        async with self._lock:
-            if key not in self._kept:
-                if len(self._kept) >= MOST_KEPT:
-                    self._kept.clear()
-                self._kept[key] = await self.ask(asked, path)
+        key = packed([MEASURE, asked])
+        if key not in self._kept:
+            async with self._lock:
+                if key not in self._kept:
+                    self._keep(key, await self.ask(asked, path))
         return self._kept[key]
+
+    def _keep(self, key: str, curve: Curve) -> None:
+        """Keep a curve; on a disk that does not accept it, until the server stops."""
+        mode = "a"
+        if len(self._kept) >= MOST_KEPT:
+            self._kept.clear()
+            mode = "w"
+        self._kept[key] = curve
+        with contextlib.suppress(OSError), open(self._file, mode, encoding="ascii") as file:
+            file.write(json.dumps([key, curve]) + "\n")
+
+
+def read_kept(path: Path) -> dict[str, Curve]:
+    """Return the curves that a file keeps. A line that was not written whole is left out."""
+    found: dict[str, Curve] = {}
+    try:
+        lines = path.read_bytes().splitlines()
+    except OSError:
+        return found
+    for line in lines:
+        with contextlib.suppress(ValueError, TypeError, KeyError):
+            key, curve = json.loads(line)
+            points = [(int(chance), float(flow)) for chance, flow in curve["points"]]
+            if len(points) == POINTS + 1:
+                found[str(key)] = {"points": points, "capacity": float(curve["capacity"])}
+    return found
 
 
 # The program

@@ -15,6 +15,7 @@ from zegdrut.refusals import Reasons
 from zegdrut.wire import PlanLine, ReplyFields
 
 from .journal import packed
+from .model.demands import INFLOW, MOST_DEMAND
 from .model.operations import Json, Shape, Stamp, same_int
 from .refusals import NOT_A_COMMAND, Refused, not_a_command
 
@@ -117,6 +118,14 @@ class Asked:
         if not isinstance(value, (int, float)) or isinstance(value, bool) or not 0 <= value <= most:
             raise Refused("Range", f"`{name}` must be 0 to {most}")
         return float(value)
+
+    def demand(self, shape: Shape) -> float | None:
+        """Return the cars per hour for which the chance of a shape is; None: that is not said."""
+        if not self.has("demand") or self.is_null("demand"):
+            return None
+        if shape.kind != INFLOW:
+            raise not_a_command(f"`demand` is of a shape of the kind {INFLOW}, not {shape.kind}")
+        return self.number("demand", MOST_DEMAND)
 
     def text(self, name: str, most: int, default: str | None = None) -> str:
         if default is not None and not self.has(name):

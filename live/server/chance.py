@@ -25,6 +25,7 @@ from .refusals import Refused
 if TYPE_CHECKING:
     from zegdrut.days import Day
     from zegdrut.demand import Rates
+    from zegdrut.lost import AskedRates
     from zegdrut.scripts import Script
     from zegdrut.units import Units
     from zegdrut.wire import PlanLine
@@ -135,7 +136,8 @@ def days_of(asked: DaysAsked) -> Iterator[Day]:
     from zegdrut.days import SEEDS, run_day, unwrap_day
     from zegdrut.units import Units
     roads = asked["roads"]
-    wanted = [demands(roads["plan"], figures.edits_of(edits), roads["last"]) for edits in (roads["before"], roads["after"])]
+    both = (roads["before"], roads["demands"]["before"]), (roads["after"], roads["demands"]["after"])
+    wanted = [demands(roads["plan"], figures.edits_of(edits), roads["last"], known) for edits, known in both]
     first = int(roads["plan"]["words"])
     seeds = [(first + one) % SEEDS for one in range(asked["days"])]
     with ProcessPoolExecutor(min(len(seeds), len(os.sched_getaffinity(0))), initializer=die_with_parent) as pool:
@@ -146,10 +148,10 @@ def days_of(asked: DaysAsked) -> Iterator[Day]:
             pool.shutdown(cancel_futures=True)
 
 
-def demands(plan: PlanLine, edits: figures.Edits, last: int) -> list[Rates]:
+def demands(plan: PlanLine, edits: figures.Edits, last: int, known: Sequence[AskedRates]) -> list[Rates]:
     """Return the demand of each inlet over time: it is the same on each day."""
     from zegdrut.lost import compute_demands
-    return compute_demands(plan, figures.given(edits), last)
+    return compute_demands(plan, figures.given(edits), last, asked=known)
 
 
 def die_with_parent() -> None:

@@ -26,6 +26,7 @@ from .refusals import Refused
 if TYPE_CHECKING:
     from zegdrut import Edit, RoadLab
     from zegdrut.demand import Rates
+    from zegdrut.lost import AskedRates
     from zegdrut.trips import DetectorCount, TravelTime, Trips, Window
     from zegdrut.wire import PlanLine, WrittenEdit
 
@@ -46,9 +47,12 @@ Q = TypeVar("Q", bound=Mapping[str, object])
 A = TypeVar("A")
 
 
+TwoDemands = TypedDict("TwoDemands", {"before": "Sequence[AskedRates]", "after": "Sequence[AskedRates]"})
+"""The demand of each inlet of two roads, where somebody has said it."""
 TwoRoads = TypedDict("TwoRoads", {
-    "plan": "PlanLine", "before": "Sequence[WrittenEdit]", "after": "Sequence[WrittenEdit]", "first": int, "last": int, "program": str})
-"""A question about two roads: their plan and edits, the steps `first` to `last` - 1, and the path of road_lab."""
+    "plan": "PlanLine", "before": "Sequence[WrittenEdit]", "after": "Sequence[WrittenEdit]", "demands": TwoDemands, "first": int,
+    "last": int, "program": str})
+"""A question about two roads: their plan, edits and demands, the steps `first` to `last` - 1, and the path of road_lab."""
 FiguresAsked = TypedDict("FiguresAsked", {"roads": TwoRoads, "slots": Sequence[str], "seconds": float})
 """Two roads, the slot of each, and the seconds that the answer may take."""
 DetectorFigures = TypedDict("DetectorFigures", {"cars": int, "speeds": int, "flow": "float | None", "speed": "float | None", "on": int})
@@ -187,10 +191,10 @@ class DrivenRoad:
             self.lab.command("advance", "road", to=end)
             self.trips.follow(self.lab, "road", end)
 
-    def demands(self, last: int) -> list[Rates]:
-        """Return the demand of each inlet over time, up to a step."""
+    def demands(self, last: int, asked: Sequence[AskedRates]) -> list[Rates]:
+        """Return the demand of each inlet over time, up to a step: what was asked for, or what the chances stand for."""
         from zegdrut.lost import compute_demands
-        return compute_demands(self.plan, given(self.edits), last)
+        return compute_demands(self.plan, given(self.edits), last, asked=asked)
 
     def counts(self, window: Window) -> list[DetectorFigures]:
         """Return what each detector counted."""
@@ -275,7 +279,8 @@ class Roads:
         done = min(road.trips.horizon for road in roads)
         if done < window.last:
             return {"done": done}
-        told = [road_of(road, road.demands(window.last), window) for road in roads]
+        asked_for = both["demands"]["before"], both["demands"]["after"]
+        told = [road_of(road, road.demands(window.last, one), window) for road, one in zip(roads, asked_for)]
         return compared(roads[0].trips, roads[1].trips, told, window)
 
 

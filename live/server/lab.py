@@ -8,6 +8,7 @@ from __future__ import annotations
 import asyncio
 import contextlib
 import time
+from dataclasses import replace
 from typing import Awaitable, Callable, Mapping, Sequence, TypedDict, TypeVar, Union
 
 from .asked import RawEdit
@@ -16,6 +17,7 @@ from .keeper import SHARED, Keeper, Times
 from .lines import Act, Lister
 from .model.changes import lines_of
 from .model.choices import overruling, sendable, undoable, would_change
+from .model.demands import kept_demand, written_demand
 from .model.operations import (About, Json, Operation, RawName, Shape, Stamp, edit, exclude, in_order, lift, put, stamped_anew,
                                undo)
 from .model.road import Road, change, repeat, stands
@@ -47,6 +49,11 @@ class FutureStamp(Refused):
     def __init__(self, one: Operation) -> None:
         super().__init__("Count", f"the stamp {list(one.stamp)} of {one.about.who} is more than a day ahead of the clock: it "
                          f"is taken when its day has come")
+
+
+def with_more(about: About, more: Mapping[str, Json]) -> About:
+    """Return what is known about an operation, with more fields."""
+    return replace(about, more=more) if more else about
 
 
 class Lab:
@@ -88,18 +95,24 @@ class Lab:
 
     # Operations
 
-    async def put_shape(self, index: int, times: Times, *, key: str, note: str, shape: Shape) -> Reply:
-        """Put a shape, on top of all."""
+    async def put_shape(self, index: int, times: Times, *, key: str, note: str, shape: Shape, demand: float | None = None,
+                        is_planned: bool = False) -> Reply:
+        """Put a shape, on top of all. `demand` is what its chance is for, in cars per hour; that of the road's file is planned."""
         self._checks.shape(shape)
-        return await self._make(index, key, note, times, lambda seat, stamp, about: put(stamp, shape, about))
+        more = written_demand(demand, is_planned)
+        return await self._make(index, key, note, times, lambda seat, stamp, about: put(stamp, shape, with_more(about, more)))
 
     async def change_line(self, index: int, times: Times, *, key: str, note: str, line: Called, shape: Shape | None,
-                          top: bool) -> Reply:
+                          top: bool, demand: float | None = None) -> Reply:
         """Give a line of the list another shape, or none; on top, or where it is."""
         if shape is not None:
             self._checks.shape(shape)
-        return await self._make(index, key, note, times, lambda seat, stamp, about: change(
-            seat.road, stamp, self._line(seat, line), shape, top, about))
+
+        def makes(seat: SeatReplica, stamp: Stamp, about: About) -> Operation:
+            changed = self._line(seat, line)
+            said = demand if demand is not None or shape is None else kept_demand(seat.road, changed, shape)
+            return change(seat.road, stamp, changed, shape, top, with_more(about, written_demand(said)))
+        return await self._make(index, key, note, times, makes)
 
     async def lift_line(self, index: int, times: Times, *, key: str, note: str, line: Called) -> Reply:
         """Put a line of the list on top, as it is."""
@@ -130,7 +143,7 @@ class Lab:
             old = self._held_by(seat, stamp)
             if not old.names:
                 raise Refused("NothingToPut", "an undo cannot be repeated: change the line itself")
-            return repeat(seat.road, new, old, About(about.who, old.about.note, about.when, old.about.shape))
+            return repeat(seat.road, new, old, About(about.who, old.about.note, about.when, old.about.shape, old.about.more))
         return await self._make(index, key, "", times, makes)
 
     async def exclude_site(self, index: int, times: Times, *, key: str, note: str, site: int, out: bool) -> Reply:

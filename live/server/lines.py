@@ -6,6 +6,7 @@ import time
 from typing import AbstractSet, Sequence, TypedDict
 
 from .model.changes import operations_on
+from .model.demands import demand_of, is_planned, stated_demand
 from .model.operations import Name, Operation, Shape, Stamp, is_line, is_raw
 from .model.road import Road, parts_of, stands
 from .model.seen import Rectangle, lost, shown
@@ -16,13 +17,14 @@ NONE: frozenset[Operation] = frozenset()
 
 Act = TypedDict("Act", {
     "stamp": Stamp, "who": str, "note": str, "when": float, "does": str, "shared": bool, "undoes": "Stamp | None", "lost": "Stamp | None",
-    "idle": bool, "void": bool, "shape": "Shape | None"}, total=False)
+    "idle": bool, "void": bool, "shape": "Shape | None", "demand": "float | None"}, total=False)
 """What an operation did to a line, as a tab gets it; `lost` is the operation that beat it."""
 Line = TypedDict("Line", {
     "name": Stamp, "gone": bool, "kind": "str | None", "shape": "Shape | None", "who": str, "note": str, "when": float, "height": Stamp,
     "standing": bool, "shared": bool, "shown": Sequence[Rectangle], "operations": Sequence[Act], "edits": Sequence[Sequence["str | int"]],
-    "was": "Sequence[Rectangle] | None"}, total=False)
-"""A line of a list, as a tab gets it. One that is `gone` has only its name; `was` is what it shows without a preview."""
+    "was": "Sequence[Rectangle] | None", "demand": float, "planned": bool}, total=False)
+"""A line of a list, as a tab gets it. One that is `gone` has only its name; `was` is what it shows without a preview. `demand` is what
+an inflow is for, in cars per hour, if that was said; `planned` is the demand of the road's file."""
 
 
 class Lister:
@@ -51,6 +53,11 @@ class Lister:
             "operations": [self.operation(one, line, losses.get(one)) for one in done]}
         if edits:
             said["edits"] = edits
+        demand = demand_of(road, line)
+        if demand is not None:
+            said["demand"] = demand
+        if is_planned(done):
+            said["planned"] = True
         return said
 
     def shown(self, line: Stamp) -> list[Rectangle]:
@@ -103,6 +110,7 @@ class Lister:
             said["void"] = True
         if won is not None and line is not None:
             said["shape"] = one.sets.get(line)
+            said["demand"] = stated_demand(one, line)
         return said
 
     def does(self, one: Operation, line: Stamp | None) -> str:

@@ -7,18 +7,21 @@ import subprocess
 import sys
 from dataclasses import dataclass, field
 from pathlib import Path
-from typing import Mapping, Sequence, TypedDict
+from typing import Iterator, Mapping, Sequence, TypedDict, cast
 
 from zegdrut.clock import Clock
+from zegdrut.demand import find_rate
 from zegdrut.wire import PlanLine
 
 from .asked import LONGEST_NAME, Asked, clean_text
 from .journal import Broken, packed
 from .lab import Lab
-from .model.operations import Json, Shape
+from .model.demands import INFLOW
+from .model.operations import END, Json, Shape
 from .refusals import Refused
 
 KEPT = "freeway.json"  # in a folder: the freeway in km that it began with
+NAME = "road.name"  # in a folder: the name of the file that it began with
 FREEWAY = Path(__file__).resolve().parents[2] / "recipes" / "freeway" / "run"
 OF_A_PLAN = {"zones", "inlets"}  # that no freeway in km has
 DOING = " .."  # ends a line of progress
@@ -26,10 +29,11 @@ DOING = " .."  # ends a line of progress
 
 @dataclass(frozen=True)
 class Planned:
-    """A plan line, what is put and shared from the first on, and who is said to have done so."""
+    """A plan line, what is put and shared from the first on, each shape with the demand for which its chance is, and who is said to have
+    done so."""
 
     plan: Mapping[str, Json]
-    shapes: list[Shape] = field(default_factory=list)
+    shapes: Sequence[tuple[Shape, float | None]] = field(default_factory=list)
     name: str = ""
 
 
@@ -40,6 +44,14 @@ def clock_of(folder: Path) -> Clock | None:
         return Clock.read(*(value.get(name) for name in ("begin", "date", "timezone"))) if value.get("begin") is not None else None
     except (OSError, ValueError, AttributeError):  # (an InvalidTime is a ValueError)
         return None
+
+
+def name_of(folder: Path) -> str:
+    """Return the name of the file of a folder's road; "" if it is not known."""
+    try:
+        return clean_text((folder / NAME).read_text(encoding="utf-8", errors="replace"), LONGEST_NAME)
+    except OSError:
+        return ""
 
 
 def read_plan(path: Path) -> dict[str, Json]:
@@ -69,13 +81,32 @@ def read_road(path: Path, program: str) -> Planned:
         return Planned(value)
     said = by_recipe(path, program)
     try:
-        return Planned(said["plan"], [shape_of(one) for one in said["shapes"]], clean_text(path.name, LONGEST_NAME) or "freeway")
+        shapes = [shape_of(one) for one in said["shapes"]]
+        works: list[tuple[Shape, float | None]] = [(shape, None) for shape in shapes if shape.kind != INFLOW]
+        chances = [int(chance) for _, chance in cast("list[list[int]]", said["plan"]["inlets"])]
+        return Planned(said["plan"], [*demand_shapes(chances, shapes, said["demands"]), *works],
+                       clean_text(path.name, LONGEST_NAME) or "freeway")
     except Refused as fault:
         raise Broken(f"{path}: {fault.why}") from None
 
 
-Converted = TypedDict("Converted", {"plan": Mapping[str, Json], "shapes": Sequence[Json]})
-"""What the recipe prints of a freeway."""
+Converted = TypedDict("Converted", {
+    "plan": Mapping[str, Json], "shapes": Sequence[Json], "demands": Sequence["Sequence[tuple[int, float]]"]})
+"""What the recipe prints of a freeway; `demands` has for each inlet (step, cars per hour), each until the next."""
+
+
+def demand_shapes(chances: Sequence[int], shapes: Sequence[Shape],
+                  demands: Sequence[Sequence[tuple[int, float]]]) -> Iterator[tuple[Shape, float | None]]:
+    """Yield the demand of each inlet as shapes, each with its cars per hour: what the plan's chance is for lies below all and never
+    ends. A chance that is for several demands is cut where they change."""
+    for inlet, (chance, rates) in enumerate(zip(chances, demands)):
+        yield Shape(INFLOW, inlet, inlet, 0, None, chance), find_rate(rates, 0)
+        own = [one for one in shapes if one.kind == INFLOW and one.first == inlet]
+        for one in [*(Shape(INFLOW, inlet, inlet, 0, one.begin, chance) for one in own[:1]), *own]:
+            dates = [one.begin, *(step for step, _ in rates if one.begin < step < (one.end or END))]
+            for begin, end in zip(dates, [*dates[1:], one.end]):
+                if begin:
+                    yield one._replace(begin=begin, end=end), find_rate(rates, begin)
 
 
 def by_recipe(path: Path, program: str) -> Converted:
@@ -120,8 +151,8 @@ async def lay(lab: Lab, road: Planned) -> None:
         return
     index, _ = await lab.seating.join(road.name, "", None)
     try:
-        for number, shape in enumerate(road.shapes):
-            await lab.put_shape(index, {}, key=f"plan {number}", note="", shape=shape)
+        for number, (shape, demand) in enumerate(road.shapes):
+            await lab.put_shape(index, {}, key=f"plan {number}", note="", shape=shape, demand=demand, is_planned=demand is not None)
         await lab.share(index, {}, stamps=None, title="")
         await lab.works_are_shared()
         await lab.seating.give_back(index)

@@ -14,7 +14,7 @@ from zegdrut.trips import DetectorCount, Window, count_seconds_on
 from zegdrut.wire import CountReply, WrittenEdit
 
 from . import admissions, chance, figures, reports, rows, saving
-from .figures import DetectorFigures, TwoRoads
+from .figures import DetectorFigures, TwoDemands, TwoRoads
 from .journal import packed
 from .keeper import SHARED, Times
 from .lab import Lab
@@ -22,10 +22,11 @@ from .lab import Reply as Fields
 from .lines import Line, Lister
 from .model.changes import all_lines, altered
 from .model.choices import sendable
+from .model.demands import asked_demands
 from .model.operations import Json, Operation, Stamp
 from .model.projection import Edits
 from .model.road import Road
-from .plans import clock_of
+from .plans import clock_of, name_of
 from .program import LONG_ROAD
 from .refusals import Refused
 from .roads import SIDES, KeptRoad, Preview, Previews, AskedRoad, Side
@@ -58,7 +59,7 @@ class Questions:
     def __init__(self, lab: Lab) -> None:
         self._lab, self._keeper = lab, lab.keeper
         self._previews, self._chance, self._figures = Previews(), chance.DayQuestions(), figures.Figures()
-        self._saved, self._admissions = saving.Saved(), admissions.Admissions()
+        self._saved, self._admissions = saving.Saved(), admissions.Admissions(lab.keeper.folder)
 
     def road(self, index: int, at: str) -> AskedRoad:
         """Return the road that a seat means: its own or the shared one, or one of its preview."""
@@ -283,7 +284,8 @@ class Questions:
         edits = await self._keeper.differences.between(before, after)
         sides = [await self._timeline(road) for road in (before, after)]
         lines = await self._lines_of(replica, before, after, {one.stamp for one in added})
-        return Preview(self._keeper, *map(rows_of, sides)), {"what": what, "size": len(added), "layers": lines,
+        was, will_be = map(rows_of, sides)
+        return Preview(self._keeper, was, will_be, self._demands(before, after)), {"what": what, "size": len(added), "layers": lines,
                                                             "touched": first_step(edits)}
 
     async def _timeline(self, road: Road) -> Edits:
@@ -321,13 +323,25 @@ class Questions:
         self._reaches(last)
         state = self._keeper.state
 
-        async def body() -> dict[str, Sequence[WrittenEdit]]:
-            return {"before": rows_of(await self._timeline(state.shared.road)), "after": rows_of(await self._timeline(own.road))}
-        edits = self._previews.get(index).edits if of == "preview" else await self._keeper.ask(index, (0, index), body)
+        async def body() -> tuple[dict[str, Sequence[WrittenEdit]], TwoDemands]:
+            before, after = state.shared.road, own.road
+            edits: dict[str, Sequence[WrittenEdit]] = {
+                "before": rows_of(await self._timeline(before)), "after": rows_of(await self._timeline(after))}
+            return edits, self._demands(before, after)
+        if of == "preview":
+            preview = self._previews.get(index)
+            edits, demands = preview.edits, preview.demands
+        else:
+            edits, demands = await self._keeper.ask(index, (0, index), body)
         plan = state.plan.copy()
         plan["replicas"] = ["road"]
         return {"plan": plan, "first": first, "last": last, "program": self._keeper.path, "before": edits["before"],
-                "after": edits["after"]}
+                "after": edits["after"], "demands": demands}
+
+    def _demands(self, before: Road, after: Road) -> TwoDemands:
+        """Return the demands that somebody has asked for on two roads."""
+        inlets = len(self._keeper.state.plan["inlets"])
+        return {"before": asked_demands(before, inlets), "after": asked_demands(after, inlets)}
 
     async def days(self, index: int, own: Replica, of: str | None, first: int, last: int) -> Reply:
         """Return the same over many days, with the mean of each figure and its interval; or end that question."""
@@ -374,7 +388,7 @@ class Questions:
     async def table_of_counts(self, road: AskedRoad, times: Times, first: int, last: int, each: int) -> Reply:
         """Return a table of what detectors count, span by span."""
         spans = await self._counted(road, times, first, last, each)
-        title = f"counts of {self._road_name(road.name)}, {self.say_time(first)} to {self.say_time(last)}"
+        title = f"counts of {self._road_name(road.name)}{self._file_and_date()}, {self.say_time(first)} to {self.say_time(last)}"
         windows = [Window(start, min(last, start + each)) for start in range(first, last, each)]
         return {"csv": saving.table_of_counts(self._keeper.state.plan, title, self.say_time, windows, spans)}
 
@@ -384,6 +398,13 @@ class Questions:
             return "the shared road"
         name = next((seat.name for seat in self._keeper.state.seats if seat.at == at), "")
         return f"the road of {saving.harmless(name) or at}"
+
+    def _file_and_date(self) -> str:
+        """Return the name of the road's file and the date of its begin, as far as they are known."""
+        folder = self._keeper.folder
+        day = clock_of(folder)
+        parts = [saving.harmless(name_of(folder)), "" if day is None or day.date is None else str(day.date)]
+        return "".join(f", {one}" for one in parts if one)
 
     def say_time(self, step: int) -> str:
         """Return a time of the road's clock: of the day, if it has one."""

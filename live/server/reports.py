@@ -18,12 +18,13 @@ if TYPE_CHECKING:
     from zegdrut.clock import Clock
     from zegdrut.demand import Rates
     from zegdrut.report import Side
-    from zegdrut.wire import Fields
+    from zegdrut.trips import Window
+    from zegdrut.wire import Fields, PlanLine
 
 DAYS = 5
 NICE = 8
 PATIENCE = 600.0
-MOST_DATES = 12  # of a demand over time, in a sentence
+MOST_DATES = 12  # of a demand over time, in a sentence; a longer one is a chart
 ReportAsked = TypedDict("ReportAsked", {
     "roads": figures.TwoRoads, "title": str, "works": Sequence[str], "names": Sequence[str], "clock": Sequence["str | None"], "days": int})
 """Two roads with their names, sentences about the works on them, and the begin, date and time zone of the file."""
@@ -59,10 +60,11 @@ def sides_of(asked: ReportAsked) -> list[Side]:
     plan = asked["roads"]["plan"].copy()
     plan["replicas"] = ["A"]
     both = edits_of(asked["roads"])
-    for edits, name in zip(both, asked["names"]):
+    known = asked["roads"]["demands"]
+    for edits, name, demands in zip(both, asked["names"], (known["before"], known["after"])):
         lines: list[Fields] = [*import_lines("A", [(*key, 1, figures.NUMBER, value) for key, value in sorted(edits.items())]),
                                {"advance": {"at": "A", "to": last}}]
-        found.append(Side(name, Script(plan, lines), compute_demands(plan, figures.given(edits), last)))
+        found.append(Side(name, Script(plan, lines), compute_demands(plan, figures.given(edits), last, asked=demands)))
     return found if both[0] != both[1] else found[1:]
 
 
@@ -110,10 +112,21 @@ def facts_of(roads: figures.TwoRoads, side: Side, clock: Clock) -> list[str]:
     (limit, slowing), *more = sorted(kinds)
     drivers = f"limit {limit * KMH:g} km/h, slowing {slowing / ALWAYS:.0%}" if not more else f"{len(kinds)} kinds of zones"
     found = [f"{to_km(plan['length']):g} km, one lane, {drivers}"]
-    for (cell, _), rates in zip(plan["inlets"], side.demands):
-        name = f"on-ramp at km {to_km(cell):g}" if cell else "main road"
-        found.append(f"{name}: {demand_text(rates, clock, roads['last'])} cars/h")
-    return found
+    return [*found, *(f"{name}: {demand_text(rates, clock, roads['last'])}" for name, rates in named_demands(plan, side))]
+
+
+def named_demands(plan: PlanLine, side: Side) -> list[tuple[str, Rates]]:
+    """Return the name and the demand of each inlet."""
+    from zegdrut.units import to_km
+    return [(f"on-ramp at km {to_km(cell):g}" if cell else "main road", rates)
+            for (cell, _), rates in zip(plan["inlets"], side.demands)]
+
+
+def demand_chart(plan: PlanLine, sides: Sequence[Side], clock: Clock, window: Window) -> str:
+    """Return the demands of the roads as a chart; of one if they are the same."""
+    from zegdrut.report_page import draw_demands
+    shown = sides if sides[0].demands != sides[-1].demands else sides[-1:]
+    return draw_demands([(side.name if len(shown) > 1 else "", named_demands(plan, side)) for side in shown], clock, window)
 
 
 def demand_text(rates: Rates, clock: Clock, last: int) -> str:
@@ -121,8 +134,11 @@ def demand_text(rates: Rates, clock: Clock, last: int) -> str:
     whole = [(step, round(rate)) for step, rate in rates if step < last]
     dates = [one for place, one in enumerate(whole) if not place or one[1] != whole[place - 1][1]]
     if len(dates) == 1:
-        return f"{dates[0][1]:,}"
-    return ", ".join(f"{rate:,} from {clock.to_text(step)}" for step, rate in dates[:MOST_DATES]) + ", .." * (len(dates) > MOST_DATES)
+        return f"{dates[0][1]:,} cars/h"
+    if len(dates) > MOST_DATES:
+        peak, most = max(dates, key=lambda one: one[1])
+        return f"{min(rate for _, rate in dates):,} to {most:,} cars/h, with the peak from {clock.to_text(peak)} on"
+    return ", ".join(f"{rate:,} from {clock.to_text(step)}" for step, rate in dates) + " cars/h"
 
 
 def page(asked: ReportAsked) -> str:
@@ -140,7 +156,7 @@ def page(asked: ReportAsked) -> str:
     return format_page(Contents(
         title=asked["title"], facts=facts_of(roads, sides[-1], clock), works=asked["works"], notes=[], clock=clock, window=window,
         length=plan["length"], detectors=plan["detectors"], sides=sides, days=days, rows=make_table(sides, days, window), seed=seed,
-        closed=closed[-len(sides):]))
+        closed=closed[-len(sides):], demand=demand_chart(plan, sides, clock, window)))
 
 
 def main() -> None:

@@ -9,6 +9,7 @@ from typing import Protocol, Sequence, TypeVar
 
 from zegdrut.wire import WrittenEdit
 
+from .figures import TwoDemands
 from .journal import packed
 from .keeper import Keeper, Times
 from .model.road import Road
@@ -69,9 +70,9 @@ class KeptRoad:
 class Preview:
     """Two roads as they were when they were compared: their edits, and a program once they are asked."""
 
-    def __init__(self, keeper: Keeper, before: Sequence[WrittenEdit], after: Sequence[WrittenEdit]) -> None:
+    def __init__(self, keeper: Keeper, before: Sequence[WrittenEdit], after: Sequence[WrittenEdit], demands: TwoDemands) -> None:
         """`before` and `after` are all edits of both."""
-        self._keeper, self.edits = keeper, {"before": before, "after": after}
+        self._keeper, self.edits, self.demands = keeper, {"before": before, "after": after}, demands
         self.used = time.monotonic()
         self._is_over = False
         self._program: Program | None = None

@@ -181,14 +181,16 @@ def gesture(asked: Asked) -> Does:
         return lambda call: call.lab.put_edits(call.index, call.times, key=key, note=note, edits=edits, shape=drawn)
     if not asked.has("layer"):
         new = asked.shape()
-        return lambda call: call.lab.put_shape(call.index, call.times, key=key, note=note, shape=new)
+        demand = asked.demand(new)
+        return lambda call: call.lab.put_shape(call.index, call.times, key=key, note=note, shape=new, demand=demand)
     line, top = asked.stamp_or_key("layer"), asked.flag("top")
     if not asked.has("shape"):
         if not top:
             raise not_a_command("a gesture with a `layer` needs a `shape` (which may be null) or `top`")
         return lambda call: call.lab.lift_line(call.index, call.times, key=key, note=note, line=line)
     shape = None if asked.is_null("shape") else asked.shape()
-    return lambda call: call.lab.change_line(call.index, call.times, key=key, note=note, line=line, shape=shape, top=top)
+    said = None if shape is None else asked.demand(shape)
+    return lambda call: call.lab.change_line(call.index, call.times, key=key, note=note, line=line, shape=shape, top=top, demand=said)
 
 
 def read_edit(asked: Asked) -> list[RawEdit]:

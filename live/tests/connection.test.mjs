@@ -43,7 +43,7 @@ test("an answer goes to its question, and what has no number is heard", async ()
 test("six questions are open, and what comes first goes before those that wait", async () => {
   const {connection, found} = standing();
   for (let step = 1; step <= 7; step++) connection.ask({cells: {step}});
-  connection.ask({gesture: {key: "k"}}, true);
+  connection.ask({gesture: {key: "k"}}, "first");
   assert.equal(found.sent.length, 6);
   answer(found, {id: 3});
   assert.deepEqual(found.sent.at(-1), {id: 7, gesture: {key: "k"}});
@@ -53,7 +53,7 @@ test("six questions are open, and what comes first goes before those that wait",
 
 test("of acts without an answer three are open, and looking goes on", () => {
   const {connection, found} = standing();
-  for (let key = 1; key <= 9; key++) connection.ask({gesture: {key}}, true);
+  for (let key = 1; key <= 9; key++) connection.ask({gesture: {key}}, "first");
   for (let step = 1; step <= 3; step++) connection.ask({cells: {step}});
   assert.deepEqual(found.sent.map(({gesture}) => gesture?.key), [1, 2, 3, undefined, undefined, undefined]);
   answer(found, {id: 5});
@@ -63,10 +63,25 @@ test("of acts without an answer three are open, and looking goes on", () => {
   assert.deepEqual(found.sent.at(-1), {id: 8, gesture: {key: 4}});
 });
 
+test("what takes seconds is asked one at a time, after all others", () => {
+  const {connection, found} = standing();
+  for (let inlet = 1; inlet <= 30; inlet++) connection.ask({admission: {inlet}}, "last");
+  assert.deepEqual(found.sent, [{id: 1, admission: {inlet: 1}}]);
+  connection.ask({clock: {to: 3600}}, "first");
+  for (let step = 1; step <= 9; step++) connection.ask({cells: {step}});
+  assert.deepEqual(found.sent.map((one) => Object.keys(one)[1]),
+    ["admission", "clock", "cells", "cells", "cells", "cells"]);
+  answer(found, {id: 1});
+  assert.deepEqual(found.sent.at(-1), {id: 7, cells: {step: 5}});
+  for (let id = 2; id <= 11; id++) answer(found, {id});
+  assert.deepEqual(found.sent.at(-1), {id: 12, admission: {inlet: 2}});
+  assert.equal(found.sent.length, 12);
+});
+
 test("what comes first keeps its own order, whatever its number", () => {
   const {connection, found} = standing();
   for (let step = 1; step <= 7; step++) connection.ask({cells: {step}});
-  for (let key = 1; key <= 9; key++) connection.ask({gesture: {key}}, true);
+  for (let key = 1; key <= 9; key++) connection.ask({gesture: {key}}, "first");
   for (let id = 1; id <= 16; id++) answer(found, {id});
   const keys = found.sent.filter(({gesture}) => gesture).map(({gesture}) => gesture.key);
   assert.deepEqual(keys, [1, 2, 3, 4, 5, 6, 7, 8, 9]);

@@ -87,7 +87,7 @@ test("without a date nobody knows of a clock change", () => {
 test("a day is named unless it is today", () => {
   assert.equal(COUNTED.dateText(0), "");
   const now = Math.floor(Date.now() / 1000);
-  assert.ok(!COUNTED.dateText(now).includes(" ") || /[AP]M$/.test(COUNTED.dateText(now)));
+  assert.match(COUNTED.dateText(now), /^\d\d[:.]\d\d$/);     // of 24 hours
   assert.ok(COUNTED.dateText(now - 3 * 86400).length > COUNTED.dateText(now).length);
 });
 
@@ -108,6 +108,13 @@ test("a time of day is written by formats that are kept: lists have hundreds, tw
   const made = many(() => new Date(now * 1000).toLocaleTimeString([], {hour: "2-digit"}));
   const one = many(() => COUNTED.dateText(now - 60));
   assert.ok(one - plain < 0.3 * (made - plain), `${one}, kept ${plain}, made again ${made}`);
+});
+
+test("an instant is written with its date, in 24 hours", () => {
+  const evening = Date.UTC(2026, 2, 2, 23, 5, 9) / 1000;
+  const told = (zone) => new DayClock({zone}).instantText(evening);
+  assert.deepEqual([told("UTC"), told("Europe/Berlin"), new DayClock().instantText(0)],
+    ["2026-03-02 23:05:09", "2026-03-03 00:05:09", ""]);
 });
 
 test("the time of a change is written in the time zone of the road's file", () => {

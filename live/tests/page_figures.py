@@ -1,6 +1,7 @@
 """Test one browser on a freeway: the form in figures, the figures that it shows, what it saves; names and tokens."""
 from __future__ import annotations
 
+import csv
 import json
 import math
 import re
@@ -60,6 +61,73 @@ class OneFreeway(BrowserCase):
                  "Slowing 25 %, 0–0.375 km, from 0:05:00 on", "Slow to start 50 %, 0.375–0.75 km, 0:05:00–0:10:00",
                  "Detector off, at 3.75 km, 0:30:00–0:40:00"]
         self.assertEqual(tab.lines("own"), [note + " private" for note in reversed(notes)])
+
+    def test_clicks_go_before_what_is_measured(self) -> None:
+        """Join a road with thirty demands that nobody has said in cars per hour: what each inlet admits is measured, for seconds each.
+        The clock runs at the first click all the same."""
+        tab, = self.open(FREEWAY)
+        tab.driver.execute_async_script("""
+            const [done] = arguments;
+            (async () => {
+              for (let turn = 0; turn < 15; turn++) {
+                for (const inlet of [0, 1]) {
+                  const shape = ["inflow", inlet, inlet, 300 * turn, 300 * turn + 300, 9_000 + 500 * turn];
+                  await ask({gesture: {at: store.me.at, key: `k${inlet} ${turn}`, note: "", shape}});
+                }
+              }
+            })().then(done);""")
+        tab.driver.refresh()
+        tab.until(lambda: tab.text("line").startswith("connected"), "connected")
+        tab.until(lambda: tab.script("return countCurves()[1]") >= 15, "it asks what inlets admit")
+        tab.press("Run an hour")
+        tab.until(lambda: tab.text("clock") == "1:00:00", "the clock")
+        done, every = tab.script("return countCurves()")
+        self.assertLess(done, every / 2)
+        tab.tool("inflow")
+        tab.choose("inlet", "1")
+        tab.fill(timeFrom="1:00")
+        tab.until(lambda: "is being measured, " in tab.text("toolHint"), "how far it is")
+        self.assertRegex(tab.text("toolHint"), r"^What this inlet admits is being measured, \d+ of \d+\. Try again")
+
+    def test_a_demand_is_shown_as_it_was_asked_for(self) -> None:
+        """Show the demand of the road's file as a table, and not as lines of the lists and the report; that of a person as it was typed."""
+        tab, = self.tabs
+        self.server = free_server({"length": 1.5, "limit": 135, "slowing": 0.2, "main": [["7:00", 900], ["7:05", 612.3]],
+                                   "ramps": [[0.45, [["7:00", 200], ["7:10", 310.5]]]], "minutes": 15, "begin": "07:00",
+                                   "sections": [[0.9, 1.2, 4, 8, 54]], "detectors": [0.75], "stretch": [0.3, 0.6], "stalled": []})
+        self.addCleanup(self.server.kill)
+        tab.join(self.server, "Ada")
+        self.assertEqual(tab.text("clock"), "07:00:00")
+        tab.press("Run an hour")
+        tab.until(lambda: tab.text("clock") == "08:00:00", "the clock")
+        tab.settled()
+        self.assertEqual(tab.lines("held"), ["54 km/h, 0.9–1.2 km, 07:04–07:08 shared"])
+        self.assertEqual(tab.script("return [...document.querySelectorAll('#fileDemandTable tr')].map((row) => "
+                                    "[...row.children].map((cell) => cell.textContent).join(' '))"),
+                         ["from at 0 km at 0.45 km", "07:00 900 200", "07:05 612 200", "07:10 612 311"])
+        self.assertEqual(tab.script("return framesShown().map(({kind}) => kind)"), ["limit"])
+        tab.tool("inflow")
+        tab.choose("inlet", "1")
+        tab.in_figures(demand="447.69", timeFrom="7:05", timeTo="7:10")
+        self.assertEqual(tab.lines("own"), ["Demand 448 cars/h, at 0.45 km, 07:05–07:10 private"])
+        self.assertEqual(operations_of(self.server)[-1]["demand"], 447.69)
+        self.assertEqual([row["what"] for row in self.changes(tab)], ["54 km/h, 0.9–1.2 km, 07:04–07:08",
+                                                                      "Demand 448 cars/h, at 0.45 km, 07:05–07:10"])
+        page = tab.save("Report", "report.html").read_text(encoding="utf-8")
+        self.assertEqual(re.findall("<li>([^<]*)</li>", page.split("Works")[1].split("</ul>")[0]),
+                         ["54 km/h, 0.9–1.2 km, 07:04–07:08", "Demand 448 cars/h, at 0.45 km, 07:05–07:10 (new)"])
+        self.assertRegex(page, "on-ramp at km 0.45: 200 from 07:00, 448 from 07:05, 31[01] from 07:10")
+        table = tab.save("Figures as CSV", "figures.csv").read_text(encoding="utf-8")
+        minutes = [(447.69 * 5 + 310.5 * 5 + 200 * 50) / 60, (200 * 55 + 310.5 * 5) / 60]
+        wanted = [str(float(f"{one:.4f}")).removesuffix(".0") for one in minutes]
+        self.assertIn(f"demand at 0.45 km,cars,{wanted[0]},{wanted[1]},", table)
+        tab.press("Change", "#own")
+        self.assertEqual(tab.part("demand").get_attribute("value"), "447.69")
+
+    def changes(self, tab: Tab) -> list[dict[str, str]]:
+        """Return the saved table of changes."""
+        lines = tab.save("Changes as CSV", "changes.csv").read_text(encoding="utf-8").splitlines()
+        return list(csv.DictReader(lines[1:]))
 
     def test_a_stretch_in_figures_takes_the_nearest_zones(self) -> None:
         tab, = self.open(FREEWAY)
@@ -261,6 +329,8 @@ class OneFreeway(BrowserCase):
         text = path.read_text(encoding="utf-8")
         self.assertIn("'=1+1,Ada", text)
         self.assertIn("54 km/h, 0–0.375 km, from 0:20:00 on", text)
+        self.assertIn("# changes of the road of =1+1,Ada, plan.json, up to 0:00:00\n", text)
+        self.assertRegex(text, r",20\d\d-\d\d-\d\d \d\d:\d\d:\d\d,put,")
 
     def test_the_transcript_runs_again(self) -> None:
         tab, = self.open(FREE_ROAD)
@@ -289,7 +359,7 @@ class OneFreeway(BrowserCase):
         names = {tab.save("Counts", "counts.csv").name for _ in range(3)}  # none in the place of another
         self.assertEqual(len(names), 3)
         for name in names:
-            self.assertRegex(name, r"^counts-Ada-0000-0100(-\d)?\.csv$")
+            self.assertRegex(name, r"^counts-plan-Ada-0000-0100(-\d)?\.csv$")
         for press in (None, Keys.ESCAPE):
             if press:
                 tab.open_part("save")
@@ -316,9 +386,9 @@ class OneFreeway(BrowserCase):
         tab.in_figures(timeFrom="soon")
         self.assertEqual(tab.text("said"), "A time is written as 7:00, 07:00:30 or, in minutes after 06:30, 20.")
         path = tab.save("Counts", "counts.csv")
-        self.assertEqual(path.name, "counts-Ada-0630-0730.csv")
+        self.assertEqual(path.name, "counts-plan-Ada-0630-0730.csv")
         head, names, first, *_ = path.read_text(encoding="utf-8").splitlines()
-        self.assertEqual(head, "# counts of the road of Ada, 06:30 to 07:30")
+        self.assertEqual(head, "# counts of the road of Ada, plan.json, 2026-03-02, 06:30 to 07:30")
         self.assertTrue(first.startswith("06:30,06:35,0,0.21,"), first)
 
     def test_the_report_is_saved(self) -> None:
@@ -326,7 +396,7 @@ class OneFreeway(BrowserCase):
         tab.run_an_hour()
         tab.limit("2", "0:20", "0:30")
         path = tab.save("Report", "report.html")
-        self.assertEqual(path.name, "report-Ada-shared-0000-0100.html")
+        self.assertEqual(path.name, "report-plan-Ada-shared-0000-0100.html")
         page = path.read_text(encoding="utf-8")
         for wanted in ("<h1>The road of Ada, and the shared one: 0:00:00 to 1:00:00</h1>",
                        "<li>54 km/h, 0–0.3 km, 0:20:00–0:30:00 (new)</li>", "delay, vehicle hours"):

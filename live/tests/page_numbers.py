@@ -75,7 +75,7 @@ class Numbers(BrowserCase):
     def saved_is(self, tab: Tab, plan: object, before: Run, after: Run, cost: dict[str, Any]) -> None:
         """Check figures.csv to four digits."""
         with open(tab.save("Figures as CSV", "figures.csv"), encoding="utf-8", newline="") as file:
-            self.assertEqual(next(file), "# the road of Ada and the shared one, 0:00:00 to 0:07:00\n")
+            self.assertEqual(next(file), "# the road of Ada and the shared one, plan.json, 0:00:00 to 0:07:00\n")
             rows = {row["figure"]: row for row in csv.DictReader(file)}
 
         def near(name: str, wanted: list[object], columns: tuple[str, ...] = ("mine", "shared")) -> None:

@@ -31,13 +31,21 @@ test("values", () => {
   assert.equal(text("start", 32768), "Slow to start 50 %");
 });
 
-test("a demand is written as what its inlet admits then; until that is known, as a chance", () => {
+test("a demand is in cars per hour: what was asked for, else what its inlet admits then", () => {
   assert.equal(shapeText(ROAD, decodeShape(["inflow", 0, 0, 600, 1200, 38535])),
                "Demand 1,250 cars/h, at 0 km, 0:10:00\u20130:20:00");
   assert.equal(shapeText(ROAD, decodeShape(["inflow", 0, 0, 599, 1200, 38535])),
                "Demand 1,500 cars/h, at 0 km, 0:09:59\u20130:20:00");
   assert.equal(shapeText(ROAD, decodeShape(["inflow", 1, 1, 599, 1200, 32768])),
-               "Demand 50 %, at 1.5 km, 0:09:59\u20130:20:00");
+               "Demand that is being measured, at 1.5 km, 0:09:59\u20130:20:00");
+  const change = decodeChange({name: [1, 65], kind: "inflow", shape: ["inflow", 1, 1, 600, 900, 14000],
+    demand: 447.69, shown: [["inflow", 1, 1, 600, 900, 14000, null]], operations: [], edits: []});
+  for (const shape of [change.shape, ...change.shown]) {
+    assert.equal(shapeText(ROAD, shape), "Demand 448 cars/h, at 1.5 km, 0:10:00\u20130:15:00");
+    assert.equal(thingText(ROAD, shape), "demand 448 cars/h");
+  }
+  assert.equal(decodeChange({...change, name: [1, 65], shape: ["inflow", 1, 1, 600, 900, 14000],
+    demand: "many"}).shape.demand, undefined);
 });
 
 test("a shape in a few words", () => {

@@ -80,9 +80,10 @@ test("travel times are saved by the minute of entry and the place, with the cars
   assert.deepEqual(said.before.entries.map(({step}) => step), [120, 180]);
   const day = new DayClock({begin: 6.5 * 3600});
   assert.deepEqual(tableOfTravel(PLAN, "mine", said, day), [
-    ["entered from", "to", "cars, mine", "travel time (s), mine", "cars, shared", "travel time (s), shared",
+    ["minute of entry", "travel time to", "cars, mine", "travel time (s), mine", "cars, shared", "travel time (s), shared",
      "mine minus shared (s)"],
     ["06:32", "0.375 km", "9", "17.25", "10", "15", "2.25"], ["06:32", "the road's end", "9", "230", "0", "", ""],
     ["06:33", "0.375 km", "0", "", "20", "14.5", ""], ["06:33", "the road's end", "0", "", "18", "210", ""]]);
+  assert.equal(tableOfTravel({...PLAN, detectors: [187]}, "mine", said, day)[1][1], "1.4025 km");     // exactly, in all tables
   assert.deepEqual(tableOfTravel(PLAN, "preview", said, day)[1], ["06:32", "0.375 km", "10", "15", "9", "17.25", "2.25"]);
 });

@@ -12,5 +12,6 @@ set, and each module has one part of it:
     seen         where a layer is in force, who covers the rest, and whose change was lost
     changes      the list of changes: its lines, and which of them an operation may alter
     choices      what a seat can undo, redo, share and forget
+    demands      the cars per hour that inflow chances are for
     former       journals and messages of forms 1 and 2
 """

@@ -6,16 +6,21 @@
 
 A script has inflow chances, not cars per hour. The demand of an inlet is what its chance admits with the limit and the drivers of
 the plan, with the flow of the inlets before it, on a road that is free downstream. Edits of inflows change the demand. Edits of
-limits and drivers and closures do not: the cars that they hold back are lost demand.
+limits and drivers and closures do not: the cars that they hold back are lost demand. Where the demand that a chance stands for is
+known, it is given as `asked`, and nothing is simulated.
 """
 from __future__ import annotations
 
-from typing import Sequence
+from typing import Sequence, TypeVar
 
 from .demand import Drivers, Effort, Inlet, Rates, Supply, count_demand, simulate_admitted
 from .records import Edit
 from .trips import Window
 from .wire import PlanLine
+
+AskedRates = Sequence[tuple[int, "float | None"]]
+"""The demand of an inlet over time, as (step, cars per hour), each until the next. None: it is unknown, and follows from the chance."""
+V = TypeVar("V")
 
 
 def list_chances(plan: PlanLine, edits: Sequence[Edit], inlet: int, last: int) -> list[tuple[int, int]]:
@@ -43,24 +48,30 @@ def find_entry(plan: PlanLine, cell: int) -> int:
     return entry if entry <= cell else 0
 
 
-def compute_demands(plan: PlanLine, edits: Sequence[Edit], last: int, effort: Effort = Effort()) -> list[Rates]:
+def compute_demands(plan: PlanLine, edits: Sequence[Edit], last: int, effort: Effort = Effort(),
+                    asked: Sequence[AskedRates] = ()) -> list[Rates]:
     """Return the demand of each inlet over time in cars per hour, up to step `last`, in the order of the plan.
 
-    Simulates each inlet for some seconds."""
+    `asked` has the demands that are known, for each inlet. Where one is unknown, the inlet is simulated for some seconds."""
     order = sorted(range(len(plan["inlets"])), key=lambda inlet: int(plan["inlets"][inlet][0]))
     chances = [list_chances(plan, edits, inlet, last) for inlet in range(len(plan["inlets"]))]
     found: list[Rates] = [[] for _ in order]
     for place, inlet in enumerate(order):
         cell: int = plan["inlets"][inlet][0]
         drivers = find_drivers(plan, edits, cell)
-        for step in sorted({date for one in order[:place + 1] for date, _ in chances[one]}):
+        known = [one for one in asked[inlet] if one[0] < last] if asked else []
+        for step in sorted({date for one in order[:place + 1] for date, _ in chances[one]} | {date for date, _ in known}):
+            rate = find_value(known, step) if known and known[0][0] <= step else None
+            if rate is not None:
+                found[inlet].append((step, rate))
+                continue
             before = [Inlet(plan["inlets"][one][0], find_value(chances[one], step)) for one in order[:place]]
             flow = simulate_admitted(find_value(chances[inlet], step), drivers, cell, [one for one in before if one.chance], effort)
             found[inlet].append((step, flow))
     return found
 
 
-def find_value(changes: Sequence[tuple[int, int]], step: int) -> int:
+def find_value(changes: Sequence[tuple[int, V]], step: int) -> V:
     """Return the value that applies at a step."""
     return next(value for date, value in reversed(changes) if date <= step)
 

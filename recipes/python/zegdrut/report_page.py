@@ -11,8 +11,9 @@ from pathlib import Path
 from typing import Sequence
 
 from .clock import Clock
+from .demand import Rates
 from .intervals import CHANCE, FEW_DAYS, warn_few_days
-from .pictures import AFTER, BEFORE, Chart, Line, draw_field, draw_scale, make_speed_field
+from .pictures import AFTER, BEFORE, INLETS, Chart, Line, draw_field, draw_scale, make_speed_field
 from .programs import program_path, read_record, sum_file
 from .report import PERIOD, Row, Side, SideDay, make_flow_series, make_speed_series
 from .trips import Window
@@ -133,6 +134,22 @@ def describe_program() -> str:
     made = read_record(path)
     proved = "proved" if made is not None and made.proved else "unproved"
     return f"{path.name}, {proved}, SHA-256 {sum_file(path)[:16]}"
+
+
+def draw_demands(sides: Sequence[tuple[str, Sequence[tuple[str, Rates]]]], clock: Clock, window: Window) -> str:
+    """Return the demand of each inlet of some roads in a window as a chart; an empty string if none changes there.
+
+    `sides` has the name of each road, with the name and the demand of each of its inlets."""
+    chart, changes = Chart("Demand", "cars/h", clock, window.first, window.last), False
+    for place, (side, inlets) in enumerate(sides):
+        for inlet, (name, rates) in enumerate(inlets):
+            points: list[tuple[float, float | None]] = []
+            for (step, cars), end in zip(rates, [*(step for step, _ in rates[1:]), window.last]):
+                begin, until = max(step, window.first), min(end, window.last)
+                points += [(begin, cars), (until, cars)] if begin < until else []
+            changes = changes or len({cars for _, cars in points}) > 1
+            chart.add(Line(f"{side}: {name}" if side else name, points, INLETS[inlet % len(INLETS)], is_dashed=place < len(sides) - 1))
+    return chart.draw(900, 160) if changes else ""
 
 
 def format_page(contents: Contents) -> str:

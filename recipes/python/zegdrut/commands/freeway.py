@@ -16,7 +16,8 @@ sections or stalled cars, without.jsonl is the same road and seed without them.
 
 --then FILE2 has the sections and stalled cars as they turned out. The run is then changed by edits in the past (then.jsonl), which
 the command lists, and their tables are then_demand.csv and so on.
---plan runs nothing. It prints the plan and the shapes of sections and stalled cars for live/serve.
+--plan runs nothing. It prints for live/serve the plan, the shapes of the demand over time, of sections and of stalled cars, and the
+demand of each inlet in cars per hour.
 
 The stretch is measured by Edie's definitions over its rows, which are those that the steps of the period lead to. With N the number
 of cars on its cells in all rows and V the sum of their speeds, density is N and flow is V, both per cell and step, and the
@@ -270,7 +271,8 @@ def print_plan(figures: Figures) -> None:
     road, _ = make_roads(figures, None)
     print("".join(f"{one}\n" for one in road.notes), end="", file=sys.stderr, flush=True)
     found = measure_chances_aloud(road)
-    print(json.dumps({"plan": make_plan(road, found, figures.seed), "shapes": list(make_shapes(figures, road, found))}))
+    print(json.dumps({"plan": make_plan(road, found, figures.seed), "shapes": list(make_shapes(figures, road, found)),
+                      "demands": [rates for _, rates in road.inlets]}))
 
 
 def read_arguments(words: Sequence[str] | None) -> argparse.Namespace:

@@ -30,7 +30,7 @@ from ..measured import Measured
 from ..outputs import format_window, make_title as make_csv_title, prepare_file
 from ..pictures import INLETS, Chart, Line
 from ..report import PERIOD, Row, Side, SideDay, make_flow_series, make_records, make_speed_series, make_table, run_sides
-from ..report_page import Contents, format_page, make_list_html
+from ..report_page import Contents, draw_demands, format_page, make_list_html
 from ..road_scripts import make_script
 from ..trips import Window
 from ..units import CELLS_A_KM, HOUR, KMH, count_things, format_km, to_steps
@@ -168,18 +168,8 @@ def describe_demand(figures: Figures) -> list[str]:
 def make_demand_chart(roads: Sequence[tuple[str, Figures]]) -> str:
     """Return the demands of roads over the window as a chart; an empty string if none changes. Roads with the same demand are drawn once."""
     figures = roads[-1][1]
-    steps = to_steps(figures.minutes)
-    named = [(name if len(roads) > 1 else "", one) for name, one in roads]
-    if not any(isinstance(demand, list) and len(demand) > 1 for _, one in named for _, demand in name_inlets(one)):
-        return ""
-    chart = Chart("Demand", "cars/h", figures.clock, 0, steps)
-    for place, (side, one) in enumerate(named):
-        for inlet, (name, demand) in enumerate(name_inlets(one)):
-            rates = to_rates(demand)
-            ends = [step for step, _ in rates[1:]] + [steps]
-            points: list[tuple[float, float | None]] = [(date, cars) for (step, cars), end in zip(rates, ends) for date in (step, end)]
-            chart.add(Line(f"{side}: {name}" if side else name, points, INLETS[inlet % len(INLETS)], is_dashed=place < len(named) - 1))
-    return chart.draw(900, 160)
+    named = [(name if len(roads) > 1 else "", [(inlet, to_rates(demand)) for inlet, demand in name_inlets(one)]) for name, one in roads]
+    return draw_demands(named, figures.clock, Window(0, to_steps(figures.minutes)))
 
 
 def make_demand_records(roads: Sequence[tuple[str, Figures]]) -> list[Record]:

@@ -1,0 +1,69 @@
+"""The demand that was asked for, in cars per hour, on a road of inflow chances.
+
+A shape of kind inflow has a chance. The operation that gave the line its shape may say for which demand: `demand` among the fields
+that other versions keep without reading them. What has another meaning than a demand there counts as if it were missing.
+"""
+from __future__ import annotations
+
+import math
+from typing import Mapping, Sequence
+
+from .layers import pieces
+from .operations import END, Json, Operation, Shape, Stamp, is_line
+from .road import Road
+
+DEMAND, PLANNED = "demand", "planned"
+"""The fields of an operation: cars per hour; and whether its demand is that of the road's file."""
+MOST_DEMAND = 10_000.0  # cars per hour
+INFLOW = "inflow"
+Asked = Sequence[tuple[int, "float | None"]]
+"""The demand of an inlet over time, as (step, cars per hour), each until the next; None: nobody has said it."""
+
+
+def written_demand(demand: float | None, is_planned: bool = False) -> Mapping[str, Json]:
+    """Return the fields of an operation that say for which demand its chance is."""
+    if demand is None:
+        return {}
+    return {DEMAND: demand, PLANNED: True} if is_planned else {DEMAND: demand}
+
+
+def stated_demand(one: Operation, line: Stamp) -> float | None:
+    """Return the demand for which an operation gave a line its chance, in cars per hour; None: it does not say."""
+    value, shape = one.about.more.get(DEMAND), one.sets.get(line)
+    if shape is None or shape.kind != INFLOW or isinstance(value, bool) or not isinstance(value, (int, float)):
+        return None
+    return float(value) if math.isfinite(value) and 0 <= value <= MOST_DEMAND else None
+
+
+def demand_of(road: Road, line: Stamp) -> float | None:
+    """Return the demand of a line as it is, in cars per hour; None: it has none, or nobody has said it."""
+    setter = road.setter(line)
+    return None if setter is None else stated_demand(setter, line)
+
+
+def kept_demand(road: Road, line: Stamp, shape: Shape) -> float | None:
+    """Return the demand of a line that gets another shape: the one it had, if its chance stays the same."""
+    layer = road.layers.get(line)
+    is_same = layer is not None and (layer.kind, layer.first, layer.last, layer.value) == (
+        shape.kind, shape.first, shape.last, shape.value)
+    return demand_of(road, line) if is_same else None
+
+
+def is_planned(done: Sequence[Operation]) -> bool:
+    """Return whether a line, given all that was done to it, is the demand of the road's file, and nobody has touched it."""
+    return len(done) == 1 and done[0].about.more.get(PLANNED) is True
+
+
+def asked_demands(road: Road, inlets: int) -> list[Asked]:
+    """Return the demand of each inlet over time."""
+    return [asked_demand(road, inlet) for inlet in range(inlets)]
+
+
+def asked_demand(road: Road, inlet: int) -> Asked:
+    """Return the demand of an inlet over time: that of the topmost layer."""
+    found: list[tuple[int, float | None]] = []
+    for begin, _, layer in pieces(road.on_object(INFLOW, inlet), 0, END):
+        demand = demand_of(road, layer.name) if layer is not None and is_line(layer.name) else None
+        if not found or found[-1][1] != demand:
+            found.append((begin, demand))
+    return found
