@@ -47,8 +47,8 @@ def clean_text(value: object, most: int) -> str:
     return plain.strip()[:most]
 
 
-# Letters of two other scripts that look like Latin ones, small or capital, and what is not seen.
-LOOK_ALIKE = str.maketrans("авеԁһіјкмнорԛѕтԝухαβεζηικμνορτυχ", "abedhijkmhopqstwyxabezhikmnoptyx",
+# Letters of two other scripts, and rare Latin ones, that look like Latin ones, small or capital, and what is not seen.
+LOOK_ALIKE = str.maketrans("авесԁԍһіјкӏмнорԛѕтѵԝухαβεζηικμνορτυχıɑɡ", "abecdghijklmhopqstvwyxabezhikmnoptyxiag",
                            "\u034f\u115f\u1160\u2800\u3164" + "".join(map(chr, range(0xfe00, 0xfe10))))
 
 

@@ -15,6 +15,7 @@ from .asked import RawEdit
 from .checks import Checks
 from .keeper import SHARED, Keeper, Times
 from .lines import Act, Lister
+from .model.changes import lines_of
 from .model.choices import overruling, sendable, undoable, would_change
 from .model.demands import kept_demand, written_demand
 from .model.operations import (About, Json, Operation, RawName, Shape, Stamp, edit, exclude, in_order, lift, put, stamped_anew,
@@ -158,12 +159,17 @@ class Lab:
         return stamp
 
     def _line(self, seat: SeatReplica, called: Called) -> Stamp:
-        """Return a line of the seat's list; an operation that changed one is called for that."""
-        stamp = self._called(seat, called)
-        held = self.state.held_by(seat, stamp)
-        if not held and not stands(seat.road, stamp) and not seat.road.setters_of(stamp):
-            raise Refused("NoSuchChange", f"you hold no change with the name {list(stamp)}")
-        return stamp
+        """Return a line of the seat's list, named by its stamp or by an operation that changed it."""
+        line = self._called(seat, called)
+        if not stands(seat.road, line) and not seat.road.setters_of(line):
+            held = self.state.held_by(seat, line)
+            if not held:
+                raise Refused("NoSuchChange", f"you hold no change with the name {list(line)}")
+            lines = lines_of(seat.road, held[0])
+            line = line if line in lines else min(lines)
+            if any(one.excludes for one in self.state.of_stamp(line)):
+                raise Refused("NoSuchChange", "this line excludes a site, and has no shape")
+        return line
 
     def _held_by(self, seat: SeatReplica, called: Called) -> Operation:
         stamp = self._called(seat, called)

@@ -127,7 +127,7 @@ class Lister:
             is_edit = any(shape is not None for shape in one.sets.values()) or line in (None, one.stamp)
             return "top" if not one.sets else "edits" if is_edit else "withdraw"
         if one.sets[at] is None:
-            return "withdraw"
+            return "edits" if any(one.sets.values()) else "withdraw"
         return "top" if at in one.heights else "change"
 
     def since(self, marks: dict[Stamp, int], version: int, seconds: float) -> tuple[list[Line], int | None]:

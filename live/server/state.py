@@ -11,6 +11,7 @@ these.
 from __future__ import annotations
 
 import asyncio
+import itertools
 from typing import Iterable, Iterator, Mapping
 
 from zegdrut.wire import PlanLine
@@ -21,7 +22,7 @@ from .former_journal import Former
 from .journal import Broken
 from .model.changes import all_lines, altered, lines_of, operations_on
 from .model.choices import forgettable, shareable
-from .model.operations import SEATS, Operation, Stamp, same_int, stamped_anew
+from .model.operations import SEATS, Operation, Stamp, is_raw, same_int, stamped_anew
 from .model.road import Road
 from .stamps import StampClock
 
@@ -29,6 +30,7 @@ TAB_FORM = 4  # the protocol of tabs
 SITE_FORM = 3  # the protocol of sites
 MOST_NEWS = 100
 AT_ONCE = 100  # operations that are applied before others get a turn
+LARGE = 12  # layers of an operation that count as one more operation
 MOST_ROADS = 8  # values of the shared road that are kept for seats that take
 
 NO_PLAN: PlanLine = {"length": 0, "inlets": (), "zones": (), "zone": 0, "exit": 0, "detectors": (), "words": 0, "replicas": ()}
@@ -48,6 +50,12 @@ def plan_value(plan: PlanLine, kind: str, index: int) -> int | None:
     if kind in ("limit", "slow"):
         return int(plan["zones"][index][kind == "slow"])
     raise ValueError(f"no kind of object: {kind}")
+
+
+def size_of_part(some: list[Operation]) -> int:
+    """Return how many of these operations, from the first on, are applied at once: fewer if they are large."""
+    work = itertools.accumulate(1 + len(one.sets) // LARGE for one in some)
+    return max(1, sum(1 for _ in itertools.takewhile(lambda done: done <= AT_ONCE, work)))
 
 
 class Replica:
@@ -83,8 +91,8 @@ class Replica:
 
     async def catch_up(self) -> None:
         """Apply waiting operations in pieces, so that others get a turn in between. Whoever asks for the road meanwhile gets all of it."""
-        while self._road is not None and len(self._waiting) > AT_ONCE:
-            part, self._waiting = self._waiting[:AT_ONCE], self._waiting[AT_ONCE:]
+        while self._road is not None and (size := size_of_part(self._waiting)) < len(self._waiting):
+            part, self._waiting = self._waiting[:size], self._waiting[size:]
             self.become(self._road.adding(part))
             await asyncio.sleep(0)
 
@@ -195,10 +203,13 @@ class SeatReplica(Replica):
             self._waiting = []
             self.become(self.built())
 
-    def forgot(self, lines: set[Stamp]) -> None:
-        """Build its road again, without what was forgotten on these lines. Empty lines had left the list before."""
-        self._road = self.built()
-        left = {line for line in lines if operations_on(self._road, line)}
+    def forgot(self, lines: set[Stamp], others: set[Operation]) -> None:
+        """Build its road again, without what was forgotten on these lines. Empty lines had left the list before. Raw edits of
+        others that replaced forgotten ones may now belong to other lines: these are listed again."""
+        before, after = self.road, self.built()
+        self._road = after
+        left = {line for line in lines if operations_on(after, line)}
+        left |= {line for one in others for road in (before, after) for line in lines_of(road, one)}
         self.mark(sorted(left))
         if self.marks is not None:
             self.marks = {line: version for line, version in self.marks.items() if line in left or line not in lines}
@@ -399,9 +410,10 @@ class State:
         if not gone:
             return
         lines = {line for one in gone for line in lines_of(seat.road, one)}
+        others = {other for one in gone for name in one.sets if is_raw(name) for other in seat.road.setters_of(name)}
         for one in gone:
             self._drop(seat, one)
-        seat.forgot(lines)
+        seat.forgot(lines, others - gone)
 
     # Compaction
 

@@ -163,6 +163,9 @@ def admission(asked: Asked) -> Does:
         for one, chance in [(inlet, 0), *before]:
             if one >= inlets or chance > 65_536:
                 raise Refused("Range", f"an inlet must be 0 to {inlets - 1}, and its chance 0 to 65536")
+        cell, *cells = (call.lab.state.plan["inlets"][one][0] for one in (inlet, *(one for one, _ in before)))
+        if len({*cells}) < len(cells) or max(cells, default=-1) >= cell:
+            raise Refused("Range", "`before` must list inlets upstream of this one, each once")
         return await call.questions.admission(inlet, start, before)
     return does
 

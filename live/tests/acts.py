@@ -446,6 +446,22 @@ class Acts(Case):
                 os.kill(server.program, signal.SIGKILL)  # another program: the same
             self.assertEqual((await ada.ask("send", name="shared"))["stamps"], [first, last])
 
+    async def test_a_change_that_names_a_change_belongs_to_its_line(self) -> None:
+        """Also by its key, before it is confirmed: three drags give one shape."""
+        line, change, last = await asyncio.gather(lay(self.ada, "a", CLOSED), lay(self.ada, "b", ["block", 60, 70, 30, 60, 1], layer="a"),
+                                                  lay(self.ada, "c", ["block", 60, 71, 30, 60, 1], layer="b"))
+        undo = (await self.ada.ask("undo", key="u", stamp=last))["stamp"]
+        for key, name, cells in (("d", change, 72), ("e", undo, 73)):
+            await lay(self.ada, key, ["block", 60, cells, 30, 60, 1], layer=name)
+        self.assertEqual([(name, one["shape"][2]) for name, one in (await lines(self.ada)).items()], [(tuple(line), 73)])
+
+    async def test_a_line_that_excludes_a_site_gets_no_shape(self) -> None:
+        out = (await self.ada.ask("site", key="out", site=9, out=True))["stamp"]
+        acts: tuple[dict[str, Any], ...] = ({"shape": CLOSED}, {"shape": None}, {"top": True})
+        for fields in acts:
+            with self.assertRaisesRegex(RefusedReply, "this line excludes a site"):
+                await self.ada.ask("gesture", key="a", layer=out, **fields)
+
     async def test_forgotten_changes_are_no_longer_listed(self) -> None:
         server = self.server(LIVE_MOST_UNDONE="30")
         async with server.seat() as ada:
@@ -464,6 +480,33 @@ class Acts(Case):
             self.assertEqual((await ada.ask("layers", **{"from": said["next"]}))["layers"], [fresh])
             with self.assertRaisesRegex(RefusedReply, "you hold no change with the name"):
                 await ada.ask("gesture", key="late", layer=gone, top=True)
+
+    async def test_a_list_loses_the_line_of_an_own_raw_edit_that_is_forgotten_after_another_replaced_it(self) -> None:
+        """The line was listed because of the other edit alone."""
+        server = self.server(LIVE_MOST_UNDONE="12")
+        async with server.seat() as ada, server.seat("Ben") as ben:
+            line = await put(ada, "gone", [*LIMIT, 2])
+            await ada.ask("undo", key="undo", stamp=line)
+            his = await put(ben, "his", [*LIMIT, 3])
+            await ben.ask("send", name="shared")
+            await ada.ask("take", message="shared")
+            self.assertEqual((await lines(ada)).keys(), {tuple(line), tuple(his)})
+            listed: dict[tuple[int, ...], Any] = {}
+            after = 0
+            for count in range(11):
+                stamp = await lay(ada, f"g{count}", SLOW)
+                await ada.ask("undo", key=f"u{count}", stamp=stamp)
+                said = await ada.ask("layers", **{"from": after})
+                after, changed = said["next"], {tuple(one["name"]): one for one in said["layers"]}
+                listed = {name: one for name, one in {**listed, **changed}.items() if "gone" not in one}
+
+            async def is_shorter() -> bool:
+                return len((await ada.ask("operations"))["operations"]) < 24
+            await until(is_shorter, "the oldest are forgotten")
+            changed = {tuple(one["name"]): one for one in (await ada.ask("layers", **{"from": after}))["layers"]}
+            listed = {name: one for name, one in {**listed, **changed}.items() if "gone" not in one}
+            self.assertEqual(listed.keys(), {tuple(his)})
+            self.assertEqual(listed, await lines(ada))
 
     async def test_z_is_the_same_after_what_a_start_forgets(self) -> None:
         """One of the newest operations undoes an older one."""

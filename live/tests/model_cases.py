@@ -11,7 +11,7 @@ from server.model import changes, choices, seen
 from server.model.operations import About, Json, Operation, Shape, Stamp, edit, exclude, lift, put, undo
 from server.model.projection import difference, timeline
 from server.model.reading import Malformed, read_operation
-from server.model.road import Road, change, stands
+from server.model.road import Road, change, repeat, stands
 
 ADA, BEN, CLEO = 65, 129, 193
 SHAPE, LONGER, WIDE = Shape("block", 2, 4, 5, 15, 1), Shape("block", 2, 4, 5, 25, 1), Shape("block", 1, 6, 5, 15, 1)
@@ -291,6 +291,27 @@ class Raw(unittest.TestCase):
         self.assertEqual(changed.layers[self.line].height, (3, ADA))
         self.assertEqual(len(changed.layers), 5)
 
+    def test_repeated_raw_edits_take_the_place_of_their_shape(self) -> None:
+        """Also if somebody withdraws the shape, or gives the line another one, at the same time."""
+        changed = change(self.base, (2, BEN), self.line, WIDE)
+        road = self.base.adding([changed])
+        again = repeat(road, (4, ADA), self.edits)
+        then = in_every_order([self.edits, changed, again])
+        self.assertEqual(then.layers.keys(), {*self.VALUES})
+        self.assertEqual({layer.line for layer in then.layers.values()}, {self.line})
+        bens = change(road, (3, BEN), self.line, LONGER)
+        self.assertEqual(in_every_order([self.edits, changed, again, bens]).layers, then.layers)
+
+    def test_a_shape_and_a_raw_edit_of_one_line_are_both_shown(self) -> None:
+        """Ben's raw edit takes a place in Ada's line, her line gets a shape, and his edit is undone."""
+        bens = edit((2, BEN), {("block", 3, 5): 0})
+        road = self.base.adding([bens])
+        shape = change(road, (3, ADA), self.line, Shape("limit", 1, 2, 5, 25, 3))
+        road = road.adding([shape, undo((4, BEN), bens)])
+        self.assertEqual(road.layers.keys(), {self.line, ("block", 3, 5)})
+        self.assertEqual([one[:6] for one in seen.shown(road, self.line)],
+                         [("limit", 1, 2, 5, 25, 3), ("block", 3, 3, 5, None, 1)])
+
     def test_the_largest_line_can_be_dragged(self) -> None:
         """A closure of 600 cells has 1,200 raw edits, and a change withdraws them all."""
         values = {("block", cell, step): value for cell in range(600) for step, value in ((5, 1), (15, 0))}
@@ -314,6 +335,21 @@ class Lists(unittest.TestCase):
         self.assertIn(below.stamp, changes.altered(road, then))
         self.assertEqual([one.by for one in seen.shown(then, below.stamp)], [None])
 
+    def test_who_puts_the_same_raw_edits_very_often_keeps_nobody_waiting(self) -> None:
+        road = EMPTY
+        for count in range(1, 42):
+            before, road = road, road.adding([edit((count, ADA), {("block", cell, 5): count % 2 for cell in range(1_200)})])
+        with takes_at_most(0.1):
+            self.assertEqual(changes.altered(before, road), {(40, ADA), (41, ADA)})
+
+    def test_an_undo_of_twins_belongs_to_the_lines_of_both(self) -> None:
+        first, second = put((1, ADA), SHAPE), put((2, ADA), WIDE)
+        base = EMPTY.adding([first, second])
+        twins = [change(base, (3, ADA), one.stamp, LONGER) for one in (first, second)]
+        road = base.adding(twins)
+        back = undo((4, BEN), twins[0])
+        self.assertEqual(changes.altered(road, road.adding([back])), {first.stamp, second.stamp})
+        self.assertEqual(changes.lines_of(road.adding([back]), back), {first.stamp, second.stamp})
 
     def test_an_older_exclusion_of_a_site_renames_its_line(self) -> None:
         """The line loses its old name."""

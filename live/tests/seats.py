@@ -11,9 +11,11 @@ from faulty import Here, soon
 from running import Case, new_folder
 from server import verbs
 from server.asked import Asked
+from server.model.operations import edit
 from server.refusals import Refused
 from server.seating import SteadyClock
 from server.lab import Lab
+from server.state import size_of_part
 
 
 def copied(folder: Path) -> Path:
@@ -43,14 +45,19 @@ class Seats(Case):
 
     async def test_a_name_that_looks_like_anothers_is_refused(self) -> None:
         """Names are compared without case, width, style, invisible characters, composition, and look-alikes of other scripts."""
-        await self.here.join("Ada", "Zoé 1", "straße", "Βίκα")
+        await self.here.join("Ada", "Zoé 1", "straße", "Βίκα", "Cecil")
         for name in ("ada", "ADA", "Ａｄａ", "\U0001d400da", "A da", "Ad\ufe0fa", "Аdа", "Ad\u034fa", "Zoe\u0301 1",
-                     "ZOÉ 1", "zoé  1", "Zoé ①", "STRASSE", "strasse", "Bίκα"):
+                     "ZOÉ 1", "zoé  1", "Zoé ①", "STRASSE", "strasse", "Bίκα", "Сecil", "Ceсil", "Cec\u0131l", "Ceci\u04cf"):
             with self.assertRaises(Refused, msg=name) as caught:
                 await self.here.lab.seating.join(name, "", None)
             self.assertEqual(caught.exception.text, "NameTaken")
             self.assertIn(f"{name} looks like it", caught.exception.why)
         await self.here.join("Adam", "Zoe 1", "Zoé 2", "語", "語語", "Ad-a")
+
+    async def test_fewer_large_operations_are_applied_at_once(self) -> None:
+        small, large = (edit((1, 65), {("block", cell, 5): 1 for cell in range(many)}) for many in (1, 1_200))
+        for some, size in (([small] * 250, 100), ([large] * 3, 1), ([small, large], 1), ([small] * 3, 3)):
+            self.assertEqual(size_of_part(some), size)
 
     async def test_one_of_two_tabs_that_take_a_seat_over_gets_it(self) -> None:
         index, = await self.here.join("Ada")

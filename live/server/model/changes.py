@@ -5,10 +5,11 @@ which lines a step from one road to another may have altered: a list that is kep
 """
 from __future__ import annotations
 
+import itertools
 from typing import Iterable
 
 from .layers import Rank, Stretch, rank, touches
-from .operations import Name, Operation, Stamp, in_order, is_line, is_raw, line_of
+from .operations import Name, Operation, RawName, Stamp, in_order, is_line, is_raw, line_of
 from .projection import MANY, changed, stretches, united
 from .road import Road, parts_of
 
@@ -16,8 +17,13 @@ from .road import Road, parts_of
 def lines_of(road: Road, one: Operation) -> set[Stamp]:
     """Return the lines to which an operation belongs: at least one. An undo belongs to those of what it undoes, and a raw edit
     also to the line of the one in whose place it is."""
-    record = road.record
-    root = record.root_of(one)
+    if one.undoes is not None:
+        return {line for root in road.record.roots_of(one) for line in lines_of_root(road, root)}
+    return lines_of_root(road, one)
+
+
+def lines_of_root(road: Road, root: Operation) -> set[Stamp]:
+    """Return the lines of an operation that undoes nothing that is here."""
     if root.undoes is not None:
         return {root.stamp}  # what it undoes is not here yet
     if root.excludes is not None:
@@ -42,6 +48,15 @@ def replaced_line(road: Road, one: Operation, name: Name) -> Stamp | None:
              if other is not one and other.sets[name] is not None and other < one)
     found = next(older, None)
     return None if found is None else line_of(found, name)
+
+
+def replacing(road: Road, one: Operation, name: RawName) -> list[Operation]:
+    """Return the newer operations whose raw edit is in the place of this one's: up to the first that sets a value."""
+    newer = [*itertools.takewhile(lambda other: other is not one, reversed(road.setters_of(name)))]
+    found: list[Operation] = []
+    while newer and one.sets[name] is not None and (not found or found[-1].sets[name] is None):
+        found.append(newer.pop())
+    return found
 
 
 def all_lines(road: Road) -> set[Stamp]:
@@ -78,7 +93,7 @@ def altered(before: Road, after: Road) -> set[Stamp]:
         if one in step.fresh:  # what waited for it had a line of its own, and what is older may name another one
             lines |= {each.stamp for each in above(after, one)[1:]}
             lines |= set() if one.excludes is None else line_of_site(before, one.excludes[0])
-        others.update(other for name in one.sets if is_raw(name) for other in after.setters_of(name))
+            others.update(other for name in one.sets if is_raw(name) for other in replacing(after, one, name))
     for other in others:  # a raw edit belongs to the line of an older one, too
         lines |= lines_of(after, other) | (lines_of(before, other) if other in before else set())
     names = changed(before, after)

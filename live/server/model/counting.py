@@ -52,6 +52,19 @@ class Record:
             one = some[0]
         return one
 
+    def roots_of(self, one: Operation) -> set[Operation]:
+        """Return the same with its twins, and where twins lie between, what each of them undid first."""
+        found, waiting = set[Operation](), [one]
+        passed = {one}
+        while waiting:
+            each = waiting.pop()
+            some = self.undone_by(each)
+            if not some:
+                found.add(each)
+            waiting += [other for other in some if other not in passed]
+            passed.update(some)
+        return found
+
     def counts(self, one: Operation, flipped: AbstractSet[Operation] = NONE) -> bool:
         """Return whether an operation counts, were these the other way round."""
         return (one in self.void) == (one in flipped)

@@ -120,12 +120,13 @@ class Road:
     def _lay(self, names: Iterable[Name]) -> None:
         """Make layers what the operations that count say."""
         raw_names = [name for name in names if is_raw(name)]
+        members: dict[Stamp, set[RawName]] = {}
         for thing in {name[:2] for name in raw_names}:
             self.raws[thing] = dict(self.raws.get(thing, {}))
         for name in names:
             old, new = self.layers.pop(name, None), self.layer(name)
             if is_raw(name):
-                self._lay_raw(name, old, new)
+                self._lay_raw(name, old, new, members)
             elif old is not None:
                 del self.shapes[old.kind][name]
             if new is not None:
@@ -135,20 +136,26 @@ class Road:
         for thing in {name[:2] for name in raw_names}:
             if not self.raws[thing]:
                 del self.raws[thing]
+        for line, some in members.items():
+            self.members.pop(line, None)
+            if some:
+                self.members[line] = frozenset(some)
 
-    def _lay_raw(self, name: RawName, old: Layer | None, new: Layer | None) -> None:
+    def _lay_raw(self, name: RawName, old: Layer | None, new: Layer | None, members: dict[Stamp, set[RawName]]) -> None:
+        """Make a raw edit what is said. `members` gets the raw edits of the lines that gain or lose some."""
         there = self.raws[name[:2]]
         there.pop(name[2], None)
         if new is not None:
             there[name[2]] = new
         if (old and old.line) == (new and new.line):
             return
+        for layer in (old, new):
+            if layer is not None and layer.line not in members:
+                members[layer.line] = set(self.members.get(layer.line, ()))
         if old is not None:
-            self.members[old.line] -= {name}
-            if not self.members[old.line]:
-                del self.members[old.line]
+            members[old.line].discard(name)
         if new is not None:
-            self.members[new.line] = self.members.get(new.line, frozenset()) | {name}
+            members[new.line].add(name)
 
     # Where layers are
 
@@ -207,9 +214,10 @@ def change(road: Road, stamp: Stamp, line: Stamp, shape: Shape | None, on_top: b
 
 
 def repeat(road: Road, stamp: Stamp, old: Operation, about: About = NOTHING) -> Operation:
-    """Do once more what an operation did to its lines, on top. Raw edits stay in their line."""
+    """Do once more what an operation did to its lines, on top. Raw edits stay in their line, in the place of its shape."""
     lines = {name for name in old.names if is_line(name)} or {line_of(old, name) for name in old.sets}
     gone: dict[Name, Shape | None] = {raw: None for line in lines if line in old.sets for raw in sorted(parts_of(road, line))}
+    gone.update((line, None) for line in lines if line not in old.names and line in road.layers)
     heights: dict[Name, Stamp] = {name: line_of(old, name) for name, shape in old.sets.items()
                                   if is_raw(name) and shape is not None}
     seen = [setter.stamp for line in lines for setter in [road.setter(line)] if setter is not None]

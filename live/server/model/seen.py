@@ -50,9 +50,8 @@ def joined_times(line: list[tuple[int, int, Stamp | None]]) -> list[tuple[int, i
 
 
 def shown(road: Road, line: Stamp) -> list[Rectangle]:
-    """Return a line in rectangles; raw edits of neighbours that agree as one. Nothing where nothing stands."""
-    if line in road.layers:
-        return shown_layer(road, road.layers[line])
+    """Return a line in rectangles: its shape, and raw edits of neighbours that agree as one. Nothing where nothing stands."""
+    own = shown_layer(road, road.layers[line]) if line in road.layers else []
     parts = [one for kind in sorted({name[0] for name in parts_of(road, line)}) for one in shown_raws(road, line, kind)]
     joined: list[Rectangle] = []
     for one in sorted(parts, key=lambda each: (each.kind, each.begin, each.end or END, each.value, each.by or (0, 0), each.first)):
@@ -61,7 +60,7 @@ def shown(road: Road, line: Stamp) -> list[Rectangle]:
             joined[-1] = last._replace(last=one.last)
         else:
             joined.append(one)
-    return joined
+    return own + joined
 
 
 def shown_raws(road: Road, line: Stamp, kind: str) -> list[Rectangle]:
