@@ -159,8 +159,8 @@ export const shared = (count) => `Shared ${plural(count, "change")}.`;
  */
 export const taken = (count, makers, covered) =>
   `Took ${plural(count, "change")}${makers.length ? ` from ${makers.join(", ")}` : ""}. ${covered
-    ? `${plural(covered, "change")} of yours ${byCount(covered, "is", "are")} covered by them, `
-      + "wholly or in part." : "They cover nothing of yours."}`;
+    ? `They cover ${covered} of your changes, wholly or in part.`
+    : "They cover nothing of yours."}`;
 
 /**
  * @param {string[]} from    who
@@ -218,5 +218,5 @@ export const demandLost = (place, asked, lost) =>
  * @param {string | null} end     null: it does not open
  */
 export const carsTrapped = (cars, places, end) =>
-  `${plural(cars, "car stands", "cars stand")} in the closure ${places}, `
-  + `${end === null ? "and it does not open" : `until it opens at ${end}`}.`;
+  `${plural(cars, "car is", "cars are")} stuck in the closure at ${places}`
+  + `${end === null ? ", which does not open" : ` until it opens at ${end}`}.`;

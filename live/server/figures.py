@@ -72,7 +72,7 @@ FiguresTold = TypedDict("FiguresTold", {
 async def alone(index: int) -> AsyncIterator[None]:
     """Run a road beside the laboratory: one at a time, and one of each seat."""
     if index in WAITING or len(WAITING) >= MOST_WAITING:
-        raise Refused("Busy", "another road is being simulated for this: ask again later")
+        raise Refused("Busy", "another road is being simulated for this: try again later")
     WAITING.append(index)
     try:
         async with RUNNING:

@@ -207,7 +207,7 @@ class Questions:
         async def part() -> More | None:
             if marks[-1:] != [road.mark()]:
                 if len(marks) > MOST_AGAIN:
-                    raise Refused("Busy", "the road keeps changing: ask again later")
+                    raise Refused("Busy", "the road keeps changing: try again later")
                 marks.append(road.mark())
                 found.clear()
             return await body()

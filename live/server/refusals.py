@@ -8,11 +8,11 @@ from __future__ import annotations
 
 MEANINGS = {
     "AllSeatsTaken": "All 63 seats are taken: take one over",
-    "Busy": "The server is at its limit: ask again later",
+    "Busy": "The server is at its limit: try again later",
     "Failed": "The server could not do this; its log says why",
     "NameTaken": "A seat has this name, or one that looks like it: choose another",
     "NoEffect": "This operation would change nothing",
-    "NoName": "A name has 1 to 64 characters",
+    "NoName": "A name must have 1 to 64 characters",
     "NoPreview": "The two roads of the preview are no longer kept: request a new preview",
     "NoProgram": "The program crashed on this twice; the server's log says why",
     "NoSuchChange": "The seat holds no change with this stamp or key",
@@ -31,8 +31,8 @@ MEANINGS = {
     "Stopped": "The request was stopped before the first day was simulated",
     "TooFarAhead": "A replica runs at most 36,000 steps ahead of the clock",
     "TooLong": "The report took more than 600 seconds: choose a shorter period",
-    "TooManyEdits": "A gesture has at most 1,200 raw edits",
-    "TooManyObjects": "The shapes of an operation have at most 600 objects",
+    "TooManyEdits": "A gesture can have at most 1,200 raw edits",
+    "TooManyObjects": "The shapes of one operation can cover at most 600 objects",
     "UnknownKey": "The seat of this key was taken over, or is free again: choose a seat",
 }
 OF_THE_FORMAT = frozenset({

@@ -78,7 +78,7 @@ class Saved:
         before = self._clock() - UNUSED
         self._of = {one: (pieces, used) for one, (pieces, used) in self._of.items() if used > before}
         if len(self._of) >= MOST_SAVED:
-            raise Refused("Busy", f"{MOST_SAVED} others are saving just now: ask again later")
+            raise Refused("Busy", f"{MOST_SAVED} others are saving just now: try again later")
 
     def put(self, index: int, pieces: list[str]) -> None:
         self._of[index] = pieces, self._clock()

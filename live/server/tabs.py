@@ -151,7 +151,7 @@ class Tab:
         elif self.index is None:
             self.disconnect(1008, "hello comes first")
         elif len(self._asked) >= WAITING or verb in verbs.CHANGES and self._tabs.changing[self.index] >= MOST_CHANGING:
-            self._send({"id": number, **Refused("Busy", f"{WAITING} questions wait: ask again later").reply()})
+            self._send({"id": number, **Refused("Busy", f"{WAITING} questions wait: try again later").reply()})
             await asyncio.sleep(PAUSE)
         else:
             task = asyncio.ensure_future(self._answered(self.index, number, verb, fields, came))

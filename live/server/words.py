@@ -86,7 +86,9 @@ def read_times(given: Sequence[str], clock: Clock) -> tuple[int, int | None]:
 
 
 def read_value(kind: str, text: str | None) -> tuple[int, str]:
-    """Return a value in program units (0 for a demand), and as text. InvalidWords: it is out of range."""
+    """Return a value in program units, and a description. A demand gives 0, since it is converted later; no text means closed.
+
+    InvalidWords: the value is out of range."""
     if text is None:
         return 1, "closed"
     if kind == "detector":
@@ -95,14 +97,14 @@ def read_value(kind: str, text: str | None) -> tuple[int, str]:
         return int(text == "on"), f"detector {text}"
     if kind == "demand":
         return 0, f"{parse_number(text, 'a number of cars per hour'):g} cars/h"
-    number = parse_number(text, "a number of km/h" if kind == "limit" else "a number of percent")
+    number = parse_number(text, "a speed in km/h" if kind == "limit" else "a percentage")
     if kind == "limit":
         limit = to_limit(number)
         if limit > 9:
             raise InvalidWords(f"a limit must be 0 to {9 * KMH:g} km/h, not {text}")
         return limit, f"limit {limit * KMH:g} km/h"
     if number > 100:
-        raise InvalidWords(f"a chance must be 0 to 100 percent, not {text}")
+        raise InvalidWords(f"a chance must be between 0 and 100 %, not {text}")
     return to_chance(number / 100), f"{kind} {number:g} %"
 
 

@@ -61,8 +61,9 @@ class Reading(unittest.TestCase):
         good = self.lines[1]
         for broken in (b"{\n", b"7\n", b'{"a":{},"b":{}}\n', b'{"gesture":[]}\n', b"\xff\n", b"[" * 3_000 + b"\n", b"\n",
                        good.replace(b"49", b"48"), good.replace(b'"crc":"', b'"crc":"0'), good[:20] + bytes(30) + good[50:]):
-            for more in (good, line_of(GESTURES[1], None), *([] if 0 in broken else [b""])):
-                self.path.write_bytes(self.lines[0] + broken + more)
+            # A last line with zeros is a write that was cut off, and no fault.
+            for rest in (good, line_of(GESTURES[1], None), *([] if 0 in broken else [b""])):
+                self.path.write_bytes(self.lines[0] + broken + rest)
                 with self.assertRaisesRegex(Broken, "line 2"):
                     read_entries(self.path)
 

@@ -83,7 +83,7 @@ class OnePicture(BrowserCase):
         # In the row of step 12 of the free road cars are in the cells 9, 15 and 21 and no other from 8 to 23.
         self.assertEqual(example_rows(0)[0][8:24], ".3.....3.....3..")
         tab.drag((8.1, 12.1), (24, 24.1))
-        self.assertIn("3 cars stand in the closure 0.06–0.18 km, until it opens at 0:00:24.", tab.text("warnings"))
+        self.assertIn("3 cars are stuck in the closure at 0.06–0.18 km until it opens at 0:00:24.", tab.text("warnings"))
 
     def test_the_table_has_the_mean_speeds(self) -> None:
         tab = self.closed_by_a_drag()
@@ -151,13 +151,13 @@ class OneFreeway(BrowserCase):
         tab.tool("limit")
         self.assertTrue(tab.text("toolHint").startswith("in whole zones of 375 m"))
         tab.begin_drag((360, 1200), (430, 1500))
-        # 360 to 430 lie in the zones of the cells 350 to 449: it is said before it is let go.
+        # 360 to 430 lie in the zones of the cells 350 to 449: the readout says so before the button is released.
         self.assertEqual(tab.text("readout"), "54 km/h, 2.625–3.375 km, 2 whole zones of 375 m, 0:20:00–0:25:00")
         self.assertEqual(operations_of(self.server), [])
         tab.drop()
-        self.assertNotIn("zones", tab.text("readout"))  # now of the place at which it was let go
+        self.assertNotIn("zones", tab.text("readout"))  # the readout describes the drop point now
         self.assertEqual(tab.lines("own"), ["54 km/h, 2.625–3.375 km, 0:20:00–0:25:00 private"])
-        # Of the first zone 24 cells of 50 are covered: it is taken with a key held alone.
+        # Only 24 of the first zone's 50 cells are covered, so it is taken only while Shift is held.
         ActionChains(tab.driver, duration=0).key_down(Keys.SHIFT).perform()
         tab.begin_drag((376, 2400), (442, 2700))
         self.assertIn("2.625–3.375 km, 2 whole zones of 375 m", tab.text("readout"))

@@ -54,7 +54,7 @@ class Sharing(BrowserCase):
         ben.limit("2", "0:25", "0:30")
         ben.share_all()
         ada.take()
-        self.assertEqual(ada.text("said"), "Took 1 change from Ben. 1 change of yours is covered by them, wholly or in part.")
+        self.assertEqual(ada.text("said"), "Took 1 change from Ben. They cover 1 of your changes, wholly or in part.")
         self.assertIn("27 km/h, 0–0.3 km, 0:20:00–0:40:00 shared", ada.lines("held"))
         self.assertEqual(ada.covers("held"), ["In force 0:20:00–0:25:00; covered 0:25:00–0:30:00 by Ben's limit of "
                                                     "54 km/h; in force 0:30:00–0:40:00."])

@@ -226,16 +226,17 @@ class Readers(Case):
                 reader.old.update(reader.private[:-KEPT])
 
     async def all_have_all(self, readers: list[Reader]) -> None:
-        """Share, exchange and take until nothing is left to share: there is one road. (What put what was so
-        anyway need not be shared, and is something again where another laid the line meanwhile.)"""
-        async def are_same() -> bool:
+        """Share and take until nothing is left to share, and check that everyone has the same road.
+
+        An operation that changes nothing need not be shared; it may have an effect again after somebody else changes its line."""
+        async def sites_agree() -> bool:
             one, other = [numbers((await reader.seat.ask("scenario", at="shared"))["edits"]) for reader in readers[::2]]
             return bool(one == other) and not any([await self.unsent(reader) for reader in readers[::2]])
         while any([await reader.sends() for reader in readers]):
-            await until(are_same, "both sites have the same")
+            await until(sites_agree, "both sites have the same edits")
             for reader in readers:
                 await reader.takes()
-        await until(are_same, "both sites have the same")
+        await until(sites_agree, "both sites have the same edits")
         for reader in readers:
             await reader.takes()
         for reader in readers:

@@ -207,7 +207,7 @@ class Sweeps(Folder):
         with self.assertRaisesRegex(Fault, "has the columns x seed model y always odd text, not z seed model"):
             sweep(plain_model, {"z": [1]}, out=self.out)
         self.out.write_bytes(b"\xff\n")
-        with self.assertRaisesRegex(Fault, "is not a table in CSV"):
+        with self.assertRaisesRegex(Fault, "is not a valid CSV table"):
             sweep(plain_model, {"x": [1]}, out=self.out)
 
     def test_more_points_are_added(self) -> None:

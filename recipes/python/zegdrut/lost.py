@@ -43,7 +43,7 @@ def find_drivers(plan: PlanLine, edits: Sequence[Edit], cell: int) -> Drivers:
 
 
 def find_entry(plan: PlanLine, cell: int) -> int:
-    """Return the cells at the beginning of the road where nobody is slowed, if the inlet at a cell is after them; else 0."""
+    """Return how many cells at the beginning of the road have no slowing, if they end at or before `cell`, that of an inlet; else 0."""
     entry = next(index for index, (_, chance) in enumerate([*plan["zones"], (0, 1)]) if chance) * plan["zone"]
     return entry if entry <= cell else 0
 

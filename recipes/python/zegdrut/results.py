@@ -70,13 +70,12 @@ def parse_table(data: bytes, path: Path | str) -> tuple[list[str], list[list[str
     try:
         lines = list(csv.reader(io.StringIO(data[:data.rfind(b"\n") + 1].decode())))
     except (UnicodeDecodeError, csv.Error) as fault:
-        raise Fault(f"{path} is not a table in CSV: {fault}") from None
-    columns, rows = (lines[0], lines[1:]) if lines else ([], [])
-    rows = [row for row in rows if row]
-    wrong = next((number for number, row in enumerate(rows, 2) if len(row) != len(columns)), None)
+        raise Fault(f"{path} is not a valid CSV table: {fault}") from None
+    columns = lines[0] if lines else []
+    wrong = next((number for number, row in enumerate(lines, 1) if row and len(row) != len(columns)), None)
     if wrong:
         raise Fault(f"{path}, line {wrong}: the number of columns differs from the first line")
-    return columns, rows
+    return columns, [row for row in lines[1:] if row]
 
 
 def replace_file(path: Path, data: bytes) -> None:
