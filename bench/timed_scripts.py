@@ -63,6 +63,17 @@ def late_blocks(plan, horizon, count):
     return "".join(lines) + cells(horizon)
 
 
+def late_imports(plan, horizon, count, objects):
+    """Return a run, and then imports of `count` edits that close and open `objects` cells at random steps, 1,200 edits a line."""
+    words, lines = random_words(), [line(plan), advance(horizon)]
+    closed = [next(words) % plan["length"] for _ in range(objects)]
+    edits = [["block", closed[number % objects], next(words) % horizon, number + 1, 64, 1 - number // objects % 2]
+             for number in range(count)]
+    for first in range(0, count, 1200):
+        lines.append(line({"import": {"at": "A", "edits": edits[first:first + 1200], "form": 1}}))
+    return "".join(lines) + cells(horizon)
+
+
 def random_queries(plan, horizon, count):
     """Return a run, and then queries of it at random steps: alternately a row and a count."""
     words, lines = random_words(), [line(plan), advance(horizon)]
