@@ -58,7 +58,7 @@ const nearest = (offer, others) =>
   bestOf(others, (one, best) => rowsShared(offer, one) >= rowsShared(offer, best));
 
 /** Return the first picture of a replica and the last one that shares most steps with it; null
- * if there are none. */
+ * if no two pictures share a step. */
 function beforeAndAfter(all, halves) {
   const first = new Map();
   const pairs = all.flatMap((after) => {

@@ -1,4 +1,4 @@
-// Actions: what is put, changed, taken back, shared and taken, and what is looked at before.
+// Actions: put, change and undo shapes; share, take and preview changes.
 
 import {ask} from "./asking.mjs";
 import {assign} from "./assign.mjs";

@@ -90,7 +90,7 @@ export function objectsIn(plan, kind, [from, to], begun = from) {
 }
 
 /** Return the first and last zone that a stretch of cells covers at least by half, or with `all`
- * those that it touches; null if there are none.
+ * those that it touches; null if it covers no zone.
  * @param {Plan} plan
  * @param {Span} cells
  * @param {boolean} [all]

@@ -287,7 +287,7 @@ export function historyOf(layers, number) {
 export const affectedBy = (changes) => changes.filter(({was, shown, standing}) =>
   was && (!standing || JSON.stringify(was) !== JSON.stringify(shown)));
 
-/** Return the titles under which others shared what is not taken, as text; "" if there are none.
+/** Return, as text, the titles of shares that this tab has not taken; "" if no share has a title.
  * @param {{shares: {who: string, title: string}[], from: string[]}} news
  */
 export const titlesOf = ({shares, from}) => [...new Set(shares.filter(({who}) => from.includes(who))

@@ -13,8 +13,8 @@ import {MINUTE, kmText, whole} from "./units.mjs";
 /** @typedef {"flowChart" | "speedChart" | "travelChart"} ChartId */
 /** @typedef {[x: number, y: number]} Point          pixels */
 /**
- * A chart: its canvas, its unit, the smallest top of its axis, the steps that it shows, the steps per
- * point, and for each of two roads the value of each point; null: there is none.
+ * A chart: its canvas, unit, smallest top of its axis, first and last step, and steps per point.
+ * `sides` has the values of two roads, one for each point; null if a point has no value.
  * @typedef {{id: ChartId, unit: string, smallestTop: number, from: number, to: number, each: number,
  *            sides: (number | null)[][]}} Chart
  */

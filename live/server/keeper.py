@@ -192,8 +192,8 @@ class Keeper:
     def trouble(self) -> str | None:
         """Return what is wrong with the disk, in a sentence; None if nothing is."""
         if self._trouble is None and self._is_stalled:
-            return (f"the disk has not answered for {STALLS:g} seconds: what is put is pending until it does, and what was "
-                    f"confirmed can be looked at")
+            return (f"the disk has not answered for {STALLS:g} seconds: new changes are pending until it does; confirmed changes "
+                    f"can still be viewed")
         return self._trouble
 
     async def _watch_disk(self) -> None:

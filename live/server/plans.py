@@ -29,8 +29,7 @@ DOING = " .."  # ends a line of progress
 
 @dataclass(frozen=True)
 class Planned:
-    """A plan line, what is put and shared from the first on, each shape with the demand for which its chance is, and who is said to have
-    done so."""
+    """A plan line, and the shapes that are shared from the start under a name, each with the demand that its chance stands for."""
 
     plan: Mapping[str, Json]
     shapes: Sequence[tuple[Shape, float | None]] = field(default_factory=list)

@@ -25,7 +25,7 @@ async def put(seat: Seat, *edits: list[Any]) -> Sequence[int]:
 
 
 async def shared(seat: Seat) -> list[Any]:
-    """Return what is put on the shared road, without stamps, which are local to each server."""
+    """Return the edits of the shared road. Stamps are left out, since they are local to each server."""
     edits = (await seat.ask("scenario", at="shared"))["edits"]
     return [[*edit[:3], 1, 64, edit[5]] for edit in edits if edit[5] is not None]
 

@@ -58,7 +58,7 @@ def raw_edits(operation: Held) -> list[list[Any]]:
 
 
 def numbers(scenario: Sequence[Any]) -> dict[tuple[Any, ...], int]:
-    """Return what is put in a program, without stamps."""
+    """Return the values in force in a program, by object and step."""
     return {tuple(edit[:3]): edit[5] for edit in scenario if edit[5] is not None}
 
 

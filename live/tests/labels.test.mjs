@@ -34,7 +34,7 @@ test("a label at the right edge is whole", () => {
   assert.ok(isWithin(place) && !meets(place, closure));
 });
 
-test("a label is only on computed rows, and is left out if there are none", () => {
+test("a label is drawn on computed rows only, and not at all if no row is computed", () => {
   const computed = [60, 50, 960, 250];
   const [, top] = placeOfLabel([100, 240, 300, 500], SIZE, computed, []);
   assert.ok(top + 17 <= 250);

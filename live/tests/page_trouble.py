@@ -56,7 +56,7 @@ class OneTab(BrowserCase):
         stalled.touch()
         began = time.monotonic()
         self.begin_limit(ada, "1")
-        ada.until(lambda: "the disk has not answered for 5 seconds: what is put is pending" in ada.text("stays"), "the page says so")
+        ada.until(lambda: "the disk has not answered for 5 seconds: new changes are pending" in ada.text("stays"), "the page says so")
         self.assertGreater(time.monotonic() - began, STALLS)
         self.assertEqual(ada.lines("own"), ["27 km/h, 0–0.3 km, 0:20:00–0:30:00 pending"])
         ada.choose("span", "60")

@@ -37,7 +37,7 @@ def lines_of_root(road: Road, root: Operation) -> set[Stamp]:
 
 
 def line_of_site(road: Road, site: int) -> set[Stamp]:
-    """Return the line of all exclusions of a site, which the oldest one names; empty if there are none."""
+    """Return the line of all exclusions of a site, which the oldest one names; empty if the site was never excluded."""
     first = next((one for one in road.record.exclusions if one.excludes is not None and one.excludes[0] == site), None)
     return set() if first is None else {first.stamp}
 
