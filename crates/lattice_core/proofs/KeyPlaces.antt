@@ -1,4 +1,4 @@
--- Where a key stands among pairs by rising key, what a look-up finds there, and where a value is put.
+-- The place of a key among pairs by rising key, what a look-up finds there, and where a value is put.
 use Rattle.std.specs.Prelude.{◌≡◌, ℕ, zero, suc, ◌<◌, ◌≤◌, Bool, true, false, not, cond, ◌&&◌, T, List, [], ◌∷◌, ◌++◌, length, take}
 use Rattle.std.proofs.Common.{arith, refl, sym, ap, subst, drop, ◌∙◌, take-append-drop}
 use Rattle.std.proofs.lemmas.Bool.{not-false, not-true, true≢false}

@@ -10,7 +10,7 @@ module _ {X : Type 0} where
   parted (x ∷ xs) zero d h = refl
   parted (x ∷ xs) (suc i) d h = ap (λ ys. x ∷ ys) (parted xs i d (omega (arith, h)))
 
-  -- an element set at a place stands between the same elements as before
+  -- an element set at a place is between the same elements as before
   pub parted-set : (xs : List X) (i : ℕ) (y : X) → i < length xs → slice_set xs i y ≡ take i xs ++ y ∷ drop (suc i) xs
   parted-set [] i y h = absurd (omega (arith, h))
   parted-set (x ∷ xs) zero y h = refl

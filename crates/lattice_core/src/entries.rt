@@ -82,7 +82,7 @@ impl<'a, K: Exact, V: Lattice> DoubleEndedIterator for Entries<'a, K, V> {
     }
 }
 
-/// Iterator over keys of a map, rising. Contracts see it as the list of the keys that are left.
+/// Iterator over keys of a map, in rising order. Contracts see it as the list of the keys that are left.
 #[derive(Drop)]
 pub struct Keys<'a, K: Exact, V: Lattice> {
     pub(crate) entries: Entries<'a, K, V>,

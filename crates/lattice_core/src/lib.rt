@@ -28,5 +28,5 @@ mod page;
 mod pages;
 mod search;
 
-/// An allocation failed. It is the only error of this crate, and a call that returns it changed nothing.
+/// An allocation failed. This is the only error of the crate, and a call that returns it has changed nothing.
 pub use std::alloc::AllocError as OutOfMemory;

@@ -21,11 +21,11 @@ use std::sync::Arc;
 
 /// A map to a lattice, joined key by key. It never holds a bottom, so two maps that have equal values at every key are
 /// equal. Contracts see it as the list of its entries by rising key. The entries lie in pages, which maps share. A copy
-/// is one more owner of all pages. A join copies the list of pages of the map that has more of them, and each page in
+/// is one more owner of the list of pages. A join copies the list of the map that has more pages, and each page in
 /// which the other map has a key.
 #[derive(Drop)]
 pub struct LatMap<K: Exact, V: Lattice> {
-    // Each page with its first key. If there is no entry, there is no list either.
+    // Each page with its first key. A map without entries has no list of pages.
     pages: Option<Arc<Vec<(K, Page<K, V>)>>>,
     alloc: Global,
 }
@@ -59,7 +59,7 @@ impl<K: Exact, V: Lattice> LatMap<K, V> {
         value_in(self.pages(), key)
     }
 
-    /// Iterate over the keys, rising.
+    /// Iterate over the keys, in rising order.
     pub fn keys(&self) -> Keys<'_, K, V>
         ensures all { result ≡ keys_of self.now }
         ensures rising { T (is_sorted K.cmp self.now) }
@@ -169,7 +169,7 @@ impl<K: Exact, V: Lattice> Lattice for LatMap<K, V> {
 
     ghost laws = { map_laws K.cmp K.total K.exact V.is_proper V.join V.is_least V.laws };
 
-    /// Join the two key by key. It takes no memory if neither map has an entry.
+    /// Join the two maps key by key. It does not allocate if both maps are empty.
     ///
     /// # Errors
     ///
@@ -187,7 +187,7 @@ impl<K: Exact, V: Lattice> Lattice for LatMap<K, V> {
         self.with_all(other)
     }
 
-    /// Share the pages. It takes no memory.
+    /// Return an equal map, which shares the pages. It does not allocate.
     ///
     /// # Errors
     ///

@@ -1,4 +1,4 @@
-//! A page: some of a map's entries in one piece of memory, which maps share.
+//! A page: some of a map's entries in one allocation, which several maps can share.
 
 ghost use Rattle.std.specs.Prelude.{◌≡◌, ◌<◌, [], ◌∷◌, IfOk, T, length};
 ghost use Rattle.std.specs.FinMap.Entries.{is_sorted};
@@ -12,11 +12,12 @@ use std::alloc::Global;
 use std::marker::Model;
 use std::sync::Arc;
 
-// The greatest number of entries of a page. A map that takes one more entry copies one page and counts one more owner
-// of each other page. Shorter pages make a map of 100,000 entries more expensive, longer pages a map of some hundreds.
+// The maximum number of entries of a page. A map with one more entry copies one page and counts one more owner of each
+// other page. With shorter pages this takes longer for a map of 100,000 entries, with longer pages for a map of a few
+// hundred.
 pub(crate) const PAGE_LENGTH: usize = 256;
 
-// Some of a map's entries by rising key, at least one. Contracts see it as the list of them.
+// Some of a map's entries by rising key, at least one. Contracts see a page as the list of its entries.
 #[derive(Drop)]
 pub(crate) struct Page<K: Exact, V: Lattice> {
     entries: Arc<Vec<(K, V)>>,
@@ -97,7 +98,7 @@ impl<K: Exact, V: Lattice> Page<K, V> {
     }
 }
 
-// Copy entries, with room for one more.
+// Copy these entries, with room for one more.
 fn copied<K: Exact, V: Lattice>(
     alloc: Global,
     entries: &[(K, V)],

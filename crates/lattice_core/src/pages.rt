@@ -12,7 +12,7 @@ use crate::page::{PAGE_LENGTH, Page};
 use crate::search::{count_up_to, is_before, value_at};
 use std::alloc::Global;
 
-// Make a list of the same pages, each with one more owner, and with room for one more.
+// Make a list of the same pages, with room for one more page. Each page gets one more owner.
 pub(crate) fn share<K: Exact, V: Lattice>(
     alloc: Global,
     pages: &[(K, Page<K, V>)],
@@ -78,8 +78,8 @@ fn join_in_page<K: Exact, V: Lattice>(
     Ok(())
 }
 
-// Split a page that has too many entries. The last page is split before its last entry, so that a map which grows by
-// rising keys has full pages. Every other page is split in the middle.
+// Split the page at index `at` if it has too many entries. The last page is split before its last entry, so that a map
+// which grows by rising keys has full pages. Every other page is split in the middle.
 fn split<K: Exact, V: Lattice>(
     alloc: Global,
     pages: &mut Vec<(K, Page<K, V>)>,

@@ -9,7 +9,7 @@ ghost use Rattle.lattice_core.specs.Private.Entries.{count_up_to};
 use crate::exact::Exact;
 use std::cmp::Ordering;
 
-// Count the pairs up to and including a key.
+// Count the pairs whose key is at most this key.
 pub(crate) fn count_up_to<K: Exact, X>(pairs: &[(K, X)], key: K) -> usize
     requires { T (is_sorted K.cmp pairs.now) }
     ensures bound { result ≤ length pairs.now }

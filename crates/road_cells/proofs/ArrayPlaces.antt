@@ -40,7 +40,7 @@ vehicle_at-range_with_len f zero a j below = absurd (omega arith)
 vehicle_at-range_with_len f (suc n) a zero below = let here : a ≡ a + 0 = omega arith in ap f here
 vehicle_at-range_with_len f (suc n) a (suc j) below = let next : (a + 1) + j ≡ a + suc j = omega arith in vehicle_at-range_with_len f n (a + 1) j (omega arith) ∙ ap f next
 
--- and nothing past them
+-- past these numbers there is no value
 past_numbers : (f : ℕ → Option Vehicle) (n a j : ℕ) → n ≤ j → vehicle_at (map f (range_with_len a n)) j ≡ None
 past_numbers f zero a j past = refl
 past_numbers f (suc n) a zero past = absurd (omega arith)
@@ -72,7 +72,7 @@ length-array_of_places (x ∷ xs) = let rest = length-array_of_places xs in let 
 pub length-array : (n : ℕ) (f : ℕ → Option Vehicle) → length (array n f) ≤ n
 length-array n f = let all = length-array_of_places (map f (range_with_len 0 n)) in let is = length-map-range_with_len f 0 n in omega arith
 
--- nothing stands past the end
+-- no vehicle is past the end
 pub past_end : (a : Array) (j : ℕ) → length a ≤ j → vehicle_at a j ≡ None
 past_end [] j past = refl
 past_end (x ∷ xs) zero past = absurd (omega arith)

@@ -11,7 +11,7 @@ use Rattle.road_cells.specs.Cars.{AreRising, car_of, cell_at}
 use Rattle.road_cells.proofs.CarPlaces.{rise-at}
 use Rattle.road_cells.specs.declared.car.Car.{Car}
 
--- one car more
+-- one more car, in front of the list, adds one to the count if it passes the test
 count-first : (test : Car → Bool) (car : Car) (cars : List Car) (b : Bool) → test car ≡ b → count_by test (car ∷ cars) ≡ cond b 1 0 + count_by test cars
 count-first test car cars b is = sum_by-cons (λ x. cond (test x) 1 0) car cars ∙ ap (λ b. cond {A = ℕ} b 1 0 + count_by test cars) is
 

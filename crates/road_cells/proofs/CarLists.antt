@@ -18,7 +18,7 @@ vehicle_among-other car cars c apart = ap (λ b. cond b (Some (vehicle_of car)) 
 pub vehicle_among-here : (car : Car) (cars : List Car) (c : ℕ) → car.cell ≡ c → vehicle_among c (car ∷ cars) ≡ Some (vehicle_of car)
 vehicle_among-here car cars c same = ap (λ b. cond b (Some (vehicle_of car)) (vehicle_among c cars)) (eq-eqb car.cell c same)
 
--- no car stands past the end
+-- no car is past the end
 pub vehicle_among-past : (cars : List Car) (c : ℕ) → end_of cars ≤ c → vehicle_among c cars ≡ None
 vehicle_among-past [] c past = refl
 vehicle_among-past (car ∷ cars) c past = vehicle_among-other car cars c (λ same. absurd (omega arith)) ∙ vehicle_among-past cars c (omega arith)
@@ -30,14 +30,14 @@ vehicle_among-below k c (car ∷ cars) rise below =
     let from : k ≤ car.cell = rise.0 in
     vehicle_among-other car cars c (λ same. absurd (omega arith)) ∙ vehicle_among-below (car.cell + 1) c cars rise.1 (omega arith)
 
--- the array of cars has at each cell the car that stands there
+-- the array of cars has at each cell the car that is there
 pub vehicle_at-array_of : (cars : List Car) (c : ℕ) → vehicle_at (array_of cars) c ≡ vehicle_among c cars
 vehicle_at-array_of cars c = elim (cases_lt c (end_of cars)) as (λ _. vehicle_at (array_of cars) c ≡ vehicle_among c cars) [
   | inl below ↦ vehicle_at-array (end_of cars) (λ c. vehicle_among c cars) c below
   | inr past ↦ past_array (end_of cars) (λ c. vehicle_among c cars) c past ∙ sym (vehicle_among-past cars c past)
 ]
 
--- an empty place dropped in front of others has no car
+-- a place in front of others, which is dropped if it and they are empty, changes the cars only by its own car
 cars_from-before : (k : ℕ) (x : Option Vehicle) (xs ys : Array) → ((j : ℕ) → cars_from j ys ≡ cars_from j xs) → cars_from k (with_first_place x ys) ≡ cars_from k (x ∷ xs)
 cars_from-before k (Some v) xs ys same = ap (λ cars. car_of k v ∷ cars) (same (k + 1))
 cars_from-before k None xs [] same = same (k + 1)
@@ -48,7 +48,7 @@ pub cars_from-array_of_places : (k : ℕ) (xs : List (Option Vehicle)) → cars_
 cars_from-array_of_places k [] = refl
 cars_from-array_of_places k (x ∷ xs) = cars_from-before k x xs (array_of_places xs) (λ j. cars_from-array_of_places j xs)
 
--- a first place with a car, or without
+-- the cars of an array whose first place has a car, or has none
 pub from_here : (k : ℕ) (v : Vehicle) (xs : Array) (x : Option Vehicle) → x ≡ Some v → cars_from k (x ∷ xs) ≡ car_of k v ∷ cars_from (k + 1) xs
 from_here k v xs x taken = ap (λ y. cars_from k (y ∷ xs)) taken
 

@@ -26,7 +26,7 @@ pub vehicle_among-absent : (cars : List Car) (c : ℕ) → ((i : ℕ) → i < le
 vehicle_among-absent [] c absent = refl
 vehicle_among-absent (car ∷ cars) c absent = vehicle_among-other car cars c (absent 0 (omega arith)) ∙ vehicle_among-absent cars c (λ i below. absent (suc i) (omega arith))
 
--- the k-th car stands at its cell
+-- the k-th car is at its cell
 pub vehicle_among-at : (k : ℕ) (cars : List Car) (i : ℕ) (d : Car) → AreRisingFrom k cars → i < length cars → vehicle_among (cell_at cars i) cars ≡ Some (vehicle_of (slice_index_or cars i d))
 vehicle_among-at k [] i d rise below = absurd (omega arith)
 vehicle_among-at k (car ∷ cars) zero d rise below = vehicle_among-here car cars car.cell refl

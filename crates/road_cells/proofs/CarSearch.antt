@@ -16,12 +16,12 @@ use Rattle.road_cells.proofs.CarLists.{vehicle_at-array_of}
 use Rattle.road_cells.proofs.CarPlaces.{rise-at, vehicle_among-absent, vehicle_among-at}
 use Rattle.road_cells.specs.declared.car.Car.{Car}
 
--- stands for a car that is not in the list
+-- a default for a car that is not in the list
 abbrev nobody : Car
 nobody = car_of 0 (record { number = 0; speed = 0 })
 
 module _ (cars : List Car) (cell : ℕ) (rise : AreRising cars) where
-  -- the cells' answers rise along the list
+  -- the answers of comparing the cars' cells with this cell rise along the list
   pub answers_rise : IsNonDecreasingBy (λ car. ordering_index (nat_cmp car.cell cell)) cars
   answers_rise = IsNonDecreasingBy-from_default (λ car. ordering_index (nat_cmp car.cell cell)) cars nobody (λ i j le below. elim (cases_lt i j) as (λ _. ordering_index (nat_cmp (cell_at cars i) cell) ≤ ordering_index (nat_cmp (cell_at cars j) cell)) [
     | inl lt ↦ let further = rise-at 0 cars i j rise lt below in grind (arith, nat_tests)

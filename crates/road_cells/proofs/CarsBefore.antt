@@ -47,7 +47,7 @@ before-at c m (car ∷ cars) (suc k) rise below = elim (cases_lt car.cell c) as 
       record { stands_before = λ lt. absurd (omega arith); stands_behind = λ _. omega arith }
 ]
 
--- as many cars stand before the cell of the k-th car as there are before it in the list
+-- the number of cars before the cell of the k-th car is k
 pub before-cell_at : (m : ℕ) (cars : List Car) (k : ℕ) → AreRisingFrom m cars → k < length cars → cars_before (cell_at cars k) cars ≡ k
 before-cell_at m [] k rise below = absurd (omega arith)
 before-cell_at m (car ∷ cars) zero rise below = before-none car.cell car.cell (car ∷ cars) (omega arith) ((omega arith), rise.1)

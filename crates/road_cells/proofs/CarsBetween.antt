@@ -30,7 +30,7 @@ taken (suc n) k (car ∷ cars) f is rise = elim (cases_eq car.cell k) as (λ _. 
       ∙ ap (λ m. take (cars_before m (car ∷ cars)) (car ∷ cars)) next
 ]
 
--- the cars that remain without those before a cell
+-- the cars that are left if those before a cell are removed
 record IsRest (from : ℕ) (cars rest : List Car) : Type 0 where
   rises : AreRisingFrom from rest
   stands : (c : ℕ) → from ≤ c → vehicle_among c rest ≡ vehicle_among c cars
@@ -66,6 +66,6 @@ found_between a from to le =
     let count : cars_before to (cars_of a) - cars_before from (cars_of a) ≡ cars_before (from + (to - from)) rest = let all = is.counts to le in let same = ap (λ m. cars_before m rest) far in omega arith in
     ap (λ m. take m rest) count ∙ sym first
 
--- the first cell is not behind the second, so neither is the first place
+-- if the first cell is not past the second, no more cars are before the first than before the second
 pub before-le : (a : Array) (from to : ℕ) → from ≤ to → cars_before from (cars_of a) ≤ cars_before to (cars_of a)
 before-le a from to le = let all = (rest_of from 0 (cars_of a) (rise-cars_from 0 a)).counts to le in omega arith

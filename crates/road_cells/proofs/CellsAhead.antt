@@ -16,7 +16,7 @@ use Rattle.road_cells.specs.declared.car.Car.{Car}
 pub cell_at-is : (cars : List Car) (k : ℕ) (car : Car) → ((d : Car) → car ≡ slice_index_or cars k d) → cell_at cars k ≡ car.cell
 cell_at-is cars k car is = ap (λ x. x.cell) (sym (is (car_of 0 (record { number = 0; speed = 0 }))))
 
--- no car stands between two neighbours
+-- no car is between two neighbours
 between : (cars : List Car) (place k : ℕ) → AreRising cars → place + 1 < length cars → cell_at cars place < k → k < cell_at cars (place + 1) → is_some (vehicle_among k cars) ≡ false
 between cars place k rise next after below = ap is_some (vehicle_among-absent cars k apart)
   where
@@ -41,7 +41,7 @@ free_to_next cars place n d rise next =
     (λ k le lt. between cars place k rise next (omega arith) lt)
     (ap is_some (vehicle_among-at 0 cars (place + 1) d rise next))
 
--- nothing stands in front of the last car
+-- no car is in front of the last car
 pub free_to_none : (cars : List Car) (place n : ℕ) → AreRising cars → place < length cars → length cars ≤ place + 1
     → free_before (λ c. is_some (vehicle_among c cars)) (cell_at cars place + 1) n ≡ n
 free_to_none cars place n rise here last = free_before-none (λ c. is_some (vehicle_among c cars)) n (cell_at cars place + 1) (λ k le lt. ap is_some (vehicle_among-absent cars k (apart k le)))

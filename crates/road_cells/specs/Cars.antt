@@ -46,7 +46,7 @@ abbrev pub vehicle_among : ℕ → List Car → Option Vehicle
 vehicle_among c [] = None
 vehicle_among c (car ∷ cars) = if nat_eq car.cell c then Some (vehicle_of car) else vehicle_among c cars
 
--- the greatest cell of a car plus one
+-- the largest cell of a car plus one, or 0 if there is no car
 abbrev pub end_of : List Car → ℕ
 end_of [] = 0
 end_of (car ∷ cars) = max (car.cell + 1) (end_of cars)

@@ -4,7 +4,8 @@ ghost use Rattle.std.specs.Prelude.{◌≡◌, ℕ, ◌<◌, ◌≤◌, length, 
 ghost use Rattle.std.specs.List.Sorted.{IsNonDecreasing};
 ghost use Rattle.road_cells.specs.Gap.{is_blocked, ArePartedAt};
 
-/// Return whether a cell is one of the blocked cells, which rise. It is a binary search and takes no memory.
+/// Return whether a cell is blocked, by a binary search. `blocks` are the blocked cells, in rising order. It does not
+/// allocate.
 pub fn is_blocked(blocks: &[u32], cell: u32) -> bool
     requires { IsNonDecreasing blocks.now }
     ensures { result ≡ is_blocked blocks.now cell }
@@ -12,7 +13,8 @@ pub fn is_blocked(blocks: &[u32], cell: u32) -> bool
     blocks.binary_search(&cell).is_ok()
 }
 
-/// Count the blocked cells, which rise, that are not in front of a cell. It is a binary search and takes no memory.
+/// Count the blocked cells that are not in front of a cell, by a binary search. `blocks` are the blocked cells, in
+/// rising order. It does not allocate.
 pub fn reached_blocks(blocks: &[u32], cell: u32) -> usize
     requires { IsNonDecreasing blocks.now }
     ensures bound { result ≤ length blocks.now }
@@ -21,9 +23,9 @@ pub fn reached_blocks(blocks: &[u32], cell: u32) -> usize
     blocks.partition_point(|block| *block <= cell)
 }
 
-/// Count the blocked cells, which rise, that are not in front of a cell, if those from the `most`-th on are in front of
-/// it. It walks down from there, for callers that visit falling cells. `most` is at most the number of blocked cells.
-/// It takes no memory.
+/// Count the blocked cells that are not in front of a cell, given that those from index `most` on are in front of it.
+/// `blocks` are the blocked cells, in rising order, and `most` is at most their number. It walks down from `most` and
+/// does not allocate: for callers that go from each cell to a lower one, `most` is the count for the cell before.
 pub fn reached_blocks_below(blocks: &[u32], cell: u32, most: usize) -> usize
     requires rising { IsNonDecreasing blocks.now }
     requires bound { most ≤ length blocks.now }

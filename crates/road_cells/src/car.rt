@@ -1,6 +1,6 @@
-//! Cars, and their greatest speed.
+//! Cars, and their maximum speed.
 
-/// The greatest speed of a car, in cells per step. No car looks further ahead than it can drive at this speed.
+/// The maximum speed of a car, in cells per step. No car looks further ahead than it can drive at this speed.
 pub const GREATEST_SPEED: u8 = 9;
 
 /// A car on the road.
@@ -8,7 +8,7 @@ pub const GREATEST_SPEED: u8 = 9;
 pub struct Car {
     /// The car's number. It never changes, and no other car has it.
     pub number: u64,
-    /// The cell where the car stands, counted from 0 at the start of the road.
+    /// The cell where the car is, counted from 0 at the start of the road.
     pub cell: u32,
     /// Its speed, in cells per step.
     pub speed: u8,

@@ -11,8 +11,8 @@
 //! let gap = road.gap(0, &[]);
 //! let shorter = road.gap(0, &[6]);
 //! // The car at cell 7, and `None`, since there is no car at cell 8.
-//! let stands = road.car_at(7);
-//! let nobody = road.car_at(8);
+//! let found = road.car_at(7);
+//! let missing = road.car_at(8);
 //! ```
 #![tactic(auto)]
 

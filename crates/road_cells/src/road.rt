@@ -34,7 +34,7 @@ impl Model for Road {
 }
 
 impl Road {
-    /// Make the empty road. It takes no memory.
+    /// Make the empty road. It does not allocate.
     pub fn empty(alloc: Global) -> Self
         ensures { result ≡ [] }
     {
@@ -43,7 +43,7 @@ impl Road {
         }
     }
 
-    /// Make the road of these cars, whose cells must rise strictly. It keeps the list and takes no memory.
+    /// Make the road of these cars, whose cells must rise strictly. It keeps the list and does not allocate.
     pub fn of(cars: Vec<Car>) -> Self
         requires { AreRising cars.items }
         ensures road { result ≡ array_of cars.items }
@@ -52,7 +52,7 @@ impl Road {
         Road { cars }
     }
 
-    /// Return the cars in strictly rising cells, as the list that the road stored. It takes no memory.
+    /// Return the cars in strictly rising cells, as the list that the road stored. It does not allocate.
     pub fn into_cars(self) -> Vec<Car>
         ensures all { result.items ≡ cars_of self }
         ensures rise { AreRising result.items }
@@ -117,7 +117,7 @@ impl Road {
 
     /// Count the free cells in front of a car, as [`Road::gap`] does, given that the first `reached` blocked cells are
     /// not in front of the car and all others are ([`crate::reached_blocks_below`]). It is for callers that visit the
-    /// cars in falling cells. Nothing is searched, and it takes no memory.
+    /// cars from the last one to the first. It searches nothing and does not allocate.
     pub fn gap_to(&self, place: usize, blocks: &[u32], reached: usize) -> u8
         requires car { place < length (cars_of self.now) }
         requires rising { IsNonDecreasing blocks.now }

@@ -33,7 +33,7 @@ seven_cells = refl
 eight_cells : fault_of_plan (record small { cells = 8 }) ≡ None
 eight_cells = refl
 
--- a road of one zone, as long as it may be
+-- a road of the maximum length, with one zone
 abbrev long : Plan
 long = record small { cells = 8192; width = 8192 }
 
@@ -144,7 +144,7 @@ chance_above_certain = refl
 inflow_above_certain : fault_of_plan (record small { inlets = (0, 65537) ∷ [] }) ≡ Some Default
 inflow_above_certain = refl
 
--- the greatest plan that is accepted
+-- the largest road that is accepted, with the most zones and the longest deleted zone
 greatest_plan : fault_of_plan (record small { cells = 8192; exit = 64; width = 128; zones = replicate 64 (9, 65536) }) ≡ None
 greatest_plan = refl
 
@@ -193,7 +193,7 @@ numbers_of_small = (refl, refl, refl)
 states_of_small : (default small (Block 3) ≡ Some 0) × (default small (Watch 0) ≡ Some 1)
 states_of_small = (refl, refl)
 
--- ---- the limits of all that uses plans
+-- ---- the other limits of the laboratory
 
 most_replicas : limits.MOST_REPLICAS ≡ 64
 most_replicas = refl

@@ -20,7 +20,7 @@ is_in_plan p (Inflow inlet) = nat_lt inlet (length p.inlets)
 is_in_plan p (Watch detector) = nat_lt detector (length p.detectors)
 is_in_plan p (Start zone) = nat_lt zone (length p.zones)
 
--- whether an object takes a value: speed limits and chances up to the greatest, and 0 (off) or 1 (on) for blocks and
+-- whether an object takes a value: speed limits and chances up to their maximum, and 0 (off) or 1 (on) for blocks and
 -- detectors
 abbrev pub allows : Object → ℕ → Bool
 allows (Limit zone) value = nat_le value GREATEST_LIMIT

@@ -31,7 +31,7 @@ plan_of parts = record {
   words = parts.words;
 }
 
--- the first cell of the deleted zone, from which on no car stays
+-- the first cell of the deleted zone: cars at this cell or past it are deleted
 abbrev pub exit_start : Plan → ℕ
 exit_start p = p.cells - p.exit
 

@@ -13,7 +13,7 @@ use crate::limits::{
 };
 use crate::parts::PlanParts;
 
-// Find the first fault of these parts, in the order of `PlanFault`. It takes no memory.
+// Find the first fault of these parts, in the order of `PlanFault`. It does not allocate.
 pub(crate) fn first_fault(parts: &PlanParts) -> Option<PlanFault>
     ensures { result ≡ refusals.fault_of_plan (plan_of parts.now) }
 {

@@ -15,7 +15,7 @@ pub enum PlanFault {
     /// The deleted zone is empty, too long, or no shorter than the road.
     #[error("the deleted zone is not 1 to {most} cells long and shorter than the road", most = GREATEST_EXIT)]
     Exit,
-    /// The zones have no width, are too many, or the list does not have one entry for each zone.
+    /// The zones have no width, there are too many, or the list does not have one entry for each zone.
     #[error("there are not 1 to {most} zones with a width above 0 and one entry for each", most = MOST_ZONES)]
     Zones,
     /// There is no inlet, there are too many, or one is in the deleted zone or at the cell of another inlet.
@@ -24,10 +24,10 @@ pub enum PlanFault {
     /// There are too many detectors, or one is at the first cell or in the deleted zone.
     #[error("there are more than {most} detectors, or one is at the first cell or in the deleted zone", most = MOST_DETECTORS)]
     Detectors,
-    /// A speed limit, a slowing chance or an inflow is too great.
+    /// A speed limit, a slowing chance or an inflow is too large.
     #[error("a speed limit is above {limit}, or a slowing chance or an inflow above {chance}", limit = GREATEST_LIMIT, chance = CERTAIN)]
     Default,
-    /// An allocation failed. `Plan::new` takes no memory, so it never returns this.
+    /// An allocation failed. `Plan::new` does not allocate, so it never returns this.
     #[error("no memory")]
     OutOfMemory,
 }

@@ -53,8 +53,8 @@ impl Object {
         }
     }
 
-    /// Return the object's value if no edit sets it: the plan's number, no block, and a detector that is on. The plan
-    /// must have the object. It must not be the slowing chance of standing cars, for which a plan has no number.
+    /// Return the object's value if no edit sets it: the plan's number, 0 (off) for a block, and 1 (on) for a detector.
+    /// The plan must have the object. The object must not be a `Start`: a plan has no slowing chance of standing cars.
     pub fn default(self, plan: &Plan) -> u32
         requires in_plan { objects.is_in_plan plan.now self ≡ true }
         requires own { objects.is_start self ≡ false }

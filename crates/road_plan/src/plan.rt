@@ -56,14 +56,14 @@ impl Plan {
         self.parts.length
     }
 
-    /// Return the number of cells in the exit zone, at the end of the road, where cars are removed.
+    /// Return the number of cells of the deleted zone, at the end of the road, where cars are removed.
     pub fn exit(&self) -> u32
         ensures { result ≡ self.now.exit }
     {
         self.parts.exit
     }
 
-    /// Return the number of a zone's cells. The last zone may be shorter.
+    /// Return the number of cells of a zone. The last zone may be shorter.
     pub fn width(&self) -> u32
         ensures width { result ≡ self.now.width }
         ensures within { IsWithinLimits self.now }

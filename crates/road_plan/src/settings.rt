@@ -66,8 +66,8 @@ impl Settings {
         })
     }
 
-    /// Return whether they fit the plan: one allowed number for each zone, inlet and detector, and the blocked cells
-    /// rise and are on the road. It takes no memory.
+    /// Return whether these settings fit the plan: they have one allowed number for each zone, inlet and detector, and
+    /// the blocked cells rise and are on the road. It does not allocate.
     pub fn fits(&self, plan: &Plan) -> bool
         ensures { IsTrue result ↔ Fits plan.now self.now }
     {

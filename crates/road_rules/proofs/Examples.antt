@@ -36,7 +36,7 @@ accelerated-near = refl
 accelerated-greatest : speed_after_acceleration 5 5 9 ≡ 5
 accelerated-greatest = refl
 
--- a car that would come to the next one stops in the cell behind it
+-- a car that would reach the next one brakes to the cell behind it
 braked-at : speed_after_braking 3 3 ≡ 2
 braked-at = refl
 
@@ -89,12 +89,12 @@ speed_at-third : speed_at entered (0 ∷ 2 ∷ 1 ∷ []) 5 ≡ 1
 unfolding entered car
 speed_at-third = refl
 
--- the same by a function of cell and vehicle
+-- the same motion, with speeds by a function of cell and vehicle
 array_after_motion-road : array_after_motion (λ c v. wanted_speed v.speed 2 c) entered ≡ array_of (car 48 0 0 ∷ car 16 2 1 ∷ car 0 7 2 ∷ [])
 unfolding entered car
 array_after_motion-road = refl
 
--- cars keep their new speeds, even if they stay or drive the greatest distance
+-- cars keep their new speeds, even if they stay or drive the maximum distance
 array_after_motion_at-far : array_after_motion_at (0 ∷ 9 ∷ []) (array_of (car 2 3 4 ∷ car 1 8 9 ∷ [])) ≡ array_of (car 2 3 0 ∷ car 1 17 9 ∷ [])
 unfolding car
 array_after_motion_at-far = refl

@@ -53,7 +53,7 @@ module _ {X : Type 0} (h : ℕ → Vehicle → Option X) where
       split None = refl
       split (Some v) = refl
 
--- the vehicle of cell c at its speed, if it comes to j
+-- the vehicle of cell c at its new speed, if that brings it to cell j
 comes : (ℕ → Vehicle → ℕ) → ℕ → ℕ → Vehicle → Option Vehicle
 comes speed j c v = if c + speed c v == j then Some (record { number = v.number; speed = speed c v }) else None
 
@@ -66,7 +66,7 @@ first_some-same : {X : Type 0} (f g : ℕ → Option X) (cs : List ℕ) → ((c 
 first_some-same f g [] same = refl
 first_some-same f g (c ∷ cs) same = λ i. option_or (same c i) (first_some-same f g cs same i)
 
--- the first car that comes to j is there once each car has advanced
+-- the first car whose speed brings it to cell j is there once each car has advanced
 first_car-comes : (speed : ℕ → Vehicle → ℕ) (j : ℕ) (cars : List Car) → first_car (comes speed j) cars ≡ vehicle_among j (cars_driven speed cars)
 unfolding first_car comes
 first_car-comes speed j [] = refl
@@ -74,7 +74,7 @@ first_car-comes speed j (car ∷ cars) =
     let v = speed car.cell (vehicle_of car) in
     elim (car.cell + v == j) as (λ b. option_or (cond b (Some (record { number = car.number; speed = v })) None) (first_car (comes speed j) cars) ≡ cond b (Some (record { number = car.number; speed = v })) (vehicle_among j (cars_driven speed cars))) [ true ↦ refl | false ↦ first_car-comes speed j cars ]
 
--- the vehicle that arrives at a place is the one there once each car has advanced
+-- the vehicle that arrives at a cell is the vehicle there once each car has advanced
 pub arrival_at-vehicle_among : (speed : ℕ → Vehicle → ℕ) (a : Array) (j : ℕ) → arrival_at speed a j ≡ vehicle_among j (cars_driven speed (cars_of a))
 arrival_at-vehicle_among speed a j =
     first_some-same _ _ (range_with_len 0 (length a)) (λ c. arrival_from-comes speed j c (vehicle_at a c))
@@ -120,7 +120,7 @@ cell_at-end m (None ∷ places) k below = let rest = cell_at-end (m + 1) places 
 cell_at-end m (Some v ∷ places) zero below = omega arith
 cell_at-end m (Some v ∷ places) (suc k) below = let rest = cell_at-end (m + 1) places k (omega arith) in omega arith
 
--- no car drives farther than the greatest speed past the end
+-- no car ends farther past the old end than the maximum speed
 end-cars_after_motion : (cars : List Car) (speeds : List ℕ) (n : ℕ) → ((k : ℕ) → k < length cars → cell_at cars k < n) → ((k : ℕ) → k < length speeds → slice_index speeds k ≤ GREATEST_SPEED) → end_of (cars_after_motion speeds cars) ≤ n + GREATEST_SPEED
 end-cars_after_motion [] speeds n low slow = omega arith
 end-cars_after_motion (car ∷ cars) [] n low slow = omega arith
@@ -172,7 +172,7 @@ rise-advanced m (car ∷ cars) (v ∷ speeds) rise long apart = (
 pub rise-cars_after_motion : (a : Array) (speeds : List ℕ) → MayMove a speeds → AreRising (cars_after_motion speeds (cars_of a))
 rise-cars_after_motion a speeds may = rise-advanced 0 (cars_of a) speeds (rise-cars_from 0 a) may.one_each (λ k below. let next : k + 1 ≡ suc k = omega arith in let free = may.apart k (omega arith) in let same = ap (cell_at (cars_of a)) next in omega arith)
 
--- if no speed is above the greatest, each place of the array after motion holds the vehicle that arrives there
+-- if no speed is above the maximum, each place of the array after motion holds the vehicle that arrives there
 pub vehicle_at-array_after_motion : (speed : ℕ → Vehicle → ℕ) (a : Array) (j : ℕ) → ((c : ℕ) (v : Vehicle) → speed c v ≤ GREATEST_SPEED) → vehicle_at (array_after_motion speed a) j ≡ arrival_at speed a j
 vehicle_at-array_after_motion speed a j slow = elim (cases_lt j (length a + GREATEST_SPEED)) as (λ _. vehicle_at (array_after_motion speed a) j ≡ arrival_at speed a j) [
   | inl below ↦ vehicle_at-array (length a + GREATEST_SPEED) (arrival_at speed a) j below

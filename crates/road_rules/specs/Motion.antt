@@ -25,7 +25,7 @@ abbrev pub arrival_at : (ℕ → Vehicle → ℕ) → Array → ℕ → Option V
 arrival_at speed a j = first_some (λ c. arrival_from j c (speed c) (vehicle_at a c)) (range_with_len 0 (length a))
 
 -- motion: each place holds the vehicle that arrives there, if one does; the array is long enough for vehicles up to the
--- greatest speed
+-- maximum speed
 abbrev pub array_after_motion : (ℕ → Vehicle → ℕ) → Array → Array
 array_after_motion speed a = array (length a + GREATEST_SPEED) (arrival_at speed a)
 
@@ -38,8 +38,8 @@ speed_at a speeds c = slice_index speeds (cars_before c (cars_of a))
 abbrev pub array_after_motion_at : List ℕ → Array → Array
 array_after_motion_at speeds a = array_after_motion (λ c v. speed_at a speeds c) a
 
--- cars may move at these speeds: there is one speed for each car, none is above the greatest, and no car reaches the
--- next one
+-- cars may move at these speeds: there is one speed for each car, none is above the maximum speed, and no car reaches
+-- the next car
 pub record MayMove (a : Array) (speeds : List ℕ) : Type 0 where
   pub one_each : length speeds ≡ length (cars_of a)
   pub slow_enough : All (λ v. v ≤ GREATEST_SPEED) speeds

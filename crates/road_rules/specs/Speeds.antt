@@ -5,11 +5,11 @@ use Rattle.std.specs.Prelude.{ℕ, ◌+◌, ◌-◌, ◌/◌, min, Bool, nat_lt,
 abbrev pub wanted_speed : ℕ → ℕ → ℕ → ℕ
 wanted_speed speed limit free = min (min (speed + 1) limit) free
 
--- rule 1: if the next vehicle is more than v + 1 sites away, a speed below the greatest grows by one
+-- rule 1: if the next vehicle is more than v + 1 sites away, a speed v below the maximum grows by one
 abbrev pub speed_after_acceleration : ℕ → ℕ → ℕ → ℕ
 speed_after_acceleration v greatest distance = if nat_lt v greatest && nat_lt (v + 1) distance then v + 1 else v
 
--- rule 2: if the next vehicle is at most v sites away, the speed falls to one below that distance
+-- rule 2: if the next vehicle is at most v sites away, the speed falls to one less than that distance
 abbrev pub speed_after_braking : ℕ → ℕ → ℕ
 speed_after_braking v distance = if nat_le distance v then distance - 1 else v
 

@@ -11,8 +11,8 @@ use std::alloc::Global;
 /// Apply rule 4 of 1992, motion: all cars advance at once, each by its new speed in cells.
 ///
 /// `speeds` has one speed for each car, in the order of [`Road::cars`]. Each is at most 9 and at most the free cells
-/// before the next car. No cell is above 65,535. Cars past the end of a road are not removed. It is one pass in one
-/// allocation, or in none if the road has no car.
+/// before the next car. Each car's cell is at most 65,535. Cars past the end of a road are not removed. It makes one
+/// pass and one allocation, or none if the road has no car.
 ///
 /// # Errors
 ///
@@ -30,7 +30,8 @@ pub fn moved(alloc: Global, road: &Road, speeds: &[u8]) -> Result<Road, OutOfMem
     Ok(moved_in_place(road.copied()?, speeds))
 }
 
-// Apply rule 4 as [`moved`], under the same conditions, to the list of cars that the road stored. It takes no memory.
+// Apply rule 4 as [`moved`] does, under the same conditions, but to the list of cars that the road stored. It does not
+// allocate.
 fn moved_in_place(road: Road, speeds: &[u8]) -> Road
     requires low { length road ≤ 65536 }
     requires may { MayMove road speeds.now }

@@ -16,9 +16,9 @@ pub fn wanted(speed: u8, limit: u32, gap: u8) -> u8
 }
 
 /// Apply rules 1 and 2 as in 1992. Rule 1 accelerates by one if the next vehicle is far enough away. Rule 2 slows to
-/// one cell less than the distance if it is too near. At a speed of at most `vmax` this equals [`wanted`] with the gap
-/// `distance - 1`. A speed above `vmax` does not drop to it. The function exists to show that law: steps of roads use
-/// [`wanted`].
+/// one cell less than the distance if that vehicle is too near. At a speed of at most `vmax` this equals [`wanted`]
+/// with the gap `distance - 1`. A speed above `vmax` does not drop to `vmax`. The function exists to show the law in
+/// its contract: steps of roads use [`wanted`].
 ///
 /// `distance`, at least 1, is the distance in cells to the next vehicle: one more than the free cells.
 pub fn two_rules(speed: u8, vmax: u8, distance: u32) -> u8
@@ -38,8 +38,8 @@ pub fn two_rules(speed: u8, vmax: u8, distance: u32) -> u8
 
 /// Apply rule 3, randomization: a speed above 0 falls by one if the event of the chance happens.
 ///
-/// The chance is in 1/65,536. Its event happens if the upper 16 bits of the word are below it: never at 0, and always
-/// from 65,536 on. The function states the rule: steps of roads use only those bits, without the rest of the word.
+/// The chance is in 1/65,536. Its event happens if the upper 16 bits of the word are below the chance: never at 0, and
+/// always from 65,536 on. The function states the rule: steps of roads need only the upper 16 bits of a word.
 pub fn slowed(speed: u8, word: u32, chance: u32) -> u8
     ensures { result ≡ slowed_speed speed (comes_about word chance) }
 {

@@ -16,7 +16,7 @@ pub struct ChaChaWords {
 }
 
 impl ChaChaWords {
-    /// Make the words under the key of this seed: its eight big-endian bytes, then 24 zeros. It takes no memory.
+    /// Make the words of this seed. Their key is its eight big-endian bytes, then 24 zeros. It does not allocate.
     pub fn new(seed: u64) -> Self
         ensures { (stream place : ℕ) →
             ⟦<ChaChaWords as Words>⟧.word_of result stream place ≡ seeded_word seed stream place }

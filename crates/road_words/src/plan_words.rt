@@ -18,7 +18,7 @@ pub enum PlanWords {
 }
 
 impl PlanWords {
-    /// Make the words of this plan. It takes no memory.
+    /// Make the words of this plan. It does not allocate.
     pub fn of(plan: &Plan) -> Self
         ensures { (stream place : ℕ) →
             ⟦<PlanWords as Words>⟧.word_of result stream place ≡ word plan.now.words stream place }

@@ -1,4 +1,4 @@
--- The joined value stands at its key.
+-- The joined value is at its key.
 use Rattle.std.proofs.Common.{arith, ◌≤◌, T, ◌-◌, ◌≡◌, ◌<◌, length, ap, sym, subst, ◌∙◌}
 use Rattle.std.specs.List.{insert, slice_set}
 use Rattle.std.specs.Ordering.{is_lt}

@@ -1,4 +1,4 @@
--- On, for each detector so far.
+-- Each detector so far is on.
 use Rattle.std.proofs.Common.{◌≡◌, map, take, true}
 use Rattle.road_plan.proofs.settings.all_on.Given as goal
 

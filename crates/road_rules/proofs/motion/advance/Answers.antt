@@ -1,4 +1,4 @@
--- The car further on by its speed.
+-- The car is further on by its speed.
 use Rattle.std.proofs.Common.{rules}
 use Rattle.road_rules.proofs.motion.advance.Goals as goal
 

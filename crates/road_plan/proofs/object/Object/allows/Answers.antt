@@ -1,4 +1,4 @@
--- A limit is at most the greatest one, a chance at most certain.
+-- A limit is at most the highest limit, and a chance is at most certainty.
 use Rattle.std.proofs.Common.{rules}
 use Rattle.road_plan.proofs.object.Object.allows.Goals as goal
 

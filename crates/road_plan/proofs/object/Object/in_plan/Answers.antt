@@ -1,4 +1,4 @@
--- The cell is one of the road.
+-- The cell is a cell of the road.
 use Rattle.std.proofs.Common.{rules}
 use Rattle.road_plan.proofs.object.Object.in_plan.Goals as goal
 

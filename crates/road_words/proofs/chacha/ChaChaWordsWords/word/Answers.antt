@@ -1,4 +1,4 @@
--- The upper 16 bits of the word at its place.
+-- The generator's word at this place of this stream.
 use Rattle.std.proofs.Common.{rules}
 use Rattle.road_words.proofs.chacha.ChaChaWordsWords.word.Goals as goal
 
