@@ -102,7 +102,7 @@ module _ (p : Plan) (s : Settings) (t : ℕ) (a : Array) (behind : NeverCollide 
   counts_one true site = let is = alone site new_speed (λ car. slow car.cell (vehicle_of car)) (cars_of a) apart in (is.one, is.slow)
   counts_one false site = ((omega arith), (omega arith))
 
--- from any array
+-- at most one car passes in a step from any array
 pub one_from : (p : Plan) (s : Settings) (t : ℕ) (a : Array) (d : ℕ) → PassesCount (passes_from p s t a d)
 one_from p s t a d =
     let entered = road_with_entries p s t a in

@@ -8,7 +8,7 @@ use Rattle.road_cells.specs.Cars.{cell_at}
 use Rattle.road_cells.specs.declared.car.Car.{Car}
 use Rattle.road_detector.specs.Passes.{Drive, drives, is_passing, passing_speeds}
 
--- a drive that is not in the list
+-- a default for a drive that is not in the list
 abbrev nowhere : Drive
 nowhere = record { cell = 0; speed = 0 }
 

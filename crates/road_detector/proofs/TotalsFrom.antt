@@ -43,7 +43,7 @@ pub bounded_from : (p : Plan) (course : Course) (t k : ℕ) (a : Array) (d : ℕ
 bounded_from p course t k a d = bounded_list (λ j. passes_from p (course (t + j)) (t + j) (road_after_steps p course t j a) d) k 0
     (λ j. let one = one_from p (course (t + j)) (t + j) (road_after_steps p course t j a) d in record { few = one.0; slow = one.1 })
 
--- one more step
+-- the totals of one more step
 pub total_from_more : (p : Plan) (course : Course) (t k : ℕ) (a : Array) (d : ℕ)
     → plus (total_from p course t k a d) (passes_from p (course (t + k)) (t + k) (road_after_steps p course t k a) d) ≡ total_from p course t (k + 1) a d
 total_from_more p course t k a d =
@@ -51,7 +51,7 @@ total_from_more p course t k a d =
     let here : 0 + k ≡ k = omega arith in
     sym (ap sum_of_totals (map-range_with_len_more f 0 k k here) ∙ add_last (map f (range_with_len 0 k)) (f k))
 
--- the same for each number
+-- functions that agree at these numbers have the same list of values
 same_numbers : (f g : ℕ → Totals) (n a : ℕ) → ((j : ℕ) → j < a + n → f j ≡ g j) → map f (range_with_len a n) ≡ map g (range_with_len a n)
 same_numbers f g zero a same = refl
 same_numbers f g (suc n) a same = λ i. same a (omega arith) i ∷ same_numbers f g n (a + 1) (λ j lt. same j (omega arith)) i

@@ -18,8 +18,8 @@ pub struct Totals {
 }
 
 impl Totals {
-    /// Add the totals of further steps. Both sums must be below 2^32, as those of a run are up to the greatest horizon
-    /// ([`crate::laws::totals_of_the_longest_run`]). It takes no memory.
+    /// Add the totals of further steps. Both sums must be below 2^32, as the sums of a run are up to the maximum
+    /// horizon ([`crate::laws::totals_of_the_longest_run`]). It does not allocate.
     pub fn plus(self, later: Totals) -> Totals
         requires cars { self.cars + later.cars < 2 ^ 32 }
         requires speeds { self.speeds + later.speeds < 2 ^ 32 }
@@ -33,10 +33,10 @@ impl Totals {
 }
 
 /// Return the counts of a detector in a step: the cars before its site that arrive at it or pass it, and the sum of
-/// their new speeds. Cars that are then deleted count too. A detector that is off counts nothing.
+/// their new speeds. Cars that are deleted in this step count too. A detector that is off counts nothing.
 ///
 /// The plan must have the detector. `speeds` has one speed for each car, in the order of the cars, and may hold any
-/// speeds. It visits every car and takes no memory.
+/// speeds. The call visits every car and does not allocate.
 pub fn passes(input: &StepInput, speeds: &[u8], detector: u32) -> Totals
     requires one_each { length speeds.now ≡ length (cars_of input.now.road) }
     requires in_plan { detector < length input.now.plan.detectors }

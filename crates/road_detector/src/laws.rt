@@ -23,7 +23,7 @@ pub fn totals_are_bounded(plan: &Plan)
     cars_keep_below_greatest_speed(plan);
 }
 
-/// Show that a total up to the greatest horizon is at most 1,048,576 cars, and the sum of their speeds at most
+/// Show that a total up to the maximum horizon is at most 1,048,576 cars, and the sum of their speeds at most
 /// 9,437,184.
 pub fn totals_of_the_longest_run(plan: &Plan)
     ensures { BoundTotalsOfLongestRun plan.now }
@@ -44,8 +44,8 @@ pub fn counts_depend_on_cells_nearby(plan: &Plan)
     ensures { CountCellsNearby plan.now }
 {}
 
-/// Show locality in space for several steps: the counts depend only on 9 cells for each step before the site, and on as
-/// many from the site on.
+/// Show locality in space for several steps: the counts depend only, for each step, on 9 cells before the site and on 9
+/// cells from the site on.
 pub fn totals_depend_on_cells_nearby(plan: &Plan)
     ensures { CountCellsNearbyInSteps plan.now }
 {}

@@ -1,7 +1,7 @@
 //! Observations of the road: detectors count the cars that pass their sites, and rows of text show where cars are.
 //!
 //! ```
-//! // Step 4 of a plan from a road, computed in a single caller.
+//! // Step 4 of a plan, from a road.
 //! let settings = Settings::of_plan(alloc, &plan)?;
 //! let done = step_alone(alloc, &plan, settings, 4, &road, &mut Meter::new())?;
 //! // The counts of the plan's first detector in that step, and the road after it as a row of text. By a law of runs

@@ -17,7 +17,7 @@ use std::alloc::Global;
 /// if the cell is blocked, else `.`. No speed may be above 9, since it would have no digit. Blocked cells and cars at
 /// or past `length` are not drawn.
 ///
-/// It visits the blocked cells once, in whatever order they are, and the cars once. There is one allocation.
+/// It visits each blocked cell once, in whatever order they are, and each car once. It makes one allocation.
 ///
 /// # Errors
 ///

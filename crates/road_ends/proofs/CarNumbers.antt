@@ -11,7 +11,7 @@ use Rattle.road_cells.proofs.ArrayPlaces.{vehicle_at-array}
 use Rattle.road_rules.specs.Motion.{arrival_at}
 use Rattle.road_ends.specs.Speed.{speed}
 use Rattle.road_ends.specs.Run.{Course, run, road_before_motion}
-use Rattle.road_ends.specs.Laws.{IsOnRoad, StayOnRoad, HaveOwnNumbers}
+use Rattle.road_ends.specs.Laws.{IsOnRoad, StayOnRoad, HaveUniqueNumbers}
 use Rattle.road_ends.proofs.NoCollision.{within, speed-most}
 use Rattle.road_ends.proofs.WhereCarsComeFrom.{CameFrom, came_from, EnteredBy, stood_or_entered}
 
@@ -45,7 +45,7 @@ module _ (p : Plan) (limits : IsWithinLimits p) (course : Course) where
       number from (inl stood) before = let old = (before stood).has_entered in let same = from.same_number in omega arith
       number from (inr by) before = let new = new_number t from.cell from.earlier by in let low = new.1 in let same = from.same_number in omega arith
 
-  -- cars of one inlet stand at its cell
+  -- cars that enter at one inlet are at its cell
   same_inlet : (t c d : ℕ) (x y : Vehicle) → EnteredBy p t c x → EnteredBy p t d y → x.number ≡ y.number → c ≡ d
   same_inlet t c d x y by and same =
       let mine = by.numbered in let yours = and.numbered in
@@ -81,5 +81,5 @@ module _ (p : Plan) (limits : IsWithinLimits p) (course : Course) where
 pub stay_on_road : (p : Plan) → IsWithinLimits p → StayOnRoad p
 stay_on_road p limits course t c car here = stay p limits course t c car here
 
-pub have_own_numbers : (p : Plan) → IsWithinLimits p → HaveOwnNumbers p
-have_own_numbers p limits course t c d x y here there same = own p limits course t c d x y here there same
+pub have_unique_numbers : (p : Plan) → IsWithinLimits p → HaveUniqueNumbers p
+have_unique_numbers p limits course t c d x y here there same = own p limits course t c d x y here there same

@@ -22,7 +22,7 @@ use Rattle.road_ends.specs.Run.{road_after_motion, road_after_step, road_after_s
 use Rattle.road_ends.specs.Laws.{AgreeBetween, DependOnCellsNearby}
 use Rattle.road_ends.proofs.NoCollision.{speed-most}
 
--- arrays made by functions that agree at a place hold the same there
+-- arrays made by functions that agree at a place have the same vehicle there
 same_place : (n : ℕ) (f g : ℕ → Option Vehicle) (c : ℕ) → f c ≡ g c → vehicle_at (array n f) c ≡ vehicle_at (array n g) c
 same_place n f g c same = elim (cases_lt c n) as (λ _. vehicle_at (array n f) c ≡ vehicle_at (array n g) c) [
   | inl below ↦ vehicle_at-array n f c below ∙ same ∙ sym (vehicle_at-array n g c below)
@@ -37,21 +37,21 @@ entries-here p s t x y c same = same_place p.cells _ _ c (ap (λ o. option_or o 
 gap-ahead : (p : Plan) (s : Settings) (x y : Array) (c : ℕ) → ((d : ℕ) → c < d → d ≤ c + GREATEST_SPEED → vehicle_at x d ≡ vehicle_at y d) → gap p s x c ≡ gap p s y c
 gap-ahead p s x y c same = free_before-same (is_taken_on_road p s x) (is_taken_on_road p s y) GREATEST_SPEED (c + 1) (λ d from to i. nat_lt d p.cells && (is_some (same d (omega arith) (omega arith) i) || is_blocked s.blocks d))
 
--- so does the speed of a car
+-- the speed of a car depends only on the cells in front
 pub speed-ahead : (p : Plan) (s : Settings) (t : ℕ) (x y : Array) (c : ℕ) (car : Vehicle) → ((d : ℕ) → c < d → d ≤ c + GREATEST_SPEED → vehicle_at x d ≡ vehicle_at y d) → speed p s t x c car ≡ speed p s t y c car
 speed-ahead p s t x y c car same = ap (λ free. slowed_speed (wanted_speed car.speed (slice_index s.limits (zone_of p c)) free) (is_slowed p s t (zone_of p c) car)) (gap-ahead p s x y c same)
 
--- a car does not come to a cell behind it, or farther ahead than it drives
+-- a car does not arrive at a cell to which its speed does not bring it
 not_from : (j c : ℕ) (v : Vehicle → ℕ) (o : Option Vehicle) → ((car : Vehicle) → (c + v car == j) ≡ false) → arrival_from j c v o ≡ None
 not_from j c v None never = refl
 not_from j c v (Some car) never = ap (λ b. cond b (Some (record { number = car.number; speed = v car })) None) (never car)
 
--- nothing is found if there is nothing
+-- a search finds nothing if the function has no value from a on
 first-none : (f : ℕ → Option Vehicle) (a n : ℕ) → ((c : ℕ) → a ≤ c → f c ≡ None) → first_some f (range_with_len a n) ≡ None
 first-none f a zero none = refl
 first-none f a (suc n) none = ap (λ o. option_or o (first_some f (range_with_len (a + 1) n))) (none a (omega arith)) ∙ first-none f (a + 1) n (λ c le. none c (omega arith))
 
--- a longer search finds no more if there is nothing farther on
+-- a longer search finds no more if the function has no value farther on
 first-longer : (f : ℕ → Option Vehicle) (a n more : ℕ) → ((c : ℕ) → a + n ≤ c → f c ≡ None) → first_some f (range_with_len a (n + more)) ≡ first_some f (range_with_len a n)
 first-longer f a zero more none =
     let many : 0 + more ≡ more = omega arith in

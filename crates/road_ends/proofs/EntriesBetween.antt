@@ -21,7 +21,7 @@ use Rattle.road_ends.specs.Laws.{AgreeNear}
 use Rattle.road_ends.specs.EntriesBetween.{entries_between, input_between, with_entry}
 use Rattle.road_ends.specs.Span.{Span, IsInputNear}
 
--- cars end where their places do
+-- the cars of a list of places end where the places end, or before
 pub end_of-cars_from : (k : ℕ) (places : List (Option Vehicle)) → end_of (cars_from k places) ≤ k + length places
 end_of-cars_from k [] = omega arith
 end_of-cars_from k (None ∷ places) = let rest = end_of-cars_from (k + 1) places in omega arith
@@ -33,7 +33,7 @@ given_at f zero a j below = absurd (omega arith)
 given_at f (suc n) a zero below = let here : a ≡ a + 0 = omega arith in ap f here
 given_at f (suc n) a (suc j) below = let next : (a + 1) + j ≡ a + suc j = omega arith in given_at f n (a + 1) j (omega arith) ∙ ap f next
 
--- the array of the cars that a function has between two cells has there the values of the function
+-- between two cells, the array of the cars that a function has there has the values of the function
 pub between-at : (f : ℕ → Option Vehicle) (lo hi c : ℕ) → lo ≤ c → c < hi → vehicle_at (array_of (cars_from lo (map f (range_with_len lo (hi - lo))))) c ≡ f c
 between-at f lo hi c above below =
     let here : c ≡ lo + (c - lo) = omega arith in
@@ -42,7 +42,7 @@ between-at f lo hi c above below =
     ∙ vehicle_among-cars_from lo (c - lo) (map f (range_with_len lo (hi - lo)))
     ∙ given_at f (hi - lo) lo (c - lo) (omega arith) ∙ sym (ap f here)
 
--- and it is no longer than that
+-- that array ends at the second cell or before
 pub between-ends : (f : ℕ → Option Vehicle) (lo hi n : ℕ) → hi ≤ n → length (array_of (cars_from lo (map f (range_with_len lo (hi - lo))))) ≤ n
 between-ends f lo hi n within = elim (cases_lt lo hi) as (λ _. length (array_of (cars_from lo (map f (range_with_len lo (hi - lo))))) ≤ n) [
   | inl some ↦
@@ -57,18 +57,18 @@ between-ends f lo hi n within = elim (cases_lt lo hi) as (λ _. length (array_of
       omega arith
 ]
 
--- on the whole road it is the road with its entries
+-- between the ends of the road, the cells with the cars that enter are the road with its entries
 pub whole-entries : (p : Plan) (s : Settings) (t : ℕ) (a : Array) (lo hi : ℕ) → lo ≡ 0 → hi ≡ p.cells → entries_between lo hi p s t a ≡ road_with_entries p s t a
 whole-entries p s t a lo hi begin end =
     let all : hi - lo ≡ p.cells = omega arith in
     (λ i. array_of (cars_from (begin i) (map (with_entry p s t a) (range_with_len (begin i) (all i)))))
     ∙ array_of-cars_from p.cells (with_entry p s t a)
 
--- so the input there is that of the step
+-- so the input between the ends of the road is the input of the step
 pub whole-input : (p q : Plan) (s : Settings) (t : ℕ) (a : Array) (lo hi : ℕ) → q ≡ p → lo ≡ 0 → hi ≡ q.cells → input_between lo hi p s t a ≡ input_of p s t a
 whole-input p q s t a lo hi same begin end = ap (λ a. record { plan = p; settings = s; step = t; road = a }) (whole-entries p s t a lo hi begin (end ∙ ap (λ (p : Plan). p.cells) same))
 
--- near a stretch it agrees with the road with its entries
+-- near a stretch, the cells with the cars that enter agree with the road with its entries
 pub near-entries : (p : Plan) (s : Settings) (t : ℕ) (a : Array) (lo hi k from to : ℕ) → from ≡ lo - GREATEST_SPEED * k → to ≡ min (hi + GREATEST_SPEED * k) p.cells
     → AgreeNear k lo hi (entries_between from to p s t a) (road_with_entries p s t a)
 near-entries p s t a lo hi k from to begin end = record {
@@ -80,7 +80,7 @@ near-entries p s t a lo hi k from to begin end = record {
   ];
 }
 
--- so the road with its entries near a stretch makes the input of a step of a span there
+-- so the cells near a stretch, with the cars that enter, make an input near the stretch of a step of a span
 pub near-input : (span : Span) (p q : Plan) (s : Settings) (done t : ℕ) (a : Array) (lo hi from to : ℕ) (input : StepInput) → p ≡ span.plan → q ≡ span.plan → s ≡ span.settings → t ≡ span.step + done
     → from ≡ lo - GREATEST_SPEED * (span.steps - done) → to ≡ min (hi + GREATEST_SPEED * (span.steps - done)) q.cells → input ≡ input_between from to p s t a
     → IsInputNear lo hi span done a input

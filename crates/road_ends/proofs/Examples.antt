@@ -74,7 +74,7 @@ blocked_ahead_at_6 : row free_road blocked_ahead 6 ≡ codes "0..2..10#..."
 unfolding free_before
 blocked_ahead_at_6 = refl
 
--- cell 7 is blocked from step 4 on, where a car stands: it drives away, and the next one stops before it
+-- cell 7, which has a car on it, is blocked from step 4 on: the car drives away, and the next one stops before the cell
 abbrev blocked_under_car : Course
 blocked_under_car step = record (defaults free_road) { blocks = if nat_lt step 4 then [] else 7 ∷ [] }
 

@@ -79,7 +79,7 @@ each_step law p holds = record { on_arrays = holds; in_runs = λ course t. holds
 pub keep_below_greatest_speed : (p : Plan) → HoldsInEachStep KeepBelowGreatestSpeed p
 keep_below_greatest_speed p = each_step KeepBelowGreatestSpeed p (λ s t a on_road c car. speed-most p s t a c car)
 
--- a car stands below the end of its array
+-- a car's cell is below the end of its array
 below_end : (a : Array) (n c : ℕ) (x : Vehicle) → length a ≤ n → vehicle_at a c ≡ Some x → c < n
 below_end a n c x long here = elim (cases_lt c (length a)) as (λ _. c < n) [
   | inl below ↦ omega arith

@@ -68,7 +68,7 @@ entered_at p s t c car (Some i) place enters = elim (is_admitting p s t c i) as 
   | false ↦ λ is. let never : None ≡ Some car = is in cc
 ] enters
 
--- a car that enters came by an inlet
+-- a car that enters came in at an inlet
 pub entered_by : (p : Plan) (s : Settings) (t c : ℕ) (car : Vehicle) → entry_at p s t c ≡ Some car → EnteredBy p t c car
 entered_by p s t c car enters = entered_at p s t c car (position (λ inlet. nat_eq c inlet.0) p.inlets) refl enters
 

@@ -32,7 +32,7 @@ admitted_car p s t c None = None
 admitted_car p s t c (Some i) = if is_admitting p s t c i then Some (record { number = car_number t i; speed = 0 })
     else None
 
--- the car that wants to enter at cell c: it can only be an inlet's cell
+-- the car that enters at cell c if the cell is empty: there is none if the cell is not an inlet's
 abbrev pub entry_at : Plan → Settings → ℕ → ℕ → Option Vehicle
 entry_at p s t c = admitted_car p s t c (position (λ inlet. nat_eq c inlet.0) p.inlets)
 

@@ -23,7 +23,7 @@ pub record HoldsInEachStep (law : StepLaw) (p : Plan) : Type 0 where
 abbrev pub target : Plan → Settings → ℕ → Array → ℕ → Vehicle → ℕ
 target p s t a c car = c + speed p s t a c car
 
--- no car is faster than the greatest speed
+-- no car is faster than the maximum speed
 abbrev pub KeepBelowGreatestSpeed : StepLaw
 KeepBelowGreatestSpeed p s t a = (c : ℕ) (car : Vehicle) → speed p s t a c car ≤ GREATEST_SPEED
 
@@ -48,13 +48,13 @@ StopAtBlocks p s t a = (c j : ℕ) (x : Vehicle) → vehicle_at a c ≡ Some x �
     → c < j
     → target p s t a c x < j
 
--- no number is on the road twice
-abbrev pub HaveOwnNumbers : Plan → Type 0
-HaveOwnNumbers p = (course : Course) (t c d : ℕ) (x y : Vehicle)
+-- no two cars on the road have the same number
+abbrev pub HaveUniqueNumbers : Plan → Type 0
+HaveUniqueNumbers p = (course : Course) (t c d : ℕ) (x y : Vehicle)
     → vehicle_at (run p course t) c ≡ Some x → vehicle_at (run p course t) d ≡ Some y
     → x.number ≡ y.number → c ≡ d
 
--- at step t each car is before the deleted zone, not too fast, and numbered by a step before t
+-- at step t each car is before the deleted zone, not too fast, and numbered in a step before t
 pub record IsOnRoad (p : Plan) (t c : ℕ) (car : Vehicle) : Type 0 where
   pub before_exit : c < exit_start p
   pub slow_enough : car.speed ≤ GREATEST_SPEED
@@ -65,13 +65,13 @@ abbrev pub StayOnRoad : Plan → Type 0
 StayOnRoad p = (course : Course) (t c : ℕ) (car : Vehicle) → vehicle_at (run p course t) c ≡ Some car
     → IsOnRoad p t c car
 
--- up to the greatest horizon a car's number has 24 bits
+-- up to the maximum horizon a car's number has 24 bits
 abbrev pub HaveShortNumbers : Plan → Type 0
 HaveShortNumbers p = (course : Course) (t c : ℕ) (car : Vehicle) → t ≤ GREATEST_HORIZON
     → vehicle_at (run p course t) c ≡ Some car
     → car.number < 2 ^ 24
 
--- locality: courses of settings that agree below step s give the same run up to s
+-- locality: courses of settings that agree before step s give the same run up to s
 abbrev pub DependOnEarlierSettings : Plan → Type 0
 DependOnEarlierSettings p = (f g : Course) (s : ℕ) → ((u : ℕ) → u < s → f u ≡ g u) → (t : ℕ) → t ≤ s
     → run p f t ≡ run p g t
@@ -80,8 +80,8 @@ DependOnEarlierSettings p = (f g : Course) (s : ℕ) → ((u : ℕ) → u < s �
 pub record AgreeBetween (a b : ℕ) (x y : Array) : Type 0 where
   pub same : (c : ℕ) → a ≤ c → c < b → vehicle_at x c ≡ vehicle_at y c
 
--- roads agree near a stretch: at all cells that can matter to it within k steps. These extend 9 cells for each step
--- behind it and ahead of it
+-- roads agree near a stretch: at all cells that can matter to it within k steps. These are the cells of the stretch
+-- and, for each step, 9 cells behind it and 9 ahead of it
 abbrev pub AgreeNear : ℕ → ℕ → ℕ → Array → Array → Type 0
 AgreeNear k lo hi x y = AgreeBetween (lo - GREATEST_SPEED * k) (hi + GREATEST_SPEED * k) x y
 

@@ -31,7 +31,7 @@ is_slowed p s t zone car =
     comes_about (word p.words car.number t)
     (chance_at car.speed (slice_index s.starts zone) (slice_index s.chances zone))
 
--- the new speed of a car at cell c: rules 1 to 3 with the limit and the chances of the zone where it stands
+-- the new speed of a car at cell c: rules 1 to 3 with the limit and the chances of the zone where it is
 -- (Nagel and Schreckenberg 1992)
 abbrev pub speed : Plan → Settings → ℕ → Array → ℕ → Vehicle → ℕ
 speed p s t a c car =

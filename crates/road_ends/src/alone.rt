@@ -26,13 +26,13 @@ pub struct Stepped {
     pub road: Road,
 }
 
-/// Compute one step of the road in a single caller: entries, speeds, motion, deletion. The settings must fit the plan.
-/// The meter counts the step once it is computed.
+/// Compute one whole step of the road: entries, speeds, motion, deletion. The settings must fit the plan. The meter
+/// counts the step once it is computed.
 ///
 /// # Errors
 ///
-/// `OutOfMemory` if an allocation failed: those of [`enter`], of the speeds, or of the new road. The meter is then
-/// unchanged.
+/// `OutOfMemory` if an allocation failed: one of [`enter`], that of the speeds, or that of the new road. The meter is
+/// then unchanged.
 pub fn step_alone(
     alloc: Global,
     plan: &Arc<Plan>,

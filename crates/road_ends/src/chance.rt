@@ -9,8 +9,7 @@ use road_plan::Plan;
 use road_plan::limits::CERTAIN;
 use road_words::{PlanWords, Words};
 
-// Return the slowing chance of a car: that of standing cars if its speed before the acceleration is 0, else that of
-// moving cars.
+// Return the slowing chance of a car: `standing` if its speed before the acceleration is 0, otherwise `moving`.
 pub(crate) fn chance_at(speed: u8, standing: u32, moving: u32) -> u32
     ensures { result ≡ chance_at speed standing moving }
 {
@@ -18,7 +17,7 @@ pub(crate) fn chance_at(speed: u8, standing: u32, moving: u32) -> u32
 }
 
 // Return whether a plan's word, at a place of a stream, makes the event of a chance happen. No word is drawn if the
-// chance is 0, or 65,536 and more: then it decides alone.
+// chance is 0, or 65,536 or more: then the chance alone decides.
 pub(crate) fn has_event(plan: &Plan, stream: u64, place: u64, chance: u32) -> bool
     ensures { result ≡ comes_about (word plan.now.words stream place) chance }
 {

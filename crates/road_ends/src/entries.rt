@@ -18,9 +18,9 @@ use std::alloc::Global;
 // The stream of the first inlet's words. The streams of the other inlets follow it.
 const FIRST_INLET_STREAM: u64 = 1 << 63;
 
-// Make the road with the cars that enter at a step: at each inlet whose cell is empty and not blocked, if the event of
-// the inflow chance happens. No car is past the road's end. The cars between two inlets are copied
-// unchanged. There is one allocation in all.
+// Make the road with the cars that enter at a step: one at each inlet whose cell is empty and not blocked, if the event
+// of its inflow chance happens. The new road has no car past the road's end. The cars between two inlets are copied
+// unchanged. It makes one allocation.
 pub(crate) fn road_with_entries(
     alloc: Global,
     at: StepSettings,
@@ -65,7 +65,7 @@ fn next_inlet(inlets: &[(u32, u32)], cell: u32, end: u32) -> u32
     next
 }
 
-// Find the car at a cell, or else let a car enter there.
+// Return the car at a cell, or else the car that enters there, if one does.
 fn car_or_entry_at(at: StepSettings, road: &Road, cell: u32) -> Option<Car>
     ensures { result ≡ option_map (car_of cell)
         (option_or (vehicle_at road.now cell) (entry_at at.entry.plan.now at.entry.settings.now at.entry.step cell)) }
@@ -76,7 +76,7 @@ fn car_or_entry_at(at: StepSettings, road: &Road, cell: u32) -> Option<Car>
     }
 }
 
-// Let a car enter at a cell, if the cell is an inlet's.
+// Return the car that enters at an empty cell. None does if the cell is not an inlet's.
 fn entry_at(at: StepSettings, cell: u32) -> Option<Car>
     ensures { result ≡ option_map (car_of cell)
         (entry_at at.entry.plan.now at.entry.settings.now at.entry.step cell) }

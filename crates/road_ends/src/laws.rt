@@ -1,12 +1,13 @@
-//! Laws of every step of a plan, from any road whose cars are on it, and of every run, for every course of settings.
-//! Each law is the contract of a function that does nothing when it runs, except for [`gap_on_road`], which counts.
+//! Laws of every step of a plan, from any road that has no car past its end, and of every run, for every course of
+//! settings. Each law is the contract of a function that does nothing when it runs, except for [`gap_on_road`], which
+//! counts free cells.
 
 ghost use Rattle.std.specs.Prelude.{◌≡◌, ◌<◌, ◌≤◌, length};
 ghost use Rattle.road_plan.specs.Settings.{Fits};
 ghost use Rattle.road_cells.specs.Cars.{cars_of, cell_at};
 ghost use Rattle.road_ends.specs.Laws.{HoldsInEachStep, KeepBelowGreatestSpeed, NeverCollide, ArriveAlone, KeepOrder};
 ghost use Rattle.road_ends.specs.Laws.{StopAtBlocks};
-ghost use Rattle.road_ends.specs.Laws.{HaveOwnNumbers, HaveShortNumbers, StayOnRoad, DependOnCellsNearby};
+ghost use Rattle.road_ends.specs.Laws.{HaveUniqueNumbers, HaveShortNumbers, StayOnRoad, DependOnCellsNearby};
 ghost use Rattle.road_ends.specs.Laws.{DependOnEarlierSettings};
 ghost use Rattle.road_ends.specs.Speed.{gap};
 
@@ -26,7 +27,7 @@ pub fn gap_on_road(plan: &Plan, settings: &Settings, road: &Road, place: usize) 
     road.gap(place, settings.blocks())
 }
 
-/// Show that no car is faster than the greatest speed, 9 cells per step.
+/// Show that no car is faster than the maximum speed, 9 cells per step.
 pub fn cars_keep_below_greatest_speed(plan: &Plan)
     ensures { HoldsInEachStep KeepBelowGreatestSpeed plan.now }
 {}
@@ -51,22 +52,21 @@ pub fn cars_stop_at_blocks(plan: &Plan)
     ensures { HoldsInEachStep StopAtBlocks plan.now }
 {}
 
-/// Show that no number is on the road twice.
-pub fn cars_have_own_numbers(plan: &Plan)
-    ensures { HaveOwnNumbers plan.now }
+/// Show that no two cars on the road have the same number.
+pub fn car_numbers_are_unique(plan: &Plan)
+    ensures { HaveUniqueNumbers plan.now }
 {
     prove!(plan.length() <= GREATEST_LENGTH);
 }
 
-/// Show that each car is before the deleted zone, at most as fast as the greatest speed, and numbered by an earlier
-/// step.
+/// Show that each car is before the deleted zone, not faster than the maximum speed, and numbered in an earlier step.
 pub fn cars_stay_on_road(plan: &Plan)
     ensures { StayOnRoad plan.now }
 {
     prove!(plan.length() <= GREATEST_LENGTH);
 }
 
-/// Show that up to the greatest horizon each car's number is below 2^24.
+/// Show that up to the maximum horizon each car's number is below 2^24.
 pub fn car_numbers_are_short(plan: &Plan)
     ensures { HaveShortNumbers plan.now }
 {
@@ -79,7 +79,8 @@ pub fn runs_depend_on_earlier_settings(plan: &Plan)
 {}
 
 /// Show locality in space: no car drives farther in a step than 9 cells, and no car looks farther ahead. So the cars on
-/// a stretch after some steps depend only on its cells, and on 9 cells for each step behind it and ahead of it.
+/// a stretch after some steps depend only on the cells of the stretch and, for each step, on 9 cells behind it and 9
+/// ahead of it.
 pub fn roads_depend_on_cells_nearby(plan: &Plan)
     ensures { DependOnCellsNearby plan.now }
 {}

@@ -34,14 +34,14 @@ impl Meter {
         *ticks
     }
 
-    /// Count a computed step. At the greatest count the meter stays unchanged.
+    /// Count a computed step. The count does not go above 2^64 - 1.
     pub fn tick(&mut self)
         ensures { self.new ≡ min (self.old + 1) u64.MAX }
     {
         self.ticks = self.ticks.saturating_add(1);
     }
 
-    /// Count `steps` computed steps. At the greatest count the meter stays unchanged.
+    /// Count `steps` computed steps. The count does not go above 2^64 - 1.
     pub fn count(&mut self, steps: u32)
         ensures { self.new ≡ min (self.old + steps) u64.MAX }
     {

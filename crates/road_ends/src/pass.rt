@@ -21,7 +21,7 @@ pub(crate) fn speeds(alloc: Global, at: StepSettings, road: &Road) -> Result<Vec
 }
 
 // Compute the new speeds of the cars at the places from `first` to before `end`, in the order of the cars. It visits
-// these cars from the far end, and so passes the blocked cells once. There is one allocation.
+// these cars from the last to the first, and so passes each blocked cell only once. It makes one allocation.
 pub(crate) fn speeds_between(
     alloc: Global,
     at: StepSettings,
@@ -46,8 +46,8 @@ pub(crate) fn speeds_between(
     Ok(new)
 }
 
-// Compute the new speed of the car at a place, by the limit and the slowing chance of the zone where it stands. The
-// first `reached` of the blocked cells are not in front of it.
+// Compute the new speed of the car at a place, by the limit and the slowing chance of the zone where the car is. The
+// first `reached` of the blocked cells are not in front of the car, and all others are.
 fn new_speed(at: StepSettings, road: &Road, place: usize, reached: usize) -> u8
     requires on_road { length road.now ≤ at.plan.now.cells }
     requires car { place < length (cars_of road.now) }

@@ -42,7 +42,7 @@ impl Model for Span {
 
 impl Span {
     /// Make a span of `steps` steps from `step` on. The settings must fit the plan, and the steps must end at 1,048,576
-    /// or before. It takes no memory.
+    /// or before. It does not allocate.
     pub fn new(plan: Arc<Plan>, settings: Arc<Settings>, step: u32, steps: u32) -> Span
         requires fits { Fits (arc_value plan) (arc_value settings) }
         requires within_limit { step + steps ≤ GREATEST_HORIZON }
@@ -91,7 +91,7 @@ impl Span {
         *steps
     }
 
-    /// Make another span of the same plan, settings and steps.
+    /// Make an equal span, which shares the plan and the settings.
     ///
     /// # Errors
     ///
@@ -109,7 +109,7 @@ impl Span {
         })
     }
 
-    /// Return whether two spans are the same: in their steps, plan and settings. It takes no memory.
+    /// Return whether two spans have the same steps, plan and settings. It does not allocate.
     pub fn same(&self, other: &Span) -> bool
         ensures { IsTrue result ↔ (self.now ≡ other.now) }
     {

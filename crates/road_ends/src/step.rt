@@ -12,7 +12,7 @@ use road_plan::Plan;
 use road_rules::moved;
 use std::alloc::Global;
 
-/// Delete the cars in the road's deleted zone or past it. It takes no memory.
+/// Delete the cars in the road's deleted zone or past it. It does not allocate.
 pub fn leave(plan: &Plan, road: Road) -> Road
     ensures { result ≡ road_before_exit plan.now road }
 {

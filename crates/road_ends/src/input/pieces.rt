@@ -1,4 +1,4 @@
-//! The speeds of a piece of the cars: the share of one worker of many.
+//! The speeds of a piece of the cars: one worker's share.
 
 ghost use Rattle.std.specs.Prelude.{◌≡◌, ◌≤◌, length, IfOk};
 ghost use Rattle.road_cells.specs.Cars.{cars_of};
@@ -11,8 +11,8 @@ use std::alloc::Global;
 
 impl StepInput {
     /// Compute the new speeds of the cars at the places from `first` to before `end`, in their order. `first` must be
-    /// at most `end`, and `end` at most the number of cars. It is one pass over these cars only, and it reads the whole
-    /// road.
+    /// at most `end`, and `end` at most the number of cars. It visits only these cars, but it needs the whole road: the
+    /// last of them may be close to a car in front that is not among them.
     ///
     /// # Errors
     ///

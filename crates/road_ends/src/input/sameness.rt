@@ -7,7 +7,7 @@ use road_cells::{Car, Road};
 use road_plan::{Plan, Settings};
 
 impl StepInput {
-    /// Return whether two inputs are the same: in step, road, plan and settings. It takes no memory.
+    /// Return whether two inputs have the same step, road, plan and settings. It does not allocate.
     pub fn same(&self, other: &StepInput) -> bool
         ensures { IsTrue result ↔ (self.now ≡ other.now) }
     {
@@ -24,7 +24,7 @@ fn is_same_road(road: &Road, other: &Road) -> bool
     are_same_cars(road.cars(), other.cars())
 }
 
-/// Return whether two plans are the same. It takes no memory.
+/// Return whether two plans are the same. It does not allocate.
 pub fn is_same_plan(plan: &Plan, other: &Plan) -> bool
     ensures { IsTrue result ↔ (plan.now ≡ other.now) }
 {
@@ -57,7 +57,7 @@ fn have_same_lists(plan: &Plan, other: &Plan) -> bool
         && are_same_numbers(plan.detectors(), other.detectors())
 }
 
-/// Return whether two settings are the same. It takes no memory.
+/// Return whether two settings are the same. It does not allocate.
 pub fn are_same_settings(settings: &Settings, other: &Settings) -> bool
     ensures { IsTrue result ↔ (settings.now ≡ other.now) }
 {
@@ -105,7 +105,7 @@ fn are_same_flags(flags: &[bool], other: &[bool]) -> bool
     flags == other
 }
 
-/// Return whether two lists of cars are the same. It takes no memory.
+/// Return whether two lists of cars are the same. It does not allocate.
 // This loop takes less time for each car than `==` of the lists does.
 pub fn are_same_cars(cars: &[Car], other: &[Car]) -> bool
     ensures { IsTrue result ↔ (cars.now ≡ other.now) }

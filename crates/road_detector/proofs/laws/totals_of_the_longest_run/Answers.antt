@@ -1,4 +1,4 @@
--- A total of at most one car for each step up to the greatest horizon.
+-- A total has at most one car for each step up to the maximum horizon.
 use Rattle.std.proofs.Common.{arith}
 use Rattle.road_detector.proofs.laws.totals_of_the_longest_run.Goals as goal
 

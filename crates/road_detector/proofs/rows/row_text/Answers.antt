@@ -1,4 +1,4 @@
--- A row with its blocks and cars marked is a text, and it is the row of the road.
+-- A row with its blocks and cars marked is valid text, and it is the row of the road.
 use Rattle.std.proofs.Common.{◌≡◌, ℕ, Vec, Global, Result, Ok, ◌<◌, ◌∙◌, sym, ap, subst}
 use Rattle.std.specs.Prelude.{IfOk}
 use Rattle.std.specs.List.{All}

@@ -1,4 +1,4 @@
--- A car is numbered by a step before the greatest horizon.
+-- A car is numbered in a step before the maximum horizon.
 use Rattle.std.proofs.Common.{arith}
 use Rattle.road_ends.proofs.laws.car_numbers_are_short.Goals as goal
 

@@ -1,4 +1,4 @@
--- No car is faster than the greatest speed.
+-- No car is faster than the maximum speed.
 use Rattle.road_ends.proofs.NoCollision.{keep_below_greatest_speed}
 use Rattle.road_ends.proofs.laws.cars_keep_below_greatest_speed.Goals as goal
 

@@ -1,4 +1,4 @@
--- One car after another has its speed, and the blocked cells in front of it are found from those of the last one.
+-- Each visited car gets its new speed. The count of blocked cells is found from the count for the car visited before.
 use Rattle.std.proofs.Common.{◌≡◌, ◌∙◌, ◌<◌, ◌-◌, ℕ, inl, inr, sym, ap, subst, arith, length, slice_set, List}
 use Rattle.std.specs.Prelude.{slice_index}
 use Rattle.std.proofs.lemmas.Bool.{cases_lt}

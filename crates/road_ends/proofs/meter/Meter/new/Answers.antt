@@ -1,4 +1,4 @@
--- A new meter stands at 0.
+-- A new meter is at 0.
 use Rattle.std.proofs.Common.{rules}
 use Rattle.road_ends.proofs.meter.Meter.new.Goals as goal
 

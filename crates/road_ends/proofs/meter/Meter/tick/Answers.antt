@@ -1,4 +1,4 @@
--- One more, up to the greatest.
+-- One more, up to the largest count.
 use Rattle.std.proofs.Common.{rules}
 use Rattle.road_ends.proofs.meter.Meter.tick.Goals as goal
 
