@@ -20,7 +20,7 @@ use Rattle.road_columns.specs.Private.Motion.{chance_at}
 use Rattle.road_columns.specs.Private.Pieces.{IsHigh16At, MovesCars}
 use Rattle.road_columns.specs.Private.Regions.{AreEndsOf, IsOfRegion, region_at, wish_at}
 use Rattle.road_columns.specs.Private.Running.{AreReady}
-use Rattle.road_columns.specs.Private.Sites.{IsOfSteps, passes_of, unpacked}
+use Rattle.road_columns.specs.Private.Sites.{IsOfSteps, passes_of, totals_of_count}
 use Rattle.road_columns.specs.Private.Step.{AreCarsInColumn, LetsLeave}
 use Rattle.road_columns.specs.declared.cars.CarColumns.{CarColumns}
 use Rattle.road_columns.specs.declared.interval.IntervalWords.{IntervalWords}
@@ -217,8 +217,8 @@ module _ (g : Layout) (t : ℕ) (cars moved cars' : CarColumns) (words : Interva
         (slice_index g.plan.now.detectors d) place (t % 64) count (slice_index_or g.settings.now.watched d false) some place_from place_to (omega arith) of_steps
 
     pub counted_is : (b : Array) → length b ≤ g.plan.now.cells → AreCarsOf b cars
-        → unpacked (count + passes_of moved.cells.items moved.speeds.items (slice_index_or g.settings.now.watched d false) (slice_index g.plan.now.detectors d) place)
-        ≡ plus (unpacked count) (passes_at (record { plan = g.plan.now; settings = g.settings.now; step = t; road = b }) (input_speeds (record { plan = g.plan.now; settings = g.settings.now; step = t; road = b })) d)
+        → totals_of_count (count + passes_of moved.cells.items moved.speeds.items (slice_index_or g.settings.now.watched d false) (slice_index g.plan.now.detectors d) place)
+        ≡ plus (totals_of_count count) (passes_at (record { plan = g.plan.now; settings = g.settings.now; step = t; road = b }) (input_speeds (record { plan = g.plan.now; settings = g.settings.now; step = t; road = b })) d)
     counted_is b on_road columns =
         let inside = are.standing.cars_are.inside in
         let long = moves.cells_each in

@@ -10,17 +10,17 @@ use Rattle.road_ends.specs.Input.{input_speeds}
 use Rattle.road_ends.specs.Speed.{speeds}
 use Rattle.road_detector.specs.Passes.{drives, no_totals, passes_at, plus, totals_of}
 use Rattle.road_columns.specs.Columns.{AreColumnsOf, mirrored}
-use Rattle.road_columns.specs.Private.Sites.{IsOfSteps, IsPlaceOf, counted, is_past, passes_of, unpacked}
+use Rattle.road_columns.specs.Private.Sites.{IsOfSteps, IsPlaceOf, pass_count, is_past, passes_of, totals_of_count}
 use Rattle.road_columns.proofs.CountedPasses.{alone, counted_at_place, counted_nowhere}
 
-totals_alone : (hit : Bool) (v : ℕ) → v < 65536 → record { cars = length (alone hit v); speeds = sum (alone hit v) } ≡ unpacked (counted hit true v)
+totals_alone : (hit : Bool) (v : ℕ) → v < 65536 → record { cars = length (alone hit v); speeds = sum (alone hit v) } ≡ totals_of_count (pass_count hit true v)
 totals_alone true v small =
     let one : 1 ≡ (65536 + v) / 65536 = omega arith in
     let all : 0 + v ≡ (65536 + v) % 65536 = omega arith in
     (λ i. record { cars = one i; speeds = all i })
 totals_alone false v small = refl
 
-off : (hit : Bool) (v : ℕ) → no_totals ≡ unpacked (counted hit false v)
+off : (hit : Bool) (v : ℕ) → no_totals ≡ totals_of_count (pass_count hit false v)
 off true v = refl
 off false v = refl
 
@@ -32,19 +32,19 @@ pub packed_passes : (p : Plan) (s : Settings) (t : ℕ) (b : Array) (cells old n
     → ((i : ℕ) → i < length cells → slice_index vs i ≡ slice_index (speeds p s t b) (mirrored (length cells) i))
     → IsPlaceOf cells (slice_index p.detectors d) place → place < length cells → slice_index vs place < 65536
     → passes_at (record { plan = p; settings = s; step = t; road = b }) (input_speeds (record { plan = p; settings = s; step = t; road = b })) d
-    ≡ unpacked (passes_of new vs (slice_index_or s.watched d false) (slice_index p.detectors d) place)
+    ≡ totals_of_count (passes_of new vs (slice_index_or s.watched d false) (slice_index p.detectors d) place)
 packed_passes p s t b cells old numbers new vs d place long columns as_many moved apart are is inside small = by_test (slice_index_or s.watched d false)
   where
     site : ℕ
     site = slice_index p.detectors d
 
-    by_test : (on : Bool) → cond on (totals_of (slice_index p.detectors d) (drives (cars_of b) (speeds p s t b))) no_totals ≡ unpacked (passes_of new vs on (slice_index p.detectors d) place)
+    by_test : (on : Bool) → cond on (totals_of (slice_index p.detectors d) (drives (cars_of b) (speeds p s t b))) no_totals ≡ totals_of_count (passes_of new vs on (slice_index p.detectors d) place)
     by_test true =
         ap (λ xs. record { cars = length xs; speeds = sum xs }) (counted_at_place p s t b cells old numbers new vs (slice_index p.detectors d) place long columns as_many moved apart are is inside)
         ∙ totals_alone (is_past new (slice_index p.detectors d) place) (slice_index vs place) small
     by_test false = off (is_past new (slice_index p.detectors d) place) (slice_index vs place)
 
--- one step of one detector if no car stands before the site
+-- one step of one detector if no car is before the site
 pub packed_nowhere : (p : Plan) (s : Settings) (t : ℕ) (b : Array) (cells old numbers new vs : List ℕ) (d place : ℕ) → length b ≤ p.cells
     → AreColumnsOf b cells old numbers → length new ≡ length cells
     → ((i : ℕ) → i < length cells → slice_index new i ≡ slice_index cells i + slice_index vs i)
@@ -60,7 +60,7 @@ packed_nowhere p s t b cells old numbers new vs d place long columns as_many mov
 
 -- counts, one after another
 pub packed_plus : (k n : ℕ) (hit watched : Bool) (v : ℕ) → k < 64 → v ≤ 9 → IsOfSteps k n
-    → unpacked (n + counted hit watched v) ≡ plus (unpacked n) (unpacked (counted hit watched v))
+    → totals_of_count (n + pass_count hit watched v) ≡ plus (totals_of_count n) (totals_of_count (pass_count hit watched v))
 packed_plus k n true true v early slow is =
     let few = is.few in
     let cars : (n + (65536 + v)) / 65536 ≡ n / 65536 + (65536 + v) / 65536 = omega arith in
@@ -68,20 +68,20 @@ packed_plus k n true true v early slow is =
     (λ i. record { cars = cars i; speeds = all i })
 packed_plus k n true false v early slow is = nothing n
   where
-    nothing : (n : ℕ) → unpacked (n + 0) ≡ plus (unpacked n) (unpacked 0)
+    nothing : (n : ℕ) → totals_of_count (n + 0) ≡ plus (totals_of_count n) (totals_of_count 0)
     nothing n =
         let cars : (n + 0) / 65536 ≡ n / 65536 + 0 = omega arith in
         let all : (n + 0) % 65536 ≡ n % 65536 + 0 = omega arith in
         (λ i. record { cars = cars i; speeds = all i })
 packed_plus k n false watched v early slow is = nothing n
   where
-    nothing : (n : ℕ) → unpacked (n + 0) ≡ plus (unpacked n) (unpacked 0)
+    nothing : (n : ℕ) → totals_of_count (n + 0) ≡ plus (totals_of_count n) (totals_of_count 0)
     nothing n =
         let cars : (n + 0) / 65536 ≡ n / 65536 + 0 = omega arith in
         let all : (n + 0) % 65536 ≡ n % 65536 + 0 = omega arith in
         (λ i. record { cars = cars i; speeds = all i })
 
-pub one_step_more : (k n : ℕ) (hit watched : Bool) (v : ℕ) → k < 64 → v ≤ 9 → IsOfSteps k n → IsOfSteps (k + 1) (n + counted hit watched v)
+pub one_step_more : (k n : ℕ) (hit watched : Bool) (v : ℕ) → k < 64 → v ≤ 9 → IsOfSteps k n → IsOfSteps (k + 1) (n + pass_count hit watched v)
 one_step_more k n true true v early slow is = let few = is.few in let short = is.short in record { few = omega arith; short = omega arith }
 one_step_more k n true false v early slow is = let few = is.few in let short = is.short in record { few = omega arith; short = omega arith }
 one_step_more k n false watched v early slow is = let few = is.few in let short = is.short in record { few = omega arith; short = omega arith }

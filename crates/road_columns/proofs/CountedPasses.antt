@@ -88,7 +88,7 @@ counted_at_place p s t a cells old numbers new vs site place long columns as_man
         drive_at (cars_of a) (speeds p s t a) (mirrored (length cells) i) d each (omega arith)
         ∙ (λ j. record { cell = sym (columns.cell_each i below) j; speed = sym (are i below) j })
 
--- if no car stands before a site, no car is counted
+-- if no car is before a site, no car is counted
 pub counted_nowhere : (p : Plan) (s : Settings) (t : ℕ) (a : Array) (cells old numbers new vs : List ℕ) (site place : ℕ) → length a ≤ p.cells
     → AreColumnsOf a cells old numbers → length new ≡ length cells
     → ((i : ℕ) → i < length cells → slice_index new i ≡ slice_index cells i + slice_index vs i)

@@ -10,7 +10,7 @@ use Rattle.road_columns.specs.declared.cars.CarColumns.{CarColumns}
 use Rattle.road_columns.specs.declared.interval.IntervalWords.{IntervalWords}
 use Rattle.road_columns.proofs.LooseWords.{fall_to}
 
--- no more cars stand before the exit than there are cells
+-- no more cars are before the exit than there are cells
 pub few_cars : (p : Plan) (head tail : ℕ) (cells : List ℕ) → AreCarsInColumn p head tail cells → tail - head ≤ exit_start p
 few_cars p head tail cells cars = elim (cases_lt head tail) as (λ _. tail - head ≤ exit_start p) [
   | inl some ↦

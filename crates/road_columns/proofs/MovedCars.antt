@@ -104,7 +104,7 @@ module _ (p : Plan) (s : Settings) (t : ℕ) (regions : List Region) (cells old 
       bool_cases true = inl refl
       bool_cases false = inr refl
 
-  -- the speeds are those of the definition, of the road whose cars stand in the columns
+  -- the speeds are those of the definition, for the road whose cars are in the columns
   pub speed_is : (b : Array) → length b ≤ p.cells → AreColumnsOf b (slice_range cells head tail) (slice_range old head tail) (slice_range numbers head tail)
       → (q : ℕ) → head ≤ q → q < tail → slice_index vs q ≡ slice_index (speeds p s t b) (mirrored (tail - head) (q - head))
   speed_is b long columns q low high =

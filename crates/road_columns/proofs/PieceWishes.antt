@@ -65,7 +65,7 @@ pub wish_same : (limit block q : ℕ) (cells cells' speeds speeds' : List ℕ) �
     → slice_index speeds q ≡ slice_index speeds' q → wish_at limit block cells speeds q ≡ wish_at limit block cells' speeds' q
 wish_same limit block q cells cells' speeds speeds' ahead cell speed = λ i. wanted_speed (speed i) limit (min GREATEST_SPEED (min (ahead i) block - (cell i + 1)))
 
--- each car stands before the one in front of it, the first one before the cell in front of all
+-- each car is before the one in front of it, and the first one is before the cell in front of all
 pub falls : (head tail q : ℕ) (cells : List ℕ) → 0 < head → AreFalling cells head tail → (head < tail → slice_index cells head < slice_index cells (head - 1)) → head ≤ q → q < tail
     → slice_index cells q < slice_index cells (q - 1)
 falls head tail q cells some falling front low high = elim (cases_eq q head) as (λ _. slice_index cells q < slice_index cells (q - 1)) [

@@ -1,4 +1,4 @@
--- The sites of a step: where each kind of them stands in the list, and that all are before the exit.
+-- The sites of a step: where each kind of them is in the list, and that all are before the exit.
 use Rattle.std.specs.Prelude.{◌≡◌, ℕ, zero, suc, ◌+◌, ◌-◌, ◌<◌, ◌≤◌, List, length, slice_index, slice_range}
 use Rattle.std.proofs.Common.{ap, ◌∙◌, arith, refl, inl, inr, subst}
 use Rattle.std.proofs.lemmas.Bool.{cases_lt}
@@ -22,7 +22,7 @@ rises_from n xs rising (suc i) below =
     let earlier = rises_from n xs rising i (omega arith) in
     let next = rising.rising i (suc i) (omega arith) below in omega arith
 
--- the cars that have entered between others stand before the tail
+-- the cars that have entered between others are before the tail
 pub stand_before : (n tail : ℕ) (beside : List ℕ) (batches : List (List ℕ)) → AreInOrder (entered_in n beside batches) tail → (i : ℕ) → i < n → slice_index beside i < tail
 stand_before n tail beside batches order i below = all_at (λ car. car.place < tail) n (slice_index beside) (high16_in batches) order.low i below
 

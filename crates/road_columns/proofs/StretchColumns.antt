@@ -9,7 +9,7 @@ use Rattle.road_columns.specs.Columns.{AreColumnsOf}
 use Rattle.road_columns.specs.Private.CarsAt.{AreCarsAt, from_place}
 use Rattle.road_columns.proofs.ColumnPlaces.{cars_of_ranges, ranges_of_cars}
 
--- the first cars, which stand at a cell or past it, are removed
+-- the first cars, which are at a cell or past it, are removed
 pub cars_cut : (b : Array) (hi n m : ℕ) (cell speed number : ℕ → ℕ) → AreCarsAt (vehicle_at b) n cell speed number → m ≤ n
     → ((i : ℕ) → i < m → hi ≤ cell i) → ((i : ℕ) → m ≤ i → i < n → cell i < hi)
     → AreCarsAt (vehicle_at (array hi (vehicle_at b))) (n - m) (λ i. cell (m + i)) (λ i. speed (m + i)) (λ i. number (m + i))

@@ -26,7 +26,7 @@ use Rattle.road_columns.specs.UnderWay.{CanRun}
 use Rattle.road_columns.specs.Private.Held.{StandOn}
 use Rattle.road_columns.proofs.CarsByPlaces.{among_cars}
 
--- if all cars stand on some cells, the other cells are empty
+-- if all cars are on some cells, the other cells are empty
 pub nobody_outside : (lo hi : ℕ) (a : Array) → StandOn lo hi a → (c : ℕ) → (c < lo) ⊎ (hi ≤ c) → vehicle_at a c ≡ None
 nobody_outside lo hi a stand c outside = elim (vehicle_at a c) as (λ o. vehicle_at a c ≡ o → o ≡ None) [
   | None ↦ λ is. refl
@@ -104,7 +104,7 @@ among_all P (car ∷ cars) all c v is = elim (cases_eq car.cell c) as (λ _. P (
   | inr other ↦ among_all P cars (λ j d below. all (suc j) d (omega arith)) c v (sym (vehicle_among-other car cars c other) ∙ is)
 ]
 
--- the cars that a run can hold stand on its cells
+-- the cars that a run can hold are on its cells
 pub stand_all : (lo hi exit : ℕ) (cars : List Car) → All (CanRun lo hi exit) cars → StandOn lo hi (array_of cars)
 stand_all lo hi exit cars all = record {
   from = λ c v is. (among_all (CanRun lo hi exit) cars all c v (sym (vehicle_at-array_of cars c) ∙ is)).from;

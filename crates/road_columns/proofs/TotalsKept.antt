@@ -5,7 +5,7 @@ use Rattle.std.specs.List.{range_with_len, slice_index_or}
 use Rattle.std.proofs.lemmas.List.FromFn.{get_or-map-range_with_len, length-map-range_with_len}
 use Rattle.road_detector.specs.Passes.{no_totals, plus}
 use Rattle.road_detector.specs.declared.counts.Totals.{Totals}
-use Rattle.road_columns.specs.Private.Sites.{unpacked}
+use Rattle.road_columns.specs.Private.Sites.{totals_of_count}
 use Rattle.road_columns.specs.Private.Counts.{AreCounts, total_in, totals_in}
 
 -- functions that agree give the same list
@@ -29,13 +29,13 @@ plus_together x y z =
 
 -- one more step adds its counts
 pub totals_more : (passes passes' : List ℕ) (totals : List Totals) (more : ℕ → Totals) → length passes ≡ length totals
-    → ((d : ℕ) → d < length passes → unpacked (slice_index passes' d) ≡ plus (unpacked (slice_index passes d)) (more d))
+    → ((d : ℕ) → d < length passes → totals_of_count (slice_index passes' d) ≡ plus (totals_of_count (slice_index passes d)) (more d))
     → totals_in passes' totals ≡ map (λ d. plus (slice_index_or (totals_in passes totals) d no_totals) (more d)) (range_with_len 0 (length (totals_in passes totals)))
 totals_more passes passes' totals more many counted =
     same_list (total_in passes' totals) (λ d. plus (slice_index_or (totals_in passes totals) d no_totals) (more d)) 0 (length totals)
     (λ d from to.
     ap (plus (slice_index_or totals d no_totals)) (counted d (omega arith))
-    ∙ plus_together (slice_index_or totals d no_totals) (unpacked (slice_index passes d)) (more d)
+    ∙ plus_together (slice_index_or totals d no_totals) (totals_of_count (slice_index passes d)) (more d)
     ∙ ap (λ x. plus x (more d)) (sym (total_at passes totals d (omega arith))))
     ∙ ap (λ n. map (λ d. plus (slice_index_or (totals_in passes totals) d no_totals) (more d)) (range_with_len 0 n)) (sym (totals_long passes totals))
 
@@ -54,4 +54,4 @@ module _ (n t : ℕ) (passes : List ℕ) (totals : List Totals) (each : length p
   pub totals_cleared : totals_in passes totals ≡ map (λ d. no_totals) (range_with_len 0 n)
   totals_cleared =
       ap (λ m. map (total_in passes totals) (range_with_len 0 m)) totals_each
-      ∙ same_list (total_in passes totals) (λ d. no_totals) 0 n (λ d from to. (λ i. plus (none d (omega arith) i) (unpacked (empty d (omega arith) i))))
+      ∙ same_list (total_in passes totals) (λ d. no_totals) 0 n (λ d from to. (λ i. plus (none d (omega arith) i) (totals_of_count (empty d (omega arith) i))))

@@ -23,7 +23,7 @@ pub record UnderWay : Type 0 where
   pub road : Array
   pub totals : List Totals
 
--- a run can hold a car: the car stands on the cells from lo to before hi, before the exit, is not too fast, and has a
+-- a run can hold a car: the car is on the cells from lo to before hi, before the exit, is not too fast, and has a
 -- number below 2^32
 pub record CanRun (lo hi exit : ℕ) (car : Car) : Type 0 where
   pub from : lo ≤ car.cell

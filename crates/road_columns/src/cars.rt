@@ -17,8 +17,8 @@ use road_cells::{Car, Road};
 use road_ends::OutOfMemory;
 use std::alloc::Global;
 
-/// The cars of a road in columns, with the car at the far end first. They stand at the places from `head` to before
-/// `tail`. The cell in front of them is past every road, and the cell behind them is 0.
+/// The cars of a road in columns, with the car at the far end first. They are at the places from `head` to before
+/// `tail`. The cell stored in front of them is past every road, and the cell stored behind them is 0.
 #[derive(Drop)]
 pub struct CarColumns {
     pub cells: Vec<u16>,
@@ -39,7 +39,8 @@ pub struct CarColumns {
 impl CarColumns {
     ghost use Rattle.road_columns.specs.Private.Cars.{AreLonger, HoldsCars, PutsCar, road_of};
 
-    /// Return the length of a row in words: one word a place, and eight more, since eight columns are written at once.
+    /// Return the length of a row in words: one word for each place, and eight more, since eight columns are written
+    /// together.
     #[inline(always)]
     pub fn width(&self) -> usize
         ensures { result ≡ length self.now.cells.items + 8 }
@@ -47,7 +48,7 @@ impl CarColumns {
         self.cells.len() + 8
     }
 
-    /// Lengthen the columns to at least `long` places. The cars keep theirs.
+    /// Lengthen the columns to at least `long` places. The cars keep their places.
     ///
     /// # Errors
     ///
@@ -114,7 +115,7 @@ impl CarColumns {
         )
     }
 
-    /// Return how many cars there are.
+    /// Return the number of cars.
     pub fn count(&self) -> usize
         requires falling { AreFalling self.now.cells.items self.now.head self.now.tail }
         ensures { result ≡ length (cars_of (road_of self.now)) }
@@ -122,7 +123,7 @@ impl CarColumns {
         self.tail - self.head
     }
 
-    /// Find the place of the first car before each site.
+    /// Find the place of the first car before each site, and write it to `places`.
     #[inline(never)]
     pub fn find_places(&self, sites: &[u16], places: &mut [u32])
         requires falling { AreFalling self.now.cells.items self.now.head self.now.tail }
@@ -145,7 +146,7 @@ impl CarColumns {
         self.head + cars_past(&self.cells[self.head..self.tail], site)
     }
 
-    /// Insert a car with speed 0 at a place of the columns. The car stands at `cell`.
+    /// Insert a car with speed 0 at a place of the columns. The car is at `cell`.
     #[inline(always)]
     pub fn put(&mut self, place: usize, cell: u16, number: u32, sites: &[u16])
         requires order { place ≤ self.old.tail }
@@ -163,8 +164,8 @@ impl CarColumns {
     }
 }
 
-// Return the least length, `long` or more, for which a row of words ([`CarColumns::width`]) takes an odd number of
-// lines of 64 bytes: batches are written into such rows fastest.
+// Return the smallest length, `long` or more, for which a row of words ([`CarColumns::width`]) takes an odd number of
+// cache lines of 64 bytes: batches are written fastest into such rows.
 fn in_odd_lines(long: usize) -> usize
     requires { long < 2 ^ 62 }
     ensures enough { long ≤ result }
@@ -173,7 +174,7 @@ fn in_odd_lines(long: usize) -> usize
     long + (88 - long % 64) % 64
 }
 
-// Copy a column into one of `long` places. The new places hold `value`.
+// Copy a column into a new one of `long` places. The places that are added have `value`.
 fn copy_longer<T: Copy>(
     alloc: Global,
     column: &[T],
@@ -191,7 +192,7 @@ fn copy_longer<T: Copy>(
     Ok(longer)
 }
 
-/// Insert a value at a place of a column, before `tail`.
+/// Insert a value at a place of a column. The values from that place to before `tail` move one place further.
 #[inline(always)]
 pub fn insert<T: Copy>(column: &mut Vec<T>, place: usize, tail: usize, value: T)
     requires order { place ≤ tail }

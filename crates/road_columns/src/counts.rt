@@ -3,7 +3,7 @@
 ghost use Rattle.std.specs.Prelude.{◌≡◌, ◌<◌, ◌≤◌, ◌+◌, ◌*◌, ◌/◌, ◌%◌, ◌^◌, ℕ, length, slice_index, IfOk, IsTrue};
 ghost use Rattle.std.specs.List.{slice_index_or};
 ghost use Rattle.road_detector.specs.Passes.{no_totals, plus};
-ghost use Rattle.road_columns.specs.Private.Sites.{IsOfSteps, unpacked};
+ghost use Rattle.road_columns.specs.Private.Sites.{IsOfSteps, totals_of_count};
 ghost use Rattle.road_columns.specs.Private.Counts.{AreCounts, total_in, totals_in};
 
 use crate::words::INTERVAL;
@@ -14,14 +14,14 @@ use std::alloc::Global;
 /// What each detector has counted.
 #[derive(Drop)]
 pub struct Counts {
-    /// The counts of the current interval: 65,536 a car, plus its speed.
+    /// The counts of the current interval: 65,536 for each car, plus its speed.
     pub passes: Vec<u32>,
     /// The totals of the intervals before it.
     pub totals: Vec<Totals>,
 }
 
 impl Counts {
-    /// Make counts for this many detectors, which have counted nothing yet.
+    /// Make the counts of this many detectors, all zero.
     ///
     /// # Errors
     ///
@@ -38,7 +38,8 @@ impl Counts {
         Ok(Counts { passes, totals })
     }
 
-    /// End a step. The last step of an interval adds its counts to the totals. Return whether the interval goes on.
+    /// End a step. After the last step of an interval, add the counts of the interval to the totals. Return whether the
+    /// interval continues.
     pub fn end_step(&mut self, step: u32) -> bool
         requires step { step < 2 ^ 27 }
         requires as_many { length self.old.totals.items ≡ length self.old.passes.items }
@@ -67,13 +68,13 @@ impl Counts {
 fn add_counts(passes: &mut [u32], totals: &mut [Totals])
     requires as_many { length totals.old ≡ length passes.old }
     requires cars { (d : ℕ) → d < length passes.old → (slice_index_or totals.old d no_totals).cars
-        + (unpacked (slice_index passes.old d)).cars < 2 ^ 32 }
+        + (totals_of_count (slice_index passes.old d)).cars < 2 ^ 32 }
     requires speeds { (d : ℕ) → d < length passes.old → (slice_index_or totals.old d no_totals).speeds
-        + (unpacked (slice_index passes.old d)).speeds < 2 ^ 32 }
+        + (totals_of_count (slice_index passes.old d)).speeds < 2 ^ 32 }
     ensures passes_each { length passes.new ≡ length passes.old }
     ensures totals_each { length totals.new ≡ length totals.old }
     ensures totals { (d : ℕ) → d < length passes.old → slice_index_or totals.new d no_totals
-        ≡ plus (slice_index_or totals.old d no_totals) (unpacked (slice_index passes.old d)) }
+        ≡ plus (slice_index_or totals.old d no_totals) (totals_of_count (slice_index passes.old d)) }
     ensures passes { (d : ℕ) → d < length passes.old → slice_index passes.new d ≡ 0 }
 {
     for detector in 0..passes.len() {
@@ -94,9 +95,9 @@ pub(crate) fn totals_now(
 ) -> Result<Vec<Totals>, OutOfMemory>
     requires as_many { length totals.now ≡ length passes.now }
     requires cars { (d : ℕ) → d < length passes.now → (slice_index_or totals.now d no_totals).cars
-        + (unpacked (slice_index passes.now d)).cars < 2 ^ 32 }
+        + (totals_of_count (slice_index passes.now d)).cars < 2 ^ 32 }
     requires speeds { (d : ℕ) → d < length passes.now → (slice_index_or totals.now d no_totals).speeds
-        + (unpacked (slice_index passes.now d)).speeds < 2 ^ 32 }
+        + (totals_of_count (slice_index passes.now d)).speeds < 2 ^ 32 }
     ensures { IfOk result (λ all. all.items ≡ totals_in passes.now totals.now) }
 {
     let mut all = Vec::with_capacity(alloc, totals.len())?;
@@ -111,9 +112,9 @@ fn total_now(passes: &[u32], totals: &[Totals], detector: usize) -> Totals
     requires there { detector < length totals.now }
     requires as_many { length totals.now ≡ length passes.now }
     requires cars { (slice_index_or totals.now detector no_totals).cars
-        + (unpacked (slice_index passes.now detector)).cars < 2 ^ 32 }
+        + (totals_of_count (slice_index passes.now detector)).cars < 2 ^ 32 }
     requires speeds { (slice_index_or totals.now detector no_totals).speeds
-        + (unpacked (slice_index passes.now detector)).speeds < 2 ^ 32 }
+        + (totals_of_count (slice_index passes.now detector)).speeds < 2 ^ 32 }
     ensures { result ≡ total_in passes.now totals.now detector }
 {
     totals[detector].plus(totals_of(passes[detector]))
@@ -135,7 +136,7 @@ pub(crate) fn clear_counts(passes: &mut [u32], totals: &mut [Totals])
 
 // Unpack the count of an interval into totals.
 fn totals_of(count: u32) -> Totals
-    ensures { result ≡ unpacked count }
+    ensures { result ≡ totals_of_count count }
 {
     Totals {
         cars: count / 65_536,

@@ -43,7 +43,7 @@ pub fn regions_of(
     Ok(regions)
 }
 
-// A region, and the cell behind its last cell.
+// A region, and the cell after its last cell.
 #[derive(Clone, Copy)]
 struct Cut {
     region: Region,
@@ -80,7 +80,7 @@ fn cut_at(plan: &Plan, settings: &Settings, first: u32) -> Cut
     }
 }
 
-// Return the blocked cell at an index, or a cell past the end of every road if the index is too great.
+// Return the blocked cell at an index, or a cell past the end of every road if the index is too large.
 fn next_block(blocks: &[u32], reached: usize) -> u32
     ensures some { reached < length blocks.now → result ≡ slice_index blocks.now reached }
     ensures none { length blocks.now ≤ reached → result ≡ 65535 }
@@ -91,7 +91,7 @@ fn next_block(blocks: &[u32], reached: usize) -> u32
     }
 }
 
-// Return the cell behind the zones, `zone` and the next ones, that have equal limits and chances.
+// Return the cell after the last of the zones, from `zone` on, that have the limit and the chances of `zone`.
 fn alike_end(limits: &[u32], starts: &[u32], chances: &[u32], width: u32, zone: usize) -> u32
     requires zone { zone < length limits.now }
     requires starts { length starts.now ≡ length limits.now }

@@ -44,7 +44,7 @@ pub fn enter(
     }
 }
 
-// Let a car enter at an inlet if one comes and the cell of the inlet is free.
+// Let a car enter at an inlet if the inlet lets one in and no car is on its cell.
 #[inline(always)]
 fn admit(
     layout: &Layout,

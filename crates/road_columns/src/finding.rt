@@ -76,7 +76,7 @@ fn write_firsts(regions: &[Region], from: usize, sites: &mut [u16])
     }
 }
 
-/// Return how many of these cars stand at a cell or past it. The cells fall.
+/// Return how many of these cells, which fall, are at a site or past it.
 pub fn cars_past(cells: &[u16], site: u16) -> usize
     requires { (k : ℕ) → k + 1 < length cells.now → slice_index cells.now (k + 1) < slice_index cells.now k }
     ensures { IsPlaceAt (length cells.now) (slice_index cells.now) site result }

@@ -11,8 +11,8 @@ use road_cells::{Car, GREATEST_SPEED, Road};
 use road_ends::{OutOfMemory, Stretch};
 use std::alloc::Global;
 
-/// Return whether columns can hold these cars for a stretch: each car stands on its cells and before the exit, has a
-/// speed of at most 9 cells per step, and a number below 2^32.
+/// Return whether columns can hold these cars for a stretch: each car is on the cells of the stretch and before the
+/// exit, and has a speed of at most 9 cells per step and a number below 2^32.
 pub fn can_hold(cars: &[Car], stretch: Stretch, exit_start: u32) -> bool
     ensures { IsTrue result ↔ All (CanRun stretch.first stretch.end exit_start) cars.now }
 {

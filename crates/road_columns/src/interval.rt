@@ -16,8 +16,8 @@ use crate::words::{Batch, INTERVAL, Source};
 use road_ends::OutOfMemory;
 use std::alloc::Global;
 
-/// The words of an interval. A car that has entered between others in the interval has its words beside the rows, so
-/// that no row is moved. Every other car has its words in a column of the rows.
+/// The words of an interval. A car that has entered between others in the interval has its words in `batches`, beside
+/// the rows, so that no row is moved. Every other car has its words in a column of the rows.
 #[derive(Drop)]
 pub struct IntervalWords {
     pub source: Source,
@@ -48,7 +48,8 @@ impl IntervalWords {
         self.drawn && (self.worded || !slowing)
     }
 
-    /// Make rows of `width` words, and room for the words of `beside` cars. The old words are lost.
+    /// Make rows of `width` words, and room for the words of `beside` cars, unless they are there. New rows do not keep
+    /// the words of the old ones.
     ///
     /// # Errors
     ///
@@ -103,7 +104,7 @@ impl IntervalWords {
     }
 
     // Keep the words of a car from a step of the interval on: in the next column of the rows if the car is behind all
-    // others, and beside the rows if it is between others.
+    // others, and beside the rows, in `batches`, if it is between others.
     #[inline(never)]
     fn keep_batch(&mut self, words: &Batch, step: usize, place: usize, tail: usize, width: usize)
         requires step { step < 64 }

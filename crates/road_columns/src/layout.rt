@@ -1,5 +1,5 @@
-//! Layout of a road: regions, in which the rules are the same for all cells, and sites, at which something is counted
-//! or kept.
+//! The layout of a road: regions, in which the rules are the same for all cells, and sites, for which the place of the
+//! first car before them is kept.
 
 ghost use Rattle.std.specs.Prelude.{◌≡◌, IfOk, IsFalse};
 ghost use Rattle.road_plan.specs.Settings.{Fits};
@@ -21,7 +21,7 @@ pub struct Layout<'a> {
     pub regions: &'a [Region],
     /// Whether cars are slowed in some region.
     pub slowing: bool,
-    /// The sites: the cells of the inlets, those of the detectors, and the first ones of the regions.
+    /// The sites: the cells of the inlets, then the cells of the detectors, then the first cells of the regions.
     pub sites: &'a [u16],
 }
 

@@ -1,8 +1,8 @@
-//! Runs under way: a road that is simulated step by step. Callers see it as an array.
+//! Runs under way: roads that are simulated step by step. Callers see the road of a run as an array.
 //!
-//! Inside, the cars stand in columns: one column for the cells, one for the speeds, one for the numbers, with the car
-//! at the far end first. The random words for the 64 steps of an interval stand in rows, one row a step, so a step is a
-//! few passes over contiguous memory.
+//! Inside, the cars are stored in columns: one column for the cells, one for the speeds, one for the numbers, with the
+//! car at the far end first. The random words for the 64 steps of an interval are stored in rows, one row for each
+//! step, so a step is a few passes over contiguous memory.
 //!
 //! ```
 //! // Simulate a hundred steps of a plan from the empty road, and print the road as a row of text.

@@ -1,12 +1,12 @@
-//! Counts of the cars that pass sites in a step.
+//! Counts the cars that pass sites in a step.
 
 ghost use Rattle.std.specs.Prelude.{◌≡◌, ◌<◌, ◌≤◌, ◌+◌, ◌-◌, ◌^◌, ◌*◌, ℕ, length, slice_index, false};
 ghost use Rattle.std.specs.List.{slice_index_or};
-ghost use Rattle.road_columns.specs.Private.Sites.{counted, passes_of};
+ghost use Rattle.road_columns.specs.Private.Sites.{pass_count, passes_of};
 
-/// Count the cars that have passed sites in a step, by the places of the first cars before the sites: at most one car
-/// passes a site in a step. Add 65,536 and the speed of the car, in cells per step, at each watched site that a car has
-/// passed.
+/// Count the cars that have passed sites in a step. At most one car passes a site in a step: the first car before it,
+/// whose place is in `places`. Add 65,536 plus the speed of the car, in cells per step, to the count in `passes` of
+/// each watched site that a car has passed.
 #[inline(always)]
 pub fn count(
     cells: &[u16],
@@ -38,7 +38,7 @@ pub fn count(
 
 #[inline(always)]
 fn count_of(hit: bool, watched: bool, speed: u8) -> u32
-    ensures value { result ≡ counted hit watched speed }
+    ensures value { result ≡ pass_count hit watched speed }
     ensures bound { result ≤ 65791 }
 {
     u32::from(hit & watched) * (65_536 + u32::from(speed))

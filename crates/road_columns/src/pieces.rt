@@ -42,7 +42,8 @@ pub fn advance_in(
     );
 }
 
-/// Move the cars of a piece, from the near end on. Each car has its word in the row, or beside it.
+/// Move the cars of a piece, from the near end of the road on. Each car has its word in the row, or in a batch beside
+/// it. The first car may not reach the cell `front`.
 #[inline(never)]
 pub fn advance_between(
     cells: &mut [u16],

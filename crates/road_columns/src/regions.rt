@@ -13,7 +13,7 @@ use crate::motion::Chances;
 use crate::pieces::advance_between;
 use crate::step_words::{Piece, StepWords};
 
-/// Cells side by side at which the rules are the same for a car, from the first cell up to the next region.
+/// Adjacent cells at which the rules are the same for a car, from the first cell up to the next region.
 #[derive(Clone, Copy)]
 pub struct Region {
     /// The first cell.
@@ -31,8 +31,8 @@ pub fn are_slowing(regions: &[Region]) -> bool
     regions.iter().any(|region| region.chances.standing > 0 || region.chances.moving > 0)
 }
 
-/// Move the cars of a piece, region by region from the near end on. `ends` holds the place of the first car before each
-/// region. The cell at the place before the piece is one that no car reaches.
+/// Move the cars of a piece, region by region, from the near end of the road on. `ends` has the place of the first car
+/// before each region. No car of the piece reaches the cell that is stored at the place before the piece.
 #[inline(never)]
 pub fn advance_regions(
     cells: &mut [u16],
@@ -65,7 +65,7 @@ pub fn advance_regions(
     let mut last = piece.last;
     let mut to = piece.to;
     for place in 0..regions.len() {
-        let from = region_from(ends, place, piece.from);
+        let from = region_start(ends, place, piece.from);
         let first = first_from(words.beside, last, from);
         let part = Piece {
             from,
@@ -112,22 +112,23 @@ fn advance_region(
     advance_between(cells, speeds, words, piece, region.chances, front);
 }
 
-// Return the place of the first car of a region: the place behind the last car of the next region, or `head` in the
-// last region.
+// Return the place at which the cars of a region start: just after the last car of the regions downstream, or, for the
+// last region, at `piece_from`, where the piece starts. Cars farther downstream are at earlier places, so this is the
+// place of the first car before the next region.
 #[inline(always)]
-fn region_from(ends: &[u32], region: usize, head: usize) -> usize
+fn region_start(ends: &[u32], region: usize, piece_from: usize) -> usize
     requires region { region < length ends.now }
-    requires from { (r : ℕ) → r < length ends.now → head ≤ slice_index ends.now r }
+    requires from { (r : ℕ) → r < length ends.now → piece_from ≤ slice_index ends.now r }
     requires fall { (r : ℕ) → r + 1 < length ends.now → slice_index ends.now (r + 1) ≤ slice_index ends.now r }
-    ensures low { head ≤ result }
+    ensures low { piece_from ≤ result }
     ensures high { result ≤ slice_index ends.now region }
     ensures next { region + 1 < length ends.now → result ≡ slice_index ends.now (region + 1) }
-    ensures last { length ends.now ≤ region + 1 → result ≡ head }
+    ensures last { length ends.now ≤ region + 1 → result ≡ piece_from }
 {
     if region + 1 < ends.len() {
         ends[region + 1] as usize
     } else {
-        head
+        piece_from
     }
 }
 

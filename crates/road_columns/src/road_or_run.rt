@@ -1,4 +1,4 @@
-//! A road, or a run that has come to it.
+//! A road, or a run that has reached it.
 
 ghost use Rattle.std.specs.Prelude.{◌≡◌, length, IfOk};
 ghost use Rattle.road_cells.specs.Cars.{cars_of};
@@ -10,7 +10,7 @@ use road_detector::Totals;
 use road_ends::OutOfMemory;
 use std::alloc::Global;
 
-/// A road, or a run that has come to it and can go on from there.
+/// A road, or a run that has reached it and can continue from there.
 #[derive(Drop)]
 pub enum RoadOrRun {
     Road(Road),
@@ -25,7 +25,7 @@ pub struct SpanOutcome {
 }
 
 impl RoadOrRun {
-    /// Return how many cars are on the road.
+    /// Return the number of cars on the road.
     pub fn car_count(&self) -> usize
         ensures { result ≡ length (cars_of (road_now self.now)) }
     {
@@ -35,7 +35,7 @@ impl RoadOrRun {
         }
     }
 
-    /// Return the road. That of a run is made from its columns.
+    /// Return the road. If this is a run, the road is made from its columns.
     ///
     /// # Errors
     ///

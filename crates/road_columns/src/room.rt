@@ -11,8 +11,8 @@ use road_ends::OutOfMemory;
 use std::alloc::Global;
 
 /// Make room for the cars that may enter at the inlets in the next step, if room is missing. If the words of an
-/// interval are still to be drawn, make room for the cars of `ahead` steps, up to those of an interval. A run that has
-/// used up its room within an interval gets room for a whole interval.
+/// interval are still to be drawn, make room for the cars that may enter in `ahead` steps, at most the steps of an
+/// interval. A run that has used up its room within an interval gets room for a whole interval.
 ///
 /// # Errors
 ///
@@ -41,7 +41,8 @@ pub fn make_room(
     Ok(())
 }
 
-// Return how many cars may enter at this many inlets in `steps` steps, at most in those of an interval.
+// Return how many cars may enter at this many inlets in `steps` steps. At least one step counts, and at most those of
+// an interval.
 fn entries_in(inlets: usize, steps: u32) -> usize
     requires { inlets ≤ 16 }
     ensures some { inlets ≤ result }

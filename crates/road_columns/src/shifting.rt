@@ -1,4 +1,4 @@
-//! Moves columns back to their first places once in an interval: cars leave at one end and enter at the other.
+//! Moves columns back to their first places once in each interval, since cars leave at one end and enter at the other.
 
 ghost use Rattle.std.specs.Prelude.{◌≡◌, ◌<◌, ◌≤◌, ◌+◌, ◌-◌, ◌^◌, ℕ, List, length, slice_index};
 ghost use Rattle.std.specs.List.{slice_index_or};

@@ -12,7 +12,7 @@ ghost use Rattle.road_columns.specs.Private.Cars.{AreCarsOf, MoveCars, road_of};
 ghost use Rattle.road_columns.specs.Private.Counts.{totals_in};
 ghost use Rattle.road_columns.specs.Private.Interval.{HaveRoom};
 ghost use Rattle.road_columns.specs.Private.Running.{AreReady, AreRunning, IsLayout};
-ghost use Rattle.road_columns.specs.Private.Sites.{IsOfSteps, unpacked};
+ghost use Rattle.road_columns.specs.Private.Sites.{IsOfSteps, totals_of_count};
 
 use crate::cars::{CarColumns, leave, move_on};
 use crate::counts::Counts;
@@ -26,8 +26,8 @@ use crate::step_words::{Piece, StepWords};
 use crate::words::index_at;
 use road_ends::Stretch;
 
-/// Make one step of a run on the cells of a stretch: cars enter, move and are counted, and one may leave. It takes no
-/// memory.
+/// Make one step of a run on the cells of a stretch: cars enter, move and are counted, and one may leave. It does not
+/// allocate.
 pub(crate) fn run_step(
     layout: &Layout,
     step: u32,
@@ -58,7 +58,7 @@ pub(crate) fn run_step(
     words.drawn = counts.end_step(step);
 }
 
-// Move the cars of a step after the entries, count those that pass detectors, and remove the one that reaches the exit.
+// Move the cars of a step after the entries, count those that pass detectors, and remove a car that reaches the exit.
 #[inline(always)]
 fn move_cars(
     layout: &Layout,
@@ -86,7 +86,7 @@ fn move_cars(
         → (d : ℕ) → d < length counts.old.passes.items
         → let input : StepInput =
         record { plan = layout.now.plan.now; settings = layout.now.settings.now; step = step; road = b } in
-        unpacked (slice_index counts.new.passes.items d) ≡ plus (unpacked (slice_index counts.old.passes.items d))
+        totals_of_count (slice_index counts.new.passes.items d) ≡ plus (totals_of_count (slice_index counts.old.passes.items d))
         (passes_at input (input_speeds input) d) }
 {
     let inlets = layout.plan.inlets().len();

@@ -19,8 +19,8 @@ pub struct StepWords<'a> {
     ghost in_batch: { index < 64 },
 }
 
-/// Cars side by side, at the places from `from` to before `to`. Those of index `first` to before `last` have entered
-/// between others in the interval.
+/// Consecutive cars, at the places from `from` to before `to`. Of the cars that have entered between others in the
+/// interval, those with index `first` to before `last` are among them.
 #[derive(Clone, Copy)]
 pub struct Piece {
     pub from: usize,
@@ -31,8 +31,8 @@ pub struct Piece {
     ghost cars: { first ≤ last },
 }
 
-/// A platoon: the cars at the places from `from` to before `to`. Their words stand side by side in a row, from the
-/// column `at` on.
+/// A platoon: the cars at the places from `from` to before `to`. Their words are consecutive in a row, from the column
+/// `at` on.
 #[derive(Clone, Copy)]
 pub struct Platoon {
     pub from: usize,

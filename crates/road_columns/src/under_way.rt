@@ -62,8 +62,8 @@ impl Model for UnderWay {
     ghost invariant = { IsRunning };
 }
 
-/// Return whether a run can start from a road on the cells of a stretch ([`UnderWay::restart_on`] says when). It takes
-/// no memory.
+/// Return whether a run can start from a road on the cells of a stretch ([`UnderWay::restart_on`] says when). It does
+/// not allocate.
 pub fn is_runnable(plan: &Plan, stretch: Stretch, road: &Road) -> bool
     ensures { IsTrue result ↔ IsRunnable stretch.first stretch.end plan.now road.now }
 {
@@ -152,8 +152,9 @@ impl UnderWay {
     }
 
     /// Restart the run from another road, at a step, on the cells of a stretch, under these settings, with all counts
-    /// at zero. Return `false` and change nothing if a car of the road stands outside the stretch or in the exit, is
-    /// faster than 9 cells per step, or has a number of more than 32 bits. The settings must fit the plan.
+    /// at zero. Return `true`. Return `false` instead and change nothing if a car of the road is outside the stretch or
+    /// not before the exit, is faster than 9 cells per step, or has a number of more than 32 bits. The settings must
+    /// fit the plan.
     ///
     /// # Errors
     ///
@@ -216,7 +217,7 @@ impl UnderWay {
     }
 
     /// Make one step: entries, motion, counting, exit. `ahead` is how many steps the caller will make from here on,
-    /// this one included: room for the cars that may enter in them is made at once.
+    /// this one included. Room for the cars that may enter in these steps is made in advance.
     ///
     /// # Errors
     ///
@@ -261,7 +262,7 @@ impl UnderWay {
         self.cars.road(alloc)
     }
 
-    /// Return how many cars are on the road before the next step.
+    /// Return the number of cars on the road before the next step.
     pub fn car_count(&self) -> usize
         ensures { result ≡ length (cars_of self.now.road) }
     {
@@ -298,21 +299,21 @@ impl UnderWay {
         clear_counts(&mut self.counts.passes, &mut self.counts.totals);
     }
 
-    /// Return whether it is a run of this plan. It takes no memory.
+    /// Return whether this is a run of the plan. It does not allocate.
     pub fn is_of(&self, plan: &Plan) -> bool
         ensures { IsTrue result ↔ (self.now.plan ≡ plan.now) }
     {
         is_same_plan(&self.plan, plan)
     }
 
-    /// Return whether the run is on the whole road of its plan, before this step. It takes no memory.
+    /// Return whether the run is on the whole road of its plan, before this step. It does not allocate.
     pub fn is_at(&self, step: u32) -> bool
         ensures { IsTrue result ↔ IsAt step self.now }
     {
         self.step == step && self.stretch.first == 0 && self.stretch.end == self.plan.length()
     }
 
-    /// Return whether its next step is under these settings. It takes no memory.
+    /// Return whether the next step of the run is under these settings. It does not allocate.
     pub fn is_under(&self, settings: &Settings) -> bool
         ensures { IsTrue result ↔ (self.now.settings ≡ settings.now) }
     {

@@ -3,7 +3,7 @@ use Rattle.std.specs.Prelude.{◌≡◌, ℕ, ◌*◌, ◌/◌, ◌%◌, ◌<◌
 use Rattle.std.specs.List.{range_with_len, slice_index_or}
 use Rattle.road_detector.specs.Passes.{no_totals, plus}
 use Rattle.road_detector.specs.declared.counts.Totals.{Totals}
-use Rattle.road_columns.specs.Private.Sites.{IsOfSteps, unpacked}
+use Rattle.road_columns.specs.Private.Sites.{IsOfSteps, totals_of_count}
 
 -- before step t, each of n detectors has its count of the steps of the current interval, and its totals of all steps
 -- before that interval
@@ -16,7 +16,7 @@ pub record AreCounts (n t : ℕ) (passes : List ℕ) (totals : List Totals) : Ty
 
 -- the totals of a detector, its count in the interval included
 abbrev pub total_in : List ℕ → List Totals → ℕ → Totals
-total_in passes totals d = plus (slice_index_or totals d no_totals) (unpacked (slice_index passes d))
+total_in passes totals d = plus (slice_index_or totals d no_totals) (totals_of_count (slice_index passes d))
 
 -- the totals of all detectors, their counts in the interval included
 abbrev pub totals_in : List ℕ → List Totals → List Totals

@@ -18,7 +18,7 @@ abbrev pub road_in : List ℕ → List ℕ → List ℕ → ℕ → ℕ → Arra
 road_in cells speeds numbers head tail =
     array_of (cars_held (from_place cells head) (from_place speeds head) (from_place numbers head) (tail - head))
 
--- every car of a road stands on the cells from lo to before hi, and none is too fast
+-- every car of a road is on the cells from lo to before hi, and none is too fast
 pub record StandOn (lo hi : ℕ) (a : Array) : Type 0 where
   pub from : (c : ℕ) (car : Vehicle) → vehicle_at a c ≡ Some car → lo ≤ c
   pub to : (c : ℕ) (car : Vehicle) → vehicle_at a c ≡ Some car → c < hi

@@ -14,7 +14,7 @@ use Rattle.road_columns.specs.declared.interval.IntervalWords.{IntervalWords}
 abbrev pub entered_of_words : IntervalWords → List EnteredCar
 entered_of_words words = entered_in words.entered words.beside.items words.batches.items
 
--- these cars stand before tail, and their places rise
+-- these cars are at places before tail, and their places rise
 pub record AreEntered (words : IntervalWords) (tail : ℕ) : Type 0 where
   pub few : words.entered ≤ tail
   pub rising : ArePlacesRising words.entered words.beside.items

@@ -19,8 +19,8 @@ wanted_at from front limit cells speeds q =
     wanted_speed (slice_index speeds q) limit
     (min GREATEST_SPEED (ahead_at from front cells q - (slice_index cells q + 1)))
 
--- the upper 16 bits of the word of the car at a place: its own, if it is one of the first n cars beside the rows, else
--- those in the row, as many columns earlier as such cars stand before it
+-- the upper 16 bits of the word of the car at a place q: those in its own batch if it is one of the first n cars beside
+-- the rows, else those in column q - m of the row, where m of these cars are before it
 pub record IsHigh16At (row : List ℕ) (index n : ℕ) (beside : List ℕ) (batches : List (List ℕ))
     (q high16 : ℕ) : Type 0 where
   pub in_row : (m : ℕ) → m ≤ n → ((i : ℕ) → i < m → slice_index beside i < q)
@@ -37,8 +37,8 @@ pub record HaveWords (words : StepWords) (piece : Piece) : Type 0 where
   pub high : (i : ℕ) → i < piece.last → slice_index words.beside.now i < piece.to
   pub places : (i : ℕ) → i < piece.last → i ≤ slice_index words.beside.now i
 
--- of the cars that have entered between others, those before index `first` stand in front of a piece, and the next ones
--- in it
+-- of the cars that have entered between others, those before index `first` are in front of a piece, and the next ones
+-- are in it
 pub record BeginsAt (beside : List ℕ) (piece : Piece) : Type 0 where
   pub before : (i : ℕ) → i < piece.first → slice_index beside i < piece.from
   pub after : (i : ℕ) → piece.first ≤ i → i < piece.last → piece.from ≤ slice_index beside i

@@ -24,7 +24,7 @@ abbrev pub AreFree : List Region → Type 0
 AreFree regions = (r : ℕ) → r < length regions
     → ((region_at regions r).chances.standing ≡ 0) × ((region_at regions r).chances.moving ≡ 0)
 
--- the car at a place stands in region r, where `ends` has the place of the first car before each region
+-- the car at a place is in region r, where `ends` has the place of the first car before each region
 pub record IsOfRegion (count : ℕ) (ends : List ℕ) (r q : ℕ) : Type 0 where
   pub within : r < count
   pub before_end : q < slice_index ends r

@@ -1,4 +1,4 @@
--- One more car is taken out, and at last all.
+-- Each turn takes one more car out, so all are taken out at the end.
 use Rattle.std.proofs.Common.{◌≡◌, ◌∙◌, ◌+◌, ◌-◌, ◌++◌, suc, sym, ap, subst, slice_index, arith}
 use Rattle.std.proofs.lemmas.List.{append-nil}
 use Rattle.road_cells.specs.Cars.{AreRising, array_of}

@@ -1,4 +1,4 @@
--- One car that has entered, and the piece behind it.
+-- Each turn moves one car that has entered between others, and the platoon behind it.
 use Rattle.std.proofs.Common.{◌≡◌, ◌∙◌, ◌<◌, ◌≤◌, ◌+◌, ◌-◌, ℕ, List, slice_index, sym, ap, subst, arith, inl, inr}
 use Rattle.std.specs.Prelude.{slice_index_or, []}
 use Rattle.std.proofs.lemmas.Bool.{cases_lt, cases_eq}

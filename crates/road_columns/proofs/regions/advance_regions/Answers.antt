@@ -9,7 +9,7 @@ use Rattle.road_columns.specs.declared.regions.Region.{Region}
 use Rattle.road_columns.proofs.PieceWishes.{falls, wish_same}
 use Rattle.road_columns.proofs.regions.advance_regions.Goals as goal
 
--- upper 16 bits among all that have entered are those among the first of them, where the others stand later
+-- upper 16 bits among all that have entered are those among the first of them, if the others are at later places
 high16_among : (row : List ℕ) (index last n : ℕ) (beside : List ℕ) (batches : List (List ℕ)) (q h : ℕ) → last ≤ n → ((i : ℕ) → last ≤ i → i < n → q < slice_index beside i)
     → IsHigh16At row index n beside batches q h → IsHigh16At row index last beside batches q h
 high16_among row index last n beside batches q h few later is = record {
@@ -33,7 +33,7 @@ of_place n place from head q ends long inside below above next = record { within
 pub advance_region-requires-clause-falling : goal.advance_region-requires-clause-falling
 advance_region-requires-clause-falling c q above below =
     let inv = c.loop-place.invariant in
-    let low = c.region_from-from.ensures.low in
+    let low = c.region_start-from.ensures.low in
     let high = inv.high in
     let fall = falls c.args.piece.from c.args.piece.to q c.args.cells.now c.requires.low c.requires.falling c.requires.front (omega arith) (omega arith) in
     let here = inv.cells_rest q (inl below) in
@@ -44,9 +44,9 @@ advance_region-requires-clause-block c q above below =
     let inv = c.loop-place.invariant in
     let inside = c.loop-place-test.true in
     let long = c.requires.ends.as_many in
-    let low = c.region_from-from.ensures.low in
+    let low = c.region_start-from.ensures.low in
     let to = inv.to_is (omega arith) in
-    let block = c.requires.blocks c.loop-place.place q (of_place (length c.args.regions.now) c.loop-place.place c.region_from-from.result c.args.piece.from q c.args.ends.now long (omega arith) (omega arith) above c.region_from-from.ensures.next) (omega arith) in
+    let block = c.requires.blocks c.loop-place.place q (of_place (length c.args.regions.now) c.loop-place.place c.region_start-from.result c.args.piece.from q c.args.ends.now long (omega arith) (omega arith) above c.region_start-from.ensures.next) (omega arith) in
     let here = inv.cells_rest q (inl below) in omega arith
 
 pub advance_region-requires-clause-words : goal.advance_region-requires-clause-words
@@ -74,12 +74,12 @@ pub loop-place-preserved : goal.loop-place-preserved
 loop-place-preserved c =
     let inv = c.loop-place.invariant in
     let place = c.loop-place.place in
-    let from = c.region_from-from.result in
+    let from = c.region_start-from.result in
     let ran = c.advance_region.ensures in
     let first = c.first_from-first.ensures in
     let inside = c.loop-place-test.true in
     let long = c.requires.ends.as_many in
-    let at = c.region_from-from.ensures in
+    let at = c.region_start-from.ensures in
     let low_from = at.low in
     let to = inv.to_is (omega arith) in
     let high_from = at.high in
@@ -95,7 +95,7 @@ loop-place-preserved c =
       as_many_cells = ran.moves.cells_each ∙ inv.as_many_cells;
       as_many_speeds = ran.moves.speeds_each ∙ inv.as_many_speeds;
       before = first.before;
-      after = λ i more less. elim (cases_lt i c.loop-place.last) as (λ _. c.region_from-from.result ≤ slice_index c.args.words.now.beside.now i) [
+      after = λ i more less. elim (cases_lt i c.loop-place.last) as (λ _. c.region_start-from.result ≤ slice_index c.args.words.now.beside.now i) [
         | inl one ↦ first.after i more one
         | inr other ↦ let later = inv.after i other less in omega arith
       ];
@@ -114,7 +114,7 @@ loop-place-preserved c =
             let b = ran.moves.other_speeds q (inr done) in
             let d = inv.cells_done q done below in omega arith
       ];
-      done_from = λ r q less is low. elim (cases_eq r c.loop-place.place) as (λ _. c.region_from-from.result ≤ q) [
+      done_from = λ r q less is low. elim (cases_eq r c.loop-place.place) as (λ _. c.region_start-from.result ≤ q) [
         | inl same ↦ from_place_on r q same is low
         | inr other ↦ let done = inv.done_from r q (omega arith) is low in omega arith
       ];
@@ -129,11 +129,11 @@ loop-place-preserved c =
       ];
     }
   where
-    from_place_on : (r q : ℕ) → r ≡ c.loop-place.place → IsOfRegion (length c.args.regions.now) c.args.ends.now r q → c.args.piece.from ≤ q → c.region_from-from.result ≤ q
+    from_place_on : (r q : ℕ) → r ≡ c.loop-place.place → IsOfRegion (length c.args.regions.now) c.args.ends.now r q → c.args.piece.from ≤ q → c.region_start-from.result ≤ q
     from_place_on r q same is low =
         let long = c.requires.ends.as_many in
-        let at = c.region_from-from.ensures in
-        elim (cases_lt (c.loop-place.place + 1) (length c.args.ends.now)) as (λ _. c.region_from-from.result ≤ q) [
+        let at = c.region_start-from.ensures in
+        elim (cases_lt (c.loop-place.place + 1) (length c.args.ends.now)) as (λ _. c.region_start-from.result ≤ q) [
           | inl some ↦
               let next = at.next some in
               let from = is.from (omega arith) in
@@ -142,7 +142,7 @@ loop-place-preserved c =
           | inr none ↦ let last = at.last none in omega arith
         ]
 
-    speed_here : (q : ℕ) → c.region_from-from.result ≤ q → q < c.loop-place.to → (word : ℕ) → SpeedIn c.args.regions.now c.args.cells.now c.args.speeds.now c.advance_region.new.speeds c.args.words.now.row.now c.args.words.now.index c.args.piece.last c.args.words.now.beside.now c.args.words.now.batches.now c.loop-place.place q word
+    speed_here : (q : ℕ) → c.region_start-from.result ≤ q → q < c.loop-place.to → (word : ℕ) → SpeedIn c.args.regions.now c.args.cells.now c.args.speeds.now c.advance_region.new.speeds c.args.words.now.row.now c.args.words.now.index c.args.piece.last c.args.words.now.beside.now c.args.words.now.batches.now c.loop-place.place q word
     speed_here q above below word right =
         let inv = c.loop-place.invariant in
         let region : Region = region_at c.args.regions.now c.loop-place.place in

@@ -1,4 +1,4 @@
--- One more car is marked, on a cell where none of those before it stands.
+-- One more car is marked, on a cell that no car before it has.
 use Rattle.std.proofs.Common.{◌≡◌, ◌∙◌, ◌+◌, ◌<◌, length, slice_index, slice_set, sym, ap, arith, inl, inr}
 use Rattle.std.proofs.lemmas.Bool.{cases_eq}
 use Rattle.std.proofs.lemmas.List.{get_or-set_same, get_or-set_other, length-set}

@@ -5,7 +5,7 @@ use Rattle.std.specs.Vec.{with_items}
 use Rattle.std.proofs.Math.Path.{transport}
 use Rattle.road_plan.specs.Plan.{exit_start}
 use Rattle.road_columns.specs.Private.Entering.{place_on}
-use Rattle.road_columns.specs.Private.Sites.{IsOfSteps, passes_of, unpacked}
+use Rattle.road_columns.specs.Private.Sites.{IsOfSteps, passes_of, totals_of_count}
 use Rattle.road_columns.specs.declared.cars.CarColumns.{CarColumns}
 use Rattle.road_columns.specs.Private.Step.{LetsLeave}
 use Rattle.road_columns.proofs.CarsAdvanced.{counted_is, counted_more, left_ready, left_road, one_goes}
@@ -116,5 +116,5 @@ returns-clause-passes c b on_road columns d below =
     let counted : slice_index (with_items c.args.counts.now.passes c.count.new.passes).items d ≡ before + passes_of moved.cells.items moved.speeds.items (slice_index_or g.settings.now.watched d false) (slice_index g.plan.now.detectors d) place =
     ap (λ xs. slice_index xs d) passes_is ∙ c.count.ensures.passes d inside
     ∙ (λ j. slice_index (c.deref_mut.ensures.value j) d + passes_of (c.deref.ensures.value j) (c.deref-2.ensures.value j) (watched_is j) (site_is j) (place_is j)) in
-    ap unpacked counted
+    ap totals_of_count counted
     ∙ counted_is g c.args.step c.args.cars.now moved moved c.args.words.now c.requires.ready c.advance_cars.ensures d place before start in_plan first refl (c.requires.counted d below) b on_road columns

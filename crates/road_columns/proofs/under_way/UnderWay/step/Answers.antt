@@ -18,8 +18,8 @@ use Rattle.road_columns.proofs.LongerColumns.{on_err, road_longer, running_longe
 use Rattle.road_columns.proofs.under_way.UnderWay.step.Goals as goal
 
 -- the totals after a step of an input
-abbrev counted : StepInput → List Totals → List Totals
-counted input totals = map (λ d. plus (slice_index_or totals d no_totals) (passes_at input (input_speeds input) d)) (range_with_len 0 (length totals))
+abbrev totals_after : StepInput → List Totals → List Totals
+totals_after input totals = map (λ d. plus (slice_index_or totals d no_totals) (passes_at input (input_speeds input) d)) (range_with_len 0 (length totals))
 
 pub make_room-requires-clause-few : goal.make_room-requires-clause-few
 make_room-requires-clause-few c =
@@ -80,6 +80,6 @@ returns-clause-run_after_step c =
       lo = x.stretch.first;
       hi = (sym hi_is ∙ ap (λ (p : Plan). min (x.stretch.end + 9) p.cells) c.deref-2.ensures) j;
       road = (r.ensures.road ∙ (λ k. input_next (input_between x.stretch.first x.stretch.end (c.deref-2.ensures k) (c.deref-3.ensures k) x.step (same k)))) j;
-      totals = (r.ensures.totals ∙ (λ k. counted (input_between x.stretch.first x.stretch.end (c.deref-2.ensures k) (c.deref-3.ensures k) x.step (same k)) (totals_in x.counts.passes.items x.counts.totals.items))) j;
+      totals = (r.ensures.totals ∙ (λ k. totals_after (input_between x.stretch.first x.stretch.end (c.deref-2.ensures k) (c.deref-3.ensures k) x.step (same k)) (totals_in x.counts.passes.items x.counts.totals.items))) j;
     })
     ∙ ap run_after_step c.self.view_is
