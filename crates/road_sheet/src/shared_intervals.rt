@@ -31,7 +31,8 @@ impl Model for SharedIntervals {
 
     ghost Value = { List Interval };
 
-    ghost view = { λ intervals. intervals_on (map arc_value (arc_value intervals.full_shelves).items) ++ intervals.open_shelf };
+    ghost view = { λ intervals. intervals_on (map arc_value (arc_value intervals.full_shelves).items)
+        ++ intervals.open_shelf };
 
     ghost invariant = { λ intervals. AreFull (map arc_value (arc_value intervals.full_shelves).items)
         × (length intervals.open_shelf < SHELF_INTERVALS) };
