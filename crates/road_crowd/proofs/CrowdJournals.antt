@@ -106,7 +106,7 @@ beyond_of_shares k n share (next ∷ shares) to =
     let rest = beyond_of_shares k (n + 1) next shares to in
     (λ i. here i || rest i) ∙ or_self (nat_lt k to)
 
--- numbers with the same smaller ones are the same
+-- two numbers are equal if the same numbers are below them
 same_smaller : (a b : ℕ) → ((k : ℕ) → nat_lt k a ≡ nat_lt k b) → a ≡ b
 same_smaller a b same =
     let most : a ≤ b = ltb-false b a (same b ∙ le-ltb b b (omega arith)) in

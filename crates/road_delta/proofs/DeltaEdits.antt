@@ -21,16 +21,16 @@ use Rattle.road_scenario.specs.Winners.{winners, join}
 use Rattle.road_delta.specs.declared.heads.Head.{Head}
 use Rattle.road_delta.specs.Deltas.{head_of, heads, is_head_at, is_stamp_above, is_beyond, beyond, IsBehind}
 
--- whether a head is of an edit's object and step, with no greater stamp
+-- whether a head has an edit's object and step, and not a greater stamp
 abbrev pub is_head_reached : Edit → Head → Bool
 is_head_reached e h = is_head_at e h && not (is_stamp_above e h)
 
--- a test of heads is a test of their edits
+-- a test of the heads of edits is a test of the edits
 any-heads : (p : Head → Bool) (es : List Edit) → list_any p (map head_of es) ≡ list_any (λ e. p (head_of e)) es
 any-heads p [] = refl
 any-heads p (e ∷ es) = ap (λ b. p (head_of e) || b) (any-heads p es)
 
--- an edit that a delta leaves out is behind
+-- an edit that a delta leaves out is behind the set
 pub left_out : (s : Edits) (e : Edit) → is_beyond (heads s) e ≡ false → IsBehind s e
 left_out s e out =
     let two = or_parts (not (list_any (is_head_at e) (heads s))) (list_any (is_head_reached e) (heads s)) out in
@@ -59,7 +59,7 @@ behind_exceeded s e b =
     let rank = less_first (number_pair_cmp (stamp_key e.stamp) (stamp_key b.newer.stamp)) (nat_cmp (value_key e.value) (value_key b.newer.value)) b.smaller_stamp in
     and_from (is_eq (number_triple_cmp (edit_place e) (edit_place b.newer))) _ b.same_place rank
 
--- joining the edits beyond the heads of a set to it joins all
+-- joining to a set the edits beyond its heads gives the same as joining all edits
 pub join-beyond : (s t : Edits) → join s (beyond t (heads s)) ≡ join s t
 join-beyond s t = winners_laws.without s t (is_beyond (heads s)) (λ e inside out.
     let b = left_out s e out in
@@ -69,7 +69,7 @@ join-beyond s t = winners_laws.without s t (is_beyond (heads s)) (λ e inside ou
 pub contains-beyond : (t : Edits) (hs : List Head) (e : Edit) → contains (beyond t hs) e ≡ (contains t e && is_beyond hs e)
 contains-beyond t hs e = contains-retain t (is_beyond hs) e (λ x same. ap (is_beyond hs) (sym (edit_exact e x same)))
 
--- an edit of a delta is one of the set
+-- each edit of a delta is in the set
 pub from_set : (t : Edits) (hs : List Head) (e : Edit) → contains (beyond t hs) e ≡ true → contains t e ≡ true
 from_set t hs e i = (and_parts (contains t e) (is_beyond hs e) (sym (contains-beyond t hs e) ∙ i)).0
 
@@ -87,7 +87,7 @@ from_list-beyond es hs = same_set edit_total edit_exact _ _ (λ e.
     contains-from_list edit_total (filter (is_beyond hs) es) e ∙ any-filter (is_beyond hs) es e
     ∙ ap (λ b. b && is_beyond hs e) (sym (contains-from_list edit_total es e)) ∙ sym (contains-beyond (from_list es) hs e))
 
--- all of a set is beyond its own heads
+-- all edits of a set are beyond its own heads
 pub beyond-own : (s : Edits) → beyond s (heads s) ≡ s
 beyond-own s = same_elements edit_total edit_exact _ s (from_set s (heads s)) (λ e inside.
     let listed = sym (contains-items s e) ∙ inside in

@@ -12,7 +12,7 @@ use Rattle.road_delta.specs.declared.heads.Head.{Head}
 use Rattle.road_delta.specs.Deltas.{head_of, heads, is_beyond, beyond}
 use Rattle.road_delta.proofs.DeltaEdits.{from_list-beyond, beyond-own}
 
--- a number set for an object from a step on, with a stamp's count and number
+-- an edit that sets a number for an object from a step on, with its stamp's count and number
 abbrev put : Object → ℕ → ℕ → ℕ → ℕ → Edit
 put o step count number value = record { object = o; step = step; stamp = record { count = count; number = number }; value = Put value }
 
@@ -38,14 +38,14 @@ b_tells = ap (map head_of) (items-from_list edit_total held_by_b tt)
 a_sends : beyond (from_list held_by_a) heads_of_b ≡ from_list (put (Limit 0) 5 3 0 0 ∷ put (Block 8) 4 2 0 1 ∷ [])
 a_sends = sym (from_list-beyond held_by_a heads_of_b)
 
--- beyond no heads, and beyond its own heads, is everything
+-- everything is beyond no heads, and beyond its own heads
 all_is_new : beyond (from_list held_by_a) [] ≡ from_list held_by_a
 all_is_new = sym (from_list-beyond held_by_a [])
 
 own_is_all : beyond (from_list held_by_a) (heads (from_list held_by_a)) ≡ from_list held_by_a
 own_is_all = beyond-own (from_list held_by_a)
 
--- a stamp decides by its count, and then by its number
+-- stamps compare by their counts, and then by their numbers
 greater_number_above : is_beyond (head (Limit 0) 3 3 1 ∷ []) (put (Limit 0) 3 3 0 1) ≡ false
 greater_number_above = refl
 

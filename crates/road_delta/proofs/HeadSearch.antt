@@ -27,7 +27,7 @@ use Rattle.road_delta.proofs.RisingHeads.{head_cmp, rising-at}
 turned : (p q : Place) (r : Ordering) → number_triple_cmp p q ≡ r → number_triple_cmp q p ≡ ordering_reverse r
 turned p q r e = number_triple_total.antisymm q p ∙ ap ordering_reverse e
 
--- a later place does not compare as earlier with a third place
+-- if a place is after another, it compares with a third place as the other does or as greater
 further : (p q at : Place) → number_triple_cmp p q ≡ Less → ordering_index (number_triple_cmp p at) ≤ ordering_index (number_triple_cmp q at)
 further p q at before = elim (number_triple_cmp p at) as (λ r. number_triple_cmp p at ≡ r → ordering_index r ≤ ordering_index (number_triple_cmp q at)) [
   | Less ↦ λ e. omega arith
@@ -38,40 +38,40 @@ further p q at before = elim (number_triple_cmp p at) as (λ r. number_triple_cm
 -- ---- the search
 
 -- the comparison of the search: the object and the step of a head with those of an edit
-abbrev pub beside : Edit → Head → Ordering
-beside e h = ordering_then (object_cmp h.object e.object) (nat_cmp h.step e.step)
+abbrev pub search_cmp : Edit → Head → Ordering
+search_cmp e h = ordering_then (object_cmp h.object e.object) (nat_cmp h.step e.step)
 
 module _ (hs : List Head) (e : Edit) where
-  by_place : (h : Head) → beside e h ≡ number_triple_cmp (head_place h) (edit_place e)
+  by_place : (h : Head) → search_cmp e h ≡ number_triple_cmp (head_place h) (edit_place e)
   by_place h = ap (λ r. ordering_then r (nat_cmp h.step e.step)) (ordered h.object e.object)
 
-  no_head : (h : Head) (r : Ordering) → beside e h ≡ r → is_eq (ordering_reverse r) ≡ false → is_head_at e h ≡ false
+  no_head : (h : Head) (r : Ordering) → search_cmp e h ≡ r → is_eq (ordering_reverse r) ≡ false → is_head_at e h ≡ false
   no_head h r is other = ap is_eq (turned (head_place h) (edit_place e) r (sym (by_place h) ∙ is)) ∙ other
 
-  head_here : (h : Head) → beside e h ≡ Equal → is_head_at e h ≡ true
+  head_here : (h : Head) → search_cmp e h ≡ Equal → is_head_at e h ≡ true
   head_here h is = ap is_eq (turned (head_place h) (edit_place e) Equal (sym (by_place h) ∙ is))
 
   module _ (rise : AreRisingHeads hs) where
-    -- the answers rise along the heads
-    pub answers_rise : IsNonDecreasingBy (λ h. ordering_index (beside e h)) hs
-    answers_rise i j d le inside = elim (cases_lt i j) as (λ _. ordering_index (beside e (slice_index_or hs i d)) ≤ ordering_index (beside e (slice_index_or hs j d))) [
+    -- the results of the comparison do not fall along the heads
+    pub answers_rise : IsNonDecreasingBy (λ h. ordering_index (search_cmp e h)) hs
+    answers_rise i j d le inside = elim (cases_lt i j) as (λ _. ordering_index (search_cmp e (slice_index_or hs i d)) ≤ ordering_index (search_cmp e (slice_index_or hs j d))) [
       | inl lt ↦
           let g = slice_index_or hs i d in
           let h = slice_index_or hs j d in
           let later = further (head_place g) (head_place h) (edit_place e) (rising-at head_cmp hs i j d rise lt inside) in
           omega (arith, ap ordering_index (by_place g), ap ordering_index (by_place h))
-      | inr ge ↦ let same : i ≡ j = omega arith in omega (arith, ap (λ k. ordering_index (beside e (slice_index_or hs k d))) same)
+      | inr ge ↦ let same : i ≡ j = omega arith in omega (arith, ap (λ k. ordering_index (search_cmp e (slice_index_or hs k d))) same)
     ]
 
     -- if no head was found, the edit is beyond
-    pub absent : (gap : ℕ) → IsPartitionPoint (λ h. beside e h ≡ Less) (λ h. beside e h ≡ Greater) hs gap → is_beyond hs e ≡ true
+    pub absent : (gap : ℕ) → IsPartitionPoint (λ h. search_cmp e h ≡ Less) (λ h. search_cmp e h ≡ Greater) hs gap → is_beyond hs e ≡ true
     absent gap point = or_left _ _ (not_from_false _ (list_any_none (is_head_at e) hs (λ k d inside. elim (cases_lt k gap) as (λ _. is_head_at e (slice_index_or hs k d) ≡ false) [
       | inl before ↦ no_head (slice_index_or hs k d) Less (point.0 k d (omega arith) before) refl
       | inr after ↦ no_head (slice_index_or hs k d) Greater (point.1 k d after inside) refl
     ])))
 
-    -- only the head that was found is of the edit's object and step
-    other_heads : (k i : ℕ) (d : Head) → k < length hs → i < length hs → beside e (slice_index_or hs k d) ≡ Equal → is_head_at e (slice_index_or hs i d) ≡ true → i ≡ k
+    -- only the head that was found has the edit's object and step
+    other_heads : (k i : ℕ) (d : Head) → k < length hs → i < length hs → search_cmp e (slice_index_or hs k d) ≡ Equal → is_head_at e (slice_index_or hs i d) ≡ true → i ≡ k
     other_heads k i d at inside equal here = elim (cases_lt i k) as (λ _. i ≡ k) [
       | inl before ↦ absurd (true≢false (sym here ∙ ap is_eq (turned (head_place g) (edit_place e) Less (ap (number_triple_cmp (head_place g)) place ∙ rising-at head_cmp hs i k d rise before at))))
       | inr not_before ↦ elim (cases_lt k i) as (λ _. i ≡ k) [
@@ -87,7 +87,7 @@ module _ (hs : List Head) (e : Edit) where
         place = sym (number_triple_exact (head_place (slice_index_or hs k d)) (edit_place e) (sym (by_place (slice_index_or hs k d)) ∙ equal))
 
     -- if a head was found, its stamp decides
-    pub found : (k : ℕ) (d : Head) → k < length hs → ((x : Head) → beside e (slice_index_or hs k x) ≡ Equal) → is_beyond hs e ≡ not (is_stamp_above e (slice_index_or hs k d))
+    pub found : (k : ℕ) (d : Head) → k < length hs → ((x : Head) → search_cmp e (slice_index_or hs k x) ≡ Equal) → is_beyond hs e ≡ not (is_stamp_above e (slice_index_or hs k d))
     found k d at equal =
         let h = slice_index_or hs k d in
         let here = head_here h (equal d) in
@@ -108,7 +108,7 @@ not_less Less = refl
 not_less Equal = refl
 not_less Greater = refl
 
--- the derived test of stamps, as the opposite of the other stamp being greater
+-- the derived test that a stamp is at most another is that the first is not greater
 pub not_above : (s t : Stamp) → partial_le derived_stamp.ghosts.partial_cmp s t ≡ not (is_lt (number_pair_cmp (stamp_key t) (stamp_key s)))
 not_above s t =
     ap (is_some_and is_le) (Some-then (nat_cmp s.count t.count) (nat_cmp s.number t.number))

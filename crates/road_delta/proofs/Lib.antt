@@ -1,4 +1,4 @@
--- Lemmas about heads, the search among them, and what is beyond them.
+-- Lemmas about heads, the search among them, and the edits beyond them.
 pub mod DeltaEdits
 pub mod RisingHeads
 pub mod HeadSearch

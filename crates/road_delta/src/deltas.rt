@@ -12,8 +12,8 @@ use road_scenario::{Edit, Scenario};
 use std::alloc::Global;
 
 /// Return the edits of a scenario that are beyond heads: their object and step has no head, or a head with a smaller or
-/// equal stamp. Joining them to the scenario of those heads gives the same as joining the whole scenario
-/// (`laws::deltas_suffice`). They fit a plan if the scenario does. Each edit takes one binary search.
+/// equal stamp. Joining them to the scenario that the heads are from gives the same as joining the whole scenario
+/// (`laws::deltas_suffice`). They fit a plan if the scenario does. There is one binary search for each edit.
 ///
 /// # Errors
 ///

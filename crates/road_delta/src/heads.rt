@@ -39,7 +39,7 @@ impl Model for Heads {
 }
 
 impl Heads {
-    /// Return the heads, rising by object and step. It takes no memory.
+    /// Return the heads, rising by object and step. It does not allocate.
     pub fn list(&self) -> &[Head]
         ensures all { result.now ≡ self.now }
         ensures rise { AreRisingHeads result.now }

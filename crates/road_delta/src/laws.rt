@@ -1,4 +1,4 @@
-//! A law of all deltas, as the contract of a function that does nothing.
+//! A law of all deltas. It is the contract of a function that does nothing.
 
 ghost use Rattle.std.specs.Prelude.{◌≡◌, List, false};
 ghost use Rattle.road_scenario.specs.declared.edit.Edit.{Edit};
@@ -7,7 +7,7 @@ ghost use Rattle.road_scenario.specs.Winners.{winners, join};
 ghost use Rattle.road_delta.specs.declared.heads.Head.{Head};
 ghost use Rattle.road_delta.specs.Deltas.{heads, beyond, is_beyond, IsBehind};
 
-/// Show that a replica misses only edits that are beyond its heads.
+/// Show that a replica lacks only edits that are beyond its heads.
 pub fn deltas_suffice()
     // Joining a delta gives the same as joining the whole scenario.
     ensures joined { (ours theirs : Edits) → join ours (beyond theirs (heads ours)) ≡ join ours theirs }

@@ -1,8 +1,9 @@
 //! Deltas: a replica sends the heads of its edits, and another replies with the edits beyond them, instead of all its
 //! edits.
 //!
-//! A caller with two scenarios, where the second holds one more edit. The first sends its heads, and the second sends
-//! the edits beyond them. The first then holds what it would hold with all edits of the second:
+//! This caller has two scenarios, and the second holds one more edit. The owner of the first sends its heads, and the
+//! owner of the second replies with the edits beyond them. The first then holds what it would hold after joining all
+//! edits of the second:
 //!
 //! ```
 //! let stamp = Stamp { count: 1, number: 0 };

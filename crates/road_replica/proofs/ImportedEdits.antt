@@ -21,7 +21,7 @@ unmapped : (x : Option EditFault) → option_map received_edit_fault x ≡ None 
 unmapped None h = refl
 unmapped (Some f) h = cc
 
--- an import without a refused edit has no faulty one
+-- an import without a refused edit has no faulty edit
 pub no_fault_imported : (plan : Plan) (edits : List Edit) → import_fault plan edits ≡ None → first_fault plan edits ≡ None
 no_fault_imported plan [] h = refl
 no_fault_imported plan (e ∷ es) h =

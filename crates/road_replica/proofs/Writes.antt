@@ -69,7 +69,7 @@ retaken_refused r new taken edits cause fault meter later same none write = reco
   few_steps = subst (λ (joined : Edits). TicksAtMost (most_steps r.sheet.horizon r.sheet.horizon (first_touched_step r.sheet.edits joined)) meter later) same write.few_steps;
 }
 
--- in either case
+-- whether it is accepted or refused
 pub retaken : {A : Type 0} (r new : Replica) (taken edits : Edits) (cause : Option ReplicaFault) (result : Result A ReplicaFault) (meter later : ℕ)
     → join r.sheet.edits taken ≡ join r.sheet.edits edits → cause ≡ None → IsWrite (Take taken) None result r new meter later → IsWrite (Take edits) cause result r new meter later
 retaken r new taken edits cause (Ok x) meter later same none write = retaken_accepted r new taken edits cause meter later same none write

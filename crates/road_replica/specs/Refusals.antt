@@ -34,7 +34,8 @@ received_edit_fault edits.Step = Step
 received_edit_fault edits.ValueOutOfRange = ValueOutOfRange
 received_edit_fault edits.Count = Count
 
--- the refusal of an edit that the replica would make: its count, one more than the greatest held, can only be too great
+-- the refusal of an edit that the replica would make: its count is one more than the greatest held, so it can only be
+-- too large
 abbrev pub own_edit_fault : EditFault → ReplicaFault
 own_edit_fault edits.NoObject = NoObject
 own_edit_fault edits.Step = Step

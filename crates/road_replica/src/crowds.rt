@@ -27,8 +27,8 @@ pub struct Crowd {
     pub row: String,
 }
 
-/// Something that runs crowds. The trait does not promise a call that never blocks or starts no threads: whoever calls
-/// it blocks if the implementation does.
+/// Something that runs crowds. The trait does not promise that a call does not block or start threads: the caller
+/// blocks if the implementation does.
 pub trait Crowds {
     /// Return the result for a replica without edits once 1 to 8 sessions have written to it, in whatever order. Each
     /// session takes the edits of its share, one after another, and then advances to the step.
@@ -53,8 +53,8 @@ pub trait Crowds {
             ≡ row_at (arc_value plan.now) (crowd_winners (shares_of shares.now)) to) };
 }
 
-/// Count the writes that the sessions of these shares make: one for each edit, and one advance for each session. It
-/// counts to at most 2^64 - 1.
+/// Count the writes that the sessions of these shares make: one for each edit, and one advance for each session. The
+/// count stays at 2^64 - 1 if there are more.
 pub fn write_count(shares: &[Vec<Edit>]) -> u64
     ensures { result ≡ min (crowd_writes (shares_of shares.now)) (2 ^ 64 - 1) }
 {

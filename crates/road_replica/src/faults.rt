@@ -1,4 +1,4 @@
-//! Why a replica refuses a call, and how it names the faults of the layers below.
+//! The reasons why a replica refuses a call, and how it names the faults of the layers below.
 
 ghost use Rattle.std.specs.Prelude.{◌≡◌};
 ghost use Rattle.road_replica.specs.Refusals as refusals;
@@ -13,8 +13,8 @@ use road_sheet::SheetFault;
 use std::alloc::AllocError;
 use thiserror::Error;
 
-/// Why a replica refuses a call. The causes are checked in this order, and the first one that applies is named. For a
-/// list of edits it is the cause of its first faulty edit.
+/// The reason why a replica refuses a call. The reasons are checked in this order, and the first that applies is
+/// returned. For a list of edits it is that of the first faulty edit.
 #[derive(Clone, Copy, Debug, PartialEq, Eq, Error)]
 pub enum ReplicaFault {
     /// The plan has no such zone, cell, inlet or detector.
@@ -23,10 +23,10 @@ pub enum ReplicaFault {
     /// An edit's step is too late.
     #[error("the step is above {last}", last = LAST_EDIT_STEP)]
     Step,
-    /// The object does not take the number.
+    /// The number is out of the object's range.
     #[error("the number is out of the object's range")]
     ValueOutOfRange,
-    /// The count of an edit from elsewhere is 0 or too great.
+    /// The count of an edit from elsewhere is 0 or too large.
     #[error("the count is not 1 to {most}", most = GREATEST_COUNT)]
     Count,
     /// An imported edit has the number of a replica.
@@ -44,7 +44,7 @@ pub enum ReplicaFault {
     /// The first step is after the last, or there are too many rows.
     #[error("the first step is after the last, or there are more than {most} rows", most = MOST_ROWS)]
     Range,
-    /// A step is above the horizon.
+    /// A step is past the horizon.
     #[error("a step is not simulated")]
     NotSimulated,
     /// A worker's thread could not be started, or has ended.

@@ -96,7 +96,7 @@ impl Replica {
         &self.sheet
     }
 
-    /// Return only the sheet.
+    /// Return the sheet, and drop the replica.
     pub fn into_sheet(self) -> Arc<Sheet>
         ensures { arc_value result ≡ self.sheet }
     {
@@ -114,7 +114,7 @@ impl Replica {
     ///
     /// # Errors
     ///
-    /// `OutOfMemory` if the sheet can have no more owners.
+    /// `OutOfMemory` if the sheet already has as many owners as it can have.
     pub fn copied(&self) -> Result<Replica, OutOfMemory>
         ensures { IfOk result (λ copy. copy ≡ self.now) }
     {
@@ -483,7 +483,7 @@ impl Replica {
     ///
     /// # Errors
     ///
-    /// `Range` if `from` is above `to` or these are more than 1,024 rows, else `NotSimulated` if `to` is above the
+    /// `Range` if `from` is above `to` or there are more than 1,024 rows, else `NotSimulated` if `to` is above the
     /// horizon, else `OutOfMemory` if an allocation failed.
     pub fn rows(&self, alloc: Global, from: u32, to: u32) -> Result<Vec<String>, ReplicaFault>
         ensures rows { IfOk result (λ rows. map string_bytes rows.items ≡ rows_of self.now.sheet from to) }

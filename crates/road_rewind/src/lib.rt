@@ -1,4 +1,5 @@
-//! Late edits: a sheet takes edits and is simulated again from where they act, and no earlier than 63 steps before.
+//! Late edits: a sheet takes edits, and only the steps that they can change are simulated again. This begins at most 63
+//! steps before the first of them.
 //!
 //! ```
 //! // A run to step 100; then its first zone is closed from step 70 on.
@@ -22,5 +23,5 @@ pub use outcome::Grown;
 pub use rewind::grown;
 /// Out of memory: an allocation failed.
 pub use std::alloc::AllocError as OutOfMemory;
-/// Why `grown` is refused: its crew answered `WorkersGone`, or an allocation failed.
+/// The reason why `grown` failed: its crew returned `WorkersGone`, or an allocation failed.
 pub use road_workers::CrewFault as GrownFault;

@@ -1,4 +1,4 @@
-//! Rewinding: a sheet grows by edits and steps, keeps what no edit touches, and simulates the rest.
+//! Rewinding: a sheet gets more edits and steps. It keeps the steps that no edit touches, and simulates the others.
 
 ghost use Rattle.std.specs.Prelude.{◌≡◌, ◌≤◌, ◌-◌, max, IfOk, OnOk};
 ghost use Rattle.road_plan.specs.declared.limits.TheConstants.{GREATEST_HORIZON};
@@ -22,18 +22,18 @@ use road_sheet::{Draft, Sheet, SpanDraft};
 use road_workers::Crew;
 use std::alloc::Global;
 
-/// Join a scenario into a sheet and simulate at least up to the step `to`: the new sheet is that of the joined scenario,
-/// at the greater of the old horizon and `to`. The old sheet stays as it is, and the new one shares with it each whole
-/// interval that is right in both.
+/// Join a scenario into a sheet, and simulate at least up to the step `to`. The new sheet is that of the joined
+/// scenario, and its horizon is the greater of the old horizon and `to`. The old sheet is unchanged, and the new one
+/// shares with it each whole interval that is valid in both.
 ///
-/// The scenario must fit the sheet's plan, and `to` must be at most 1,048,576. If it succeeds, the meter counts the steps
-/// that were computed: exactly those after the old horizon if no step below it is touched, and else those from the
-/// checkpoint at or before the touched step, at most 63 more than from that step on.
+/// The scenario must fit the sheet's plan, and `to` must be at most 1,048,576. If the call succeeds, the meter counts
+/// exactly the steps that were computed. If no simulated step is touched, these are the steps after the old horizon.
+/// Otherwise they are the steps from the touched one on, and those before it back to the checkpoint, at most 63.
 ///
 /// # Errors
 ///
-/// `WorkersGone` if the crew answers so, else `OutOfMemory` if an allocation failed. The meter has then counted the steps
-/// of what was finished, and none of the run of several steps that was refused: no more than if it succeeds.
+/// `WorkersGone` if the crew returned it, else `OutOfMemory` if an allocation failed. The meter has then counted the
+/// steps of the runs that were finished, and none of the run that failed: no more than a call that succeeds may count.
 pub fn grown<C: Crew>(
     alloc: Global,
     sheet: &Sheet,
@@ -47,15 +47,15 @@ pub fn grown<C: Crew>(
     ensures sheet { IfOk result (λ done. done.sheet ≡ grown_sheet sheet.now scenario.now to) }
     ensures above { IfOk result (λ done. IsAtMost sheet.now done.sheet) }
     ensures touched { IfOk result (λ done. done.touched ≡ touched_step sheet.now scenario.now) }
-    // If it succeeds, each step that is computed is counted: those from where its run is taken up.
+    // If it succeeds, each computed step is counted: those from where the run resumes.
     ensures steps { IfOk result (λ _. meter.new
         ≡ meter_after meter.old (max sheet.now.horizon to - draft_start sheet.now.horizon
         (kept_step sheet.now.horizon (touched_step sheet.now scenario.now)))) }
-    // If no simulated step is touched, just the new steps are computed.
+    // If no simulated step is touched, only the new steps are computed.
     ensures new_steps { IfOk result (λ _.
         kept_step sheet.now.horizon (touched_step sheet.now scenario.now) ≡ sheet.now.horizon
         → meter.new ≡ meter_after meter.old (max sheet.now.horizon to - sheet.now.horizon)) }
-    // Else, and if it is refused, at most `most_steps`.
+    // In every case, also if it fails, at most `most_steps` are counted.
     ensures few_steps { TicksAtMost
         (most_steps sheet.now.horizon (max sheet.now.horizon to) (touched_step sheet.now scenario.now))
         meter.old meter.new }
@@ -92,7 +92,7 @@ fn start_draft(
     Ok((draft, touched))
 }
 
-// Find up to which step a run stays right.
+// Find the step up to which a run is kept.
 fn kept_step(horizon: u32, touched: Option<u32>) -> u32
     ensures { result ≡ kept_step horizon touched }
 {
@@ -102,8 +102,8 @@ fn kept_step(horizon: u32, touched: Option<u32>) -> u32
     }
 }
 
-// Simulate a draft up to a step, by runs of no more steps than the crew is to run at once, and return its sheet. The meter
-// counts the steps of each run once the draft has them, and none of a run that is refused.
+// Simulate a draft up to a step, and return its sheet. No run has more steps than the crew allows. The meter counts the
+// steps of each run once the draft has them, and none of a run that fails.
 fn simulate<C: Crew>(
     alloc: Global,
     draft: Draft,
@@ -130,8 +130,8 @@ fn simulate<C: Crew>(
     Ok(so_far.sheet(alloc, road)?)
 }
 
-// Simulate the next steps of a draft by a run of the crew, from the road at its horizon, and return the road after them.
-// The meter counts all of them once the draft has them, and none if the run is refused or cannot be added.
+// Let the crew run the next steps of a draft from the road at its horizon, and return the road after them. The meter
+// counts all these steps once the draft has them, and none if the run fails or cannot be added.
 fn simulate_span<C: Crew>(
     alloc: Global,
     draft: &mut SpanDraft,

@@ -188,7 +188,7 @@ latest_number o step (s ∷ steps) h =
 
 -- ---- all objects
 
--- an object below others is not one of them
+-- an object below another is a different object
 pub other_above : (o p : Object) → object_cmp o p ≡ Less → is_one p o ≡ false
 other_above o p l = ap is_eq (number_pair_total.antisymm (order_key p) (order_key o) ∙ ap ordering_reverse (sym (ordered o p) ∙ l))
 
@@ -207,7 +207,7 @@ same_tests o p = ap is_eq (ordered o p) ∙ turned (number_pair_cmp (order_key o
     turned Equal = refl
     turned Greater = refl
 
--- the steps of an object that is the first
+-- the registers of an object, if it is the first of the map
 pub steps_here : (e : Object × RegistersByStep) (m : RegistersByObject) (o : Object) → is_one e.0 o ≡ true → registers_of_object object_cmp (e ∷ m) o ≡ e.1
 steps_here e m o t = ap (λ b. unwrap_or (cond b (Some e.1) (find object_cmp o m)) []) (same_tests o e.0 ∙ t)
 

@@ -10,7 +10,7 @@ use Rattle.road_plan.specs.declared.object.Object.TheVariants.{Limit, Slow, Bloc
 use Rattle.road_scenario.specs.Edits.{Edits}
 use Rattle.road_scenario.specs.Settings.{setting, settings_of}
 
--- two functions are the same at n numbers from this one on
+-- two functions agree on `count` numbers, from `start` on
 abbrev AreSameFrom : {A : Type 0} → ℕ → ℕ → (ℕ → A) → (ℕ → A) → Type 0
 AreSameFrom start count f g = (k : ℕ) → k < start + count → f k ≡ g k
 

@@ -18,7 +18,7 @@ up_to-le at step = grind (arith, nat_tests)
 after-lt : (at step : ℕ) → is_lt (nat_cmp step at) ≡ nat_lt step at
 after-lt at step = grind (arith, nat_tests)
 
--- the registers up to a step have its last number
+-- the last number of the registers up to a step is the last number set up to it
 pub last_number-up_to : (step : ℕ) (es : RegistersByStep) → last_number_of (entries_up_to nat_cmp step es) ≡ last_number step es
 last_number-up_to step [] = refl
 last_number-up_to step (e ∷ es) =

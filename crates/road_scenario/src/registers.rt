@@ -20,7 +20,7 @@ pub(crate) type RegistersByObject = LatMap<Object, RegistersByStep>;
 // The registers of one object: each step with its register.
 pub(crate) type RegistersByStep = LatMap<u32, Won>;
 
-// Make the single register of an edit that wins because there is no other.
+// Make the registers of an object that has only this edit.
 pub(crate) fn register_of(alloc: Global, edit: &Edit) -> Result<RegistersByStep, OutOfMemory>
     ensures { IfOk result (λ made. made ≡ (edit.now.step, Of (edit.now.stamp, edit.now.value)) ∷ []) }
 {
@@ -28,7 +28,7 @@ pub(crate) fn register_of(alloc: Global, edit: &Edit) -> Result<RegistersByStep,
     none.with(edit.step, &Greatest::Of((edit.stamp, edit.value)))
 }
 
-// Find the last number set up to a step. The search goes back from there and passes only withdrawals.
+// Find the last number set up to a step. The search goes back from that step, past withdrawals.
 pub(crate) fn last_put(registers: &RegistersByStep, step: u32) -> Option<u32>
     ensures { result ≡ walks.last_number step registers.now }
 {

@@ -54,7 +54,8 @@ impl Model for Scenario {
 }
 
 impl Scenario {
-    /// Make the scenario without edits, which fits every plan. Its joins and copies allocate from `alloc` too.
+    /// Make the scenario without edits, which fits every plan. Its copies, and its joins with others, allocate from
+    /// `alloc` too.
     pub fn empty(alloc: Global) -> Self
         ensures none { result ≡ sets.empty }
         ensures fits { (plan : Plan) → AreInRange plan result }
@@ -66,8 +67,8 @@ impl Scenario {
         }
     }
 
-    /// Make the winners of a list of edits, in whatever order they are, by joining halves: each edit is copied about as
-    /// often as the list can be halved. The scenario fits a plan if no edit of the list has a fault.
+    /// Make the winners of a list of edits, in any order. Halves of the list are joined, so each edit is copied about
+    /// as often as the list can be halved. The scenario fits a plan if no edit of the list has a fault.
     ///
     /// # Errors
     ///
@@ -89,7 +90,8 @@ impl Scenario {
         }
     }
 
-    /// Make the winners of this scenario's edits and one more. The result fits a plan if both do.
+    /// Make the winners of this scenario's edits and one more edit. The result fits a plan if the scenario and the edit
+    /// do.
     ///
     /// # Errors
     ///
@@ -107,7 +109,7 @@ impl Scenario {
         })
     }
 
-    /// Make the winners of both scenarios' edits. The result fits a plan if both do.
+    /// Make the winners of both scenarios' edits. The result fits a plan if both scenarios do.
     ///
     /// # Errors
     ///
@@ -124,11 +126,12 @@ impl Scenario {
         })
     }
 
-    /// Make an equal scenario. It takes no memory, since both share all registers.
+    /// Make an equal scenario. It does not allocate, since both share all registers.
     ///
     /// # Errors
     ///
-    /// `OutOfMemory` if the registers can have no more owners. Without edits there are no registers.
+    /// `OutOfMemory` if the registers already have as many owners as they can have. A scenario without edits has no
+    /// registers, so copying it always succeeds.
     pub fn copied(&self) -> Result<Self, OutOfMemory>
         ensures copy { IfOk result (λ copy. copy ≡ self.now) }
         ensures grows_nothing { self.now ≡ sets.empty → IsOk result }
@@ -155,7 +158,7 @@ impl Scenario {
     }
 
     /// Make all settings of the plan at a step, by one walk over the edits up to it. The scenario must fit the plan
-    /// (`fits` returns `None`), and then so do the settings.
+    /// (`fits` returns `None`), and then the settings fit it too.
     ///
     /// # Errors
     ///
@@ -176,8 +179,8 @@ impl Scenario {
     }
 
     /// Return the first step after a given step at which an edit, perhaps a withdrawal, takes effect, or `None` if no
-    /// edit is dated later. All steps before it have the settings of the given step. It takes few look-ups for each
-    /// object and no memory.
+    /// edit is dated later. All steps before it have the settings of the given step. It takes a few look-ups for each
+    /// object, and does not allocate.
     pub fn next_date(&self, step: u32) -> Option<u32>
         ensures date { result ≡ next_date self.now step }
         ensures settings { (plan : Plan) (t : ℕ) → step ≤ t → IsBefore t result →
@@ -186,17 +189,17 @@ impl Scenario {
         first_date_after(&self.registers, step)
     }
 
-    /// Return the least step at which this scenario and `other` set different numbers for some object, or `None` if
+    /// Return the first step at which this scenario and `other` set different numbers for some object, or `None` if
     /// they set the same numbers. A withdrawal sets no number. Settings at earlier steps are the same
-    /// (`laws::settings_stay_before_touched`). It takes no memory.
+    /// (`laws::settings_stay_before_touched`). It does not allocate.
     pub fn touched(&self, other: &Scenario) -> Option<u32>
         ensures { result ≡ first_touched_step self.now other.now }
     {
         first_change(&self.registers, &other.registers)
     }
 
-    /// Return the same as [`Scenario::touched`] of `joined`, which must be this scenario with `taken` joined in.
-    /// Only the objects and steps of `taken` are visited. It takes no memory.
+    /// Return the same as [`Scenario::touched`] of `joined`, which must be this scenario with `taken` joined in. Only
+    /// the objects and steps of `taken` are visited. It does not allocate.
     pub fn touched_by(&self, taken: &Scenario, joined: &Scenario) -> Option<u32>
         requires { joined.now ≡ join self.now taken.now }
         ensures { result ≡ first_touched_step self.now joined.now }
@@ -218,7 +221,7 @@ impl Scenario {
         all_edits(alloc, &self.registers)
     }
 
-    /// Count the edits. The scenario must fit a plan. It takes no memory.
+    /// Count the edits. The scenario must fit a plan. It does not allocate.
     pub fn len(&self) -> usize
         requires { FitsSomePlan self.now }
         ensures { result ≡ length (sets.items self.now) }
@@ -227,7 +230,7 @@ impl Scenario {
     }
 
     /// Return the greatest count of the edits' stamps, or 0 without edits. It is the greatest count of every set of
-    /// edits with these winners, and at most 2^48 if the scenario fits a plan. It takes no memory.
+    /// edits with these winners, and at most 2^48 if the scenario fits a plan. It does not allocate.
     pub fn greatest_count(&self) -> u64
         ensures here { result ≡ greatest_count self.now }
         ensures every { (edits : Edits) → winners edits ≡ self.now → result ≡ greatest_count edits }
@@ -236,8 +239,8 @@ impl Scenario {
         self.greatest
     }
 
-    /// Return the fault of the first faulty edit, in the order of `edits`, or `None` if all edits fit the plan. It
-    /// takes no memory.
+    /// Return the fault of the first faulty edit, in the order of `edits`, or `None` if all edits fit the plan. It does
+    /// not allocate.
     pub fn fits(&self, plan: &Plan) -> Option<EditFault>
         ensures fault { result ≡ fault_in plan.now self.now }
         ensures none { IsNone result ↔ AreInRange plan.now self.now }

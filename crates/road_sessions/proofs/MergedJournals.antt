@@ -1,4 +1,4 @@
--- A replayed journal leaves the winners of all its edits, at the greatest step that it advances to.
+-- A replayed journal leaves the winners of all its edits, at the latest step that it advances to.
 use Rattle.std.proofs.Common.{◌≡◌, ◌∙◌, max, List, [], ◌∷◌, sym, ap, arith, subst}
 use Rattle.std.specs.Prelude.{◌||◌}
 use Rattle.lattice_core.specs.Sets.{contains, empty, union}

@@ -25,7 +25,7 @@ abbrev pub edits_taken : List Entry → Edits
 edits_taken [] = empty
 edits_taken (e ∷ es) = union (command_edits e.command) (edits_taken es)
 
--- the greatest step that a journal advances to; 0 without an advance
+-- the latest step that a journal advances to; 0 without an advance
 abbrev pub latest_step : List Entry → ℕ
 latest_step [] = 0
 latest_step (e ∷ es) = max (command_step e.command) (latest_step es)

@@ -29,7 +29,7 @@ pub struct Closed {
     pub journal: Vec<Entry>,
 }
 
-/// Why a store is not closed, with all that the caller passed, unchanged.
+/// The reason why a store is not closed, with everything that the caller passed, unchanged.
 #[derive(Drop)]
 pub struct CloseFault<J: Naming, R: Wait + Drop>
 where
@@ -44,14 +44,14 @@ where
 }
 
 /// Close a store. The caller passes all its sessions, in any order. The journal is exactly what they wrote: it has as
-/// many entries as they made writes, each write of a session stands once, at its place, and what each session has seen
+/// many entries as they made writes, it has each write of a session once, at its place, and what each session has seen
 /// is a prefix of it. The sheet is that of the journal replayed: it has the winners of all edits in the journal, and
-/// its horizon is the greatest step that the journal advances to.
+/// its horizon is the latest step that the journal advances to.
 ///
 /// # Errors
 ///
 /// `Missing` if these are not all sessions of the store, and no other error. The store and the sessions are then
-/// returned unchanged, and the lock is not opened.
+/// returned unchanged, and the locked value is not taken out.
 pub fn close<J: Naming, R: Wait + Drop>(
     shared: Shared<J, R>,
     sessions: Vec<Session<J>>,

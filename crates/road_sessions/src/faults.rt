@@ -1,4 +1,4 @@
-//! Why a call of a store or a session is refused.
+//! The reasons why a call of a store or a session is refused.
 ghost use Rattle.std.specs.Prelude.{◌≡◌};
 ghost use Rattle.road_sessions.specs.declared.faults.OpenFault.TheVariants as openings;
 ghost use Rattle.road_sessions.specs.declared.faults.WriteFault.TheVariants as writes;
@@ -8,7 +8,7 @@ use road_sheet::SheetFault;
 use std::alloc::AllocError;
 use thiserror::Error;
 
-/// Why a store cannot be opened.
+/// The reason why a store cannot be opened.
 #[derive(Clone, Copy, Debug, PartialEq, Eq, Error)]
 pub enum OpenFault {
     /// The store gave a session no reader.
@@ -27,7 +27,7 @@ impl From<AllocError> for OpenFault {
     }
 }
 
-/// Why a write is refused. The room of the journal is checked first.
+/// The reason why a write is refused. The room of the journal is checked first.
 #[derive(Clone, Copy, Debug, PartialEq, Eq, Error)]
 pub enum WriteFault {
     /// The journal has as many writes as the store was prepared for.
@@ -46,24 +46,24 @@ impl From<ReplicaFault> for WriteFault {
     }
 }
 
-/// Why a look, or a query that looks first, is refused.
+/// The reason why a look, or a query that looks first, is refused.
 #[derive(Clone, Copy, Debug, PartialEq, Eq, Error)]
 pub enum LookFault {
     /// The store did not let the session enter. The session is unchanged.
     #[error("the store was not entered")]
     NotEntered,
-    /// The sheet refuses the query, or can have no more owners.
+    /// The sheet refuses the query, or already has as many owners as it can have.
     #[error("{0}")]
     Sheet(SheetFault),
 }
 
-/// Why a store is not closed.
+/// The reason why a store is not closed.
 #[derive(Clone, Copy, Debug, PartialEq, Eq, Error)]
 pub enum CloseCause {
     /// The caller did not pass all its sessions.
     #[error("not all sessions are given")]
     Missing,
-    /// An allocation failed. `close` allocates nothing, so it never returns this.
+    /// An allocation failed. `close` does not allocate, so it never returns this.
     #[error("no memory")]
     OutOfMemory,
 }

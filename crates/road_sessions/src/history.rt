@@ -293,7 +293,7 @@ impl<J: Naming> Model for Prefix<J> {
 }
 
 impl<J: Naming> Prefix<J> {
-    // Return another value that has seen the same prefix.
+    // Make another value that has seen the same prefix.
     pub(crate) fn again(&self) -> Prefix<J>
         ensures same { result ≡ self.now }
         ensures legal { IsLegal J.replica self.now }
@@ -317,7 +317,7 @@ impl<J: Naming> Prefix<J> {
         self.count <= other.count
     }
 
-    // Return whether the two have the same length. They are then the same.
+    // Return whether both have the same length. If so, they are the same.
     pub(crate) fn is_same(&self, other: &Prefix<J>) -> bool
         ensures { IsTrue result → self.now ≡ other.now }
     {

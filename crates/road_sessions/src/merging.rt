@@ -11,8 +11,8 @@ ghost use Rattle.road_sessions.specs.Sessions.{Session};
 ghost use Rattle.road_sessions.specs.declared.entry.Entry.{Entry};
 
 /// Show that journals merge: a replayed journal leaves the winners of the replica's edits and of all edits in the
-/// journal, simulated up to the greatest of the replica's horizon and the journal's advances. So the order of its
-/// entries does not matter.
+/// journal, simulated up to the latest of the replica's horizon and the steps that the journal advances to. So the
+/// order of its entries does not matter.
 pub fn journals_merge()
     ensures { (r : Replica) (journal : List Entry) → AreWinners r.sheet.edits →
         (replay r journal).sheet ≡ merged_sheet r journal }

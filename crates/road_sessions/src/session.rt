@@ -261,12 +261,12 @@ impl<J: Naming> Session<J> {
     // ---- looks, without a lock
 
     /// Return the published sheet. Its history extends all that the session has seen or heard of, and contains the
-    /// session's own writes. It never waits and allocates nothing.
+    /// session's own writes. It never waits, and does not allocate.
     ///
     /// # Errors
     ///
     /// `NotEntered` if the store did not let the session enter, which is then unchanged; else `Sheet(OutOfMemory)` if
-    /// the sheet can have no more owners.
+    /// the sheet already has as many owners as it can have.
     pub fn look<S: Of<J>>(&mut self, _shared: &S) -> Result<Arc<Sheet>, LookFault>
         ensures looked { MatchResult result (λ _. HasLooked J.replica self.old self.new)
             (λ fault. IsLookRefusal J.replica fault self.old self.new) }

@@ -170,7 +170,8 @@ pub fn open_held<J: Naming, R: Wait + Drop>(
     Ok((held, sessions))
 }
 
-// Open a store with room for this many readers, which shows a sheet and its history. Return another copy of both, too.
+// Open a store with room for this many readers, which shows a sheet and its history. Return its writer, and one more
+// copy of both.
 fn store_of<J: Naming>(
     alloc: Global,
     sheet: &Arc<Sheet>,
@@ -184,8 +185,8 @@ fn store_of<J: Naming>(
 {
     let sheet = Arc::try_clone(sheet)?;
     let published = Published::new(sheet, history.again());
-    let first = published.again()?;
-    let second = published.again()?;
+    let first = published.try_clone()?;
+    let second = published.try_clone()?;
     let writer = new_store(alloc, first, second, readers)?;
     Ok((writer, published))
 }

@@ -67,8 +67,8 @@ impl<J: Naming> Published<J> {
         &self.history
     }
 
-    // Copy it. This fails if the sheet's reference count is at its limit.
-    pub(crate) fn again(&self) -> Result<Published<J>, OutOfMemory>
+    // Make an equal value, which shares the sheet. This fails if the sheet already has as many owners as it can have.
+    pub(crate) fn try_clone(&self) -> Result<Published<J>, OutOfMemory>
         ensures { IfOk result (λ same. same ≡ self.now) }
     {
         let sheet = Arc::try_clone(&self.sheet)?;
@@ -92,7 +92,7 @@ impl<J: Naming> Absorb<Published<J>> for Published<J> {
         operation: &Published<J>,
         _other: &Published<J>,
     ) -> Result<(), AllocError> {
-        *self = operation.again()?;
+        *self = operation.try_clone()?;
         Ok(())
     }
 
@@ -107,13 +107,13 @@ impl<J: Naming> Absorb<Published<J>> for Published<J> {
 }
 
 /// The rule of the store: what a reader has found is a prefix of what is published.
-pub struct FoundFirst;
+pub struct FoundIsPrefix;
 
-impl<J: Naming> Protocol<Published<J>, View> for FoundFirst {
-    ghost use Rattle.road_sessions.specs.Private.Stores.{FoundBegins};
+impl<J: Naming> Protocol<Published<J>, View> for FoundIsPrefix {
+    ghost use Rattle.road_sessions.specs.Private.Stores.{FoundArePrefixes};
     ghost use Rattle.road_sessions.specs.Sessions.{new_view};
 
-    ghost holds = { FoundBegins };
+    ghost holds = { FoundArePrefixes };
 
     ghost first = { new_view };
 }
@@ -146,10 +146,10 @@ impl<J: Naming> Outcome<Published<J>, View> for ToPublish {
 }
 
 /// A session's reader of the store.
-pub type StoreReader<J> = Reader<Published<J>, View, FoundFirst>;
+pub type StoreReader<J> = Reader<Published<J>, View, FoundIsPrefix>;
 
 /// The one writer of a store.
-pub type StoreWriter<J> = Writer<Published<J>, Published<J>, View, FoundFirst>;
+pub type StoreWriter<J> = Writer<Published<J>, Published<J>, View, FoundIsPrefix>;
 
 // Give the writer a value to publish. Retry until there is memory for it.
 fn hand_over<J: Naming, R: Wait>(

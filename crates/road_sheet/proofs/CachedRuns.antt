@@ -22,7 +22,7 @@ shown_by_both s t shown plan edits is = record {
   cached = subst (λ (es : Edits). AreCached t.plan es shown.settings) edits (subst (λ (p : Plan). AreCached p s.edits shown.settings) plan is.cached);
 }
 
--- so is a cache
+-- a cache of a sheet is a cache of each sheet with the same plan and edits
 pub same_run : (s t : Sheet) (cache : QueryCache) → s.plan ≡ t.plan → s.edits ≡ t.edits → IsCacheOf s cache → IsCacheOf t cache
 same_run s t cache plan edits is = record {
   run = IfSome_then cache.run is.run (λ shown by. shown_by_both s t shown plan edits by);

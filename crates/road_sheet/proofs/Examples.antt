@@ -2,7 +2,7 @@
 use Rattle.std.specs.Prelude.{◌≡◌, refl}
 use Rattle.road_sheet.specs.Drafts.{draft_start}
 
--- at the horizon, where nothing before it is touched
+-- at the horizon, if no step before it is touched
 touched_nowhere : draft_start 130 130 ≡ 130
 touched_nowhere = refl
 
@@ -19,6 +19,6 @@ touched_at_checkpoint = refl
 touched_before_checkpoint : draft_start 130 63 ≡ 0
 touched_before_checkpoint = refl
 
--- and the greatest such step of the longest run
+-- the last checkpoint of the longest run
 touched_last : draft_start 1048576 1048575 ≡ 1048512
 touched_last = refl

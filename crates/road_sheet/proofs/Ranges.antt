@@ -1,4 +1,4 @@
--- The numbers from one up to another, parted or one more.
+-- The numbers from one to before another, split in two, or with one more number.
 use Rattle.std.proofs.Common.{◌≡◌, ◌≤◌, ◌+◌, ◌-◌, ◌∙◌, ℕ, zero, suc, List, [], ◌∷◌, ◌++◌, ap, arith}
 use Rattle.std.specs.List.{range_with_len}
 use Rattle.road_ends.proofs.CellsBetweenInlets.{range_with_len-append}

@@ -1,4 +1,4 @@
--- The counts of a run: steps added one by one, counts parted at a step, and counts of runs that are the same.
+-- The counts of a run: steps added one by one, counts split at a step, and counts of runs that are the same.
 use Rattle.std.proofs.Common.{◌≡◌, ◌≤◌, ◌<◌, ◌+◌, ◌-◌, ◌^◌, ◌∙◌, ◌⊎◌, inl, inr, ℕ, zero, suc, List, [], ◌∷◌, ◌++◌, map, ap, sym, arith, refl}
 use Rattle.std.specs.List.{range_with_len}
 use Rattle.std.proofs.lemmas.List.{map-append}
@@ -33,7 +33,7 @@ total_more p course d a b before =
     sym (ap (λ (ks : List ℕ). sum_of_totals (map (passes p course d) ks)) (range-to a b before)
     ∙ ap sum_of_totals (map-append (passes p course d) (range_with_len a (b - a)) (b ∷ [])) ∙ add_last (map (passes p course d) (range_with_len a (b - a))) (passes p course d b))
 
--- what is counted at the input of a step of the run
+-- what is counted at the input of a step of the run is what is counted in that step
 pub passed_is : (p : Plan) (edits : Edits) (d t : ℕ) (road : Array) (input seen : StepInput) (speeds vs : List ℕ) (passed : Totals) → input ≡ input_of p (settings_of p edits t) t road → road ≡ run_at p edits t → speeds ≡ input_speeds input
     → seen ≡ input → vs ≡ speeds → passed ≡ passes_at seen vs d → passed ≡ passes p (settings_of p edits) d t
 passed_is p edits d t road input seen speeds vs passed is of_run new here are counts =
@@ -59,7 +59,7 @@ pub counted_more : (p : Plan) (course : Course) (d a b : ℕ) (totals passed : T
 counted_more p course d a b totals passed before are is =
     ap (λ (x : Totals). plus x passed) are ∙ ap (plus (total p course d a b)) is ∙ total_more p course d a b before
 
--- ---- parted at a step
+-- ---- split at a step
 
 totals_same : (x y : Totals) → x.cars ≡ y.cars → x.speeds ≡ y.speeds → x ≡ y
 totals_same x y cars speeds = λ i. record { cars = cars i; speeds = speeds i }
@@ -70,7 +70,7 @@ sum_of_totals-append (x ∷ xs) ys =
     ap (plus x) (sum_of_totals-append xs ys)
     ∙ totals_same (plus x (plus (sum_of_totals xs) (sum_of_totals ys))) (plus (plus x (sum_of_totals xs)) (sum_of_totals ys)) (omega arith) (omega arith)
 
--- the counts up to a step and those from it on
+-- the counts up to a step and those from it on add up
 pub total_parted : (p : Plan) (course : Course) (d a m b : ℕ) → a ≤ m → m ≤ b → plus (total p course d a m) (total p course d m b) ≡ total p course d a b
 total_parted p course d a m b before after =
     let first : List ℕ = range_with_len a (m - a) in
@@ -78,11 +78,11 @@ total_parted p course d a m b before after =
     sym (ap (λ (ks : List ℕ). sum_of_totals (map (passes p course d) ks)) (range-append a m b before after)
     ∙ ap sum_of_totals (map-append (passes p course d) first rest) ∙ sum_of_totals-append (map (passes p course d) first) (map (passes p course d) rest))
 
--- totals of some steps and of those that follow
+-- the totals of some steps and of those that follow add up
 pub totals_in_parts : (p : Plan) (course : Course) (d a m b : ℕ) (x y : Totals) → a ≤ m → m ≤ b → x ≡ total p course d a m → y ≡ total p course d m b → plus x y ≡ total p course d a b
 totals_in_parts p course d a m b x y before after first rest = ap (λ (z : Totals). plus z y) first ∙ ap (plus (total p course d a m)) rest ∙ total_parted p course d a m b before after
 
--- their sums fit
+-- the sums of such totals fit
 pub cars_in_parts : (p : Plan) (course : Course) (d a m b : ℕ) (x y : Totals) → BoundTotals p → a ≤ m → m ≤ b → b ≤ GREATEST_HORIZON → x ≡ total p course d a m → y ≡ total p course d m b → x.cars + y.cars < 2 ^ 32
 cars_in_parts p course d a m b x y bounded before after early first rest =
     let f = (bounded course d a m).few in
@@ -111,7 +111,7 @@ sums_same p f g d h e r (suc n) a l =
     ap (λ (x : Totals). plus x (sum_of_totals (map (passes p f d) (range_with_len (a + 1) n)))) (passes_same p f g d a (e a (omega (arith, l))) (r a (omega (arith, l))))
     ∙ ap (plus (passes p g d a)) (sums_same p f g d h e r n (a + 1) (omega (arith, l)))
 
--- they give the same counts up to that step
+-- courses that agree up to a step give the same counts up to it
 pub total_same : (p : Plan) (f g : Course) (d h a b : ℕ) → ((t : ℕ) → t < h → f t ≡ g t) → ((t : ℕ) → t ≤ h → run p f t ≡ run p g t) → b ≤ h → total p f d a b ≡ total p g d a b
 total_same p f g d h a b e r l = within (leq a b)
   where
@@ -126,7 +126,7 @@ total_same p f g d h a b e r l = within (leq a b)
 pub passed_next : (s : Sheet) (input : StepInput) (speeds : List ℕ) (d : ℕ) → input ≡ next_input s → speeds ≡ input_speeds input → passes_at input speeds d ≡ passes s.plan (settings_of s.plan s.edits) d s.horizon
 passed_next s input speeds d is are = ap (λ (vs : List ℕ). passes_at input vs d) are ∙ ap (λ (x : StepInput). passes_at x (input_speeds x) d) is
 
--- what is left of totals where those of the first steps are taken from them
+-- totals less those of the first steps are those of the later steps
 pub total_less : (p : Plan) (course : Course) (d a m b : ℕ) (all first : Totals) → a ≤ m → m ≤ b → all ≡ total p course d a b → first ≡ total p course d a m
     → (first.cars ≤ all.cars) × (first.speeds ≤ all.speeds) × ((let rest : Totals = record { cars = all.cars - first.cars; speeds = all.speeds - first.speeds } in rest) ≡ total p course d m b)
 total_less p course d a m b all first before after is are =

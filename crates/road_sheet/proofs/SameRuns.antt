@@ -1,4 +1,4 @@
--- Edits that give the same run up to what they touch.
+-- Two sets of edits give the same run up to the first touched step.
 use Rattle.std.proofs.Common.{◌≡◌, ◌≤◌, ◌<◌, ℕ, Option, Some, None, arith}
 use Rattle.road_plan.specs.Plan.{Plan}
 use Rattle.road_ends.specs.Laws.{DependOnEarlierSettings}
@@ -14,7 +14,7 @@ before : (o : Option ℕ) (keep u : ℕ) → IsUpTo o keep → u < keep → IsBe
 before None keep u up l = tt
 before (Some step) keep u up l = omega (arith, up, l)
 
--- where settings before what is touched stay, runs stay up to it
+-- if settings are the same before the first touched step, runs are the same up to it
 pub same_run : (p : Plan) (s t : Edits) (keep : ℕ) → DependOnEarlierSettings p → ((u : ℕ) → IsBefore u (first_touched_step s t) → settings_of p s u ≡ settings_of p t u) → IsUpTo (first_touched_step s t) keep → GiveSameRun p s t keep
 same_run p s t keep local same up =
     let agree : (u : ℕ) → u < keep → settings_of p s u ≡ settings_of p t u = λ u l. same u (before (first_touched_step s t) keep u up l) in

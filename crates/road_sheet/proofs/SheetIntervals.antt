@@ -1,4 +1,4 @@
--- The intervals of a sheet: more steps, a checkpoint, and the same run by other edits.
+-- The intervals of a sheet: after more steps, at a checkpoint, and under other edits that give the same run.
 use Rattle.std.proofs.Common.{◌≡◌, ◌≢◌, ◌≤◌, ◌<◌, ◌+◌, ◌*◌, ◌/◌, ◌%◌, ◌^◌, ◌∙◌, ◌⊎◌, inl, inr, ℕ, zero, suc, List, [], ◌∷◌, ◌++◌, length, take, replicate, min, Some, ap, sym, subst, arith, refl}
 use Rattle.std.proofs.lemmas.List.{get_or-replicate, length-replicate, length-take-le, length_push}
 use Rattle.std.proofs.lemmas.Option.{slice_get_within}
@@ -22,7 +22,7 @@ use Rattle.road_sheet.proofs.RunTotals.{cars_fit, cars_in_parts, none_yet, passe
 
 -- ---- intervals
 
--- an interval of which no step is simulated
+-- an interval without a simulated step
 pub fresh : (p : Plan) (e : Edits) (a : ℕ) (b : Interval) → b.start ≡ run_at p e a → b.totals.items ≡ replicate (length p.detectors) no_totals → IsInterval p e a a b
 fresh p e a b start is = record {
   start = start;
@@ -40,7 +40,7 @@ counted_more p e a h xs ys before are many more = record {
   counted = λ d l. more d (omega (arith, l, are.each)) ∙ ap (λ (x : Totals). plus x (passes p (settings_of p e) d h)) (are.counted d l) ∙ total_more p (settings_of p e) d a h before;
 }
 
--- edits with the same run have the same intervals
+-- edits that give the same run give the same intervals
 pub moved : (p : Plan) (s t : Edits) (h a b : ℕ) (interval : Interval) → GiveSameRun p s t h → a ≤ b → b ≤ h → IsInterval p s a b interval → IsInterval p t a b interval
 moved p s t h a b interval same before early is = record {
   start = is.start ∙ same.state a (omega (arith, before, early));
@@ -78,11 +78,11 @@ later s end is early = record { plan_within = is.plan_within; winners = is.winne
 cut_start : (n h : ℕ) → 64 * n ≤ h → h < 64 * n + 64 → 64 * (h / 64) ≡ 64 * n
 cut_start n h begun going = omega arith
 
--- one more step is within the interval that the horizon cuts
+-- one more step is within the open interval
 pub one_more : (s : Sheet) → s.horizon < GREATEST_HORIZON → IsWithinInterval s (s.horizon + 1)
 one_more s early = record { more = omega arith; not_past = omega arith; within_limit = omega (arith, early) }
 
--- up to a step within the interval
+-- the run up to a step within the interval
 up_to_within : (s : Sheet) (end : ℕ) (intervals : List Interval) (open_interval new : Interval) (at_horizon road : Array) → IsRunOf s intervals open_interval at_horizon → IsWithinInterval s end → road ≡ run_at s.plan s.edits end → new.start ≡ open_interval.start
     → AreTotals s.plan s.edits (64 * (s.horizon / 64)) end new.totals.items → end % 64 ≢ 0 → IsRunOf (simulated_to s end) intervals new road
 up_to_within s end intervals open_interval new at_horizon road is within next start totals off =
@@ -99,7 +99,7 @@ up_to_within s end intervals open_interval new at_horizon road is within next st
     going : (n h end : ℕ) → 64 * (h / 64) ≡ 64 * n → end ≤ 64 * (h / 64) + 64 → end % 64 ≢ 0 → end < 64 * n + 64
     going n h end a b c = omega (arith, a, b, c)
 
--- up to the end of the interval
+-- the run up to the end of the interval
 up_to_end : (s : Sheet) (end : ℕ) (intervals more : List Interval) (open_interval new begun : Interval) (at_horizon road : Array) → IsRunOf s intervals open_interval at_horizon → IsWithinInterval s end → road ≡ run_at s.plan s.edits end
     → IsInterval s.plan s.edits (64 * (s.horizon / 64)) end new
     → begun.start ≡ road → begun.totals.items ≡ replicate (length s.plan.detectors) no_totals → more ≡ intervals ++ new ∷ []
@@ -125,7 +125,7 @@ up_to_end s end intervals more open_interval new begun at_horizon road is within
     at_end : (n h end : ℕ) → 64 * (h / 64) ≡ 64 * n → h < end → end ≤ 64 * (h / 64) + 64 → end % 64 ≡ 0 → end ≡ 64 * n + 64
     at_end n h end a b c d = omega (arith, a, b, c, d)
 
--- the same, by the sheet that contracts see
+-- the same, for the sheet that contracts see
 pub ends_interval : (s now : Sheet) (end : ℕ) (intervals more : List Interval) (open_interval new begun : Interval) (at_horizon road : Array) → IsRunOf s intervals open_interval at_horizon → s ≡ now → IsWithinInterval now end → road ≡ run_at now.plan now.edits end
     → IsInterval now.plan now.edits (64 * (now.horizon / 64)) end new → end % 64 ≡ 0 → begun.totals.items ≡ replicate (length now.plan.detectors) no_totals
     → begun.start ≡ road → more ≡ intervals ++ new ∷ [] → IsRunOf (record { plan = s.plan; edits = s.edits; horizon = end }) more begun road
@@ -135,7 +135,7 @@ ends_interval s now end intervals more open_interval new begun at_horizon road i
     → begun.totals.items ≡ replicate (length x.plan.detectors) no_totals → IsRunOf (record { plan = s.plan; edits = s.edits; horizon = end }) more begun road) view
     (λ w n e z. up_to_end s end intervals more open_interval new begun at_horizon road is w n e first z all on) within next ended zeros
 
--- steps within the interval, by the sheet that contracts see
+-- steps within the interval, for the sheet that contracts see
 pub stays_in_interval : (s now : Sheet) (end k : ℕ) (intervals : List Interval) (open_interval new : Interval) (at_horizon road : Array) → IsRunOf s intervals open_interval at_horizon → s ≡ now → IsWithinInterval now end → road ≡ run_at now.plan now.edits end
     → AreTotals now.plan now.edits (64 * (now.horizon / 64)) end new.totals.items → end % 64 ≢ 0 → k ≡ end → new.start ≡ open_interval.start → IsRunOf (record { plan = s.plan; edits = s.edits; horizon = k }) intervals new road
 stays_in_interval s now end k intervals open_interval new at_horizon road is view within next totals off same start =
@@ -144,7 +144,7 @@ stays_in_interval s now end k intervals open_interval new at_horizon road is vie
     → IsRunOf (record { plan = s.plan; edits = s.edits; horizon = k }) intervals new road) view
     (λ w n t. subst (λ (u : ℕ). IsRunOf (record { plan = s.plan; edits = s.edits; horizon = u }) intervals new road) (sym same) (up_to_within s end intervals open_interval new at_horizon road is w n start t off)) within next totals
 
--- an interval up to a step, from the cut one's road and the totals up to there
+-- an interval up to a step, from the open interval's road and the totals up to there
 pub ended_interval : (s t : Sheet) (end : ℕ) (intervals : List Interval) (open_interval new : Interval) (at_horizon : Array) → IsRunOf s intervals open_interval at_horizon → s ≡ t → new.start ≡ open_interval.start → AreTotals t.plan t.edits (64 * (t.horizon / 64)) end new.totals.items
     → IsInterval t.plan t.edits (64 * (t.horizon / 64)) end new
 ended_interval s t end intervals open_interval new at_horizon is same start totals = record {
@@ -152,7 +152,7 @@ ended_interval s t end intervals open_interval new at_horizon is same start tota
   totals = totals;
 }
 
--- the totals of the cut interval
+-- the totals of the open interval
 pub cut_totals : (s t : Sheet) (intervals : List Interval) (open_interval : Interval) (at_horizon : Array) → IsRunOf s intervals open_interval at_horizon → s ≡ t → AreTotals t.plan t.edits (64 * (t.horizon / 64)) t.horizon open_interval.totals.items
 cut_totals s t intervals open_interval at_horizon is same =
     subst (λ (x : Sheet). AreTotals x.plan x.edits (64 * (x.horizon / 64)) x.horizon open_interval.totals.items) same
@@ -160,7 +160,7 @@ cut_totals s t intervals open_interval at_horizon is same =
 
 -- ---- what the detectors have counted with the next step
 
--- the cars fit
+-- the counts of cars fit
 pub next_cars_fit : (s t : Sheet) (intervals : List Interval) (open_interval : Interval) (at_horizon : Array) (input : StepInput) (speeds : List ℕ) (xs : List Totals) → IsRunOf s intervals open_interval at_horizon → s ≡ t → BoundTotals s.plan → PassOneByOne s.plan → t.horizon < GREATEST_HORIZON
     → input ≡ next_input t → speeds ≡ input_speeds input → xs ≡ open_interval.totals.items → (d : ℕ) → d < length xs → (slice_index_or xs d no_totals).cars + (passes_at input speeds d).cars < 2 ^ 32
 next_cars_fit s t intervals open_interval at_horizon input speeds xs is same bounded alone early at new kept d below =
@@ -169,7 +169,7 @@ next_cars_fit s t intervals open_interval at_horizon input speeds xs is same bou
     cars_fit t.plan (settings_of t.plan t.edits) d (64 * (t.horizon / 64)) t.horizon (slice_index_or xs d no_totals) (passes_at input speeds d) (subst BoundTotals plan bounded) (subst PassOneByOne plan alone) (omega (arith, early))
     (counted.counted d (omega (arith, counted.each, below))) (passed_next t input speeds d at new)
 
--- their speeds fit
+-- the sums of their speeds fit
 pub next_speeds_fit : (s t : Sheet) (intervals : List Interval) (open_interval : Interval) (at_horizon : Array) (input : StepInput) (speeds : List ℕ) (xs : List Totals) → IsRunOf s intervals open_interval at_horizon → s ≡ t → BoundTotals s.plan → PassOneByOne s.plan → t.horizon < GREATEST_HORIZON
     → input ≡ next_input t → speeds ≡ input_speeds input → xs ≡ open_interval.totals.items → (d : ℕ) → d < length xs → (slice_index_or xs d no_totals).speeds + (passes_at input speeds d).speeds < 2 ^ 32
 next_speeds_fit s t intervals open_interval at_horizon input speeds xs is same bounded alone early at new kept d below =
@@ -178,7 +178,7 @@ next_speeds_fit s t intervals open_interval at_horizon input speeds xs is same b
     speeds_fit t.plan (settings_of t.plan t.edits) d (64 * (t.horizon / 64)) t.horizon (slice_index_or xs d no_totals) (passes_at input speeds d) (subst BoundTotals plan bounded) (subst PassOneByOne plan alone) (omega (arith, early))
     (counted.counted d (omega (arith, counted.each, below))) (passed_next t input speeds d at new)
 
--- they are the totals up to the step after it
+-- the new totals are those up to the step after it
 pub counted_next : (s t : Sheet) (intervals : List Interval) (open_interval : Interval) (at_horizon : Array) (input : StepInput) (speeds : List ℕ) (xs ys : List Totals) → IsRunOf s intervals open_interval at_horizon → s ≡ t → input ≡ next_input t → speeds ≡ input_speeds input → xs ≡ open_interval.totals.items
     → length ys ≡ length xs → ((d : ℕ) → d < length xs → slice_index_or ys d no_totals ≡ plus (slice_index_or xs d no_totals) (passes_at input speeds d)) → AreTotals t.plan t.edits (64 * (t.horizon / 64)) (t.horizon + 1) ys
 counted_next s t intervals open_interval at_horizon input speeds xs ys is same at new kept many more =
@@ -188,7 +188,7 @@ counted_next s t intervals open_interval at_horizon input speeds xs ys is same a
 
 -- ---- what the detectors have counted with more steps
 
--- the cars fit
+-- the counts of cars fit
 pub more_cars_fit : (s t : Sheet) (end : ℕ) (intervals : List Interval) (open_interval : Interval) (at_horizon : Array) (xs ys : List Totals) → IsRunOf s intervals open_interval at_horizon → s ≡ t → BoundTotals s.plan → IsWithinInterval t end → AreTotals t.plan t.edits t.horizon end ys
     → xs ≡ open_interval.totals.items → (d : ℕ) → d < length xs → (slice_index_or xs d no_totals).cars + (slice_index_or ys d no_totals).cars < 2 ^ 32
 more_cars_fit s t end intervals open_interval at_horizon xs ys is same bounded within more kept d below =
@@ -197,7 +197,7 @@ more_cars_fit s t end intervals open_interval at_horizon xs ys is same bounded w
     cars_in_parts t.plan (settings_of t.plan t.edits) d (64 * (t.horizon / 64)) t.horizon end (slice_index_or xs d no_totals) (slice_index_or ys d no_totals) (subst BoundTotals (ap (λ (x : Sheet). x.plan) same) bounded)
     (omega arith) (omega (arith, within.more)) within.within_limit (counted.counted d in_plan) (more.counted d in_plan)
 
--- their speeds fit
+-- the sums of their speeds fit
 pub more_speeds_fit : (s t : Sheet) (end : ℕ) (intervals : List Interval) (open_interval : Interval) (at_horizon : Array) (xs ys : List Totals) → IsRunOf s intervals open_interval at_horizon → s ≡ t → BoundTotals s.plan → IsWithinInterval t end → AreTotals t.plan t.edits t.horizon end ys
     → xs ≡ open_interval.totals.items → (d : ℕ) → d < length xs → (slice_index_or xs d no_totals).speeds + (slice_index_or ys d no_totals).speeds < 2 ^ 32
 more_speeds_fit s t end intervals open_interval at_horizon xs ys is same bounded within more kept d below =
@@ -206,13 +206,13 @@ more_speeds_fit s t end intervals open_interval at_horizon xs ys is same bounded
     speeds_in_parts t.plan (settings_of t.plan t.edits) d (64 * (t.horizon / 64)) t.horizon end (slice_index_or xs d no_totals) (slice_index_or ys d no_totals) (subst BoundTotals (ap (λ (x : Sheet). x.plan) same) bounded)
     (omega arith) (omega (arith, within.more)) within.within_limit (counted.counted d in_plan) (more.counted d in_plan)
 
--- as many totals
+-- there are as many totals
 pub one_each : (s t : Sheet) (end : ℕ) (intervals : List Interval) (open_interval : Interval) (at_horizon : Array) (xs ys : List Totals) → IsRunOf s intervals open_interval at_horizon → s ≡ t → AreTotals t.plan t.edits t.horizon end ys → xs ≡ open_interval.totals.items
     → length xs ≡ length ys
 one_each s t end intervals open_interval at_horizon xs ys is same more kept =
     ap (λ (x : List Totals). length x) kept ∙ (cut_totals s t intervals open_interval at_horizon is same).each ∙ sym more.each
 
--- they are the totals up to the step after them
+-- the new totals are those up to the step after them
 pub counted_with : (s t : Sheet) (end : ℕ) (intervals : List Interval) (open_interval : Interval) (at_horizon : Array) (xs ys zs : List Totals) → IsRunOf s intervals open_interval at_horizon → s ≡ t → IsWithinInterval t end → AreTotals t.plan t.edits t.horizon end ys
     → xs ≡ open_interval.totals.items → length zs ≡ length xs → ((d : ℕ) → d < length xs → slice_index_or zs d no_totals ≡ plus (slice_index_or xs d no_totals) (slice_index_or ys d no_totals)) → AreTotals t.plan t.edits (64 * (t.horizon / 64)) end zs
 counted_with s t end intervals open_interval at_horizon xs ys zs is same within more kept many sums =
@@ -264,7 +264,7 @@ went_back s t m intervals shared open_interval new at_horizon road is won fits b
       at_horizon = here;
     })
 
--- a sheet by its parts
+-- a sheet is given by its parts
 sheet_of : (now : Sheet) (t : Edits) (p : Plan) (h k : ℕ) → p ≡ now.plan → h ≡ k → record { plan = p; edits = t; horizon = h } ≡ with_edits now t k
 sheet_of now t p h k plan same = λ i. record { plan = plan i; edits = t; horizon = same i }
 
@@ -298,12 +298,12 @@ opened p e intervals open_interval at_horizon plan win fit none bare zeros road 
   at_horizon = road;
 })
 
--- ---- what is read of a sheet
+-- ---- what is read from a sheet
 
 pub horizon_within : (s t : Sheet) (intervals : List Interval) (open_interval : Interval) (at_horizon : Array) → IsRunOf s intervals open_interval at_horizon → s ≡ t → t.horizon ≤ GREATEST_HORIZON
 horizon_within s t intervals open_interval at_horizon is same = subst (λ (x : Sheet). x.horizon ≤ GREATEST_HORIZON) same is.sheet.within_limit
 
--- how many are whole
+-- the number of whole intervals
 pub many_whole : (s t : Sheet) (intervals : List Interval) (open_interval : Interval) (road : Array) → IsRunOf s intervals open_interval road → s ≡ t → length intervals ≡ t.horizon / 64
 many_whole s t intervals open_interval road is same =
     let horizon : s.horizon ≡ t.horizon = ap (λ (x : Sheet). x.horizon) same in

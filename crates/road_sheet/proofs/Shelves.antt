@@ -1,4 +1,4 @@
--- Full shelves and the intervals behind them: where an interval stands, which ones the first are, and one more.
+-- Full shelves and the intervals after them: where an interval is, which are the first ones, and one more interval.
 use Rattle.std.proofs.Common.{◌≡◌, ◌≤◌, ◌<◌, ◌+◌, ◌*◌, ◌/◌, ◌%◌, ◌∙◌, ℕ, zero, suc, List, [], ◌∷◌, ◌++◌, length, map, take, Some, ap, sym, arith, append_assoc, refl}
 use Rattle.std.proofs.lemmas.List.{length-append, take-append-le}
 use Rattle.std.proofs.lemmas.Option.{get_or_from_slice_get, slice_get-map, slice_get_read, slice_get_within}
@@ -64,7 +64,7 @@ get_behind shelves last r full = rw (← length-intervals_on shelves full) (slic
 take_behind : (shelves : List (List Interval)) (last : List Interval) (r : ℕ) → AreFull shelves → take (64 * length shelves + r) (intervals_on shelves ++ last) ≡ intervals_on shelves ++ take r last
 take_behind shelves last r full = rw (← length-intervals_on shelves full) (take-append-add (intervals_on shelves) last r)
 
--- ---- by the list that contracts see
+-- ---- for the list that contracts see
 
 pub many_intervals : (shelves : List (List Interval)) (last now : List Interval) → AreFull shelves → intervals_on shelves ++ last ≡ now → length now ≡ 64 * length shelves + length last
 many_intervals shelves last now full is = rw (← is) (omega (arith, length-append (intervals_on shelves) last, length-intervals_on shelves full))
@@ -95,6 +95,6 @@ pub first_behind : (shelves same : List (List Interval)) (last now part : List I
 first_behind shelves same last now part k full is at all rest =
     rw (all, rest) (sym (ap (take k) (sym is) ∙ ap (λ (n : ℕ). take n (intervals_on shelves ++ last)) (omega (arith, at)) ∙ take_behind shelves last (k % 64) full))
 
--- what is read at a place
+-- an element of a list, and the same element of the mapped list
 pub read_at : {X Y : Type 0} (f : X → Y) (xs : List X) (k : ℕ) (x : X) (y : Y) → k < length xs → x ≡ slice_index_or xs k x → y ≡ f x → slice_get (map f xs) k ≡ Some y
 read_at f xs k x y below is read = slice_get-map f xs k ∙ ap (option_map f) (slice_get_read xs (length xs) k x refl below is) ∙ ap Some (sym read)

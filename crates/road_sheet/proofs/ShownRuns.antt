@@ -1,4 +1,4 @@
--- A run under way of what a sheet shows: its next step is the sheet's, and its roads can be taken up.
+-- A run under way of a sheet: its next step is that of the sheet's run.
 use Rattle.std.proofs.Common.{◌≡◌, ◌<◌, ◌+◌, ◌∙◌, ℕ, length, ap, sym, arith}
 use Rattle.std.specs.List.{slice_index_or}
 use Rattle.std.proofs.Math.Numerals.{add-one}
@@ -11,7 +11,7 @@ use Rattle.road_scenario.specs.Settings.{settings_of}
 use Rattle.road_columns.specs.UnderWay.{UnderWay, next_input, zero_counts, run_after_step, total_after}
 use Rattle.road_sheet.specs.Sheets.{Sheet, state_of}
 
--- a run of a sheet under the settings of its step
+-- a run of a sheet that has the settings of its step
 pub record IsSettled (s : Sheet) (run : UnderWay) : Type 0 where
   pub plan : run.plan ≡ s.plan
   pub begin : run.lo ≡ 0
@@ -29,13 +29,13 @@ settled_input s run is =
 pub settled_road : (s : Sheet) (run : UnderWay) → IsSettled s run → (run_after_step run).road ≡ state_of s (run.step + 1)
 settled_road s run is = ap input_next (settled_input s run is) ∙ sym (ap (state_of s) (add-one run.step))
 
--- it ends at the end of the road still
+-- it still ends at the end of the road
 pub settled_end : (s : Sheet) (run : UnderWay) → IsSettled s run → (run_after_step run).hi ≡ s.plan.cells
 settled_end s run is =
     let cells : run.plan.cells ≡ s.plan.cells = ap (λ (p : Plan). p.cells) is.plan in
     let end : run.hi ≡ s.plan.cells = is.end in omega arith
 
--- as many totals are counted
+-- the number of totals stays
 pub length-run_after_step : (run : UnderWay) → length (run_after_step run).totals ≡ length run.totals
 length-run_after_step run = length-map-range_with_len (total_after run) 0 (length run.totals)
 
@@ -47,7 +47,7 @@ settled_total s run d is below =
     get_or-map-range_with_len (total_after run) 0 (length run.totals) d d no_totals below there
     ∙ ap (λ (x : StepInput). plus (slice_index_or run.totals d no_totals) (passes_at x (input_speeds x) d)) (settled_input s run is)
 
--- nothing is counted at first
+-- the first counts are one for each detector
 pub length-zero_counts : (p : Plan) → length (zero_counts p) ≡ length p.detectors
 length-zero_counts p = length-map-range_with_len (λ (d : ℕ). no_totals) 0 (length p.detectors)
 

@@ -1,4 +1,4 @@
--- The cars of a run fit into a checkpoint, and their roads can be taken up by a run under way.
+-- The cars of a run fit into a checkpoint, and a run under way can start on its roads.
 use Rattle.std.specs.Prelude.{◌≡◌, ℕ, ◌+◌, ◌≤◌, ◌<◌, length}
 use Rattle.std.specs.List.{slice_index_or}
 use Rattle.std.proofs.Common.{sym, ap, ◌∙◌, arith}
@@ -15,7 +15,7 @@ use Rattle.road_ends.specs.Run.{Course, run}
 use Rattle.road_sheet.specs.Private.Checkpoints.{AreSmall}
 
 module _ (p : Plan) (course : Course) (t : ℕ) (limits : IsWithinLimits p) (early : t ≤ GREATEST_HORIZON) (stay : StayOnRoad p) where
-  -- each is on the road, and numbered by a step and an inlet
+  -- each car is on the road, and is numbered by a step and an inlet
   car_on_road : (k : ℕ) (d : Car) → k < length (cars_of (run p course t)) → IsOnRoad p t (slice_index_or (cars_of (run p course t)) k d).cell (vehicle_of (slice_index_or (cars_of (run p course t)) k d))
   car_on_road k d below =
       let a = run p course t in

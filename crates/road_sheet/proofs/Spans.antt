@@ -18,7 +18,7 @@ use Rattle.road_sheet.specs.Sheets.{Sheet, state_of}
 use Rattle.road_sheet.specs.Spans.{IsNextSpan}
 use Rattle.road_sheet.proofs.SmallCars.{runnable}
 
--- the run of a course that is the same settings over k steps
+-- the run of a course that has the same settings over k steps
 module _ (p : Plan) (course : Course) (s : Settings) (t : ℕ) where
   runs_on : (k : ℕ) → ((j : ℕ) → j < k → course (t + j) ≡ s) → road_after_steps p (λ _. s) t k (run p course t) ≡ run p course (t + k)
   runs_on zero same = ap (run p course) (omega arith)
@@ -54,14 +54,14 @@ module _ (p : Plan) (course : Course) (s : Settings) (t : ℕ) where
 in_force : (s : Sheet) (span : Span) → IsNextSpan s span → (j : ℕ) → j < span.steps → settings_of s.plan s.edits (s.horizon + j) ≡ span.settings
 in_force s span is j below = is.settings (s.horizon + j) (omega arith) (omega (arith, below))
 
--- the road after it is that of the run
+-- the road after the next span is that of the run
 pub road_after : (s : Sheet) (span : Span) → IsNextSpan s span → span_road span (state_of s s.horizon) ≡ state_of s (s.horizon + span.steps)
 road_after s span is =
     ap (λ (p : Plan). road_after_steps p (λ _. span.settings) span.step span.steps (state_of s s.horizon)) is.plan
     ∙ ap (λ (t : ℕ). road_after_steps s.plan (λ _. span.settings) t span.steps (state_of s s.horizon)) is.step
     ∙ runs_on s.plan (settings_of s.plan s.edits) span.settings s.horizon span.steps (in_force s span is)
 
--- what the detectors count in it is what they count in the run
+-- what the detectors count in the next span is what they count in the run
 totals_in : (s : Sheet) (span : Span) → IsNextSpan s span → AreTotals s.plan s.edits s.horizon (s.horizon + span.steps) (span_totals span (state_of s s.horizon))
 totals_in s span is =
     let at : Plan → ℕ → ℕ → Totals = λ p t d. total_from p (λ _. span.settings) t span.steps (state_of s s.horizon) d in
@@ -74,7 +74,7 @@ totals_in s span is =
           ∙ counts_on s.plan (settings_of s.plan s.edits) span.settings s.horizon span.steps d (in_force s span is);
     }
 
--- the same, up to the step after it
+-- the same, up to the end of the span
 pub road_to : (s : Sheet) (span : Span) (end : ℕ) → IsNextSpan s span → end ≡ s.horizon + span.steps → span_road span (state_of s s.horizon) ≡ state_of s end
 road_to s span end is same = road_after s span is ∙ ap (state_of s) (sym same)
 
@@ -83,7 +83,7 @@ totals_to s span end totals is same counted =
     subst (AreTotals s.plan s.edits s.horizon end) (sym counted)
     (subst (λ (n : ℕ). AreTotals s.plan s.edits s.horizon n (span_totals span (state_of s s.horizon))) (sym same) (totals_in s span is))
 
--- it can be run from the road at the horizon
+-- the next span can be run from the road at the horizon
 pub next_runnable : (s : Sheet) (span : Span) → IsNextSpan s span → IsWithinLimits span.plan → span.step + span.steps ≤ GREATEST_HORIZON → StayOnRoad span.plan
     → IsRunnable 0 span.plan.cells span.plan (state_of s s.horizon)
 next_runnable s span is limits within stay =

@@ -12,12 +12,12 @@ pub data SheetCommand : Type 0 where
   Take : Edits → SheetCommand
   Advance : ℕ → SheetCommand
 
--- the sheet after a command: the edits are joined in, the horizon becomes the step if it was less
+-- the sheet after a command: the edits are joined in, or the horizon becomes the step if it was less
 abbrev pub sheet_after : SheetCommand → Sheet → Sheet
 sheet_after (Take edits) s = record s { edits = join s.edits edits }
 sheet_after (Advance to) s = record s { horizon = max s.horizon to }
 
--- a command is allowed at a plan: its edits are in the plan and its ranges, its step is within the limit
+-- a command is allowed for a plan: its edits are in the plan and its ranges, or its step is within the limit
 abbrev pub IsAllowed : Plan → SheetCommand → Type 0
 IsAllowed plan (Take edits) = AreInRange plan edits
 IsAllowed plan (Advance to) = to ≤ GREATEST_HORIZON

@@ -1,4 +1,4 @@
--- What private fields and functions say of intervals, checkpoints and shelves. No public contract names it.
+-- What is stated about intervals, checkpoints and shelves in private fields and functions. No public contract names it.
 pub mod Intervals
 pub mod Checkpoints
 pub mod Drafts

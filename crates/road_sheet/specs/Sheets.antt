@@ -20,7 +20,7 @@ use Rattle.road_sheet.specs.declared.faults.SheetFault.{SheetFault}
 use Rattle.road_sheet.specs.declared.faults.SheetFault.TheVariants.{NoDetector, Range, NotSimulated, OutOfMemory}
 use Rattle.road_sheet.specs.declared.interval.TheConstants.{INTERVAL_STEPS}
 
--- a plan, edits, and the horizon: so many steps are simulated, and the road is known at each step from 0 to it
+-- a plan, edits, and the horizon, which is the number of simulated steps: the road is known at each step from 0 to it
 pub record Sheet : Type 0 where
   pub plan : Plan
   pub edits : Edits
@@ -34,11 +34,11 @@ pub record IsSheet (s : Sheet) : Type 0 where
   pub in_range : AreInRange s.plan s.edits
   pub within_limit : s.horizon ≤ GREATEST_HORIZON
 
--- without edits, and nothing is simulated
+-- the opening sheet: no edits, and no simulated step
 abbrev pub opening_sheet : Plan → Sheet
 opening_sheet plan = record { plan = plan; edits = empty; horizon = 0 }
 
--- the horizon: the greatest step, or 0 if there is no step
+-- the horizon: the latest step, or 0 if there is no step
 abbrev pub horizon_of : Greatest ℕ → ℕ
 horizon_of Nothing = 0
 horizon_of (Of step) = step
@@ -47,15 +47,15 @@ horizon_of (Of step) = step
 abbrev pub state_of : Sheet → ℕ → Array
 state_of s step = run_at s.plan s.edits step
 
--- the row that it shows at a step
+-- the row that a sheet shows at a step
 abbrev pub sheet_row : Sheet → ℕ → List ℕ
 sheet_row s step = row_at s.plan s.edits step
 
--- the rows that it shows from a step to another, both of them
+-- the rows that a sheet shows from one step to another, both included
 abbrev pub rows_of : Sheet → ℕ → ℕ → List (List ℕ)
 rows_of s from to = rows_at s.plan s.edits from to
 
--- what it shows that a detector counts in the steps from one up to another
+-- what a sheet shows that a detector counts in the steps from one to before another
 abbrev pub total_of : Sheet → ℕ → ℕ → ℕ → Totals
 total_of s detector from to = total_at s.plan s.edits detector from to
 
@@ -76,7 +76,7 @@ totals_fault s detector from to =
     else (if nat_lt to from then Some Range
     else (if nat_lt s.horizon to then Some NotSimulated else None))
 
--- whether the rows from one step to another are none, or more than one diagram has
+-- whether there is no row from one step to another, or more rows than a diagram may have
 abbrev pub is_out_of_range : ℕ → ℕ → Bool
 is_out_of_range from to = nat_lt to from || nat_lt MOST_ROWS (suc to - from)
 
@@ -85,20 +85,20 @@ abbrev pub rows_fault : Sheet → ℕ → ℕ → Option SheetFault
 rows_fault s from to = if is_out_of_range from to then Some Range
     else (if nat_lt s.horizon to then Some NotSimulated else None)
 
--- steps from a checkpoint up to a checkpoint or the horizon
+-- the steps from one to before another are whole intervals: both are checkpoints, or the second is the horizon
 pub record AreWholeIntervals (s : Sheet) (from to : ℕ) : Type 0 where
   pub begin : from % INTERVAL_STEPS ≡ 0
   pub end : (to % INTERVAL_STEPS ≡ 0) ⊎ (to ≡ s.horizon)
 
--- a refusal is for the named cause if there is one, and else for out of memory
+-- a refusal is the named cause if there is one, and else `OutOfMemory`
 abbrev pub IsRefusalBy : Option SheetFault → SheetFault → Type 0
 IsRefusalBy (Some cause) fault = fault ≡ cause
 IsRefusalBy None fault = fault ≡ OutOfMemory
 
--- the input of the first step that is not simulated yet: it leads on from the road at the horizon
+-- the input of the first step that is not simulated yet, which is made from the road at the horizon
 abbrev pub next_input : Sheet → StepInput
 next_input s = input_of s.plan (settings_of s.plan s.edits s.horizon) s.horizon (state_of s s.horizon)
 
--- one more step is simulated
+-- the sheet after one more simulated step
 abbrev pub sheet_after_step : Sheet → Sheet
 sheet_after_step s = record s { horizon = s.horizon + 1 }

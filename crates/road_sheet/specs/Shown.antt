@@ -1,4 +1,4 @@
--- What is seen of the run of a plan's road by the settings that edits give.
+-- What is shown of the run of a plan's road under the settings that edits give.
 use Rattle.std.specs.Prelude.{ℕ, suc, ◌-◌, List, map}
 use Rattle.std.specs.List.{range_with_len}
 use Rattle.road_plan.specs.Plan.{Plan}
@@ -18,10 +18,10 @@ run_at plan edits step = run plan (settings_of plan edits) step
 unfoldable pub row_at : Plan → Edits → ℕ → List ℕ
 row_at plan edits step = row plan (settings_of plan edits) step
 
--- the rows of the steps from one to another, both of them
+-- the rows of the steps from one to another, both included
 abbrev pub rows_at : Plan → Edits → ℕ → ℕ → List (List ℕ)
 rows_at plan edits from to = map (row_at plan edits) (range_with_len from (suc to - from))
 
--- what a detector counts in the steps of that run from one up to another, the last not among them
+-- what a detector counts in the steps of that run from one to before another
 abbrev pub total_at : Plan → Edits → ℕ → ℕ → ℕ → Totals
 total_at plan edits detector from to = total plan (settings_of plan edits) detector from to

@@ -5,8 +5,8 @@ use Rattle.road_sheet.specs.SettingsCaches.{AreCached}
 use Rattle.road_sheet.specs.Sheets.{Sheet, state_of}
 use Rattle.road_sheet.specs.declared.shown_run.ShownRun.{ShownRun}
 
--- a run under way of what a sheet shows: its plan on the whole road, the road of its step, under the settings of some
--- step; and those that are cached are the sheet's
+-- a run under way is of a sheet: it has the sheet's plan, runs the whole road, and has the road of its step and the
+-- settings of the step `under`; and the cached settings are the sheet's
 pub record IsShownBy (sheet : Sheet) (shown : ShownRun) : Type 0 where
   pub plan : shown.run.plan ≡ sheet.plan
   pub begin : shown.run.lo ≡ 0

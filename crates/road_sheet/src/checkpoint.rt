@@ -1,4 +1,4 @@
-//! Checkpoints: roads that are kept in few bytes, and shared.
+//! Checkpoints: roads that are stored in few bytes, and shared.
 
 ghost use Rattle.std.specs.Prelude.{◌≡◌, [], map, IfOk};
 ghost use Rattle.road_cells.specs.Cars.{cars_of};
@@ -10,7 +10,7 @@ use std::alloc::Global;
 use std::marker::Model;
 use std::sync::Arc;
 
-// A car in 6 bytes: of its number, which is below 2^24, the lower 16 bits and the upper 8.
+// A car in 6 bytes. Its number is below 2^24, and is split into its lower 16 bits and its upper 8.
 #[derive(Clone, Copy, Debug, PartialEq, Eq)]
 struct PackedCar {
     low: u16,
@@ -19,7 +19,7 @@ struct PackedCar {
     speed: u8,
 }
 
-// A road from which a run resumes. Whoever keeps it too is one more owner of its cars. Contracts see the road.
+// A road from which a run resumes. Its copies share the cars. Contracts see the road.
 #[derive(Drop)]
 pub(crate) struct Checkpoint {
     cars: Arc<Vec<PackedCar>>,
@@ -40,7 +40,7 @@ impl Model for Checkpoint {
 }
 
 impl Checkpoint {
-    // Keep the empty road.
+    // Make the checkpoint of the empty road.
     pub(crate) fn empty(alloc: Global) -> Result<Checkpoint, OutOfMemory>
         ensures { IfOk result (λ kept. kept ≡ []) }
     {
@@ -48,7 +48,7 @@ impl Checkpoint {
         Ok(Checkpoint { cars })
     }
 
-    // Keep a road of cars that fit, by two allocations.
+    // Make the checkpoint of a road whose cars fit, with two allocations.
     pub(crate) fn of(alloc: Global, road: &Road) -> Result<Checkpoint, OutOfMemory>
         requires { AreSmall (cars_of road.now) }
         ensures { IfOk result (λ kept. kept ≡ road.now) }
@@ -57,7 +57,7 @@ impl Checkpoint {
         Ok(Checkpoint { cars })
     }
 
-    // Share the road: its cars get one more owner. It allocates nothing.
+    // Make another checkpoint that shares the cars. It does not allocate.
     pub(crate) fn share(&self) -> Result<Checkpoint, OutOfMemory>
         ensures { IfOk result (λ kept. kept ≡ self.now) }
     {
@@ -65,7 +65,7 @@ impl Checkpoint {
         Ok(Checkpoint { cars })
     }
 
-    // Return the road, by one allocation.
+    // Make the road, with one allocation.
     pub(crate) fn road(&self, alloc: Global) -> Result<Road, OutOfMemory>
         ensures { IfOk result (λ road. road ≡ self.now) }
     {

@@ -15,7 +15,7 @@ use std::alloc::Global;
 use std::marker::Model;
 use std::sync::Arc;
 
-/// A sheet that is being made: contracts see the sheet that it is so far.
+/// A sheet that is being made. Contracts see the sheet so far.
 #[derive(Drop)]
 pub struct Draft {
     pub(crate) sheet: Sheet,
@@ -35,7 +35,7 @@ impl Model for Draft {
 }
 
 impl Draft {
-    /// Return how many steps are simulated so far.
+    /// Return the number of steps that are simulated so far.
     pub fn horizon(&self) -> u32
         ensures { result ≡ self.now.horizon }
     {
@@ -46,7 +46,7 @@ impl Draft {
     ///
     /// # Errors
     ///
-    /// `OutOfMemory` if an allocation failed. The draft is then as it was.
+    /// `OutOfMemory` if an allocation failed. The draft is then unchanged.
     pub fn input(&mut self, alloc: Global) -> Result<Arc<StepInput>, OutOfMemory>
         ensures input { IfOk result (λ input. arc_value input ≡ next_input self.old) }
         ensures unchanged { self.new ≡ self.old }
@@ -54,12 +54,12 @@ impl Draft {
         self.sheet.next_input(alloc)
     }
 
-    /// Add one more step, from its input and the new speeds of its cars. The input must be that of the next step, the
-    /// speeds must be those of its cars by the rules, and the horizon must be below 1,048,576.
+    /// Add one more step, given its input and the new speeds of its cars. The input must be that of the next step, the
+    /// speeds must be those that the rules give its cars, and the horizon must be below 1,048,576.
     ///
     /// # Errors
     ///
-    /// `OutOfMemory` if an allocation failed. The draft is then as it was.
+    /// `OutOfMemory` if an allocation failed. The draft is then unchanged.
     pub fn push(
         &mut self,
         alloc: Global,

@@ -1,4 +1,4 @@
-//! The causes for which a sheet does not answer.
+//! The reasons why a sheet cannot answer a query.
 
 ghost use Rattle.std.specs.Prelude.{◌≡◌};
 ghost use Rattle.road_sheet.specs.declared.faults.SheetFault.TheVariants.{OutOfMemory};
@@ -7,16 +7,17 @@ use road_plan::limits::MOST_ROWS;
 use std::alloc::AllocError;
 use thiserror::Error;
 
-/// Why a sheet does not answer a query. The causes are asked in this order.
+/// The reason why a sheet cannot answer a query. They are checked in this order, and the first that applies is
+/// returned.
 #[derive(Clone, Copy, Debug, PartialEq, Eq, Error)]
 pub enum SheetFault {
     /// The plan has no such detector.
     #[error("the plan has no such detector")]
     NoDetector,
-    /// The first step is after the last, or more rows are asked for than a query gives.
+    /// The first step is after the last, or more rows are asked for than a query may return.
     #[error("the first step is after the last, or more than {most} rows are asked for", most = MOST_ROWS)]
     Range,
-    /// A step is above the horizon.
+    /// A step is past the horizon.
     #[error("a step is not simulated")]
     NotSimulated,
     /// An allocation failed.

@@ -10,10 +10,10 @@ use road_detector::{OutOfMemory, Totals, passes};
 use road_ends::StepInput;
 use std::alloc::Global;
 
-/// How many steps a whole interval has.
+/// The number of steps of a whole interval.
 pub const INTERVAL_STEPS: u32 = 64;
 
-/// The road at an interval's first step, and what each detector counts in those of its steps that are simulated.
+/// The road at an interval's first step, and what each detector counts in its simulated steps.
 #[derive(Drop)]
 pub struct Interval {
     pub(crate) start: Checkpoint,
@@ -21,7 +21,7 @@ pub struct Interval {
 }
 
 impl Interval {
-    // Begin an interval without a simulated step.
+    // Make an interval without a simulated step.
     pub(crate) fn begin(
         alloc: Global,
         start: Checkpoint,
@@ -34,7 +34,7 @@ impl Interval {
         Ok(Interval { start, totals })
     }
 
-    // Copy the counts, and share the road.
+    // Make a copy: the counts are copied, and the road is shared.
     pub(crate) fn copied(&self) -> Result<Interval, OutOfMemory>
         ensures start { IfOk result (λ interval. interval.start ≡ self.now.start) }
         ensures totals { IfOk result (λ interval. interval.totals.items ≡ self.now.totals.items) }
@@ -44,7 +44,7 @@ impl Interval {
         Ok(Interval { start, totals })
     }
 
-    // Count one more step. It allocates nothing.
+    // Count one more step. It does not allocate.
     pub(crate) fn count(&mut self, input: &StepInput, speeds: &[u8])
         requires one_each { length speeds.now ≡ length (cars_of input.now.road) }
         requires each { length self.old.totals.items ≡ length input.now.plan.detectors }
@@ -65,7 +65,7 @@ impl Interval {
         }
     }
 
-    // Count more steps, in which each detector has these totals. It allocates nothing.
+    // Count more steps, given what each detector counts in them. It does not allocate.
     pub(crate) fn add(&mut self, totals: &[Totals])
         requires each { length self.old.totals.items ≡ length totals.now }
         requires cars { (d : ℕ) → d < length self.old.totals.items →

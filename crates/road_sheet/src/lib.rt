@@ -1,4 +1,4 @@
-//! Sheets: a scenario, a horizon, and the run up to it, which shows any state and any count again.
+//! Sheets: a scenario, a horizon, and the run up to it. A sheet returns the state at any past step, and any count.
 //!
 //! ```
 //! // A sheet simulated for one step.

@@ -1,5 +1,5 @@
-//! The one reader of a sheet. It keeps the run of its last query under way, so queries at rising steps compute no step
-//! twice, draw no word twice and make no settings twice.
+//! The only reader of sheets. It keeps the run of its last query under way, so queries at rising steps do not compute
+//! any step, random word or settings twice.
 
 ghost use Rattle.std.specs.Prelude.{◌≡◌, ◌<◌, ◌≤◌, ◌+◌, ◌-◌, ◌%◌, IfErr, IfOk, IsOk, None};
 ghost use Rattle.std.specs.Prelude.{length, map, string_bytes};
@@ -20,15 +20,15 @@ use road_plan::limits::MOST_ROWS;
 use std::alloc::Global;
 use std::mem;
 
-// The most steps that are counted one after another, and not by the intervals of the sheet, which takes as many on the
-// average.
+// At most this many steps are counted one after another. More steps are counted interval by interval, and then about
+// this many are computed on average.
 const MOST_COUNTED_STEPS: u32 = INTERVAL_STEPS;
 
-/// The run that the last query left under way, or the memory of one of other edits.
+/// The run that the last query left under way, or the memory of a run under other edits.
 #[derive(Drop)]
 pub struct QueryCache {
     run: Option<ShownRun>,
-    // A run of the plan that is shown no longer.
+    // A run of the same plan that is no longer shown. The next run reuses its memory.
     spare: Option<UnderWay>,
 }
 
@@ -36,7 +36,7 @@ impl QueryCache {
     ghost use Rattle.road_sheet.specs.QueryCaches.{IsCacheOf};
     ghost use Rattle.road_sheet.specs.ShownRuns.{IsShownBy};
 
-    /// Make the cache of a run that has not begun. It takes no memory.
+    /// Make a cache without a run. It does not allocate.
     pub fn new() -> QueryCache
         ensures { (sheet : Sheet) → IsCacheOf sheet result }
     {
@@ -46,7 +46,7 @@ impl QueryCache {
         }
     }
 
-    /// Forget the run, since other edits are in force. Its memory stays.
+    /// Forget the run, since other edits are in force. The next run reuses its memory.
     pub fn restart(&mut self)
         ensures { (before after : Sheet) → before.plan ≡ after.plan →
             IsCacheOf before self.old → IsCacheOf after self.new }
@@ -74,7 +74,7 @@ impl QueryCache {
         Ok(road)
     }
 
-    /// Return the row of a step, with the blocks of its step.
+    /// Return the row of a step, with the blocks of that step.
     ///
     /// # Errors
     ///
@@ -92,8 +92,8 @@ impl QueryCache {
         Ok(row)
     }
 
-    /// Return what a detector counts in the steps from one up to another, that one not among them. The counts of whole
-    /// intervals are kept, and allocate nothing.
+    /// Return what a detector counts in the steps from `from` to before `to`. The counts of whole intervals are stored,
+    /// so reading them does not allocate.
     ///
     /// # Errors
     ///
@@ -127,12 +127,12 @@ impl QueryCache {
         Ok(self.totals_between(alloc, sheet, detector, from, to)?)
     }
 
-    /// Return the rows of the steps from one to another, both of them, each with the blocks of its step.
+    /// Return the rows of the steps from `from` to `to`, both included, each with the blocks of its step.
     ///
     /// # Errors
     ///
-    /// `Range` if `from` is above `to` or these are more than 1,024 rows, else `NotSimulated` if `to` is above
-    /// the horizon, else `OutOfMemory` if an allocation failed.
+    /// `Range` if `from` is above `to` or there are more than 1,024 rows, else `NotSimulated` if `to` is above the
+    /// horizon, else `OutOfMemory` if an allocation failed.
     pub fn rows(
         &mut self,
         alloc: Global,
@@ -157,7 +157,7 @@ impl QueryCache {
 
     // ---- the run under way
 
-    // Take the run under way out, at a step, if that is simulated.
+    // Take the run out of the cache and bring it to a step, if that step is simulated.
     fn shown_at(&mut self, alloc: Global, sheet: &Sheet, step: u32) -> Result<ShownRun, SheetFault>
         requires { IsCacheOf sheet.now self.old }
         ensures step { IfOk result (λ shown. shown.run.step ≡ step) }
@@ -172,7 +172,7 @@ impl QueryCache {
         Ok(self.run_at(alloc, sheet, step)?)
     }
 
-    // Take the run under way out, at a step. It is lost if memory is refused.
+    // Take the run out of the cache and bring it to a step. It is lost if an allocation fails.
     fn run_at(&mut self, alloc: Global, sheet: &Sheet, step: u32) -> Result<ShownRun, OutOfMemory>
         requires simulated { step ≤ sheet.now.horizon }
         requires horizon { step ≤ GREATEST_HORIZON }
@@ -192,7 +192,7 @@ impl QueryCache {
         Ok(shown)
     }
 
-    // Write the rows from the one of a step up to that of another, both of them.
+    // Write the rows of the steps from `from` to `to`, both included.
     fn rows_between(
         &mut self,
         alloc: Global,
@@ -215,7 +215,7 @@ impl QueryCache {
 
     // ---- counts
 
-    // Count some steps: a few one after another, others interval by interval.
+    // Count the steps from `from` to before `to`: a few steps one after another, more of them interval by interval.
     fn totals_between(
         &mut self,
         alloc: Global,
@@ -248,8 +248,8 @@ impl QueryCache {
         Ok(totals)
     }
 
-    // Count some steps of one interval. The counts of all that are simulated are kept; those of its last ones are these
-    // less the counts of the steps before.
+    // Count some steps of one interval. The counts of all its simulated steps are stored. For the last of these steps,
+    // the counts of the steps before them are subtracted.
     fn totals_in(
         &mut self,
         alloc: Global,

@@ -1,4 +1,4 @@
-//! The cache of the settings that a run uses from a step to the next.
+//! The cache of the settings that a run uses from one step to the next.
 
 ghost use Rattle.std.specs.Prelude.{◌≡◌, ◌<◌, ◌≤◌, ◌⊎◌, ℕ, IfOk, IfSome, IsTrue};
 ghost use Rattle.std.specs.Arc.{arc_value};
@@ -14,7 +14,7 @@ use road_scenario::Scenario;
 use std::alloc::Global;
 use std::sync::Arc;
 
-// Settings, and the steps at which they are in force: from one up to another, that one not among them.
+// Settings, and the steps at which they are in force: from `from` to before `until`.
 #[derive(Drop)]
 pub(crate) struct InForce {
     settings: Arc<Settings>,
@@ -34,15 +34,15 @@ impl InForce {
         Ok(Some(Arc::try_clone(&self.settings)?))
     }
 
-    // Return whether they are in force at a step.
+    // Return whether the settings are in force at a step.
     fn is_at(&self, step: u32) -> bool
         ensures { IsTrue result → (self.now.from ≤ step) × (step < self.now.until) }
     {
         self.from <= step && step < self.until
     }
 
-    // Return up to which step, and no further than another, they are in force from a step on: up to the next step
-    // if they are not in force at it.
+    // Return the end of the steps from `step` on at which the settings are in force, but at most `to`. If they are not
+    // in force at `step`, this is the step after it.
     fn until_from(&self, step: u32, to: u32) -> u32
         requires { step < to }
         ensures some { step < result }
@@ -58,7 +58,7 @@ impl InForce {
     }
 }
 
-// The settings that a run made last, if any.
+// The last settings that a run made, if any.
 #[derive(Drop)]
 pub(crate) struct SettingsCache {
     last: Option<InForce>,
@@ -89,7 +89,7 @@ impl SettingsCache {
         self.at_step(alloc, sheet.plan(), sheet.scenario(), step)
     }
 
-    // Return the settings of a step under a scenario: the cached ones if no edit is dated since, and else new ones.
+    // Return the settings of a step under a scenario: the cached ones if they are in force there, and else new ones.
     pub(crate) fn at_step(
         &mut self,
         alloc: Global,
@@ -121,8 +121,8 @@ impl SettingsCache {
         }
     }
 
-    // Return up to which step, and no further than another, the cached settings of a step are in force: at least for
-    // that step.
+    // Return the end of the steps from `step` on at which the cached settings of `step` are in force, but at most `to`.
+    // It is above `step`.
     pub(crate) fn until(&self, step: u32, to: u32) -> u32
         requires { step < to }
         ensures some { step < result }
@@ -147,7 +147,7 @@ impl SettingsCache {
         }
     }
 
-    // Make the settings of a step, and caches them.
+    // Make the settings of a step, and cache them.
     fn renew(
         &mut self,
         alloc: Global,
@@ -173,7 +173,8 @@ impl SettingsCache {
     }
 }
 
-// Return up to which step the settings of a step are in force: the greatest if no edit is dated after it.
+// Return the step before which the settings of a step stay in force: the next date of an edit, or the maximum of `u32`
+// if no edit is dated later.
 fn until(scenario: &Scenario, step: u32) -> u32
     ensures { (plan : Plan) (t : ℕ) → step ≤ t → t < result →
         settings_of plan scenario.now t ≡ settings_of plan scenario.now step }

@@ -11,15 +11,15 @@ use std::alloc::Global;
 use std::marker::Model;
 use std::sync::Arc;
 
-// How many intervals a full shelf has.
+// The number of intervals on a full shelf.
 const SHELF_INTERVALS: usize = 64;
 
-// Full shelves, all of them shared as one, and a last shelf that is not full, of the intervals behind them. Contracts
-// see the list of intervals.
+// A list of intervals, on shelves of 64. The list of full shelves is shared as a whole. The open shelf has the
+// intervals after those on the full shelves; it is not full. Contracts see the list of all intervals.
 #[derive(Drop)]
 pub(crate) struct SharedIntervals {
-    full: Arc<Vec<Arc<Shelf>>>,
-    last: Shelf,
+    full_shelves: Arc<Vec<Arc<Shelf>>>,
+    open_shelf: Shelf,
 }
 
 impl Model for SharedIntervals {
@@ -31,10 +31,11 @@ impl Model for SharedIntervals {
 
     ghost Value = { List Interval };
 
-    ghost view = { λ intervals. intervals_on (map arc_value (arc_value intervals.full).items) ++ intervals.last };
+    ghost view = { λ intervals. intervals_on (map arc_value (arc_value intervals.full_shelves).items)
+        ++ intervals.open_shelf };
 
-    ghost invariant = { λ intervals. AreFull (map arc_value (arc_value intervals.full).items)
-        × (length intervals.last < SHELF_INTERVALS) };
+    ghost invariant = { λ intervals. AreFull (map arc_value (arc_value intervals.full_shelves).items)
+        × (length intervals.open_shelf < SHELF_INTERVALS) };
 }
 
 impl SharedIntervals {
@@ -42,8 +43,8 @@ impl SharedIntervals {
         ensures { IfOk result (λ intervals. intervals ≡ []) }
     {
         Ok(SharedIntervals {
-            full: Arc::new(alloc, Vec::new(alloc))?,
-            last: Shelf::empty(alloc),
+            full_shelves: Arc::new(alloc, Vec::new(alloc))?,
+            open_shelf: Shelf::empty(alloc),
         })
     }
 
@@ -52,10 +53,10 @@ impl SharedIntervals {
         ensures { slice_get self.now index ≡ Some result.now }
     {
         let shelf = index / SHELF_INTERVALS;
-        if shelf < self.full.len() {
-            self.full[shelf].get(index % SHELF_INTERVALS)
+        if shelf < self.full_shelves.len() {
+            self.full_shelves[shelf].get(index % SHELF_INTERVALS)
         } else {
-            self.last.get(index % SHELF_INTERVALS)
+            self.open_shelf.get(index % SHELF_INTERVALS)
         }
     }
 
@@ -64,35 +65,42 @@ impl SharedIntervals {
         ensures pushed { OnOk result (self.new ≡ self.old ++ interval ∷ []) }
         ensures unchanged { OnErr result (self.new ≡ self.old) }
     {
-        if self.last.len() + 1 < SHELF_INTERVALS {
-            return self.last.push(alloc, interval);
+        if self.open_shelf.len() + 1 < SHELF_INTERVALS {
+            return self.open_shelf.push(alloc, interval);
         }
-        let mut shelf = self.last.first(alloc, self.last.len())?;
+        let mut shelf = self.open_shelf.first(alloc, self.open_shelf.len())?;
         shelf.push(alloc, interval)?;
-        self.full = with_shelf(alloc, &self.full, shelf)?;
-        self.last = Shelf::empty(alloc);
+        self.full_shelves = with_shelf(alloc, &self.full_shelves, shelf)?;
+        self.open_shelf = Shelf::empty(alloc);
         Ok(())
     }
 
-    // Share the first intervals. At most 64 values get one more owner if all are shared.
+    // Share the first `count` intervals. If these are all intervals, at most 64 `Arc`s are cloned: that of the full
+    // shelves, and those of the intervals on the open shelf.
     pub(crate) fn first(&self, alloc: Global, count: usize) -> Result<SharedIntervals, OutOfMemory>
         requires { count ≤ length self.now }
         ensures { IfOk result (λ first. first ≡ take count self.now) }
     {
         let shelves = count / SHELF_INTERVALS;
-        if shelves < self.full.len() {
-            let last = self.full[shelves].first(alloc, count % SHELF_INTERVALS)?;
-            let full = Arc::new(alloc, share_first(alloc, &self.full, shelves)?)?;
-            Ok(SharedIntervals { full, last })
+        if shelves < self.full_shelves.len() {
+            let last = self.full_shelves[shelves].first(alloc, count % SHELF_INTERVALS)?;
+            let full = Arc::new(alloc, share_first(alloc, &self.full_shelves, shelves)?)?;
+            Ok(SharedIntervals {
+                full_shelves: full,
+                open_shelf: last,
+            })
         } else {
-            let last = self.last.first(alloc, count % SHELF_INTERVALS)?;
-            let full = Arc::try_clone(&self.full)?;
-            Ok(SharedIntervals { full, last })
+            let last = self.open_shelf.first(alloc, count % SHELF_INTERVALS)?;
+            let full = Arc::try_clone(&self.full_shelves)?;
+            Ok(SharedIntervals {
+                full_shelves: full,
+                open_shelf: last,
+            })
         }
     }
 }
 
-// Share these shelves, and add one more.
+// Make a list that shares these shelves and has one more.
 fn with_shelf(
     alloc: Global,
     shelves: &[Arc<Shelf>],

@@ -40,17 +40,17 @@ use std::alloc::Global;
 use std::marker::Model;
 use std::sync::Arc;
 
-/// A scenario, a horizon, and the run so far: it shows the road at each step up to the horizon, and what the
-/// detectors count up to there. It never changes; [`Sheet::draft`] resumes its run.
+/// A scenario, a horizon, and the run up to the horizon. It shows the road at each step up to the horizon, and what the
+/// detectors count up to there. It never changes; [`Sheet::draft`] resumes its run in a new sheet.
 ///
-/// The run is kept as intervals of 64 steps: of each the road at its first step, a checkpoint, and what each detector
-/// counts in it. Sheets share the whole intervals, so that to resume a run costs no more at a far horizon.
+/// The run is stored as intervals of 64 steps. Each has a checkpoint, which is the road at its first step, and what
+/// each detector counts in it. Sheets share whole intervals, so resuming a run costs no more at a far horizon.
 #[derive(Drop)]
 pub struct Sheet {
     pub(crate) plan: Arc<Plan>,
     pub(crate) known: Both<Scenario, Greatest<u32>>,
     pub(crate) intervals: SharedIntervals,
-    // The interval that the horizon cuts.
+    // The interval that ends at the horizon and is not whole yet.
     pub(crate) open_interval: Interval,
     // The road at the horizon.
     pub(crate) at_horizon: Road,
@@ -118,7 +118,7 @@ impl Sheet {
         &self.known.first
     }
 
-    /// Return how many steps are simulated, at most 1,048,576: the road is known at each step from 0 to it.
+    /// Return the number of simulated steps, at most 1,048,576. The road is known at each step from 0 to the horizon.
     pub fn horizon(&self) -> u32
         ensures horizon { result ≡ self.now.horizon }
         ensures is_sheet { IsSheet self.now }
@@ -129,8 +129,8 @@ impl Sheet {
         }
     }
 
-    /// Return the road at a step. It computes at most 63 steps, from the nearest checkpoint, and none if the sheet
-    /// keeps the road.
+    /// Return the road at a step. It computes at most 63 steps, from the nearest checkpoint, and none if the sheet has
+    /// stored the road.
     ///
     /// # Errors
     ///
@@ -149,9 +149,8 @@ impl Sheet {
         QueryCache::new().state(alloc, self, step)
     }
 
-    /// Return what a detector counts in the steps from one up to another, that one not among them. It computes the
-    /// steps up to `from` and up to `to` in the intervals that these cut; the counts of whole ones are kept, and
-    /// allocate nothing.
+    /// Return what a detector counts in the steps from `from` to before `to`. It computes steps only in the intervals
+    /// of `from` and `to`. The counts of whole intervals are stored, so reading them does not allocate.
     ///
     /// # Errors
     ///
@@ -173,7 +172,7 @@ impl Sheet {
         QueryCache::new().totals(alloc, self, detector, from, to)
     }
 
-    // Copy the last state that is kept and not after a step: that at the horizon, or at the first step of the step's
+    // Copy the last stored state that is not after a step: that at the horizon, or that at the first step of the step's
     // interval.
     pub(crate) fn kept_state(&self, alloc: Global, step: u32) -> Result<State, OutOfMemory>
         requires { step ≤ self.now.horizon }
@@ -221,15 +220,15 @@ impl Sheet {
         (self.horizon() / INTERVAL_STEPS) as usize
     }
 
-    /// Begin the run of this sheet's edits with a scenario joined in: a draft that resumes at the horizon if that
-    /// is `keep`, and else at the checkpoint at or before `keep`.
+    /// Begin a draft of this sheet's edits with a scenario joined in. It resumes the run of this sheet at the horizon
+    /// if that is `keep`, and else at the checkpoint at or before `keep`.
     ///
-    /// The scenario must fit the plan; `keep` must not be above the horizon, nor above the first step at which the
-    /// joined scenario puts other numbers.
+    /// The scenario must fit the plan. `keep` must not be above the horizon, nor above the first step at which the
+    /// joined scenario sets different numbers.
     ///
     /// # Errors
     ///
-    /// `OutOfMemory` if an allocation failed, or an interval can have no more owners.
+    /// `OutOfMemory` if an allocation failed, or an interval already has as many owners as it can have.
     pub fn draft(&self, alloc: Global, scenario: &Scenario, keep: u32) -> Result<Draft, OutOfMemory>
         requires fits { AreInRange self.now.plan scenario.now }
         requires simulated { keep ≤ self.now.horizon }
@@ -244,12 +243,12 @@ impl Sheet {
         self.draft_of(alloc, joined, keep)
     }
 
-    /// Begin a run as [`Sheet::draft`], of a scenario that is joined already. It must fit the plan, and `keep` must be
-    /// as there.
+    /// Begin a draft as [`Sheet::draft`] does, but of a scenario that is joined already. It must fit the plan, and
+    /// `keep` must meet the conditions stated there.
     ///
     /// # Errors
     ///
-    /// `OutOfMemory` if an allocation failed, or an interval can have no more owners.
+    /// `OutOfMemory` if an allocation failed, or an interval already has as many owners as it can have.
     pub fn draft_of(&self, alloc: Global, joined: Scenario, keep: u32) -> Result<Draft, OutOfMemory>
         requires fits { AreInRange self.now.plan joined }
         requires simulated { keep ≤ self.now.horizon }
@@ -271,7 +270,7 @@ impl Sheet {
         Ok(Draft { sheet })
     }
 
-    // Replace the edits by others, which give the same run up to the horizon.
+    // Replace the edits by others that give the same run up to the horizon.
     fn resume_at_horizon(&self, alloc: Global, scenario: Scenario) -> Result<Sheet, OutOfMemory>
         requires winners { AreWinners scenario }
         requires fits { AreInRange self.now.plan scenario }
@@ -302,7 +301,7 @@ impl Sheet {
         })
     }
 
-    // Replace the edits by others, which give the same run up to an interval's checkpoint; that step is the horizon.
+    // Replace the edits by others that give the same run up to an interval's checkpoint. Its step becomes the horizon.
     fn resume_at_checkpoint(
         &self,
         alloc: Global,
@@ -356,7 +355,7 @@ impl Sheet {
         &self.at_horizon
     }
 
-    // Go on by spans, apart from the road at the horizon.
+    // Split the sheet into a draft that grows by spans, and the road at the horizon.
     pub(crate) fn by_spans(self) -> (SpanDraft, Road)
         ensures draft { result.0 ≡ self }
         ensures road { result.1 ≡ state_of self self.horizon }
@@ -380,7 +379,7 @@ impl Sheet {
         (draft, at_horizon)
     }
 
-    // Add one more step, whose road is made already. What can fail for memory is done before the sheet is changed.
+    // Add one more step, given the road after it. Everything that can fail is done before the sheet is changed.
     pub(crate) fn extend(
         &mut self,
         alloc: Global,
@@ -419,7 +418,7 @@ impl Sheet {
         self.known.second = Greatest::Of(horizon);
     }
 
-    // Begin the interval of a road whose cars are small enough to be kept.
+    // Begin an interval at a road whose cars fit into a checkpoint.
     fn next_interval(&self, alloc: Global, road: &Road) -> Result<Interval, OutOfMemory>
         requires { AreSmall (cars_of road.now) }
         ensures start { IfOk result (λ interval. interval.start ≡ road.now) }
@@ -454,7 +453,7 @@ impl Sheet {
         self.end_interval(alloc, self.horizon() + 1, ended, road)
     }
 
-    // End the interval at a step, from the interval up to there and the road there. What can fail for memory is done
+    // End the interval at a step, given the interval up to there and the road there. Everything that can fail is done
     // before the sheet is changed.
     fn end_interval(
         &mut self,
@@ -481,7 +480,7 @@ impl Sheet {
     }
 }
 
-// Begin the interval of a checkpoint, and return the road there.
+// Begin an interval at a checkpoint, and return the road there.
 fn start_from(
     alloc: Global,
     start: &Checkpoint,
@@ -505,7 +504,7 @@ fn copy_open(interval: &Interval, road: &Road) -> Result<(Interval, Road), OutOf
     Ok((copy, road.copied()?))
 }
 
-// Share a plan, and the first of these intervals.
+// Share a plan, and the first `count` of these intervals.
 fn share_with_plan(
     alloc: Global,
     plan: &Arc<Plan>,

@@ -1,4 +1,4 @@
-//! Shelves: a few intervals, each shared.
+//! Shelves: short lists of intervals that are shared.
 
 ghost use Rattle.std.specs.Prelude.{◌≡◌, ◌<◌, ◌≤◌, ◌++◌, ◌∷◌, [], IfOk, OnErr, OnOk, Some, length, map, slice_get};
 ghost use Rattle.std.specs.Prelude.{take};
@@ -27,7 +27,7 @@ impl Model for Shelf {
 }
 
 impl Shelf {
-    // Make a shelf of no intervals. It allocates nothing.
+    // Make a shelf without intervals. It does not allocate.
     pub(crate) fn empty(alloc: Global) -> Shelf
         ensures { result ≡ [] }
     {
@@ -49,7 +49,7 @@ impl Shelf {
         &self.intervals[index]
     }
 
-    // Add an interval behind the others.
+    // Append an interval.
     pub(crate) fn push(&mut self, alloc: Global, interval: Interval) -> Result<(), OutOfMemory>
         ensures pushed { OnOk result (self.new ≡ self.old ++ interval ∷ []) }
         ensures unchanged { OnErr result (self.new ≡ self.old) }
@@ -59,7 +59,7 @@ impl Shelf {
         Ok(())
     }
 
-    // Share the first intervals.
+    // Share the first `count` intervals.
     pub(crate) fn first(&self, alloc: Global, count: usize) -> Result<Shelf, OutOfMemory>
         requires { count ≤ length self.now }
         ensures { IfOk result (λ first. first ≡ take count self.now) }
@@ -69,7 +69,7 @@ impl Shelf {
     }
 }
 
-// Share the first of these values: each has one more owner.
+// Share the first `count` of these values: each gets one more owner.
 pub(crate) fn share_first<T: Drop>(
     alloc: Global,
     values: &[Arc<T>],

@@ -1,5 +1,5 @@
-//! The run of a sheet that queries keep under way: it goes on at rising steps, and is taken up elsewhere at a road that
-//! the sheet keeps.
+//! The run of a sheet that queries keep under way. It continues if the next query is for a later step, and otherwise
+//! restarts at a road that the sheet has stored.
 
 ghost use Rattle.std.specs.Prelude.{◌≡◌, ◌<◌, ◌≤◌, ◌+◌, ℕ, IfOk, IfSome, IsTrue, OnOk};
 ghost use Rattle.std.specs.Prelude.{length, map, string_bytes};
@@ -22,7 +22,7 @@ use road_plan::OutOfMemory;
 use std::alloc::Global;
 use std::sync::Arc;
 
-// A sheet's run under way, a step whose settings it is under, and the settings made last.
+// A sheet's run under way, a step whose settings it has (`under`), and the last settings that were made.
 #[derive(Drop)]
 pub(crate) struct ShownRun {
     run: UnderWay,
@@ -34,8 +34,8 @@ impl ShownRun {
     ghost use Rattle.road_sheet.specs.SettingsCaches.{AreCached};
     ghost use Rattle.road_sheet.specs.ShownRuns.{IsShownBy};
 
-    // Begin at the last state that a sheet keeps and that is not after a step, in the memory of another run of its plan
-    // if there is one.
+    // Begin a run at the last stored state of a sheet that is not after a step. If there is a spare run of the sheet's
+    // plan, reuse its memory.
     pub(crate) fn resume(
         alloc: Global,
         sheet: &Sheet,
@@ -59,7 +59,7 @@ impl ShownRun {
         Ok(shown)
     }
 
-    // Begin a run of a sheet's plan at the last state that the sheet keeps and that is not after a step.
+    // Begin a run at the last stored state of a sheet that is not after a step, in new memory.
     fn start(alloc: Global, sheet: &Sheet, step: u32) -> Result<ShownRun, OutOfMemory>
         requires simulated { step ≤ sheet.now.horizon }
         requires horizon { step ≤ GREATEST_HORIZON }
@@ -85,7 +85,7 @@ impl ShownRun {
         })
     }
 
-    // Take the run out, to be taken up elsewhere.
+    // Return the run, so that its memory can be reused.
     pub(crate) fn into_run(self) -> UnderWay
         ensures { result ≡ self.run }
     {
@@ -93,8 +93,8 @@ impl ShownRun {
         run
     }
 
-    // Go to a step: on from where it is if that is the nearest before it, and else from what the sheet keeps, the
-    // road at the first step of each interval and at the horizon.
+    // Go to a step. Continue from where the run is, unless it is past the step or a stored road is nearer: then restart
+    // at that road. Stored roads are those at the first step of each interval and at the horizon.
     pub(crate) fn go_to(
         &mut self,
         alloc: Global,
@@ -116,7 +116,7 @@ impl ShownRun {
         Ok(())
     }
 
-    // Return whether it is as near before a step as what the sheet keeps.
+    // Return whether the run is before or at a step, and no stored road is nearer to the step.
     fn is_nearest(&self, sheet: &Sheet, step: u32) -> bool
         ensures { IsTrue result → self.now.run.step ≤ step }
     {
@@ -125,7 +125,7 @@ impl ShownRun {
             || (last < step && step - last <= step % INTERVAL_STEPS && step < sheet.horizon())
     }
 
-    // Take the run up at the last state that the sheet keeps and that is not after a step.
+    // Restart the run at the last stored state of the sheet that is not after a step.
     fn take_up(&mut self, alloc: Global, sheet: &Sheet, step: u32) -> Result<(), OutOfMemory>
         requires simulated { step ≤ sheet.now.horizon }
         requires horizon { step ≤ GREATEST_HORIZON }
@@ -165,7 +165,7 @@ impl ShownRun {
         Ok(())
     }
 
-    // Put the run under the settings of its step.
+    // Give the run the settings of its step.
     fn settle(&mut self, alloc: Global, sheet: &Sheet) -> Result<(), OutOfMemory>
         requires { IsShownBy sheet.now self.old }
         ensures settled { OnOk result (self.new.run ≡ record self.old.run
@@ -182,7 +182,7 @@ impl ShownRun {
         Ok(())
     }
 
-    // ---- what is seen on the way
+    // ---- what queries read
 
     // Return the road before its next step.
     pub(crate) fn road(&self, alloc: Global) -> Result<Road, OutOfMemory>
@@ -203,7 +203,7 @@ impl ShownRun {
         self.run.row(alloc)
     }
 
-    // Write the rows from its step's up to that of another, both of them.
+    // Write the rows from that of the run's step to that of the step `to`, both included.
     pub(crate) fn rows_to(
         &mut self,
         alloc: Global,
@@ -227,7 +227,7 @@ impl ShownRun {
         Ok(rows)
     }
 
-    // Make the steps up to another, and return what a detector counts in them.
+    // Make the steps up to the step `to`, and return what a detector counts in them.
     pub(crate) fn count_to(
         &mut self,
         alloc: Global,

@@ -24,7 +24,7 @@ pub struct State {
 
 /// Write the row of a state, with the blocks of its step.
 ///
-/// The scenario must fit the plan, and the state must be one of the run by its edits.
+/// The scenario must fit the plan, and the state must be one of the run of the scenario's edits.
 ///
 /// # Errors
 ///

@@ -28,15 +28,15 @@ use std::alloc::Global;
 use std::marker::Model;
 use std::sync::Arc;
 
-/// A draft that grows by spans. It does not hold the road at its horizon: whoever runs the spans holds it, so that one run
-/// can continue from span to span. Contracts see the sheet that it is so far.
+/// A draft that grows by spans. It does not hold the road at its horizon: whoever runs the spans holds it, so that one
+/// run can continue from span to span. Contracts see the sheet so far.
 #[derive(Drop)]
 pub struct SpanDraft {
     pub(crate) plan: Arc<Plan>,
     pub(crate) scenario: Scenario,
     pub(crate) horizon: u32,
     pub(crate) intervals: SharedIntervals,
-    // The interval that the horizon cuts.
+    // The interval that ends at the horizon and is not whole yet.
     pub(crate) open_interval: Interval,
     pub(crate) settings: SettingsCache,
 }
@@ -63,7 +63,7 @@ impl Model for SpanDraft {
 }
 
 impl SpanDraft {
-    /// Return how many steps are simulated so far.
+    /// Return the number of steps that are simulated so far.
     pub fn horizon(&self) -> u32
         ensures { result ≡ self.now.horizon }
     {
@@ -77,8 +77,8 @@ impl SpanDraft {
     ///
     /// # Errors
     ///
-    /// `OutOfMemory` if an allocation failed, or the plan or the settings can have no more owners. The draft is then
-    /// as it was.
+    /// `OutOfMemory` if an allocation failed, or the plan or the settings already have as many owners as they can have.
+    /// The draft is then unchanged.
     pub fn next_span(&mut self, alloc: Global, to: u32) -> Result<Span, OutOfMemory>
         requires before { self.old.horizon < to }
         requires within_limit { to ≤ GREATEST_HORIZON }
@@ -96,12 +96,12 @@ impl SpanDraft {
         Ok(Span::new(plan, settings, first, until - first))
     }
 
-    /// Add the steps of a span at once, from its outcome. The span must be of the next steps, and the outcome that of
+    /// Add the steps of a span at once, given its outcome. The span must be of the next steps, and the outcome that of
     /// running it from the road at the horizon.
     ///
     /// # Errors
     ///
-    /// `OutOfMemory` if an allocation failed. The draft is then as it was.
+    /// `OutOfMemory` if an allocation failed. The draft is then unchanged.
     pub fn push_span(
         &mut self,
         alloc: Global,
@@ -140,8 +140,8 @@ impl SpanDraft {
         self.horizon = end;
     }
 
-    // Add the steps up to the end of the interval, from the road there. Everything that can fail is done before the draft
-    // is changed.
+    // Add the steps up to the end of the interval, given the road there. Everything that can fail is done before the
+    // draft is changed.
     fn end_interval(
         &mut self,
         alloc: Global,

@@ -76,15 +76,15 @@ edit_allowed x object step value none =
     let made : edit.Edit = edit_made x object step value in
     in_range-one x.sheet.plan made (none_of own_edit_fault (fault_of_edit x.sheet.plan made) none)
 
--- so are imported edits,
+-- imported edits to which no cause applies are allowed,
 pub import_allowed : (p : Plan) (edits : List edit.Edit) → import_fault p edits ≡ None → IsAllowed p (commands.Take (from_list edits))
 import_allowed p edits none e i = each_in_range p edits (no_fault_imported p edits none) e (sym (contains-from_list edit_total edits e) ∙ i)
 
--- the edits of a scenario
+-- the edits of a scenario to which no cause applies are allowed,
 pub take_allowed : (p : Plan) (edits : Edits) → take_fault p edits ≡ None → IsAllowed p (commands.Take edits)
 take_allowed p edits none = all_in_range p edits (fault_in p edits) refl (nothing _ (none_of received_edit_fault (fault_in p edits) none))
 
--- and a step
+-- and so is a step to which no cause applies
 pub advance_allowed : (p : Plan) (to : ℕ) → advance_fault to ≡ None → IsAllowed p (commands.Advance to)
 advance_allowed p to none = grind (arith, nat_tests)
 
@@ -123,7 +123,7 @@ module _ (plan : Plan) (xs : List Replica) (ms : List Message) (kept : IsWorldKe
   after_write (Advance r to) command x y is below of after =
       advanced plan xs ms kept k v r to x y is below (after ∙ ap (λ (c : SheetCommand). replica_after c x) (sym (same_some _ _ of)))
 
-  -- the replica that accepted a command is put back
+  -- the replica that accepted a command replaces the one before
   pub accepted_kept : (r : ℕ) (command : SheetCommand) (cause : Option ReplicaFault) (x y : Replica) (meter later : ℕ) → x ≡ slice_index_or xs r x → r < length xs → (cause ≡ None → IsAllowed x.sheet.plan command) → IsAccepted command cause x y meter later
       → IsWorldKept plan (slice_set xs r y) ms
   accepted_kept r command cause x y meter later is there allowed accepted =
@@ -140,7 +140,7 @@ module _ (plan : Plan) (xs : List Replica) (ms : List Message) (kept : IsWorldKe
     read_there read of =
         ap (λ (z : Replica). read command z.sheet) same ∙ sym (read_command read (command_of_event k event) command (sheet_at k (replica_number event)) of)
 
-    -- accepted by the replica, the event is applied
+    -- if the replica accepts the command, the event is applied
     pub accepted_applied : (reply : Reply) → command_of_event k event ≡ Some command → fault_at_replica k event ≡ option_map faults.Replica cause → reply ≡ reply_to_event k event → IsAccepted command cause x y meter later
         → IsApplied event (Ok reply) k (viewed plan (slice_set xs (replica_number event) y) ms) meter later
     accepted_applied reply of at answered accepted = record {
@@ -152,7 +152,7 @@ module _ (plan : Plan) (xs : List Replica) (ms : List Message) (kept : IsWorldKe
       few_steps = subst (λ n. TicksAtMost n meter later) (read_there most_steps_of_command of) (few_steps_of command x.sheet meter later accepted.steps);
     }
 
-    -- refused by the replica, it is refused
+    -- if the replica refuses the command, the event is refused
     pub refused_applied : (result : Result Reply WorldFault) (fault : ReplicaFault) → command_of_event k event ≡ Some command → fault_at_replica k event ≡ option_map faults.Replica cause → IsWrite event → IsRefused command cause fault x y meter later
         → IsErrAnd result (λ given. given ≡ faults.Replica fault) → IsApplied event result k (viewed plan (slice_set xs (replica_number event) y) ms) meter later
     refused_applied (Ok reply) fault of at writes is_refused given = absurd given
@@ -193,7 +193,7 @@ module _ (plan : Plan) (xs : List Replica) (ms : List Message) (kept : IsWorldKe
         accepted_applied (Withdraw r object step) (commands.Take (single_edit (edit_made x object step Withdrawn))) (edit_fault x object step Withdrawn) x y meter later is there below
         (replies.Stamped stamp) (command_local Withdrawn) (fault_local Withdrawn) (stamp_local Withdrawn stamp is_stamp) accepted
 
-    -- if refused, it is refused
+    -- if the replica refuses it, the event is refused
     pub local_refused : (value : Value) (result : Result Reply WorldFault) (fault : ReplicaFault) → IsRefused (commands.Take (single_edit (edit_made x object step value))) (edit_fault x object step value) fault x y meter later
         → IsErrAnd result (λ given. given ≡ faults.Replica fault) → IsApplied (local_event r object step value) result k (viewed plan (slice_set xs r y) ms) meter later
     local_refused (Put number) result fault is_refused given =
@@ -215,7 +215,7 @@ module _ (plan : Plan) (xs : List Replica) (ms now : List Message) (kept : IsWor
   no_steps_made meter =
       ap (λ (o : Option SheetCommand). meter_after meter (unwrap_or (option_map (λ c. steps_of_command c (sheet_at k (replica_number event))) o) 0)) (sym (no_command event k message made))
 
-  -- appended, the event is applied
+  -- if the message is appended, the event is applied
   pub post_applied : (number meter : ℕ) → number ≡ length k.messages → now ≡ ms ++ message ∷ [] → IsApplied event (Ok (replies.Message number)) k (viewed plan xs now) meter meter
   post_applied number meter is put = record {
     answer = (accepted, ap replies.Message is ∙ sym (reply_made event k message made));

@@ -36,7 +36,7 @@ fault_there w event below = ap (λ b. if b then fault_at_replica w event else So
 pub not_accepted : (w : World) (event : Event) (fault : WorldFault) → replica_number event < length w.replicas → IsRefusal event (fault_at_replica w event) fault → IsAnswer w event (Err fault)
 not_accepted w event fault below is = subst (λ cause. IsRefusal event cause fault) (sym (fault_there w event below)) is
 
--- so is a result that is that refusal, once the world passes it on
+-- a result that is that refusal is a refusal of the event, once the world passes it on
 pub handed_on : (w : World) (event : Event) (result : Result Reply WorldFault) (fault : ReplicaFault) → replica_number event < length w.replicas → IsErrAnd result (λ given. given ≡ faults.Replica fault)
     → IsRefusal event (fault_at_replica w event) (faults.Replica fault) → IsAnswer w event result
 handed_on w event (Ok reply) fault below given is = absurd given

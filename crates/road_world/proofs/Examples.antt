@@ -90,7 +90,8 @@ later_count_is_more = computed_answers small 3 two_limits two_limits_answers ref
 later_limit_wins : winners (reached two_limits two_limits_answers 2) ≡ from_list (edit (Limit 0) 3 2 1 (Put 2) ∷ [])
 later_limit_wins = computed_winners small 3 two_limits two_limits_answers refl 2 _ refl
 
--- limits made apart have the same count, and each replica takes the other's
+-- two replicas set limits before either has the other's: their counts are the same, and then each replica takes the
+-- other's limit
 abbrev made_apart : List Event
 made_apart = Edit 0 (Limit 0) 3 2 ∷ Edit 1 (Limit 0) 3 1 ∷ Send 0 ∷ Send 1 ∷ Take 0 1 ∷ Take 1 0 ∷ []
 
@@ -161,11 +162,11 @@ just_the_answer = computed_edits small 3 asking asking_answers refl 2 _ refl
 
 -- ---- horizons
 
--- a replica is advanced, and then not so far
+-- a replica is advanced, and then advanced to an earlier step
 abbrev advances : List Event
 advances = Advance 0 100 ∷ Advance 0 40 ∷ Advance 1 40 ∷ Advance 2 1048577 ∷ []
 
--- its horizon is the greatest step to which it was advanced
+-- its horizon is the latest step to which it was advanced
 abbrev advances_answers : EventAnswers
 advances_answers =
     Ok (Horizon 100) ∷ Ok (Horizon 100) ∷ Ok (Horizon 40) ∷ Err (Replica replica_faults.Horizon) ∷ []
@@ -181,7 +182,7 @@ abbrev refusals : List Event
 refusals =
     Edit 3 (Limit 0) 3 1 ∷ Take 0 0 ∷ Heads 0 ∷ Take 1 0 ∷ Send 1 ∷ Beyond 0 1 ∷ Edit 0 (Limit 1) 3 1 ∷ Edit 0 (Limit 0) 3 1 ∷ []
 
--- only what is accepted has a message's number, or a count
+-- only accepted events get a message's number, or a count
 abbrev refusals_answers : EventAnswers
 refusals_answers =
     Err NoReplica ∷ Err NoMessage ∷ Ok (Message 0) ∷ Err NoMessage ∷ Ok (Message 1) ∷ Err NoMessage

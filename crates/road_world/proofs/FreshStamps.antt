@@ -167,7 +167,7 @@ above_before e w s a = record {
     still : (n m k : ℕ) → n ≤ m → m < k → n < k
     still n m k p q = omega arith
 
--- the same for each of a list
+-- the same for each stamp of a list
 all_above_before : (e : Event) (w : World) (ss : List Stamp) → AllByRecursion (IsAbove (world_after_event e w)) ss → AllByRecursion (IsAbove w) ss
 all_above_before e w [] all = tt
 all_above_before e w (s ∷ ss) all = (above_before e w s all.0, all_above_before e w ss all.1)
@@ -193,7 +193,7 @@ apart w s t held above = false_from_ne_true _ (λ h.
     greater_yet : (c d n m : ℕ) → c ≡ d → n ≡ m → c ≤ n → m < d → ⊥
     greater_yet c d n m p q held more = omega arith
 
--- so it is not in a list of these
+-- so it is not in a list of stamps above the world
 all_apart : (w : World) (s : Stamp) (ss : List Stamp) → s.count ≤ count_at w s.number → AllByRecursion (IsAbove w) ss → AllByRecursion (λ t. is_same_stamp s t ≡ false) ss
 all_apart w s [] held all = tt
 all_apart w s (t ∷ ss) held all = (apart w s t held all.0, all_apart w s ss held all.1)
@@ -219,12 +219,12 @@ issued_distinct w (e ∷ events) (Err fault ∷ replies) h = issued_distinct w e
 abbrev IsOutside : Stamp → Type 0
 IsOutside s = FIRST_IMPORT_NUMBER ≤ s.number
 
--- no cause under another name
+-- if there is no cause under another name, there is no cause
 unmapped : (x : Option ReplicaFault) → option_map faults.Replica x ≡ None → x ≡ None
 unmapped None h = refl
 unmapped (Some f) h = cc
 
--- a number for which `Insider` is not named
+-- a number that is not refused as `Insider` is not a replica's
 no_insider : (n : ℕ) → (if nat_lt n FIRST_IMPORT_NUMBER then Some Insider else None) ≡ None → FIRST_IMPORT_NUMBER ≤ n
 no_insider n h = by_test (nat_lt n FIRST_IMPORT_NUMBER) refl h
   where
@@ -268,7 +268,7 @@ imports_outside w (e ∷ events) (Err fault ∷ replies) h = imports_outside w e
 
 -- ---- both
 
--- a stamp with a replica's number is not one without
+-- a stamp with a replica's number is not a stamp without
 not_imported : (s : Stamp) (imports : List Stamp) → s.number < FIRST_IMPORT_NUMBER → AllByRecursion IsOutside imports → list_any (is_same_stamp s) imports ≡ false
 not_imported s [] inside all = refl
 not_imported s (t ∷ imports) inside all =

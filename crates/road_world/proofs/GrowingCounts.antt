@@ -1,4 +1,4 @@
--- The more edits reach a replica, the greater is their greatest count.
+-- If more edits reach a replica, their greatest count does not fall.
 use Rattle.std.proofs.Common.{◌≡◌, ◌≤◌, true, [], ◌∷◌, ap, ◌∙◌}
 use Rattle.std.specs.Cmp.{tied_itself}
 use Rattle.std.specs.Ordering.{is_eq}

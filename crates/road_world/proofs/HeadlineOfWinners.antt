@@ -27,7 +27,7 @@ use Rattle.road_world.proofs.WinnersSuffice.{replica-of_winners}
 not_above : (step horizon : ℕ) → step ≤ horizon → nat_lt horizon step ≡ false
 not_above step horizon below = grind (arith, nat_tests)
 
--- a number below another is not outside of it
+-- a number below another passes the test that refuses the others
 within : (n m : ℕ) → n < m → not (nat_lt n m) ≡ false
 within n m below = grind (arith, nat_tests)
 
@@ -70,7 +70,7 @@ module _ (plan : Plan) (count : ℕ) (events : List Event) (replies : List (Resu
   abbrev shown : ℕ → Sheet
   shown r = record { plan = plan; edits = winners (past r).edits; horizon = (past r).horizon }
 
-  -- each replica's sheet is that one
+  -- each replica's sheet is the one that it must show
   sheet_is : (r : ℕ) → sheet_at world r ≡ shown r
   sheet_is r =
       let made = world_of_events plan count events replies in

@@ -24,7 +24,7 @@ use Rattle.road_world.specs.declared.sending.Sending.{Sending}
 use Rattle.road_world.specs.declared.sending.Sending.TheVariants as sendings
 use Rattle.road_world.specs.declared.faults.WorldFault.{WorldFault}
 
--- a replica in a world: the edits that reached it, and the greatest step to which it was advanced
+-- a replica in a world: the edits that reached it, and the latest step to which it was advanced
 pub record WorldReplica : Type 0 where
   pub edits : Edits
   pub horizon : ℕ

@@ -33,7 +33,7 @@ pub record IsRight {A : Type 0} (fault : Option ReplicaFault) (shown right : A) 
   pub same : shown ≡ right
 
 -- a world of `count` replicas of a plan shows the runs of what reached them: `past r` is the set of edits that reached
--- replica r, and the greatest step to which it was advanced
+-- replica r, and the latest step to which it was advanced
 pub record ShowsRuns (plan : Plan) (count : ℕ) (past : ℕ → WorldReplica) (world : World) : Type 0 where
   -- the world is of this plan
   pub same_plan : world.plan ≡ plan
@@ -41,7 +41,7 @@ pub record ShowsRuns (plan : Plan) (count : ℕ) (past : ℕ → WorldReplica) (
   pub replicas : length world.replicas ≡ count
   -- each replica's scenario is the winners of the edits that reached it
   pub scenario : (r : ℕ) → r < count → (sheet_at world r).edits ≡ winners (past r).edits
-  -- it has simulated each step up to the greatest to which it was advanced
+  -- it has simulated each step up to the latest one to which it was advanced
   pub simulated : (r : ℕ) → r < count → (sheet_at world r).horizon ≡ (past r).horizon
   -- at each step it has simulated each cell is that of the run of those winners from step zero
   pub cells : (r step : ℕ) → r < count → step ≤ (past r).horizon →

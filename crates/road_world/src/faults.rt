@@ -1,4 +1,4 @@
-//! Why an event is refused, and why a list of events is not played.
+//! The reasons why an event is refused, and why a list of events is not played.
 
 ghost use Rattle.std.specs.Prelude.{◌≡◌};
 ghost use Rattle.road_replica.specs.declared.faults.ReplicaFault.TheVariants as replicas;
@@ -9,7 +9,7 @@ use road_replica::ReplicaFault;
 use std::alloc::AllocError;
 use thiserror::Error;
 
-/// Why an event is refused. The causes are checked in this order. A refused event does nothing.
+/// The reason why an event is refused. The reasons are checked in this order. A refused event does nothing.
 #[derive(Clone, Copy, Debug, PartialEq, Eq, Error)]
 pub enum WorldFault {
     /// The world has no replica of this number.
@@ -40,7 +40,7 @@ impl From<AllocError> for WorldFault {
     }
 }
 
-/// Why a list of events is not played to its end.
+/// The reason why a list of events is not played to its end.
 #[derive(Clone, Copy, Debug, PartialEq, Eq, Error)]
 pub enum PlayFault {
     /// An allocation failed, for the world or for the list of replies.

@@ -4,7 +4,7 @@ use Rattle.std.specs.List.{All}
 use Rattle.road_cells.specs.declared.car.Car.{Car}
 use Rattle.road_sheet.specs.declared.checkpoint.PackedCar.{PackedCar}
 
--- the car that is kept
+-- the car that is stored
 abbrev pub unpacked_car : PackedCar → Car
 unpacked_car kept = record { number = kept.low + 65536 * kept.high; cell = kept.cell; speed = kept.speed }
 

@@ -23,7 +23,8 @@ pub record IsInterval (plan : Plan) (edits : Edits) (a b : ℕ) (interval : Inte
   pub start : interval.start ≡ run_at plan edits a
   pub totals : AreTotals plan edits a b interval.totals.items
 
--- a sheet's run: the whole intervals up to the horizon, the interval that the horizon cuts, and the road at the horizon
+-- a sheet's run: the whole intervals, the open one, which ends at the horizon and is not whole yet, and the road at the
+-- horizon
 pub record IsRunOf (s : Sheet) (intervals : List Interval) (cut : Interval) (road : Array) : Type 0 where
   pub sheet : IsSheet s
   pub begun : INTERVAL_STEPS * length intervals ≤ s.horizon
@@ -33,12 +34,12 @@ pub record IsRunOf (s : Sheet) (intervals : List Interval) (cut : Interval) (roa
   pub open_interval : IsInterval s.plan s.edits (INTERVAL_STEPS * length intervals) s.horizon cut
   pub at_horizon : road ≡ run_at s.plan s.edits s.horizon
 
--- edits that give the same run and the same counts up to a step
+-- two sets of edits give the same run and the same counts up to a step
 pub record GiveSameRun (plan : Plan) (s t : Edits) (step : ℕ) : Type 0 where
   pub state : (u : ℕ) → u ≤ step → run_at plan s u ≡ run_at plan t u
   pub total : (d a b : ℕ) → b ≤ step → total_at plan s d a b ≡ total_at plan t d a b
 
--- a step that a sheet is simulated to next: above its horizon, and not past the end of the interval that it cuts
+-- a step to which a sheet is simulated next: above its horizon, and not past the end of the open interval
 pub record IsWithinInterval (s : Sheet) (end : ℕ) : Type 0 where
   pub more : s.horizon < end
   pub not_past : end ≤ INTERVAL_STEPS * (s.horizon / INTERVAL_STEPS) + INTERVAL_STEPS

@@ -1,4 +1,4 @@
--- The search among rising heads finds the head at an edit's place, or that there is none.
+-- The search among rising heads finds the head at an edit's place, or finds that there is none.
 use Rattle.std.proofs.Common.{rules, sym, ◌∙◌}
 use Rattle.std.proofs.lemmas.List.Sorted.{answers_always}
 use Rattle.road_delta.proofs.HeadSearch.{answers_rise, found, absent, not_above}

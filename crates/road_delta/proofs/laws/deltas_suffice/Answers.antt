@@ -1,4 +1,4 @@
--- A delta, joined to what was there, gives what the whole gives, and leaves out what is known already.
+-- Joining a delta gives the same as joining the whole set, and a delta leaves out only edits that are exceeded already.
 use Rattle.road_delta.proofs.DeltaEdits as deltas
 use Rattle.road_delta.proofs.laws.deltas_suffice.Goals as goal
 

@@ -1,4 +1,5 @@
--- A draft of the joined scenario, simulated to the greater horizon, is the grown sheet, by at most the allowed number of steps.
+-- A draft of the joined scenario, simulated to the greater horizon, is the grown sheet. This takes at most the allowed
+-- number of steps.
 use Rattle.std.proofs.Common.{◌≡◌, ◌∙◌, ◌-◌, max, ap, arith}
 use Rattle.road_sheet.specs.Drafts.{draft_start}
 use Rattle.road_sheet.specs.Sheets.{Sheet}

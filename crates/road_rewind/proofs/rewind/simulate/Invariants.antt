@@ -5,7 +5,7 @@ use Rattle.road_sheet.specs.Sheets.{state_of}
 use Rattle.road_rewind.specs.Growth.{meter_after}
 use Rattle.road_rewind.proofs.rewind.simulate.Given as goal
 
--- the draft is at the step that is to come, and each step before it is counted
+-- the draft is at the next step, and each step before it is counted
 abbrev pub invariant-loop-step : goal.invariant-loop-step
 invariant-loop-step g l = record {
   after : l.fn.draft.horizon ≤ l.step;

@@ -1,4 +1,4 @@
--- The crew runs the span, and it is counted as its steps.
+-- The crew runs the span, and the span's steps are counted.
 use Rattle.std.proofs.Common.{◌+◌, ◌-◌, ◌^◌, ◌∙◌, ℕ, min, ap, arith, subst, sym}
 use Rattle.std.proofs.lemmas.Bool.{false≢true}
 use Rattle.std.specs.Prelude.{is_some}

@@ -4,7 +4,7 @@ use Rattle.road_scenario.specs.Private.RegisterWalks.{last_number}
 use Rattle.road_scenario.proofs.LastNumbers.{last_number_of}
 use Rattle.road_scenario.proofs.registers.last_put.Given as goal
 
--- what is left has the number that is searched
+-- the registers that are left have the number that is searched for
 abbrev pub invariant-loop-won : goal.invariant-loop-won
 invariant-loop-won l = last_number_of l.earlier ≡ last_number l.step l.registers
 

@@ -1,4 +1,4 @@
--- The taken steps of an object are visited until one has changed.
+-- The taken steps of an object are visited until the number set at one has changed.
 use Rattle.std.proofs.Common.{◌≡◌, []}
 use Rattle.std.specs.Option.{option_copied, unwrap_or}
 use Rattle.road_scenario.specs.Private.RegisterWalks.{first_change_among}

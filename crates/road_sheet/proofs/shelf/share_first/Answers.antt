@@ -1,4 +1,4 @@
--- At the end all are shared that should be.
+-- At the end the first `count` values are shared.
 use Rattle.std.proofs.Common.{arith}
 use Rattle.std.proofs.lemmas.Grind.{common_steps}
 use Rattle.std.proofs.lemmas.List.{take-map}

@@ -1,4 +1,4 @@
--- An input of the draft's next step is one of its sheet's, and the road after it is the sheet's next one.
+-- The input of the draft's next step is that of its sheet, and the road after it is the sheet's next road.
 use Rattle.std.proofs.Common.{◌∙◌, ap, sym}
 use Rattle.std.proofs.Math.Numerals.{add-one}
 use Rattle.road_ends.specs.Input.{input_next}

@@ -4,7 +4,7 @@ use Rattle.std.specs.List.{slice_index_or}
 use Rattle.road_detector.specs.Passes.{no_totals, plus}
 use Rattle.road_sheet.proofs.interval.Interval.add.Given as goal
 
--- the totals of the detectors so far, and those of the others as they were
+-- the totals of the detectors so far are increased, and those of the others are unchanged
 abbrev pub invariant-loop-detector : goal.invariant-loop-detector
 invariant-loop-detector l = record {
   start : l.self.start ≡ l.fn.self.start;

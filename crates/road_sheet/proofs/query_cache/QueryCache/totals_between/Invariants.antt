@@ -4,7 +4,7 @@ use Rattle.road_sheet.specs.QueryCaches.{IsCacheOf}
 use Rattle.road_sheet.specs.Sheets.{total_of}
 use Rattle.road_sheet.proofs.query_cache.QueryCache.totals_between.Given as goal
 
--- the steps of the intervals so far are counted, and the next ones begin at a checkpoint where the first one did
+-- the steps of the intervals so far are counted, and the next ones begin at a checkpoint if the first ones did
 abbrev pub invariant-loop-begin : goal.invariant-loop-begin
 invariant-loop-begin l = record {
   after : l.from ≤ l.begin;

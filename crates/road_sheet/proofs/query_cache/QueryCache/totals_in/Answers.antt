@@ -1,4 +1,4 @@
--- The last steps of an interval count what the whole interval does, less what those before them do.
+-- The counts of an interval's last steps are those of all its steps less those of the steps before.
 use Rattle.std.proofs.Common.{◌≡◌, ◌∙◌, ◌+◌, ◌*◌, ◌-◌, ◌/◌, ◌%◌, ◌≤◌, ◌<◌, ℕ, min, ap, arith}
 use Rattle.road_detector.specs.declared.counts.Totals.{Totals}
 use Rattle.road_scenario.specs.Settings.{settings_of}

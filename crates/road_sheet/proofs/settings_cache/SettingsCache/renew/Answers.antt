@@ -1,4 +1,4 @@
--- Settings made anew are in force up to the next date.
+-- New settings are in force up to the next date.
 use Rattle.std.proofs.Common.{◌≡◌, ◌∙◌, Some, ap, sym, subst}
 use Rattle.std.specs.Arc.{arc_value}
 use Rattle.road_plan.specs.Plan.{Plan}

@@ -1,4 +1,4 @@
--- A scenario joined from two that fit the plan fits it.
+-- The join of two scenarios that fit the plan fits it too.
 use Rattle.std.proofs.Common.{sym, subst}
 use Rattle.road_scenario.specs.Faults.{AreInRange}
 use Rattle.road_sheet.proofs.sheet.Sheet.draft.Goals as goal

@@ -1,4 +1,4 @@
--- Up to where no edit touches it, the run of the joined scenario is that of the sheet.
+-- Up to the first touched step, the run of the joined scenario is that of the sheet.
 use Rattle.std.proofs.Common.{◌∙◌, ap, subst, arith, ◌/◌, ◌*◌}
 use Rattle.road_ends.specs.Laws.{DependOnEarlierSettings}
 use Rattle.road_sheet.specs.Sheets.{Sheet}

@@ -15,7 +15,7 @@ invariant_of-self-2 c =
     ends_interval _ c.args.self.now c.args.end c.self.inside.intervals c.push.new.self c.self.inside.open_interval c.args.ended c.in_ok-next.next _ c.args.road c.self.invariant c.self.view_is c.requires.within
     c.requires.road c.requires.ended c.requires.at_end c.in_ok-next.ensures.totals c.in_ok-next.ensures.start c.in_ok-push.ensures.pushed
 
--- The cars of a run are small enough to be kept.
+-- The cars of a run fit into a checkpoint.
 pub next_interval-requires : goal.next_interval-requires
 next_interval-requires c =
     let s = c.args.self.now in

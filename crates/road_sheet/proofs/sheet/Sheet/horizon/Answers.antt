@@ -1,4 +1,4 @@
--- Up to which step the sheet is simulated.
+-- The step up to which the sheet is simulated.
 use Rattle.std.proofs.Common.{rules}
 use Rattle.road_sheet.proofs.sheet.Sheet.horizon.Goals as goal
 

@@ -1,4 +1,4 @@
--- Each interval of a sheet, a whole one or the cut one, is that of the run.
+-- Each interval of a sheet, whole or open, is that of the run.
 use Rattle.std.proofs.Common.{arith}
 use Rattle.road_sheet.proofs.SheetIntervals.{whole_interval, cut_interval, many_whole}
 use Rattle.road_sheet.proofs.sheet.Sheet.interval.Goals as goal

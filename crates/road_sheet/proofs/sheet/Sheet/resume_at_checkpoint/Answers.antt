@@ -1,4 +1,4 @@
--- A sheet that resumes at a checkpoint is one of the joined scenario.
+-- A sheet that resumes at a checkpoint is a sheet of the joined scenario.
 use Rattle.std.proofs.Common.{◌∙◌, ap, sym, length, replicate, arith}
 use Rattle.std.specs.Arc.{arc_value}
 use Rattle.road_detector.specs.Passes.{no_totals}

@@ -1,4 +1,4 @@
--- A sheet whose run no edit touches is one of the joined scenario too.
+-- A sheet whose run no edit touches is also a sheet of the joined scenario.
 use Rattle.std.proofs.Common.{◌∙◌, ap, arith}
 use Rattle.std.proofs.lemmas.List.{take_all}
 use Rattle.std.specs.Arc.{arc_value}

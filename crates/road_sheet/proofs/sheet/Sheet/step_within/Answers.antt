@@ -1,4 +1,4 @@
--- A step within the interval that the horizon cuts.
+-- A step within the open interval.
 use Rattle.std.proofs.Common.{◌+◌, ap, subst, refl, ℕ}
 use Rattle.road_detector.specs.Laws.{PassOneByOne, BoundTotals}
 use Rattle.road_sheet.proofs.SheetIntervals.{counted_next, next_cars_fit, next_speeds_fit, one_more, stays_in_interval}

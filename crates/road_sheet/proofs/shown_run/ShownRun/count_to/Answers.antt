@@ -1,4 +1,4 @@
--- One more step is counted, from none on.
+-- Each step is added to the counts, which start at zero.
 use Rattle.std.proofs.Common.{◌≡◌, ◌<◌, ◌≤◌, ◌+◌, ◌∙◌, length, ap, sym, arith}
 use Rattle.std.specs.List.{slice_index_or}
 use Rattle.road_plan.specs.Plan.{Plan}

@@ -6,7 +6,7 @@ use Rattle.road_sheet.specs.Sheets.{total_of}
 use Rattle.road_sheet.specs.ShownRuns.{IsShownBy}
 use Rattle.road_sheet.proofs.shown_run.ShownRun.count_to.Given as goal
 
--- the run is at the step that is to come, and has counted the steps before it
+-- the run is at the next step, and has counted the steps before it
 abbrev pub invariant-loop-counted : goal.invariant-loop-counted
 invariant-loop-counted l = record {
   step : l.self.run.step ≡ l.counted;

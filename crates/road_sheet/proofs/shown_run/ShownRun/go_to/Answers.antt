@@ -1,4 +1,4 @@
--- The run goes on from where it was, or from where it is taken up.
+-- The run continues from where it was, or from where it restarts.
 use Rattle.std.proofs.Common.{subst, sym}
 use Rattle.road_sheet.specs.ShownRuns.{IsShownBy}
 use Rattle.road_sheet.proofs.shown_run.ShownRun.go_to.Goals as goal

@@ -1,4 +1,4 @@
--- The row of one more step stands behind the others.
+-- The row of one more step comes after the others.
 use Rattle.std.proofs.Common.{◌≡◌, ◌≤◌, ◌+◌, ◌∙◌, List, map, ap, arith, String, Global, string_bytes}
 use Rattle.road_sheet.specs.Sheets.{sheet_row}
 use Rattle.road_sheet.proofs.RunRows.{one_row_more}

@@ -4,7 +4,7 @@ use Rattle.road_sheet.specs.Sheets.{rows_of}
 use Rattle.road_sheet.specs.ShownRuns.{IsShownBy}
 use Rattle.road_sheet.proofs.shown_run.ShownRun.rows_to.Given as goal
 
--- the run is at the step that is to come, and the rows are those up to it
+-- the run is at the next step, and the rows are those up to it
 abbrev pub invariant-loop-step : goal.invariant-loop-step
 invariant-loop-step l = record {
   step : l.self.run.step ≡ l.step;

@@ -1,4 +1,4 @@
--- A step of the run under the settings of that step is one of the sheet's run.
+-- A step of the run under the settings of that step is a step of the sheet's run.
 use Rattle.std.proofs.Common.{◌∙◌, length, ap, sym, refl}
 use Rattle.std.specs.List.{slice_index_or}
 use Rattle.road_detector.specs.Passes.{no_totals}

@@ -1,4 +1,4 @@
--- The road that a sheet keeps is one of a run, whose cars a run under way can have.
+-- A road that a sheet has stored is a road of its run, so a run under way can restart on it.
 use Rattle.std.proofs.Common.{◌≡◌, ◌≤◌, ◌∙◌, ap, sym, subst, arith}
 use Rattle.std.proofs.Math.Path.{transport}
 use Rattle.road_plan.specs.Plan.{IsWithinLimits, Plan}

@@ -1,4 +1,4 @@
--- Steps within the interval that the horizon cuts.
+-- Steps within the open interval.
 use Rattle.std.proofs.Common.{ap, refl}
 use Rattle.road_sheet.specs.Sheets.{Sheet, state_of}
 use Rattle.road_sheet.proofs.SheetIntervals.{counted_with, stays_in_interval}

@@ -11,7 +11,7 @@ use Rattle.road_sheet.proofs.SmallCars.{small_cars}
 use Rattle.road_sheet.proofs.SheetIntervals.{counted_with, ended_interval, ends_interval}
 use Rattle.road_sheet.proofs.span_draft.SpanDraft.end_interval.Goals as goal
 
--- The cars of a run are small enough to be kept.
+-- The cars of a run fit into a checkpoint.
 pub of-requires : goal.of-requires
 of-requires c =
     let s = c.args.self.now in

@@ -1,4 +1,4 @@
--- What a span comes to is the run's road and counts up to its end.
+-- The outcome of a span is the run's road at its end, and the run's counts in it.
 use Rattle.std.proofs.Common.{◌∙◌, ap, arith, sym}
 use Rattle.road_columns.specs.RoadOrRun.{road_now}
 use Rattle.road_sheet.specs.Sheets.{Sheet}

@@ -1,4 +1,4 @@
--- The replica that takes.
+-- The replica at which the event happens.
 use Rattle.std.proofs.Common.{rules}
 use Rattle.road_world.proofs.event.Event.replica.Goals as goal
 

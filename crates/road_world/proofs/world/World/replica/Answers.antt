@@ -1,4 +1,4 @@
--- The replica at a place has its number, and the sheet that the world's definition says.
+-- The replica at a place has the place as its number, and has the sheet that the world's definition says.
 use Rattle.std.proofs.Common.{◌∙◌, ◌<◌, List, ap, length, subst}
 use Rattle.std.specs.Arc.{arc_value}
 use Rattle.std.specs.List.{slice_index_or}
