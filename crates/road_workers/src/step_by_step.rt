@@ -15,7 +15,7 @@ use road_plan::limits::GREATEST_HORIZON;
 use std::alloc::Global;
 use std::sync::Arc;
 
-// Make the input of the next step of a span of which `made` steps are made, from the road before that step.
+// Make the input of a step of a span, after the first `made` steps, from the road before it.
 pub(crate) fn enter_step(
     alloc: Global,
     span: &Span,
