@@ -86,8 +86,8 @@ fn move_cars(
         → (d : ℕ) → d < length counts.old.passes.items
         → let input : StepInput =
         record { plan = layout.now.plan.now; settings = layout.now.settings.now; step = step; road = b } in
-        totals_of_count (slice_index counts.new.passes.items d) ≡ plus (totals_of_count (slice_index counts.old.passes.items d))
-        (passes_at input (input_speeds input) d) }
+        totals_of_count (slice_index counts.new.passes.items d)
+        ≡ plus (totals_of_count (slice_index counts.old.passes.items d)) (passes_at input (input_speeds input) d) }
 {
     let inlets = layout.plan.inlets().len();
     let detectors = inlets + layout.plan.detectors().len();

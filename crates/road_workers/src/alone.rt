@@ -1,4 +1,4 @@
-//! The crew of one.
+//! The crew without threads.
 
 ghost use Rattle.std.specs.Prelude.{◌≡◌, ◌≢◌, ◌<◌, IfOk, IfSome, IsSome, Err};
 ghost use Rattle.std.specs.Arc.{arc_value};
@@ -18,12 +18,12 @@ use road_plan::limits::GREATEST_HORIZON;
 use std::alloc::Global;
 use std::sync::Arc;
 
-/// The crew of one: the caller computes all speeds by itself. No worker can go, and it never waits.
+/// The crew without threads: the caller computes everything itself. It has no worker that can go, and never waits.
 #[derive(Clone, Copy, Debug, PartialEq, Eq)]
 pub struct Alone;
 
 impl Crew for Alone {
-    // Its count is 0 by definition: no worker of it can go.
+    // Its count is 0 by definition: it has no worker that can go.
     ghost times_gone = { λ _. 0 };
 
     fn speeds(&mut self, alloc: Global, input: &Arc<StepInput>) -> Result<Vec<u8>, CrewFault>

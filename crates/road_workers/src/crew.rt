@@ -1,4 +1,4 @@
-//! What a crew gives, and how it counts the answers that a worker has gone.
+//! What a crew does, and how it counts its answers `WorkersGone`.
 
 ghost use Rattle.std.specs.Prelude.{◌≡◌, ◌<◌, ℕ, IfOk, IfSome, IsSome};
 ghost use Rattle.std.specs.Arc.{arc_value};
@@ -16,9 +16,9 @@ use road_ends::{Span, StepInput, finish};
 use std::alloc::Global;
 use std::sync::Arc;
 
-/// Whoever runs a road: the steps of a span at once, or one step after another.
+/// One that runs a road: several steps of a span in one call, or one step after another.
 pub trait Crew {
-    /// A count: how often it has answered `WorkersGone`, at most 2^64 - 1. Contracts alone see it.
+    /// How often the crew has answered `WorkersGone`, at most 2^64 - 1. Only contracts see this count.
     ghost times_gone: { Self → ℕ };
 
     /// Compute the new speeds of all cars of a step, in their order, by rules 1 to 3. They are the same for every crew
@@ -26,13 +26,13 @@ pub trait Crew {
     ///
     /// # Errors
     ///
-    /// `WorkersGone` if a worker could not be started or has gone, else `OutOfMemory` if an allocation failed.
+    /// `WorkersGone` if a worker could not be started or has gone, otherwise `OutOfMemory` if an allocation failed.
     fn speeds(&mut self, alloc: Global, input: &Arc<StepInput>) -> Result<Vec<u8>, CrewFault>
         ensures speeds { IfOk result (λ new. new.items ≡ input_speeds (arc_value input.now)) }
         ensures gone { times_gone self.new ≡ gone_after result (times_gone self.old) };
 
-    /// Return the most steps that this crew is to run at once, at least one. A caller that counts steps as they are
-    /// computed gives it no longer spans.
+    /// Return the maximum number of steps that this crew should run in one call, at least one. A caller that counts
+    /// steps as they are computed gives it no longer spans.
     fn most_steps(&self) -> u32
         ensures { 0 < result }
     {
@@ -40,12 +40,12 @@ pub trait Crew {
     }
 
     /// Run all steps of a span from the road before them. By default the crew computes the speeds of one step after
-    /// another. A crew that runs several steps at once may continue a run that has come to this road, and return it with
-    /// the outcome. None if the span has no step, or the road has a car that no run can have.
+    /// another. A crew that runs spans as a whole may continue a run that has reached this road, and return the run in
+    /// the outcome. Return `None` only if the span has no steps, or some car on the road cannot be held in a run.
     ///
     /// # Errors
     ///
-    /// Those of [`Crew::speeds`].
+    /// The errors of [`Crew::speeds`].
     fn run(
         &mut self,
         alloc: Global,
@@ -75,7 +75,7 @@ pub trait Crew {
     }
 }
 
-// Count an answer `WorkersGone` after the others.
+// Return the count of answers `WorkersGone` after this answer.
 pub(crate) fn gone_after<T>(answer: &Result<T, CrewFault>, gone: u64) -> u64
     ensures { result ≡ gone_after answer.now gone }
 {

@@ -1,4 +1,4 @@
-//! Why crews give no speeds.
+//! Why crews fail.
 
 ghost use Rattle.std.specs.Prelude.{◌≡◌};
 ghost use Rattle.road_workers.specs.declared.faults.CrewFault.TheVariants.{OutOfMemory};
@@ -6,7 +6,7 @@ ghost use Rattle.road_workers.specs.declared.faults.CrewFault.TheVariants.{OutOf
 use std::alloc::AllocError;
 use thiserror::Error;
 
-/// Why a crew gave no speeds.
+/// Why a crew failed to compute speeds or to run a span.
 #[derive(Clone, Copy, Debug, PartialEq, Eq, Error)]
 pub enum CrewFault {
     /// A worker's thread could not be started, or has gone.

@@ -1,10 +1,11 @@
 //! Gates, which workers pass before they compute.
 
-/// What each worker passes before it computes its piece or runs its stretch, for a program that watches its workers.
-/// Tests see that all workers are at their gate at once, and none of them whether a piece was computed before the gate
-/// or behind it.
+/// What each worker calls before it computes its piece or runs its stretch, for a program that watches its workers.
+/// Tests see that all workers are at their gate at the same time. No test sees whether a piece was computed before or
+/// after the gate.
 pub trait Gate {
-    /// Let a worker pass, numbered from 0, who is about to compute its piece or run its stretch, which may be empty.
+    /// Let worker number `worker` pass, counted from 0, which is about to compute its piece or run its stretch. Either
+    /// may be empty. The worker waits until this returns.
     fn arrive(&self, worker: u32);
 }
 

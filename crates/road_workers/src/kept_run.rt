@@ -1,15 +1,15 @@
-//! A run that is kept for its memory.
+//! A run that is kept so that its memory is reused.
 
 use road_columns::UnderWay;
 
-// A run that is kept for its memory: each stretch restarts it. What it holds changes no result.
+// A run that is kept so that its memory is reused: each stretch restarts it. What it holds changes no result.
 #[derive(Drop)]
 pub(crate) struct KeptRun {
     pub run: Option<UnderWay>,
 }
 
 impl KeptRun {
-    // Keep no run yet. This does not allocate.
+    // Make an empty one, which keeps no run yet. It does not allocate.
     pub fn none() -> KeptRun {
         KeptRun { run: None }
     }

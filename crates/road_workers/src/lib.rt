@@ -1,8 +1,8 @@
-//! Crews: who runs the steps of a span, or computes the speeds of one. Whoever it is, and with however many workers, it
-//! comes to the same.
+//! Crews, which run the steps of a span or compute the speeds of one step. Every crew, with any number of workers, has
+//! the same results.
 //!
 //! ```
-//! // One step of a road, its speeds computed by a crew. Its contract asks that the settings fit the plan.
+//! // One step of a road, whose speeds a crew computes. The settings must fit the plan.
 //! fn next<C: Crew>(
 //!     alloc: Global,
 //!     plan: &Arc<Plan>,

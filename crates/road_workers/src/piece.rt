@@ -38,7 +38,7 @@ impl Piece {
     }
 }
 
-// Count the cars of a step; there are at most as many as cells.
+// Return the number of cars in a step, at most the number of cells.
 #[tactic(auto, using(crate::proofs::PiecesInOrder::few_cars))]
 pub(crate) fn cars_in(input: &StepInput) -> usize
     ensures count { result ≡ length (cars_of input.now.road) }
@@ -47,8 +47,8 @@ pub(crate) fn cars_in(input: &StepInput) -> usize
     input.road().cars().len()
 }
 
-// Make a list for the speeds of all workers, empty. Those of one worker alone are not put into it but stand for it, so
-// it has no room then.
+// Make an empty list for the speeds of all workers. If there is one worker, it has no room: `append` returns the speeds
+// of that worker in its place.
 pub(crate) fn list_for(alloc: Global, workers: u32, cars: usize) -> Result<Vec<u8>, OutOfMemory>
     ensures { IfOk result (λ whole. whole.items ≡ []) }
 {
@@ -58,7 +58,7 @@ pub(crate) fn list_for(alloc: Global, workers: u32, cars: usize) -> Result<Vec<u
     Vec::with_capacity(alloc, cars)
 }
 
-// Append the speeds of a piece to those of the pieces before it.
+// Append the speeds of a piece to those of the pieces before it. If these have no speeds and no room, return the piece.
 #[tactic(auto, using(crate::proofs::PiecesInOrder::take_piece))]
 pub(crate) fn append(whole: PieceAnswer, piece: PieceAnswer) -> PieceAnswer
     ensures { (all : List ℕ) (first end : ℕ) → first ≤ end → IfOk whole (λ front. front.items ≡ take first all)

@@ -1,4 +1,4 @@
-//! The crew of lasting workers.
+//! The crew whose threads live as long as the crew.
 
 ghost use Rattle.std.specs.Prelude.{◌≡◌, ◌<◌, ◌≤◌, vec_len, IfOk, IfSome, IsOk, IsSome, Err};
 ghost use Rattle.std.specs.Arc.{arc_value};
@@ -48,20 +48,21 @@ struct Worker {
 }
 
 /// The crew whose workers are threads that live as long as the crew. A call for the speeds of a step gives every worker
-/// its piece of the cars, which may be empty. So does a call for a run with stretches of road, if that pays; else the
-/// caller runs it alone. Each waits for their answers. After the first answer `WorkersGone` every call answers so.
-/// Contracts see it as how many workers it has, and its count of these answers.
+/// its piece of the cars, which may be empty. A call for a run gives every worker a stretch of the road if that is
+/// faster; otherwise the caller runs the span alone. Each call waits for the answers. After the first answer
+/// `WorkersGone` every call answers `WorkersGone`. Contracts see a pool as its number of workers and its count of these
+/// answers.
 #[derive(Drop)]
 pub struct Pool<R> {
     rt: R,
     workers: Vec<Worker>,
-    // It has room for a reply of each worker.
+    // The caller's end of the channel of replies, with room for one reply of each worker.
     inbox: Inbox,
-    // How many processors its threads have.
+    // The number of processors that there are for its threads.
     processors: u32,
-    // The memory of the caller's own stretches.
+    // The run that is kept for the caller's own stretches.
     kept: KeptRun,
-    // How often it has answered `WorkersGone`. After the first time no worker is asked.
+    // How often it has answered `WorkersGone`. After the first time no worker is given a job.
     gone: u64,
 }
 
@@ -92,8 +93,8 @@ impl<R: Threads + Wait + Clone + Drop + Send + 'static> Pool<R> {
         Pool::start_gated(rt, alloc, workers, no_gate(alloc)?)
     }
 
-    /// Start a crew of 1 to 16 workers, as [`Pool::start`]. Each worker passes the gate before each piece and each
-    /// stretch that it computes; [`Gate`] says which tests use that.
+    /// Start a crew of 1 to 16 workers, as [`Pool::start`] does. Each worker passes the gate before each piece and each
+    /// stretch that it computes; [`Gate`] says what tests see by it.
     ///
     /// # Errors
     ///
@@ -113,8 +114,9 @@ impl<R: Threads + Wait + Clone + Drop + Send + 'static> Pool<R> {
         Pool::start_on(rt, alloc, workers, gate, processors)
     }
 
-    /// Start such a crew as on a machine of `processors` processors, however many there are. Its speeds and runs are the
-    /// same; workers run stretches only if each has a processor, and the caller one more if it has one besides.
+    /// Start such a crew as on a machine of `processors` processors, however many there are. Its results do not depend
+    /// on this number. Workers run stretches only if there is a processor for each of them, and the caller runs one
+    /// more if there is another processor for it.
     ///
     /// # Errors
     ///
@@ -158,7 +160,7 @@ impl<R: Threads + Wait + Clone + Drop + Send + 'static> Pool<R> {
         })
     }
 
-    /// End the workers and wait until they have ended.
+    /// Stop the workers and wait until their threads have ended.
     pub fn finish(self) {
         let Pool {
             rt,
@@ -284,8 +286,8 @@ fn start_worker<
     }
 }
 
-// Close the workers' channels, and join their threads. That of replies is closed first, so that none waits for room
-// for its last word.
+// Close the workers' channels, and join their threads. The channel of replies is closed first, so that no worker waits
+// for room for its last message.
 fn finish_workers<R: Threads>(rt: &R, inbox: Inbox, workers: Vec<Worker>) {
     drop(inbox);
     for worker in workers {

@@ -1,4 +1,4 @@
-//! The crew whose workers are threads made for the call.
+//! The crew whose threads are started for each call.
 
 ghost use Rattle.std.specs.Prelude.{◌≡◌, ◌+◌, ◌<◌, ◌≤◌, length, take, slice_range, vec_len, [], IfOk, IfSome};
 ghost use Rattle.std.specs.Arc.{arc_value};
@@ -23,8 +23,8 @@ use std::thread::{Promise, PromisedHandle, Scope, Threads};
 /// A gate that all workers of a crew share.
 pub type SharedGate = Box<dyn Gate + Send + Sync + Drop>;
 
-/// The crew whose workers are threads made for each call, and joined before it answers. So each call waits for them.
-/// Contracts see it as how many workers it has, and its count of answers `WorkersGone`.
+/// The crew whose workers are threads that are started for each call, and joined before the call returns. Contracts see
+/// it as its number of workers and its count of answers `WorkersGone`.
 #[derive(Drop)]
 pub struct Scoped<R> {
     rt: R,
@@ -77,7 +77,7 @@ impl<R: Threads + Wait> Crew for Scoped<R> {
     }
 }
 
-// That a thread gives the speeds of a piece, if it finds memory.
+// The promise that a thread returns the speeds of a piece, or out of memory.
 #[derive(Clone, Copy)]
 struct SpeedsOf<'a> {
     input: &'a StepInput,
@@ -148,7 +148,7 @@ fn start_workers<'s, E>(
     Ok(started)
 }
 
-// Start a worker; none if its thread cannot be started.
+// Start a worker. Return `None` if its thread cannot be started.
 fn start_worker<'s, E>(
     scope: &Scope<'s, E>,
     alloc: Global,
@@ -172,7 +172,7 @@ fn start_worker<'s, E>(
     started.ok()
 }
 
-// Do what a worker does: it passes the gate, and computes its piece.
+// Do a worker's job: pass the gate, and compute the piece.
 fn piece_speeds(
     alloc: Global,
     input: &StepInput,
@@ -188,7 +188,7 @@ fn piece_speeds(
     input.speeds_between(alloc, piece.first, piece.end)
 }
 
-// Join the workers, and put their speeds one behind the other.
+// Join the workers, and append their speeds in the order of the workers.
 fn join_workers<'s, R: Threads>(
     rt: &R,
     whole: Vec<u8>,

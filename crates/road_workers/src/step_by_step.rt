@@ -1,4 +1,4 @@
-//! A step of a span that is run one step after another.
+//! One step of a span that is run one step after another.
 
 ghost use Rattle.std.specs.Prelude.{◌≡◌, ◌<◌, ◌+◌, ◌^◌, ℕ, length, IfOk};
 ghost use Rattle.std.specs.Arc.{arc_value};
@@ -15,7 +15,7 @@ use road_plan::limits::GREATEST_HORIZON;
 use std::alloc::Global;
 use std::sync::Arc;
 
-// Make the input of the step of a span before which some are made, from the road before it.
+// Make the input of a step of a span, after the first `made` steps, from the road before it.
 pub(crate) fn enter_step(
     alloc: Global,
     span: &Span,

@@ -1,5 +1,5 @@
-//! Stretches of road. Each is run alone for the steps of a span: no car drives farther in a step than 9 cells,
-//! nor looks farther.
+//! Stretches of road. Each can be run by itself for the steps of a span, since no car drives or looks farther in a step
+//! than 9 cells.
 
 ghost use Rattle.std.specs.Prelude.{◌≡◌, ◌<◌, ◌≤◌, ◌+◌, ◌-◌, ◌*◌, length, min, IfOk, IfSome, IsSome, IsTrue};
 ghost use Rattle.road_plan.specs.declared.limits.TheConstants.{GREATEST_HORIZON, GREATEST_LENGTH};
@@ -23,7 +23,7 @@ use road_ends::{OutOfMemory, Span, Stretch, are_same_cars};
 use road_plan::Plan;
 use std::alloc::Global;
 
-// Return the stretch at a place among `count` stretches of a road. They have about as many cars each.
+// Return stretch number `place` of the `count` stretches of a road, counted from 0. All have about as many cars.
 pub(crate) fn stretch_at(road: &Road, cells: u32, count: u32, place: u32) -> Stretch
     requires there { place < count }
     ensures first { result.first ≡ cut cells (cars_of road.now) count place }
@@ -46,8 +46,9 @@ pub(crate) fn has_site(stretch: Stretch, plan: &Plan, detector: usize) -> bool
     stretch.first <= site && site < stretch.end
 }
 
-// Run a stretch for all steps of a span, from the cars on it, and for each step 9 cells farther behind it and ahead, in
-// a run that is kept. The road that it gives is right on the stretch, and its detectors elsewhere have counted nothing.
+// Run a stretch for all steps of a span, in a run that is kept, from the cars on the stretch and, for each step, on 9
+// cells behind it and 9 ahead of it. The road that it returns is right on the stretch, and detectors that are not on the
+// stretch have counted nothing.
 pub(crate) fn run_stretch(
     alloc: Global,
     span: &Span,
@@ -88,8 +89,9 @@ pub(crate) fn run_near(
     Ok(ran)
 }
 
-// Return a run that stands before the steps of a span on the cells of a stretch, under its settings: this one of its
-// plan takes the road up there, or else a new one begins. None if it cannot have a car of the road.
+// Return a run on the cells of a stretch, before the steps of a span and under its settings. The kept run, which is of
+// the span's plan, is restarted from the road; if there is none, a new run starts. Return `None` if some car on the road
+// cannot be held in a run.
 fn run_on(
     alloc: Global,
     span: &Span,
@@ -111,8 +113,8 @@ fn run_on(
     Ok(Some(run))
 }
 
-// Return a stretch with the cells behind it and ahead that may matter there in the steps of a span, as far as the road
-// goes.
+// Return a stretch with the cells behind it and ahead of it that may matter on it in the steps of a span, up to the ends
+// of the road.
 fn with_margins(span: &Span, stretch: Stretch) -> Stretch
     requires { stretch.end ≤ GREATEST_LENGTH }
     ensures first { result.first ≡ stretch.first - GREATEST_SPEED * span.now.steps }
@@ -152,7 +154,7 @@ pub(crate) fn is_near(near: &Road, span: &Span, road: &Road, stretch: Stretch) -
     are_same_cars(near.cars(), cars_near(span, road, stretch))
 }
 
-// Return the cars on a stretch and so near it that they may matter there in the steps of a span.
+// Return the cars on a stretch, and those so near that they may matter on it in the steps of a span.
 fn cars_near<'a>(span: &Span, road: &'a Road, stretch: Stretch) -> &'a [Car]
     requires order { stretch.first ≤ stretch.end }
     requires short { stretch.end ≤ GREATEST_LENGTH }
@@ -164,7 +166,7 @@ fn cars_near<'a>(span: &Span, road: &'a Road, stretch: Stretch) -> &'a [Car]
     road.between(from, stretch.end + margin)
 }
 
-// Find where the stretch at a place among `count` stretches begins. The last one ends with the road.
+// Return the cell where stretch number `place` of `count` begins; `place == count` gives the end of the road.
 fn cut(cars: &[Car], cells: u32, count: u32, place: u32) -> u32
     requires some { 0 < count }
     requires there { place ≤ count }
@@ -179,7 +181,7 @@ fn cut(cars: &[Car], cells: u32, count: u32, place: u32) -> u32
     cell_at(cars, cars.len() / count as usize * place as usize).min(cells)
 }
 
-// Return the cell of a car; of no car it is 0.
+// Return the cell of the car at a place in the list, or 0 if there is no such car.
 fn cell_at(cars: &[Car], place: usize) -> u32
     ensures { result ≡ cell_at cars.now place }
 {
@@ -189,7 +191,7 @@ fn cell_at(cars: &[Car], place: usize) -> u32
     }
 }
 
-// Return how many cells behind a stretch and ahead of it may matter there in the steps of a span.
+// Return how many cells behind a stretch, and how many ahead of it, may matter on it in the steps of a span.
 fn margin_of(span: &Span) -> u32
     ensures margin { result ≡ GREATEST_SPEED * span.now.steps }
     ensures small { result ≤ GREATEST_SPEED * GREATEST_HORIZON }

@@ -1,4 +1,4 @@
-//! A span of the whole road, run by one thread alone.
+//! A span of the whole road, run by one thread.
 
 ghost use Rattle.std.specs.Prelude.{◌≡◌, ◌↔◌, ◌+◌, ◌≤◌, IfOk, IfSome, IsSome, IsTrue, OnOk, Some};
 ghost use Rattle.std.specs.Arc.{arc_value};
@@ -19,8 +19,8 @@ use road_plan::limits::GREATEST_HORIZON;
 use std::alloc::Global;
 use std::sync::Arc;
 
-// Run the whole road for the steps of a span. The outcome has the run, which the next span can continue. None if the span
-// has no step, or runs cannot have a car of the road.
+// Run the whole road for the steps of a span. The outcome holds the run, so the next span can continue it. Return `None`
+// if the span has no steps, or some car on the road cannot be held in a run.
 pub(crate) fn run_alone(
     alloc: Global,
     span: &Span,
@@ -47,7 +47,7 @@ pub(crate) fn run_alone(
     }))
 }
 
-// Return the run that is kept, if it is of a span's plan.
+// Return the kept run, if there is one and it is of the span's plan.
 pub(crate) fn reusable_run(span: &Span, kept: Option<UnderWay>) -> Option<UnderWay>
     ensures plan { IfSome result (λ run. run.plan ≡ span.now.plan) }
     ensures goes_on { IfSome kept (λ run. run.plan ≡ span.now.plan → result ≡ Some run) }
@@ -58,8 +58,9 @@ pub(crate) fn reusable_run(span: &Span, kept: Option<UnderWay>) -> Option<UnderW
     }
 }
 
-// Return a run that stands before the steps of a span on the whole road, under its settings. A run that has come to the
-// road there is continued; otherwise a new one begins. None if it cannot have a car of the road.
+// Return a run on the whole road, before the steps of a span and under its settings. A run of the span's plan that has
+// reached the first step is continued; otherwise a new run starts. Return `None` if some car on the road cannot be held
+// in a run.
 fn ready_run(alloc: Global, span: &Span, road: RoadOrRun) -> Result<Option<UnderWay>, OutOfMemory>
     ensures ready { IfOk result (λ run. IfSome run (IsReady 0 span.now.plan.cells span.now (road_now road))) }
     ensures some { IfOk result (λ run. IsRunnable 0 span.now.plan.cells span.now.plan (road_now road) → IsSome run) }
@@ -80,7 +81,7 @@ fn ready_run(alloc: Global, span: &Span, road: RoadOrRun) -> Result<Option<Under
     }
 }
 
-// Return whether a run is of a span's plan and stands before its steps on the whole road.
+// Return whether a run is of the span's plan, and is on the whole road before the first step of the span.
 fn is_before(run: &UnderWay, span: &Span) -> bool
     ensures { IsTrue result ↔ ((run.now.plan ≡ span.now.plan) × IsAt span.now.step run.now) }
 {
@@ -99,8 +100,8 @@ fn put_under(alloc: Global, span: &Span, run: UnderWay) -> Result<UnderWay, OutO
     Ok(run)
 }
 
-// Begin a run on the cells of a stretch, before the steps of a span and under its settings. None if it cannot have a
-// car of the road.
+// Start a run on the cells of a stretch, before the steps of a span and under its settings. Return `None` if some car on
+// the road cannot be held in a run.
 pub(crate) fn start_run(
     alloc: Global,
     span: &Span,
@@ -117,8 +118,8 @@ pub(crate) fn start_run(
     UnderWay::start_on(alloc, plan, settings, span.step(), stretch, road)
 }
 
-// Make a run take a road up on the cells of a stretch, before the steps of a span. Return whether it did; else it cannot
-// have a car of the road.
+// Restart a run from a road, on the cells of a stretch, before the steps of a span. Return whether it was restarted; if
+// not, some car on the road cannot be held in a run.
 pub(crate) fn take_up(
     alloc: Global,
     span: &Span,
@@ -136,7 +137,7 @@ pub(crate) fn take_up(
     run.restart_on(alloc, settings, span.step(), stretch, road)
 }
 
-// Make the steps of a span, and count in them alone.
+// Make the steps of a span. The counts of the run are set to zero first, so afterwards they are those of the span.
 pub(crate) fn make_steps(alloc: Global, span: &Span, run: &mut UnderWay) -> Result<(), OutOfMemory>
     requires { run.old.step ≡ span.now.step }
     ensures { OnOk result (run.new ≡ after_steps span.now.steps (uncounted run.old)) }

@@ -11,8 +11,8 @@ use crate::piece::{Piece, PieceAnswer, append};
 use crate::pool::job::PieceDone;
 use road_ends::StepInput;
 
-// Take a result if its input is the one asked and its piece is still missing: it drops doubles and strangers.
-// Return whether it took it; all other places stay as they were.
+// Take a result if it is for this input and its piece is still missing. Drop duplicates and results of other steps.
+// Return whether the result was taken. All other places stay as they were.
 pub(super) fn accept(
     places: &mut Vec<Option<PieceAnswer>>,
     done: PieceDone,
@@ -39,7 +39,7 @@ pub(super) fn accept(
     true
 }
 
-// Find the first worker whose piece it is and which has not answered yet.
+// Find the first worker that has this piece and has not answered yet.
 fn missing_place(places: &[Option<PieceAnswer>], piece: Piece, cars: usize) -> Option<usize>
     requires few { length places.now ≤ MOST_WORKERS }
     requires short { cars ≤ GREATEST_LENGTH }
@@ -56,7 +56,7 @@ fn missing_place(places: &[Option<PieceAnswer>], piece: Piece, cars: usize) -> O
     None
 }
 
-// Put the speeds of all workers one behind the other into the list `whole`.
+// Append the speeds of all workers, in the order of the workers, to the empty list `whole`.
 pub(super) fn put_together(
     whole: Vec<u8>,
     places: Vec<Option<PieceAnswer>>,

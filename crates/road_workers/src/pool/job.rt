@@ -1,4 +1,4 @@
-//! What goes to a worker of a pool, and what comes back.
+//! What is sent to a worker of a pool, and what the worker sends back.
 
 ghost use Rattle.std.specs.Prelude.{◌≡◌, ◌≤◌, length, IfOk};
 ghost use Rattle.std.specs.Arc.{arc_value};
@@ -36,20 +36,21 @@ pub(crate) struct PieceJob {
 // What a worker sends back.
 #[derive(Drop)]
 pub(crate) enum Reply {
-    // What its job came to.
+    // The result of its job.
     Done(Done),
-    // Its last word: it does no more jobs, and one that it still had is not done.
+    // Its last message: it does no more jobs, and a job that it still had is not done.
     Gone,
 }
 
-// What a job came to. It carries what it is the answer to.
+// The result of a job, with the job that it answers.
 #[derive(Drop)]
 pub(crate) enum Done {
     Piece(PieceDone),
     Stretch(StretchDone),
 }
 
-// A piece of a step with what a worker answered: its speeds, which are those of the definition, or out of memory.
+// A piece of a step, with a worker's answer: the speeds of the piece, which are those of the definition, or out of
+// memory.
 #[derive(Drop)]
 pub(crate) struct PieceDone {
     pub input: Arc<StepInput>,
@@ -70,11 +71,10 @@ pub(crate) struct StretchJob {
     ghost runnable: { IsRunnableNear stretch.first stretch.end span near } by { Prim.hlevel props },
 }
 
-// What a stretch comes to, with the cars of its margins, or out of memory.
+// The result of running a stretch, with the cars of its margins, or out of memory.
 pub(crate) type StretchAnswer = Result<SpanResult, OutOfMemory>;
 
-// A stretch, from the road of the cars near it, with what a worker answered: what it comes to by the definition, or out
-// of memory.
+// A stretch, from the road of the cars near it, with a worker's answer: the result of the definition, or out of memory.
 #[derive(Drop)]
 pub(crate) struct StretchDone {
     pub span: Span,

@@ -1,4 +1,4 @@
-//! What comes of sending to the workers of a pool, and of waiting for them.
+//! The results of sending to the workers of a pool, and of waiting for them.
 
 ghost use Rattle.std.specs.Prelude.{◌≡◌, ◌<◌, ◌≤◌, ℕ, Ok, Err, IfErr, IsOk};
 ghost use Rattle.crossbeam_channel.specs.declared.err.SendError.TheVariants as Send;
@@ -14,15 +14,15 @@ use crate::pool::spin::Lookout;
 use crossbeam_channel::{Receiver, RecvError, SendError};
 use std::sync::Wait;
 
-// If the caller of a pool waits for its workers: its end of the channel of replies, and how it looks for a reply
-// before it sleeps.
+// What the caller of a pool waits with: its end of the channel of replies, and how it looks for a reply before it
+// sleeps.
 #[derive(Drop)]
 pub(super) struct Inbox {
     pub replies: Receiver<Reply>,
     pub lookout: Lookout,
 }
 
-// Return why a job was not sent, if it was not: its worker has gone, or there was no memory for it.
+// Return why a job was not sent, if it was not: its worker has gone, or there was no memory for the message.
 pub(super) fn result_of_send(given: Result<(), SendError<Job>>) -> Result<(), CrewFault>
     ensures sent { given ≡ Ok tt → result ≡ Ok tt }
     ensures gone { (job : Job) → given ≡ Err (Send.Disconnected job) → result ≡ Err Fault.WorkersGone }
@@ -55,8 +55,8 @@ pub(super) fn send_each<F: Fn(u32) -> Result<(), CrewFault>>(
     (workers, Ok(()))
 }
 
-// Wait until a worker says what its job came to. If one says in its place that it has gone, or all have gone, that is
-// the answer.
+// Wait for the result of a job, from any worker. If a worker says instead that it has gone, or all have gone, return
+// `WorkersGone`.
 pub(super) fn next_done<R: Wait>(rt: &R, inbox: &mut Inbox) -> Result<Done, CrewFault>
     ensures { IfErr result (λ fault. fault ≡ Fault.WorkersGone) }
 {
@@ -64,7 +64,7 @@ pub(super) fn next_done<R: Wait>(rt: &R, inbox: &mut Inbox) -> Result<Done, Crew
     result_of_receive(inbox.replies.recv(rt))
 }
 
-// Return the finished job that was received, or that a worker or all workers have gone.
+// Return the result that was received, or `WorkersGone` if a worker or all workers have gone.
 fn result_of_receive(heard: Result<Reply, RecvError>) -> Result<Done, CrewFault>
     ensures done { (done : Done) → heard ≡ Ok (Said.Done done) → result ≡ Ok done }
     ensures one_gone { heard ≡ Ok Said.Gone → result ≡ Err Fault.WorkersGone }

@@ -1,4 +1,4 @@
-//! One place for what each worker of a pool answers.
+//! One place for the answer of each worker of a pool.
 
 ghost use Rattle.std.specs.Prelude.{◌≡◌, ◌≤◌, length, vec_len, IfOk, IsTrue};
 ghost use Rattle.road_workers.specs.Private.Gathered.{AreMissing, AreThere};

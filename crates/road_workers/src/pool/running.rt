@@ -1,4 +1,5 @@
-//! A span, run by the workers of a pool, a stretch of road each; the caller runs one more if it has a processor.
+//! A span, run by the workers of a pool: each runs a stretch of the road. The caller runs one more if there is a
+//! processor for it.
 
 ghost use Rattle.std.specs.Prelude.{◌≡◌, ◌+◌, ◌<◌, ◌≤◌, length, vec_len, IfErr, IfOk, IfSome, IsOk, IsSome, OnOk, Ok, Err};
 ghost use Rattle.road_plan.specs.declared.limits.TheConstants.{GREATEST_LENGTH, MOST_WORKERS};
@@ -92,8 +93,8 @@ impl<R: Wait> Pool<R> {
     }
 }
 
-// Return what the caller's stretch came to, if each worker was sent its own and has answered. A lost worker is named
-// before all else, and why a job was not sent before a want of memory of the caller.
+// Return the result of the caller's stretch, if each worker was sent its job and has answered. If there are several
+// faults, return the first of these: a lost worker, why a job was not sent, the caller's own lack of memory.
 fn check_answers(
     taken: Result<(), CrewFault>,
     sent: Result<(), CrewFault>,
@@ -129,8 +130,8 @@ fn send_stretch<R: Wait>(
     result_of_send(jobs.send(rt, Job::Stretch(job)))
 }
 
-// Run the caller's stretch, in front of those of the workers, in the memory of a run that is kept. If the caller has
-// none, return no cars and no counts.
+// Run the caller's stretch, which comes before those of the workers, in a run that is kept. If the caller has no
+// stretch, return no cars and no counts.
 fn run_own_stretch(
     alloc: Global,
     shares: Shares,

@@ -1,4 +1,4 @@
-//! By how many a span is run, and who runs which stretch of its road.
+//! How many threads run a span, and who runs which stretch of its road.
 
 ghost use Rattle.std.specs.Prelude.{◌≡◌, ◌+◌, ◌<◌, ◌≤◌};
 ghost use Rattle.road_plan.specs.declared.limits.TheConstants.{GREATEST_LENGTH, MOST_WORKERS};
@@ -9,15 +9,15 @@ use crate::stretch::stretch_at;
 use road_cells::Road;
 use road_ends::{Span, Stretch};
 
-// What it takes to hand stretches to workers and to have them back, in steps of one car.
+// The time that it takes to send stretches to workers and to get them back, in units of one step of one car.
 const HAND_OVER: u64 = 40_000;
 
 // How many cells behind a stretch and ahead of it are run with it, for each step of the span.
 const MARGINS: u64 = 18;
 
-// Return whether a span of a road is run by `stretches` stretches, for which there are processors: if each takes
-// four fifths at most of what one thread takes alone, with what is near it and its way to a worker.
-// `bench/time-workers` measures it.
+// Return whether a span of a road is run as `stretches` stretches, for which there are processors. It is if each of
+// them, with the cells near it and its way to a worker and back, takes at most four fifths of the time that one thread
+// takes for the whole road. `bench/time-workers` measures these times.
 pub(super) fn is_shared(cars: usize, cells: u32, steps: u32, stretches: u32) -> bool {
     let alone = u64::from(steps).saturating_mul(cars as u64);
     let count = u64::from(stretches).max(1);
@@ -28,12 +28,13 @@ pub(super) fn is_shared(cars: usize, cells: u32, steps: u32, stretches: u32) -> 
     each.saturating_mul(5) <= alone.saturating_mul(4)
 }
 
-// A span of a road that is run by stretches side by side: one for each worker, behind the caller's own.
+// A span of a road that is run as stretches side by side: the caller's own, if it has one, and then one for each
+// worker.
 #[derive(Clone, Copy)]
 pub(super) struct Shares<'a> {
     pub span: &'a Span,
     pub road: &'a Road,
-    // How many of them the caller runs: one if it has a processor, else none.
+    // The number of stretches that the caller runs: 1 if there is a processor for it, else 0.
     pub own: u32,
 }
 

@@ -14,8 +14,8 @@ use road_cells::Road;
 use road_ends::{OutOfMemory, Span, Stretch};
 use road_plan::limits::GREATEST_HORIZON;
 
-// Take what a stretch of this span comes to, if it is still missing: it drops doubles and strangers. Return whether it
-// took it; all other places stay as they were.
+// Take the result of a stretch of this span if it is still missing. Drop duplicates and results of other spans. Return
+// whether the result was taken. All other places stay as they were.
 pub(super) fn accept_run(
     places: &mut Vec<Option<StretchAnswer>>,
     done: StretchDone,
@@ -40,7 +40,7 @@ pub(super) fn accept_run(
     true
 }
 
-// Find the first worker whose stretch it is and which has not answered yet.
+// Find the first worker that has this stretch and has not answered yet.
 fn missing_stretch(
     places: &[Option<StretchAnswer>],
     stretch: Stretch,
@@ -80,7 +80,7 @@ fn is_asked(done: &StretchDone, span: &Span, road: &Road) -> bool
     is_near(&done.near, span, road, done.stretch)
 }
 
-// Put what the stretches come to one behind the other, the caller's own in front.
+// Join the results of the stretches in their order, those of the workers after the caller's own.
 pub(super) fn put_side_by_side(
     shares: Shares,
     front: Joined,
@@ -108,8 +108,8 @@ pub(super) fn put_side_by_side(
     whole
 }
 
-// Count the cars that stand on the stretches of all workers after the span. It is no more than that: room for more cars
-// might be refused though there is room for these.
+// Count the cars that are on the stretches of all workers after the span. Room is made for no more cars than these: an
+// allocation for more might fail although one for these succeeds.
 fn cars_behind(places: &[Option<StretchAnswer>], shares: Shares) -> usize
     requires few { length places.now ≤ MOST_WORKERS }
     requires own { shares.own ≤ 1 }
@@ -128,7 +128,7 @@ fn cars_behind(places: &[Option<StretchAnswer>], shares: Shares) -> usize
     cars
 }
 
-// Put what a stretch comes to behind what all before it come to.
+// Join the result of a stretch to the results of all stretches before it.
 fn put_behind(
     span: &Span,
     road: &Road,

@@ -1,4 +1,4 @@
-//! A step, computed by the workers of a pool, a piece of its cars each.
+//! A step, computed by the workers of a pool: each computes a piece of the cars.
 
 ghost use Rattle.std.specs.Prelude.{◌≡◌, ◌<◌, ◌≤◌, length, vec_len, IfErr, IfOk, OnOk};
 ghost use Rattle.std.specs.Arc.{arc_value};

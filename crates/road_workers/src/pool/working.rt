@@ -1,4 +1,4 @@
-//! A lasting worker of a pool.
+//! A worker of a pool.
 
 ghost use Rattle.std.specs.Prelude.{◌≡◌, Ok, Err, IfErr, IsFalse, IsTrue};
 ghost use Rattle.crossbeam_channel.specs.Err.{send_message};
@@ -25,7 +25,7 @@ pub(crate) struct Ends {
     pub lookout: Lookout,
 }
 
-// Do a worker's jobs. Its last word is that it has gone, however it comes to that: so nobody waits for it in vain.
+// Do a worker's jobs. Its last message is that it has gone, for whatever reason, so that nobody waits for it in vain.
 pub(crate) fn work<R: Wait, G: Gate>(rt: &R, alloc: Global, worker: u32, gate: &G, ends: &Ends) {
     do_jobs(rt, alloc, worker, gate, ends);
     say_gone(rt, &ends.replies);
@@ -36,8 +36,8 @@ pub(crate) fn say_gone<R: Wait>(rt: &R, replies: &Sender<Reply>) {
     deliver(rt, Reply::Gone, |reply: Reply| replies.send(rt, reply));
 }
 
-// Do a worker's jobs until its channel of jobs is closed, or nobody takes replies. It looks for a job before it sleeps,
-// and passes the gate before each, which may be an empty piece or stretch.
+// Do a worker's jobs until its channel of jobs is closed, or nobody takes replies. The worker looks for a job before it
+// sleeps, and passes the gate before each job. A job may be an empty piece or stretch.
 fn do_jobs<R: Wait, G: Gate>(rt: &R, alloc: Global, worker: u32, gate: &G, ends: &Ends) {
     let mut lookout = ends.lookout;
     let mut kept = KeptRun::none();
@@ -60,8 +60,8 @@ fn do_jobs<R: Wait, G: Gate>(rt: &R, alloc: Global, worker: u32, gate: &G, ends:
     }
 }
 
-// Do a job, and give what it came to by this send: if it found no memory, that too, since somebody waits for it.
-// Return whether that was taken; else nobody takes replies.
+// Do a job, and send its result. If an allocation failed, send that, since somebody waits for an answer. Return whether
+// the reply was taken; if not, nobody takes replies.
 fn answer_job<R: Wait, F: Fn(Reply) -> Result<(), SendError<Reply>>>(
     rt: &R,
     alloc: Global,
@@ -80,7 +80,7 @@ fn answer_job<R: Wait, F: Fn(Reply) -> Result<(), SendError<Reply>>>(
     deliver(rt, Reply::Done(done), send)
 }
 
-// Do a job. The worker keeps a run.
+// Do a job. A stretch is run in the run that the worker keeps.
 fn do_job(job: Job, alloc: Global, kept: &mut KeptRun) -> Done
     ensures { IsAnswerTo job result }
 {
@@ -90,7 +90,7 @@ fn do_job(job: Job, alloc: Global, kept: &mut KeptRun) -> Done
     }
 }
 
-// Give a reply by this send, and again if there was no memory to give it. Return whether it was taken; else nobody
+// Send a reply, and send it again if there was no memory for the message. Return whether it was taken; if not, nobody
 // takes replies.
 fn deliver<R: Wait, F: Fn(Reply) -> Result<(), SendError<Reply>>>(
     rt: &R,

@@ -1,4 +1,4 @@
-//! What a run with its margins comes to on a stretch.
+//! The result of a stretch, taken out of a run of the stretch with its margins.
 
 ghost use Rattle.std.specs.Prelude.{◌≡◌, ℕ, ◌<◌, ◌≤◌, length, slice_index_or, if◌then◌else◌, IfOk};
 ghost use Rattle.road_detector.specs.Passes.{no_totals};
@@ -13,7 +13,8 @@ use road_ends::{OutOfMemory, Span, Stretch};
 use road_plan::Plan;
 use std::alloc::Global;
 
-// Take the road, and what the detectors of a stretch have counted, out of a run that has made the steps of a span.
+// Return the road and the counts of a run that has made the steps of a span, without the counts of detectors that are
+// not on the stretch.
 pub(crate) fn cut_out(
     alloc: Global,
     span: &Span,
@@ -31,7 +32,7 @@ pub(crate) fn cut_out(
     Ok(SpanResult { road, totals })
 }
 
-// Forget what detectors have counted whose sites are not on a stretch.
+// Set the counts of the detectors whose sites are not on a stretch to zero.
 fn forget_outside(totals: &mut Vec<Totals>, plan: &Plan, stretch: Stretch)
     requires { length totals.old.items ≡ length plan.now.detectors }
     ensures each { length totals.new.items ≡ length totals.old.items }

@@ -1,4 +1,4 @@
-//! Stretches side by side: the road.
+//! Joins the results of stretches side by side to the result of the whole road.
 
 ghost use Rattle.std.specs.Prelude.{◌≡◌, ℕ, ◌+◌, ◌<◌, ◌≤◌, ◌^◌, length, slice_index_or, IfOk};
 ghost use Rattle.road_plan.specs.declared.limits.TheConstants.{GREATEST_HORIZON};
@@ -15,15 +15,15 @@ use road_detector::{SpanResult, Totals};
 use road_ends::{OutOfMemory, Span, Stretch};
 use std::alloc::Global;
 
-// What stretches side by side come to, from the first cell on: their cars in one list, and what each detector has
-// counted, those elsewhere nothing.
+// The results of stretches side by side, from the first cell on: their cars in one list, and what each detector has
+// counted. Detectors that are not on these stretches have counted nothing.
 #[derive(Drop)]
 pub(crate) struct Joined {
     pub cars: Vec<Car>,
     pub totals: Vec<Totals>,
 }
 
-// Make what no stretch at all comes to, before the first cell.
+// Make the result of no stretches: no cars, and no counts.
 pub(crate) fn join_none(alloc: Global, span: &Span) -> Result<Joined, OutOfMemory>
     ensures { IfOk result (λ joined. (a : Array) → IsJoined 0 span.now a joined) }
 {
@@ -34,8 +34,8 @@ pub(crate) fn join_none(alloc: Global, span: &Span) -> Result<Joined, OutOfMemor
     })
 }
 
-// Begin with what the first stretch comes to, which ends before a cell: its list of cars is kept, without those that
-// stand farther on.
+// Begin with the result of the first stretch, which ends before cell `end`. Its list of cars becomes the list of the
+// result, without the cars from that cell on.
 pub(crate) fn join_first(ran: SpanResult, end: u32) -> Joined
     ensures { (span : Span) (a : Array) → IsRunOf 0 end span a ran → IsJoined end span a result }
 {
@@ -46,7 +46,7 @@ pub(crate) fn join_first(ran: SpanResult, end: u32) -> Joined
     Joined { cars, totals }
 }
 
-// Make room for more cars.
+// Make room for `more` cars.
 pub(crate) fn with_room(joined: Joined, more: usize) -> Result<Joined, OutOfMemory>
     ensures { (end : ℕ) (span : Span) (a : Array) → IsJoined end span a joined → IfOk result (IsJoined end span a) }
 {
@@ -55,7 +55,7 @@ pub(crate) fn with_room(joined: Joined, more: usize) -> Result<Joined, OutOfMemo
     Ok(Joined { cars, totals })
 }
 
-// Put what a stretch comes to behind what those before it come to: of each of its cars a copy.
+// Join the result of a stretch to the result of the stretches before it. Its cars are copied.
 pub(crate) fn join_next(
     span: &Span,
     road: &Road,
@@ -78,7 +78,7 @@ pub(crate) fn join_next(
     Ok(Joined { cars, totals })
 }
 
-// Add what each detector has counted elsewhere.
+// Add the counts of another stretch, for each detector.
 fn add(totals: &mut Vec<Totals>, others: &[Totals])
     requires each { length others.now ≡ length totals.old.items }
     requires cars { (d : ℕ) → d < length totals.old.items →
@@ -94,7 +94,7 @@ fn add(totals: &mut Vec<Totals>, others: &[Totals])
     }
 }
 
-// Make the road of what all its stretches come to, after a step at least.
+// Make the outcome of a span with at least one step from the results of all stretches of the road.
 pub(crate) fn whole_run(span: &Span, road: &Road, cells: u32, joined: Joined) -> SpanOutcome
     requires some { 0 < span.now.steps }
     requires cells { cells ≡ span.now.plan.cells }
