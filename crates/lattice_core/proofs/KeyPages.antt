@@ -32,7 +32,7 @@ module _ {K V : Type 0} where
   all_entries-split (p ∷ ps) zero d lower upper within h = sym (append_assoc lower.1 upper.1 (all_entries ps)) ∙ ap (λ es. es ++ all_entries ps) h
   all_entries-split (p ∷ ps) (suc i) d lower upper within h = ap (λ es. p.1 ++ es) (all_entries-split ps i d lower upper (omega (arith, within)) h)
 
-  -- a walk from the back goes to the last unread page once it has finished the page before
+  -- a walk from the back goes to the last unread page once it has finished the page that it was reading
   pub all_entries-last : (front : List (K × V)) (ps others : List (K × List (K × V))) (p : K × List (K × V)) (back es whole : List (K × V)) → ps ≡ others ++ p ∷ [] → back ≡ [] → es ≡ p.1
       → front ++ (all_entries ps ++ back) ≡ whole → front ++ (all_entries others ++ es) ≡ whole
   all_entries-last front ps others p back es whole last none is was =

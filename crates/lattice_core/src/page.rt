@@ -12,9 +12,9 @@ use std::alloc::Global;
 use std::marker::Model;
 use std::sync::Arc;
 
-// The maximum number of entries of a page. A map with one more entry copies one page and counts one more owner of each
-// other page. With shorter pages this takes longer for a map of 100,000 entries, with longer pages for a map of a few
-// hundred.
+// The maximum number of entries of a page. To add an entry to a map, one page is copied, and one more owner is counted
+// for each other page. With shorter pages this takes longer for a map of 100,000 entries, and with longer pages for a
+// map of a few hundred.
 pub(crate) const PAGE_LENGTH: usize = 256;
 
 // Some of a map's entries by rising key, at least one. Contracts see a page as the list of its entries.

@@ -10,11 +10,11 @@ use Rattle.road_cells.proofs.ArrayPlaces.{vehicle_at-array, past_array, array-sa
 use Rattle.road_cells.specs.Cars.{cars_from, cars_of, car_of, vehicle_of, AreRisingFrom, AreRising, vehicle_among, end_of, array_of}
 use Rattle.road_cells.specs.declared.car.Car.{Car}
 
--- a car at another cell is not at this cell
+-- a car at another cell does not change which vehicle is at this cell
 pub vehicle_among-other : (car : Car) (cars : List Car) (c : ℕ) → car.cell ≢ c → vehicle_among c (car ∷ cars) ≡ vehicle_among c cars
 vehicle_among-other car cars c apart = ap (λ b. cond b (Some (vehicle_of car)) (vehicle_among c cars)) (ne_eqb car.cell c apart)
 
--- a car at this cell is
+-- a car at this cell is the vehicle here
 pub vehicle_among-here : (car : Car) (cars : List Car) (c : ℕ) → car.cell ≡ c → vehicle_among c (car ∷ cars) ≡ Some (vehicle_of car)
 vehicle_among-here car cars c same = ap (λ b. cond b (Some (vehicle_of car)) (vehicle_among c cars)) (eq-eqb car.cell c same)
 

@@ -25,7 +25,8 @@ pub fn reached_blocks(blocks: &[u32], cell: u32) -> usize
 
 /// Count the blocked cells that are not in front of a cell, given that those from index `most` on are in front of it.
 /// `blocks` are the blocked cells, in rising order, and `most` is at most their number. It walks down from `most` and
-/// does not allocate: for callers that go from each cell to a lower one, `most` is the count for the cell before.
+/// does not allocate. It is for callers that visit cells in falling order: `most` is the count for the last cell that
+/// they visited.
 pub fn reached_blocks_below(blocks: &[u32], cell: u32, most: usize) -> usize
     requires rising { IsNonDecreasing blocks.now }
     requires bound { most ≤ length blocks.now }

@@ -101,10 +101,10 @@ impl Road {
     }
 
     /// Count the free cells in front of a car, up to the next car or blocked cell, at most `GREATEST_SPEED`.
-    /// Nagel and Schreckenberg call this `j - 1` (J. Phys. I France 2 (1992) 2221); here blocked cells count too.
+    /// Nagel and Schreckenberg call this `j - 1` (J. Phys. I France 2 (1992) 2221); here blocked cells end it too.
     ///
     /// `place` is the car's place in [`Road::cars`], and `blocks` are the blocked cells, rising. A block behind the car
-    /// or under it does not count. The road has no end here: all cells past the last car that are not blocked are free.
+    /// or under it is ignored. The road has no end here: all cells past the last car that are not blocked are free.
     /// Only the next car and the next block matter. The block is found by a binary search.
     pub fn gap(&self, place: usize, blocks: &[u32]) -> u8
         requires car { place < length (cars_of self.now) }

@@ -27,8 +27,8 @@ near_entries p s t a lo hi k from to begin end within = record {
   ];
 }
 
--- the next input of a run on the cells of a stretch, and 9 more behind it and ahead for each step of a span that is
--- left
+-- the next input of a run on the cells of a stretch and, for each step of a span that is left, on 9 cells behind it and
+-- 9 ahead of it
 pub near_run : (span : Span) (k lo hi : ℕ) (run : UnderWay) → run.plan ≡ span.plan → run.settings ≡ span.settings → run.step ≡ span.step + k
     → run.lo ≤ lo - GREATEST_SPEED * (span.steps - k) → min (hi + GREATEST_SPEED * (span.steps - k)) span.plan.cells ≤ run.hi → run.hi ≤ span.plan.cells
     → IsInputNear lo hi span k run.road (next_input run)

@@ -83,7 +83,7 @@ module _ (p : Plan) (s : Settings) (t : ℕ) (a : Array) (cells old numbers : Li
           (λ w right. is w (λ moves. ap (λ m. word p.words m t / 65536) (sym number_is) ∙ right (subst (λ m. 0 < m) (sym wish_is) moves))
           ∙ (λ j. slowed_speed (sym wish_is j) (comes_about w (chance_at (sym speed_is j) (region_at regions r).chances.standing (region_at regions r).chances.moving))))
 
-      -- a car is in front, or nothing nearby
+      -- by whether there is a car in front of this one
       by_front : (block : ℕ) → IsNthOrNowhere (length s.blocks) region.reached (slice_index s.blocks region.reached) block
           → ((ahead ahead' : ℕ) → (ahead ≡ ahead') ⊎ ((slice_index cells q + 10 ≤ ahead) × (slice_index cells q + 10 ≤ ahead'))
           → min GREATEST_SPEED (min ahead (region_at regions r).block - (slice_index cells q + 1)) ≡ min GREATEST_SPEED (min ahead' block - (slice_index cells q + 1)))

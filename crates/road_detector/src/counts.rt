@@ -49,7 +49,7 @@ pub fn passes(input: &StepInput, speeds: &[u8], detector: u32) -> Totals
     count_passing(input.road(), speeds, site)
 }
 
-// Count the cars that pass a site, and the sum of their new speeds.
+// Count the cars that pass a site, and sum their new speeds.
 fn count_passing(road: &Road, speeds: &[u8], site: u32) -> Totals
     requires one_each { length speeds.now ≡ length (cars_of road.now) }
     requires short { length road.now ≤ GREATEST_LENGTH }

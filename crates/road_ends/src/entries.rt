@@ -76,7 +76,7 @@ fn car_or_entry_at(at: StepSettings, road: &Road, cell: u32) -> Option<Car>
     }
 }
 
-// Return the car that enters at an empty cell. None does if the cell is not an inlet's.
+// Return the car that enters at an empty cell, if one does. No car enters at a cell that is not an inlet's.
 fn entry_at(at: StepSettings, cell: u32) -> Option<Car>
     ensures { result ≡ option_map (car_of cell)
         (entry_at at.entry.plan.now at.entry.settings.now at.entry.step cell) }

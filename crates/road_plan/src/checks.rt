@@ -38,18 +38,21 @@ pub(crate) fn first_fault(parts: &PlanParts) -> Option<PlanFault>
     None
 }
 
+// Return whether the length of the road is within its limits.
 fn has_length(parts: &PlanParts) -> bool
     ensures { result ≡ refusals.has_length (plan_of parts.now) }
 {
     LEAST_LENGTH <= parts.length && parts.length <= GREATEST_LENGTH
 }
 
+// Return whether the deleted zone is within its limits and shorter than the road.
 fn has_exit(parts: &PlanParts) -> bool
     ensures { result ≡ refusals.has_exit (plan_of parts.now) }
 {
     0 < parts.exit && parts.exit <= GREATEST_EXIT && parts.exit < parts.length
 }
 
+// Return whether there is one entry for each zone of the road, and there are not too many zones.
 fn has_zones(parts: &PlanParts) -> bool
     ensures { result ≡ refusals.has_zones (plan_of parts.now) }
 {
@@ -58,6 +61,8 @@ fn has_zones(parts: &PlanParts) -> bool
         && parts.zones.len() == (parts.length.saturating_sub(1) / parts.width + 1) as usize
 }
 
+// Return whether there is an inlet, there are not too many, all are before the deleted zone, and no two are at one
+// cell.
 fn has_inlets(parts: &PlanParts) -> bool
     ensures { result ≡ refusals.has_inlets (plan_of parts.now) }
 {
@@ -89,6 +94,7 @@ fn has_inlet_at(cell: u32, inlets: &[(u32, u32)]) -> bool
     inlets.iter().any(|inlet| cell == inlet.0)
 }
 
+// Return whether there are not too many detectors, and all are past the first cell and before the deleted zone.
 fn has_detectors(parts: &PlanParts) -> bool
     ensures { result ≡ refusals.has_detectors (plan_of parts.now) }
 {
@@ -102,6 +108,7 @@ fn are_between(sites: &[u32], end: u32) -> bool
     sites.iter().all(|&site| 0 < site && site < end)
 }
 
+// Return whether each default speed limit, slowing chance and inflow is in range.
 fn has_defaults(parts: &PlanParts) -> bool
     ensures { result ≡ refusals.has_defaults (plan_of parts.now) }
 {

@@ -74,6 +74,7 @@ impl Settings {
         self.have_sizes(plan) && self.are_allowed() && self.have_blocks(plan)
     }
 
+    // Return whether each list has one entry for each zone, inlet or detector of the plan; blocked cells are not counted.
     fn have_sizes(&self, plan: &Plan) -> bool
         ensures { IsTrue result ↔ (
             (length self.now.limits ≡ length plan.now.zones)
@@ -90,6 +91,7 @@ impl Settings {
             && self.starts.len() == plan.zones().len()
     }
 
+    // Return whether all speed limits, slowing chances and inflows are in range.
     fn are_allowed(&self) -> bool
         ensures { IsTrue result ↔ (
             All (λ n. n ≤ GREATEST_LIMIT) self.now.limits
@@ -104,6 +106,7 @@ impl Settings {
             && are_at_most(self.starts.as_slice(), CERTAIN)
     }
 
+    // Return whether the blocked cells rise and are on the road.
     fn have_blocks(&self, plan: &Plan) -> bool
         ensures { IsTrue result ↔ (
             IsStrictlyIncreasing self.now.blocks × All (λ cell. cell < plan.now.cells) self.now.blocks

@@ -83,7 +83,7 @@ arrival_at-vehicle_among speed a j =
 
 -- ---- the speed of a car is the speed at its place in the list
 
--- if a function gives each car the speed at its place
+-- cars driven by a function that gives each car the speed at its place are the cars after motion at these speeds
 pub advanced-at : (cars : List Car) (speeds : List ℕ) (f : ℕ → ℕ) → length speeds ≡ length cars → ((k : ℕ) → k < length cars → f (cell_at cars k) ≡ slice_index speeds k) → cars_driven (λ c v. f c) cars ≡ cars_after_motion speeds cars
 advanced-at [] [] f long is = refl
 advanced-at [] (v ∷ speeds) f long is = refl

@@ -16,7 +16,7 @@ use road_ends::{Span, StepInput, finish};
 use std::alloc::Global;
 use std::sync::Arc;
 
-/// One that runs a road: several steps of a span in one call, or one step after another.
+/// Crews run roads: several steps of a span in one call, or one step after another.
 pub trait Crew {
     /// How often the crew has answered `WorkersGone`, at most 2^64 - 1. Only contracts see this count.
     ghost times_gone: { Self → ℕ };
@@ -32,7 +32,7 @@ pub trait Crew {
         ensures gone { times_gone self.new ≡ gone_after result (times_gone self.old) };
 
     /// Return the maximum number of steps that this crew should run in one call, at least one. A caller that counts
-    /// steps as they are computed gives it no longer spans.
+    /// steps as they are computed should not ask for more, since it counts them after each call.
     fn most_steps(&self) -> u32
         ensures { 0 < result }
     {

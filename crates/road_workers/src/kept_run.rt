@@ -9,7 +9,7 @@ pub(crate) struct KeptRun {
 }
 
 impl KeptRun {
-    // Make an empty one, which keeps no run yet. It does not allocate.
+    // Make a `KeptRun` that keeps no run yet. It does not allocate.
     pub fn none() -> KeptRun {
         KeptRun { run: None }
     }

@@ -47,8 +47,8 @@ pub(crate) fn cars_in(input: &StepInput) -> usize
     input.road().cars().len()
 }
 
-// Make an empty list for the speeds of all workers. If there is one worker, it has no room: `append` returns the speeds
-// of that worker in its place.
+// Make an empty list for the speeds of all workers. If there is only one worker, the list has no room: `append` returns
+// that worker's own list instead.
 pub(crate) fn list_for(alloc: Global, workers: u32, cars: usize) -> Result<Vec<u8>, OutOfMemory>
     ensures { IfOk result (λ whole. whole.items ≡ []) }
 {
@@ -58,7 +58,8 @@ pub(crate) fn list_for(alloc: Global, workers: u32, cars: usize) -> Result<Vec<u
     Vec::with_capacity(alloc, cars)
 }
 
-// Append the speeds of a piece to those of the pieces before it. If these have no speeds and no room, return the piece.
+// Append the speeds of a piece to those of the pieces before it. If these are a list without speeds and without room,
+// return the list of the piece.
 #[tactic(auto, using(crate::proofs::PiecesInOrder::take_piece))]
 pub(crate) fn append(whole: PieceAnswer, piece: PieceAnswer) -> PieceAnswer
     ensures { (all : List ℕ) (first end : ℕ) → first ≤ end → IfOk whole (λ front. front.items ≡ take first all)

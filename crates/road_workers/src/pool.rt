@@ -58,7 +58,7 @@ pub struct Pool<R> {
     workers: Vec<Worker>,
     // The caller's end of the channel of replies, with room for one reply of each worker.
     inbox: Inbox,
-    // The number of processors that there are for its threads.
+    // The number of processors that its threads can use.
     processors: u32,
     // The run that is kept for the caller's own stretches.
     kept: KeptRun,
@@ -94,7 +94,7 @@ impl<R: Threads + Wait + Clone + Drop + Send + 'static> Pool<R> {
     }
 
     /// Start a crew of 1 to 16 workers, as [`Pool::start`] does. Each worker passes the gate before each piece and each
-    /// stretch that it computes; [`Gate`] says what tests see by it.
+    /// stretch that it computes; [`Gate`] says what tests can see with it.
     ///
     /// # Errors
     ///
@@ -114,9 +114,9 @@ impl<R: Threads + Wait + Clone + Drop + Send + 'static> Pool<R> {
         Pool::start_on(rt, alloc, workers, gate, processors)
     }
 
-    /// Start such a crew as on a machine of `processors` processors, however many there are. Its results do not depend
-    /// on this number. Workers run stretches only if there is a processor for each of them, and the caller runs one
-    /// more if there is another processor for it.
+    /// Start such a crew as if the machine had `processors` processors, however many it has. The crew's results do not
+    /// depend on this number. Workers run stretches only if there is a processor for each of them, and the caller runs
+    /// one more if there is another processor for it.
     ///
     /// # Errors
     ///

@@ -44,7 +44,7 @@ fn copy_of(settings: &Settings) -> Result<Settings, OutOfMemory>
     })
 }
 
-// Count the cars that pass each detector in a step.
+// Add the counts of a step to the totals of each detector.
 pub(crate) fn count_passes(totals: &mut Vec<Totals>, input: &StepInput, speeds: &[u8])
     requires one_each { length speeds.now ≡ length (cars_of input.now.road) }
     requires each { length totals.old.items ≡ length input.now.plan.detectors }

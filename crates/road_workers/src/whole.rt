@@ -88,7 +88,7 @@ fn is_before(run: &UnderWay, span: &Span) -> bool
     run.is_of(span.plan()) && run.is_at(span.step())
 }
 
-// Put a run of a span's plan under the settings of the span.
+// Change the settings of a run of a span's plan to those of the span, if they are different.
 fn put_under(alloc: Global, span: &Span, run: UnderWay) -> Result<UnderWay, OutOfMemory>
     requires { run.plan ≡ span.now.plan }
     ensures { IfOk result (λ under. under ≡ record run { settings = span.now.settings }) }

@@ -13,7 +13,7 @@ pub record IsOfWorker (input : StepInput) (n w : ℕ) (promise : SpeedsOf) : Typ
   pub to : promise.piece.end ≡ piece_start n (length (cars_of input.road)) (w + 1)
   pub order : promise.piece.first ≤ promise.piece.end
 
--- these threads compute the pieces of the first workers, in their order, from that of worker w on
+-- these threads compute the pieces of consecutive workers, in their order, the first of them worker w
 abbrev pub AreStartedFrom : {T : Type 0} → StepInput → ℕ → ℕ → List (PromisedHandle T SpeedsOf) → Type 0
 AreStartedFrom input n w handles = (k : ℕ) (d : _) → k < length handles
     → IsOfWorker input n (w + k) (slice_index_or handles k d).promise

@@ -15,9 +15,9 @@ const HAND_OVER: u64 = 40_000;
 // How many cells behind a stretch and ahead of it are run with it, for each step of the span.
 const MARGINS: u64 = 18;
 
-// Return whether a span of a road is run as `stretches` stretches, for which there are processors. It is if each of
-// them, with the cells near it and its way to a worker and back, takes at most four fifths of the time that one thread
-// takes for the whole road. `bench/time-workers` measures these times.
+// Return whether a span of a road is run as `stretches` stretches, for which there are processors. It is, if running a
+// stretch with the cells near it, and sending it to a worker and back, takes at most four fifths of the time that one
+// thread takes for the whole road. `bench/time-workers` measures these times.
 pub(super) fn is_shared(cars: usize, cells: u32, steps: u32, stretches: u32) -> bool {
     let alone = u64::from(steps).saturating_mul(cars as u64);
     let count = u64::from(stretches).max(1);

@@ -94,7 +94,8 @@ fn add(totals: &mut Vec<Totals>, others: &[Totals])
     }
 }
 
-// Make the outcome of a span with at least one step from the results of all stretches of the road.
+// Make the outcome of a span with at least one step from the results of all stretches of the road. `road` is the road
+// before the span: only the contract uses it.
 pub(crate) fn whole_run(span: &Span, road: &Road, cells: u32, joined: Joined) -> SpanOutcome
     requires some { 0 < span.now.steps }
     requires cells { cells ≡ span.now.plan.cells }

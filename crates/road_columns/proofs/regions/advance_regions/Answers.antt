@@ -9,7 +9,8 @@ use Rattle.road_columns.specs.declared.regions.Region.{Region}
 use Rattle.road_columns.proofs.PieceWishes.{falls, wish_same}
 use Rattle.road_columns.proofs.regions.advance_regions.Goals as goal
 
--- upper 16 bits among all that have entered are those among the first of them, if the others are at later places
+-- upper 16 bits that are right for all cars that have entered between others are right for the first of these, if the
+-- others are at later places
 high16_among : (row : List ℕ) (index last n : ℕ) (beside : List ℕ) (batches : List (List ℕ)) (q h : ℕ) → last ≤ n → ((i : ℕ) → last ≤ i → i < n → q < slice_index beside i)
     → IsHigh16At row index n beside batches q h → IsHigh16At row index last beside batches q h
 high16_among row index last n beside batches q h few later is = record {

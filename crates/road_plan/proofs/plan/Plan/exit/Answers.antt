@@ -1,4 +1,4 @@
--- The part of that name.
+-- The plan's number of deleted cells.
 use Rattle.std.proofs.Common.{rules}
 use Rattle.road_plan.proofs.plan.Plan.exit.Goals as goal
 
