@@ -10,7 +10,8 @@ use Rattle.road_sessions.specs.Sessions.{view_of}
 
 -- what each reader found when it last entered is a prefix of the published history
 abbrev pub FoundArePrefixes : List Entry → List View → Type 0
-FoundArePrefixes published views = (reader : ℕ) (v : View) → get_elem? views reader ≡ some v → IsPrefix v.found published
+FoundArePrefixes published views =
+    (reader : ℕ) (v : View) → get_elem? views reader ≡ some v → IsPrefix v.found published
 
 -- a reader entered to look: it found what was published, which extends what it had found before
 abbrev pub EntersToLook : View → List Entry → View → Type 0
