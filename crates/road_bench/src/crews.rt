@@ -28,7 +28,7 @@ fn advance<R: Clock, C: Crew>(
     Ok((cars, nanoseconds))
 }
 
-// Do the same with a new replica of a plan, from step zero.
+// Advance a new replica of a plan from step zero. Return the same as `advance`.
 fn advance_new<R: Clock, C: Crew>(
     rt: &R,
     alloc: Global,
@@ -55,7 +55,7 @@ fn time<R: Clock + Print, C: Crew>(
     Ok(())
 }
 
-// Do so with threads made for each step.
+// Time a run by threads that are made for each step, and write its line.
 fn time_threads<R: Threads + Wait + Clock + Print>(
     rt: &R,
     alloc: Global,
@@ -70,7 +70,7 @@ fn time_threads<R: Threads + Wait + Clock + Print>(
     time(rt, alloc, plan, steps, "scoped", workers, &mut crew)
 }
 
-// Do so with lasting workers, which get work at each step. Their start and end are not timed.
+// Time a run by lasting workers, which get work at each step, and write its line. Their start and end are not timed.
 fn time_pool<R: Threads + Wait + Clock + Print + Clone + Drop + Send + 'static>(
     rt: &R,
     alloc: Global,
@@ -90,8 +90,8 @@ fn time_pool<R: Threads + Wait + Clock + Print + Clone + Drop + Send + 'static>(
     timed
 }
 
-/// Time a run with each crew in turn, step by step, `turns` times. For each number of workers the crew of one comes
-/// first, and then the two crews of that number.
+/// Time runs with each crew in turn, step by step, `turns` times. For each number of workers the crew of one thread
+/// comes first, and then the two crews with that number of workers.
 pub(crate) fn time_all<R: Threads + Wait + Clock + Print + Clone + Drop + Send + 'static>(
     rt: &R,
     alloc: Global,

@@ -24,7 +24,7 @@ fn takes_rows<C: Crew>(alloc: Global, replica: &mut Replica, crew: &mut C) -> Re
     )
 }
 
-// Return the same for a new replica.
+// Return whether a crew takes a new replica of the road through its worked rows.
 fn gives<C: Crew>(alloc: Global, plan: &Arc<Plan>, crew: &mut C) -> Result<bool> {
     let mut replica = Replica::open(alloc, Arc::try_clone(plan)?, 0)?;
     takes_rows(alloc, &mut replica, crew)
@@ -104,7 +104,7 @@ fn count_runs_by_pools<R: Threads + Wait + Clone + Drop + Send + 'static>(
     Ok(good)
 }
 
-// Let 1 to 16 workers take this plan's road through its rows.
+// Let 1 to 16 workers take the road of this plan through its worked rows, and write how often the rows were right.
 fn run_on<R: Threads + Wait + Print + Clone + Drop + Send + 'static>(
     rt: &R,
     alloc: Global,

@@ -1,37 +1,37 @@
-//! Timings of a road: its steps beside the random words that they draw, its crews, and the sessions that share a
+//! Timings of a road: its steps compared with the random words that they draw, its crews, and the sessions that share a
 //! replica. `steps` and `crews` read a plan line from standard input. Without arguments the program does nothing.
 //!
 //! `road_bench steps STEPS` computes STEPS steps with the plan's own settings, and then draws as many words as these
 //! steps drew. It writes five lines. Each has the steps, the cars moved, the words drawn, the nanoseconds of the steps,
-//! those of the words, and a mix of the words.
+//! the nanoseconds of the words, and a mix of the words.
 //!
-//! `road_bench crews STEPS TURNS` simulates a replica of the plan from step zero to STEPS with each crew in turn, step
-//! by step: one alone, 1, 2 and 4 threads made for each step, and 1, 2 and 4 lasting workers; TURNS times. It writes a
-//! line for each: the crew, its workers, the steps, the cars on the road after them, and the nanoseconds.
+//! `road_bench crews STEPS TURNS` simulates a replica of the plan from step zero to STEPS, step by step, TURNS times
+//! with each crew: one thread alone, 1, 2 and 4 threads made for each step, and 1, 2 and 4 lasting workers. It writes a
+//! line for each run: the crew, its workers, the steps, the cars on the road after them, and the nanoseconds.
 //!
 //! `road_bench runs WORKERS RUNS` takes the dense road of 32 cells through its worked rows, RUNS times with threads
 //! made for each step, and RUNS times with lasting workers. Each time it starts from step zero with a new crew of 1 to
 //! 16 workers. It prints how many runs gave these rows.
 //!
 //! `road_bench meetings WORKERS RUNS` runs a long road to step 1,152, RUNS times, each time with a new crew of 1 to 16
-//! lasting workers. Each worker runs a stretch, as the crew divides this road by its own measure, and they wait for
-//! each other before that. It prints in how many runs they all met.
+//! lasting workers. By its own measure, the crew divides this road into a stretch for each worker. The workers wait for
+//! each other before they run. It prints in how many runs they all met.
 //!
 //! `road_bench checks WORKERS RUNS WRITES TIMES` is `runs WORKERS RUNS`, `meetings` of 2, of 4 and of WORKERS workers,
 //! RUNS times each, and then `sessions merge WRITES TIMES`. The gate runs it.
 //!
-//! `road_bench sessions merge WRITES RUNS`: eight sessions make WRITES writes each, alternately an edit and an advance,
-//! and look after each write; RUNS times. It prints in how many runs the journal was the merge of their writes, and
-//! each look had the session's own writes.
+//! `road_bench sessions merge WRITES RUNS` does RUNS runs. In each, eight sessions make WRITES writes each, alternately
+//! an edit and an advance, and look after each write. It prints in how many runs the journal was the merge of their
+//! writes, and each look showed the session's own writes.
 //!
 //! `road_bench sessions looks READERS LOOKS WRITES`: 1 to 7 sessions make LOOKS looks each, while another session
-//! publishes the same road again and again, at most WRITES times. It prints for each session how often it did so and
-//! the nanoseconds that it took, the writer first. `road_bench sessions steps READERS LOOKS WRITES` is the same on
-//! 8,192 cells with random slowing; there each write is one step more.
-//! `road_bench sessions advances READERS LOOKS WRITES` is the same with advances on the 12 cells.
+//! publishes the same road again and again, at most WRITES times. It prints for each session, the writer first, how
+//! often it looked or published, and the nanoseconds that this took. With `advances` in place of `looks` each write
+//! advances the road by one step. `steps` is the same as `advances`, but on 8,192 cells with random slowing instead of
+//! the free road of 12 cells.
 //!
-//! `road_bench sessions bare LOOKS WRITES`: the same for one reader and a writer of `left_right` that publishes a
-//! number, with nothing of this repository between them.
+//! `road_bench sessions bare LOOKS WRITES` is the baseline: one reader, and one writer that publishes a number, use
+//! `left_right` directly, with nothing of this repository between them.
 #![tactic(auto)]
 
 mod crews;
@@ -50,14 +50,14 @@ use std::thread::Threads;
 use std::time::Clock;
 use std::{env, io};
 
-// Return the plan of a text's first line.
+// Read the plan from the first line of a text.
 fn plan_in(alloc: Global, text: &str) -> Result<Arc<Plan>> {
     let line = text.lines().next().context("no plan line")?;
     let read = read_plan(alloc, line.as_bytes())?;
     Ok(Arc::new(alloc, read.plan)?)
 }
 
-// Return the plan of the first line of standard input.
+// Read the plan from the first line of standard input.
 fn plan<R: Input>(rt: &R, alloc: Global) -> Result<Arc<Plan>> {
     let text = io::read_to_string(alloc, rt.reader())?;
     plan_in(alloc, &text)
@@ -86,7 +86,7 @@ fn work<R: Threads + Wait + Clock + Input + Print + Clone + Drop + Send + Sync +
     }
 }
 
-// Return the numbers that strings spell.
+// Parse each string as a number.
 fn numbers_of(alloc: Global, words: &[String]) -> Result<Vec<u32>> {
     let mut numbers = Vec::new(alloc);
     for word in words {
@@ -95,7 +95,7 @@ fn numbers_of(alloc: Global, words: &[String]) -> Result<Vec<u32>> {
     Ok(numbers)
 }
 
-// Do what the program's arguments request. The first is its name.
+// Do what the arguments request. The first argument is the program's name.
 fn run_command<R: Threads + Wait + Clock + Input + Print + Clone + Drop + Send + Sync + 'static>(
     rt: &R,
     alloc: Global,
@@ -110,7 +110,7 @@ fn run_command<R: Threads + Wait + Clock + Input + Print + Clone + Drop + Send +
     }
 }
 
-// Return the program's arguments.
+// Return the program's arguments, with its name.
 fn words_of(rt: &HostRuntime) -> io::Result<Vec<String>> {
     let mut words = Vec::new(rt.alloc());
     for word in env::args(rt)? {

@@ -1,5 +1,5 @@
-//! Runs of a long road, in which all lasting workers must meet. The crew divides the road if that is faster by its own
-//! measure.
+//! Runs of a long road, in which all lasting workers must meet. The crew divides the road among its workers if that is
+//! faster by the crew's own measure.
 
 ghost use Rattle.std.specs.Prelude.{◌<◌, ◌≤◌};
 
@@ -14,14 +14,14 @@ use std::thread::Threads;
 use std::time::Clock;
 use tests_plans::{LONG, Meeting, plan_of};
 
-// The most times that a worker looks for the others.
+// The maximum number of times that a worker looks for the others.
 const TURNS: u32 = 1_000_000;
 
-// The steps that the caller runs alone, until there are enough cars for 2 to 16 workers that have a processor each, as
-// they are told.
+// The steps that the caller runs alone. After them there are enough cars for 2 to 16 workers. The crew assumes that
+// each worker has a processor.
 const ALONE: u32 = 1_024;
 
-// Two intervals later. The workers get work in each.
+// The last step, two intervals later. The workers get work in each interval.
 const END: u32 = 1_152;
 
 // Return whether all workers of a new lasting crew meet in each of two intervals of a new replica of the road.

@@ -1,4 +1,4 @@
-//! Sessions at work on their own threads, on a free road of 12 cells if no other is named.
+//! Sessions at work on their own threads, on the free road of 12 cells unless another road is named.
 
 mod bare;
 mod crowd;
@@ -15,7 +15,7 @@ use std::thread::Threads;
 use std::time::Clock;
 use tests_plans::{FREE, Parts, plan_of};
 
-/// 8,192 cells with limit 5 and slowing chance one half, and an inlet at the first cell that always lets in.
+/// 8,192 cells with limit 5 and slowing chance one half, and an inlet at the first cell that is always open.
 const LONG: Parts = Parts {
     road: (8_192, 1, 8_192),
     zones: &[(5, 32_768)],
@@ -64,7 +64,7 @@ fn merge_all<R: Threads + Wait + Print + Sync>(
     Ok(())
 }
 
-// Time the looks of sessions while another one writes, and print a line for each session.
+// Time the looks of sessions while another session writes, and print a line for each session.
 fn time_looks<R: Threads + Wait + Clock + Print + Sync>(
     rt: &R,
     alloc: Global,

@@ -1,4 +1,4 @@
-//! Steps of a road, timed beside the random words that they draw.
+//! Steps of a road, timed and compared with the random words that they draw.
 
 ghost use Rattle.std.specs.Arc.{arc_value};
 
@@ -15,7 +15,8 @@ use std::time::{Clock, Instant};
 /// The number of times that the same work is timed.
 const RUNS: u32 = 5;
 
-/// Time steps, and then the drawing of as many words as they drew, and write a line for each run of both.
+/// Time steps, and then the drawing of as many words as the steps draw. Do both `RUNS` times, and write a line each
+/// time.
 pub(crate) fn time<R: Clock + Print>(
     rt: &R,
     alloc: Global,
@@ -30,7 +31,7 @@ pub(crate) fn time<R: Clock + Print>(
     Ok(())
 }
 
-// Time this many steps and of words of a source, and write a line.
+// Time this many steps, and the drawing of this many words of a source, and write a line.
 fn time_once<R: Clock + Print>(
     rt: &R,
     alloc: Global,
@@ -49,7 +50,7 @@ fn time_once<R: Clock + Print>(
     Ok(())
 }
 
-// Return a step of a road with the plan's own settings, which are made again each time.
+// Return a step of a road with the plan's own settings, which are made again for each step.
 fn step_road(
     alloc: Global,
     plan: &Arc<Plan>,
@@ -86,7 +87,7 @@ fn cars_from(
     Ok(cars)
 }
 
-// Do the same from the empty road.
+// Take the empty road through some steps, and return the same as `cars_from`.
 fn cars_of(alloc: Global, plan: &Arc<Plan>, steps: u32) -> Result<u64, OutOfMemory> {
     let mut road = Road::empty(alloc);
     cars_from(alloc, plan, steps, &mut road)
@@ -119,14 +120,14 @@ fn words_from(
     Ok(words)
 }
 
-// Do the same from the empty road.
+// Take the empty road through some steps, and return the same as `words_from`.
 fn words_of(alloc: Global, plan: &Arc<Plan>, steps: u32) -> Result<u64, OutOfMemory> {
     let mut road = Road::empty(alloc);
     words_from(alloc, plan, steps, &mut road)
 }
 
-// Return the number of words drawn for the inlets of a step: one for each that is free and whose inflow leaves its
-// entry open.
+// Return the number of words drawn for the inlets of a step: one for each inlet that is free and whose inflow chance is
+// neither 0 nor certain.
 fn words_of_entries(plan: &Plan, road: &Road) -> u64 {
     let mut words = 0u64;
     for inlet in plan.inlets() {
@@ -137,8 +138,8 @@ fn words_of_entries(plan: &Plan, road: &Road) -> u64 {
     words
 }
 
-// Return the number of words drawn for the cars of a step: one for each that wants to drive and whose slowing chance
-// leaves that open. The plan's own settings block no cell.
+// Return the number of words drawn for the cars of a step: one for each car that wants to drive and whose slowing
+// chance is neither 0 nor certain. The plan's own settings block no cell.
 fn words_of_cars(input: &StepInput) -> u64 {
     let mut words = 0u64;
     for place in 0..input.road().cars().len() {
@@ -155,12 +156,12 @@ fn words_of_cars(input: &StepInput) -> u64 {
     words
 }
 
-// Return whether a chance leaves its event open.
+// Return whether a chance is neither 0 nor certain.
 fn is_open(chance: u32) -> bool {
     0 < chance && chance < CERTAIN
 }
 
-// Draw this many words, of streams and places as steps draw them, and mix them.
+// Draw this many words, with streams and places like those of steps, and mix them.
 fn draw(source: &PlanWords, words: u64) -> u32 {
     let mut mixed = 0;
     for place in 0..words {

@@ -22,7 +22,7 @@ module _ (from front limit end : ℕ) (cells old speeds olds : List ℕ) (same :
       ≡ wanted_speed (slice_index olds q) limit (min GREATEST_SPEED (ahead' - (slice_index old q + 1)))
   wish_by ahead ahead' q below is = λ i. wanted_speed (same_speed q below i) limit (min GREATEST_SPEED (is i - (same q below i + 1)))
 
-  -- for a piece behind a car
+  -- the same speeds in a piece behind a car
   pub wish_behind : (place q : ℕ) → from ≤ place → place < q → q < end → wanted_at (place + 1) (slice_index cells place) limit cells speeds q ≡ wanted_at from front limit old olds q
   wish_behind place q low above below = wish_by (ahead_at (place + 1) (slice_index cells place) cells q) (ahead_at from front old q) q below
       (elim (cases_eq q (place + 1)) as (λ _. ahead_at (place + 1) (slice_index cells place) cells q ≡ ahead_at from front old q) [
@@ -34,12 +34,12 @@ module _ (from front limit end : ℕ) (cells old speeds olds : List ℕ) (same :
             at_later (place + 1) (slice_index cells place) q (slice_index cells (q - 1)) other ∙ same (q - 1) (omega arith) ∙ sym (at_later from front q (slice_index old (q - 1)) (omega arith))
       ])
 
-  -- for one car
+  -- the same speed of one car
   pub wish_alone : (place q next : ℕ) → q ≡ place → q < end → next ≡ ahead_at from front old q → wanted_at place next limit cells speeds q ≡ wanted_at from front limit old olds q
   wish_alone place q next here below is = wish_by (ahead_at place next cells q) (ahead_at from front old q) q below
       (at_first place next q (slice_index cells (q - 1)) here ∙ is)
 
-  -- for the piece in front of all cars
+  -- the same speeds in the piece in front of all these cars
   pub wish_first : (q : ℕ) → from ≤ q → q < end → wanted_at from front limit cells speeds q ≡ wanted_at from front limit old olds q
   wish_first q low below = wish_by (ahead_at from front cells q) (ahead_at from front old q) q below
       (elim (cases_eq q from) as (λ _. ahead_at from front cells q ≡ ahead_at from front old q) [
@@ -47,7 +47,7 @@ module _ (from front limit end : ℕ) (cells old speeds olds : List ℕ) (same :
         | inr other ↦ at_later from front q (slice_index cells (q - 1)) other ∙ same (q - 1) (omega arith) ∙ sym (at_later from front q (slice_index old (q - 1)) other)
       ])
 
--- by the cell of the car in front and the next blocked cell
+-- the cell that a car may not reach is the nearer of the cell of the car in front and the next blocked cell
 pub ahead_region : (from front block q : ℕ) (cells : List ℕ) → from ≤ q → front ≡ min (slice_index cells (from - 1)) block → (from < q → slice_index cells (q - 1) < block)
     → ahead_at from front cells q ≡ min (slice_index cells (q - 1)) block
 ahead_region from front block q cells low is below = elim (cases_eq q from) as (λ _. ahead_at from front cells q ≡ min (slice_index cells (q - 1)) block) [
@@ -60,7 +60,7 @@ pub wish_region : (from front limit block q : ℕ) (cells speeds : List ℕ) →
 wish_region from front limit block q cells speeds low is below =
     ap (λ ahead. wanted_speed (slice_index speeds q) limit (min GREATEST_SPEED (ahead - (slice_index cells q + 1)))) (ahead_region from front block q cells low is below)
 
--- by the same cells and speeds
+-- equal cells and speeds give equal wanted speeds
 pub wish_same : (limit block q : ℕ) (cells cells' speeds speeds' : List ℕ) → slice_index cells (q - 1) ≡ slice_index cells' (q - 1) → slice_index cells q ≡ slice_index cells' q
     → slice_index speeds q ≡ slice_index speeds' q → wish_at limit block cells speeds q ≡ wish_at limit block cells' speeds' q
 wish_same limit block q cells cells' speeds speeds' ahead cell speed = λ i. wanted_speed (speed i) limit (min GREATEST_SPEED (min (ahead i) block - (cell i + 1)))

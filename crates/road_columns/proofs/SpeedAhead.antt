@@ -25,7 +25,7 @@ pub record IsNthOrNowhere (n k kth c : ℕ) : Type 0 where
   pub here : k < n → c ≡ kth
   pub none : n ≤ k → c ≡ 4294967295
 
--- a cell that is not behind another is not of a zone behind its zone
+-- a cell that is not behind another one is not in a zone behind that one's zone
 pub zone_up_to : (width c end : ℕ) → 0 < width → c ≤ end → c / width ≤ end / width
 zone_up_to width c end wide to = elim (cases_lt (end / width) (c / width)) as (λ _. c / width ≤ end / width) [
   | inl less ↦

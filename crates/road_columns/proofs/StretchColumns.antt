@@ -47,7 +47,7 @@ columns_cut b hi head tail out cells speeds numbers within some past before colu
       nobody = λ c apart. are.nobody c (λ i below same. apart i (omega arith) (at cells i ∙ same));
     }
 
--- at most one car reaches a cell or passes it in a step, so one at most leaves
+-- at most one car reaches a cell or passes it in a step, so at most one leaves
 pub one_leaves : (cells new : List ℕ) (head tail hi : ℕ)
     → ((i : ℕ) → head ≤ i → i < tail → slice_index cells i < hi) → ((i : ℕ) → head ≤ i → i + 1 < tail → slice_index new (i + 1) < slice_index cells i)
     → (i : ℕ) → head + 1 ≤ i → i < tail → slice_index new i < hi

@@ -1,4 +1,4 @@
--- Why crowds are refused: each cause that may apply to one has an answer.
+-- Why crowds are refused: each cause that may apply to a crowd has an answer.
 use Rattle.std.proofs.Common.{◌≡◌, ◌∙◌, ℕ, List, ◌∷◌, [], Bool, true, false, if◌then◌else◌, Option, Some, None, refl, ap, sym}
 use Rattle.std.specs.Prelude.{IfNone, nat_lt}
 use Rattle.std.specs.Option.{option_and_then, option_map, option_or}
@@ -15,7 +15,7 @@ use Rattle.road_replica.specs.declared.faults.ReplicaFault.TheVariants.{Horizon,
 use Rattle.road_format.specs.declared.refusal.Refusal.{Refusal}
 use Rattle.road_commands.specs.Laboratory.{replica_refusal}
 
--- there is no cause without an answer
+-- if a cause has no answer, there is no cause
 abbrev IsAnswered : Option ReplicaFault → Type 0
 IsAnswered cause = option_and_then replica_refusal cause ≡ None → cause ≡ None
 
@@ -50,7 +50,7 @@ shares_answered : (plan : Plan) (shares : List (List edit.Edit)) (to : ℕ) → 
 shares_answered plan shares to =
     either_answered (import_fault plan (edits_of shares)) (advance_fault to) (import_answered plan (edits_of shares)) (horizon_answered (nat_lt GREATEST_HORIZON to))
 
--- a cause without an answer does not apply to shares
+-- a cause without an answer never applies to shares
 pub fault_unanswered : (plan : Plan) (shares : List (List edit.Edit)) (to : ℕ) (fault : ReplicaFault) (answer : Option Refusal) → shares_fault plan shares to ≡ Some fault → answer ≡ replica_refusal fault
     → IfNone answer (shares_fault plan shares to ≡ None)
 fault_unanswered plan shares to fault None is given = shares_answered plan shares to (ap (option_and_then replica_refusal) is ∙ sym given)

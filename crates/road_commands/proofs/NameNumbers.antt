@@ -17,7 +17,7 @@ more_below : (b : Bool) (n m : ℕ) → nat_lt n m ≡ b → nat_lt (1 + n) (suc
 more_below true n m h = let less : n < m = ltb-true n m h in lt-ltb (1 + n) (suc m) (omega arith)
 more_below false n m h = let least = ltb-false n m h in le-ltb (1 + n) (suc m) (omega (arith, least))
 
--- the place after one more element at the front, by whether that one passes, and whether one after it does
+-- the place after one more element at the front, from whether this element passes, and whether a later one does
 later_place : (b c : Bool) (n m : ℕ) → nat_lt n m ≡ c
     → cond (nat_lt (cond (not b) (1 + n) 0) (suc m)) (Some (cond (not b) (1 + n) 0)) None ≡ cond b (Some 0) (option_map (λ k. 1 + k) (cond c (Some n) None))
 later_place true c n m h = let first : nat_lt 0 (suc m) ≡ true = lt-ltb 0 (suc m) (omega arith) in rw first refl
@@ -27,13 +27,13 @@ later_place false false n m h = let least : nat_lt (1 + n) (suc m) ≡ false = m
 position_first : {A : Type 0} (p : A → Bool) (x : A) (xs : List A) → position p (x ∷ xs) ≡ cond (p x) (Some 0) (option_map (λ k. 1 + k) (position p xs))
 position_first p x xs = later_place (p x) (nat_lt (prefix_len (λ y. not (p y)) xs) (length xs)) (prefix_len (λ y. not (p y)) xs) (length xs) refl
 
--- if there is no place, the first does not pass, and no other does
+-- if there is no place, the first element does not pass, and no other does
 no_place : (b : Bool) (place : Option ℕ) → cond b (Some 0) (option_map (λ k. 1 + k) place) ≡ None → (b ≡ false) × (place ≡ None)
 no_place true place h = cc
 no_place false None h = (refl, refl)
 no_place false (Some n) h = cc
 
--- a test passed after a map finds the same places
+-- testing elements after a map gives the same place as testing the mapped list
 pub position_of_map : {A B : Type 0} (p : B → Bool) (f : A → B) (xs : List A) → position (λ x. p (f x)) xs ≡ position p (map f xs)
 position_of_map p f [] = refl
 position_of_map p f (x ∷ xs) =
@@ -51,7 +51,7 @@ none_passes p (x ∷ xs) h =
 
 -- ---- names that are all different
 
--- if none passes, none has a place
+-- if no element passes, none has a place
 neither : (a b : Bool) → (a || b) ≡ false → (a ≡ false) × (b ≡ false)
 neither true b h = cc
 neither false b h = (refl, h)
@@ -64,7 +64,7 @@ none_placed p (x ∷ xs) h =
     let later : position p xs ≡ None = none_placed p xs both.1 in
     position_first p x xs ∙ rw (first, later) refl
 
--- a fact about each element is a fact about one in the middle
+-- a fact about each element is a fact about an element in the middle
 of_middle : {A : Type 0} (P : A → Type 0) (x : A) (xs ys : List A) → AllByRecursion P (xs ++ x ∷ ys) → P x
 of_middle P x [] ys all = all.0
 of_middle P x (y ∷ xs) ys all = of_middle P x xs ys all.1
@@ -78,7 +78,7 @@ is_new (x ∷ xs) ys s distinct =
     let later : list_any (bytes_eq s) xs ≡ false = is_new xs ys s distinct.1 in
     rw (differs, later) refl
 
--- so it has no number among them
+-- so it has no number among the names before it
 pub number_free : (xs ys : List (List ℕ)) (s : List ℕ) → IsDistinct bytes_eq (xs ++ s ∷ ys) → number_of xs s ≡ None
 number_free xs ys s distinct = none_placed (bytes_eq s) xs (is_new xs ys s distinct)
 
@@ -88,7 +88,7 @@ number_free xs ys s distinct = none_placed (bytes_eq s) xs (is_new xs ys s disti
 pub number_by_place : (name : List ℕ) (keys : List (String Global)) → position (λ key. bytes_eq name (string_bytes key)) keys ≡ number_of (texts keys) name
 number_by_place name keys = position_of_map (bytes_eq name) string_bytes keys
 
--- a name that has no number there goes to the end
+-- a name that has no number in the set is added at the end
 pub put_last : (name : String Global) (keys after : List (String Global)) → number_of (texts keys) (string_bytes name) ≡ None
     → after ≡ (if list_any (λ key. bytes_eq (string_bytes name) (string_bytes key)) keys then keys else keys ++ name ∷ [])
     → texts after ≡ texts keys ++ string_bytes name ∷ []
@@ -100,7 +100,7 @@ put_last name keys after free is =
 
 -- ---- names that are numbered one after another
 
--- the next name is new, and goes to the end
+-- the next name is new, and is added at the end
 pub next_free : (all done : List (List ℕ)) (rest behind : List (String Global)) (name : String Global) → IsDistinct bytes_eq all → done ++ texts rest ≡ all → rest ≡ name ∷ behind → number_of done (string_bytes name) ≡ None
 next_free all done rest behind name distinct is next =
     let order : done ++ string_bytes name ∷ texts behind ≡ all = ap (λ (xs : List (String Global)). done ++ texts xs) (sym next) ∙ is in

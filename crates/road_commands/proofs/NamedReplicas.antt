@@ -1,4 +1,4 @@
--- The outcome of a command, by the name of its replica.
+-- The outcome of a command whose replica is looked up by its name.
 use Rattle.std.proofs.Common.{ℕ, IsSome}
 use Rattle.std.specs.Prelude.{Result, false}
 use Rattle.std.specs.declared.result.Result.TheVariants.{Ok, Err}

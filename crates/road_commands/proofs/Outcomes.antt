@@ -1,4 +1,4 @@
--- The outcomes of commands, by the effects in the world.
+-- The outcomes of commands, from the effects of their events in the world.
 use Rattle.std.proofs.Common.{◌≡◌, ◌⊎◌, ◌<◌, ℕ, length, false, Option, Some, None, refl, ap, sym, subst, ◌∙◌, inl, inr}
 use Rattle.std.specs.Prelude.{IfErr, Result}
 use Rattle.std.specs.declared.result.Result.TheVariants.{Ok, Err}
@@ -39,7 +39,7 @@ unnamed_want fault is = elim is as (λ _. world_refusal fault ≡ None) [
   | inr memory ↦ ap world_refusal memory
 ]
 
--- so a refusal for no named cause has none
+-- so a refusal without a named cause has no answer
 unnamed : (e : Event) (fault : WorldFault) → IsUnnamedRefusal e fault → world_refusal fault ≡ None
 unnamed (events.Edit r o step n) fault is = unnamed_want fault is
 unnamed (events.Withdraw r o step) fault is = unnamed_want fault is
@@ -73,12 +73,12 @@ answered_refusal lab e fault refusal below is said =
     let here = subst (λ (cause : Option WorldFault). IsRefusal e cause fault) (fault_there lab.world e below) is in
     named e (fault_at_replica lab.world e) fault refusal here said
 
--- the answer is a refusal
+-- an answer to a refusal is that refusal
 refused_by : (refusal : Option Refusal) (answer : declared.Answer) → AnswersRefusal refusal (Ok answer) → (r : Refusal) × ((refusal ≡ Some r) × (answer_view answer ≡ Refused r))
 refused_by None answer is = cc
 refused_by (Some r) answer is = (r, (refl, sym (same_some (Refused r) (answer_view answer) is)))
 
--- a refusal that is answered counts no crew
+-- a refusal that is answered does not count as a crew that has gone
 named_gone : (fault : WorldFault) (r : Refusal) (n : ℕ) → world_refusal fault ≡ Some r → gone_after_answer (Err fault) n ≡ n
 named_gone world_faults.NoReplica r n said = refl
 named_gone world_faults.NoMessage r n said = refl
@@ -100,7 +100,7 @@ gone_passed_on : (lost : CrewFault) (n : ℕ) → gone_after_answer (Err (world_
 gone_passed_on crew_faults.WorkersGone n = refl
 gone_passed_on crew_faults.OutOfMemory n = refl
 
--- What the world refuses is answered by its refusal, or not at all, if the outcome is the refusal of a named cause
+-- what the world refuses is answered by its refusal, or not at all, if the outcome is the refusal of a named cause
 module _ (lab : Laboratory) (e : Event) (fault : WorldFault) (new : Laboratory) (count later : ℕ) (below : replica_number e < length lab.world.replicas) (is : IsRefusal e (fault_of_event lab.world e) fault)
     (same : new ≡ lab) (won : laboratory_of_winners lab ≡ lab) (gone : later ≡ gone_after_answer (Err fault) count) where
   of_refusal : (o : Outcome) (result : Result declared.Answer CrewFault) → AnswersRefusal (world_refusal fault) result → IfErr result (λ lost. fault ≡ world_faults.Replica (growth_fault lost))

@@ -8,7 +8,7 @@ use Rattle.road_format.specs.declared.refusal.Refusal.{Refusal}
 use Rattle.road_format.specs.declared.refusal.Refusal.TheVariants as refusals
 use Rattle.road_commands.specs.Laboratory.{Laboratory, Outcome, crowd_of, crowd_outcome, laboratory_after, number_of, outcome_at, outcome_by_name, outcome_by_number, outcome_unless}
 
--- the plan after an outcome is the laboratory's
+-- the plan after an outcome is the plan before it
 abbrev KeepsPlan : Laboratory → Outcome → Type 0
 KeepsPlan lab o = o.after.world.plan ≡ lab.world.plan
 

@@ -26,7 +26,7 @@ use Rattle.road_commands.specs.Private.Changes.{keeps_edits}
 
 -- ---- lists with one element set
 
--- a fact about the element set and each other one, each at its place, is a fact about all
+-- a fact about the element that is set, and about each other element, each at its place, is a fact about all
 set_each : {A : Type 0} (P : ℕ → A → Type 0) (xs : List A) (r : ℕ) (new : A) → P r new → ((q : ℕ) (x : A) → q ≢ r → slice_get xs q ≡ Some x → P q x)
     → (q : ℕ) (x : A) → slice_get (slice_set xs r new) q ≡ Some x → P q x
 set_each P [] r new here others q x is = cc
@@ -36,7 +36,7 @@ set_each P (y ∷ ys) (suc r) new here others zero x is = others zero x (λ e. c
 set_each P (y ∷ ys) (suc r) new here others (suc q) x is =
     set_each (λ n z. P (suc n) z) ys r new here (λ n z other at. others (suc n) z (λ e. other (cc)) at) q x is
 
--- a fact about all elements is a fact about the one at a place
+-- a fact about all elements is a fact about the element at a place
 all_at : {A : Type 0} (P : A → Type 0) (xs : List A) (q : ℕ) (x : A) → All P xs → slice_get xs q ≡ Some x → P x
 all_at P [] q x all is = cc
 all_at P (y ∷ ys) zero x all is = let same : y ≡ x = cc in subst P same (All-head P y ys all)
@@ -44,7 +44,7 @@ all_at P (y ∷ ys) (suc q) x all is = all_at P ys q x (All-tail P y ys all) is
 
 -- ---- the edits of replicas after an event
 
--- if a replica is set to one with the same edits, the edits of all replicas stay
+-- if a replica is replaced by one with the same edits, the edits of all replicas stay the same
 set_horizon : (xs : List WorldReplica) (r q : ℕ) (x : WorldReplica) → x.edits ≡ (slice_index_or xs r opening_replica).edits
     → (slice_index_or (slice_set xs r x) q opening_replica).edits ≡ (slice_index_or xs q opening_replica).edits
 set_horizon [] r q x e = refl
@@ -53,11 +53,11 @@ set_horizon (y ∷ ys) zero (suc q) x e = refl
 set_horizon (y ∷ ys) (suc r) zero x e = refl
 set_horizon (y ∷ ys) (suc r) (suc q) x e = set_horizon ys r q x e
 
--- the edits of one replica are those of another world's
+-- replica q has the same edits in both worlds
 abbrev SameEdits : World → World → ℕ → Type 0
 SameEdits v w q = (replica_at v q).edits ≡ (replica_at w q).edits
 
--- the edits of all replicas stay if the event keeps edits
+-- the edits of all replicas stay the same if the event keeps edits
 edits_kept : (e : Event) (w : World) (q : ℕ) → keeps_edits e ≡ true → SameEdits (world_after_event e w) w q
 edits_kept (Edit r o step n) w q h = cc
 edits_kept (Withdraw r o step) w q h = cc
@@ -68,7 +68,7 @@ edits_kept (Beyond r m) w q h = refl
 edits_kept (Take r m) w q h = cc
 edits_kept (Advance r to) w q h = set_horizon w.replicas r q _ refl
 
--- those of every other replica stay
+-- if a replica is replaced, the edits of every other replica stay the same
 other_set : (w : World) (r q : ℕ) (x : WorldReplica) → q ≢ r → (slice_index_or (slice_set w.replicas r x) q opening_replica).edits ≡ (replica_at w q).edits
 other_set w r q x other = ap (λ (y : WorldReplica). y.edits) (get_or-set_other w.replicas r q x opening_replica other)
 
@@ -82,7 +82,7 @@ others_kept (Beyond r m) w q other = refl
 others_kept (Take r m) w q other = other_set w r q _ other
 others_kept (Advance r to) w q other = other_set w r q _ other
 
--- edits that stay also stay as winners, if all edits are winners
+-- if edits stay the same and all are winners, the winners stay the same
 won_edits : (v w : World) (q : ℕ) → world_of_winners w ≡ w → SameEdits v w q → SameEdits (world_of_winners v) w q
 won_edits v w q won same =
     ap (λ (x : WorldReplica). x.edits) (replica-of_winners v q) ∙ ap winners same
@@ -90,7 +90,7 @@ won_edits v w q won same =
 
 -- ---- one cache
 
--- a cache of the run of one plan and edits is a cache of the run of the same
+-- a cache of a run is a cache of every run of the same plan and edits
 same_run : (v w : World) (q : ℕ) (kept : QueryCache) → v.plan ≡ w.plan → SameEdits v w q → IsCacheOf (sheet_at w q) kept → IsCacheOf (sheet_at v q) kept
 same_run v w q kept plan same is = cache_runs.same_run (sheet_at w q) (sheet_at v q) kept (sym plan) (sym same) is
 
@@ -104,12 +104,12 @@ as_many e w = length-map (world_after_event e w).replicas replica_of_winners ∙
 
 -- ---- all caches
 
--- the cache of a replica, as it is read
+-- the cache at a replica's number is a cache of the replica's run
 pub cached_read : (names : List (List ℕ)) (w : World) (runs : List QueryCache) (r : ℕ) (run : QueryCache) (sheet : Sheet) → IsCached names w runs → r < length runs → run ≡ slice_index_or runs r run → sheet ≡ sheet_at w r → IsCacheOf sheet run
 cached_read names w runs r run sheet kept below is same =
     subst (λ (s : Sheet). IsCacheOf s run) (sym same) (kept.cached r run (slice_get_read runs (length runs) r run refl below is))
 
--- after an event that keeps edits
+-- the caches stay valid after an event that keeps edits,
 pub cached_on : (names : List (List ℕ)) (w v : World) (runs : List QueryCache) (e : Event) → IsCached names w runs → v ≡ world_of_winners (world_after_event e w) → keeps_edits e ≡ true → IsCached names v runs
 cached_on names w v runs e kept is keeps =
     let after : IsCached names (world_of_winners (world_after_event e w)) runs = record {
@@ -122,7 +122,7 @@ cached_on names w v runs e kept is keeps =
     } in
     subst (λ (u : World). IsCached names u runs) (sym is) after
 
--- after any event, if the cache of its replica becomes one that suits every run of the plan
+-- after any event, if the cache of its replica is replaced by one that suits every run of the plan,
 pub cached_but_one : (names : List (List ℕ)) (w v : World) (runs : List QueryCache) (e : Event) (r : ℕ) (old new : QueryCache) → IsCached names w runs → v ≡ world_of_winners (world_after_event e w) → r ≡ replica_number e
     → r < length runs → old ≡ slice_index_or runs r old → ((before after : Sheet) → before.plan ≡ after.plan → IsCacheOf before old → IsCacheOf after new) → IsCached names v (slice_set runs r new)
 cached_but_one names w v runs e r old new kept is here below was restarts =
@@ -138,7 +138,7 @@ cached_but_one names w v runs e r old new kept is here below was restarts =
     } in
     subst (λ (x : World). IsCached names x (slice_set runs r new)) (sym is) after
 
--- after a query, whose cache is another one of the run
+-- after a query, which replaces the cache by another cache of the same run,
 pub cached_shown : (names : List (List ℕ)) (w : World) (runs : List QueryCache) (r : ℕ) (new : QueryCache) (sheet : Sheet) → IsCached names w runs → sheet ≡ sheet_at w r → IsCacheOf sheet new → IsCached names w (slice_set runs r new)
 cached_shown names w runs r new sheet kept same is = record {
   few = kept.few;
@@ -148,7 +148,7 @@ cached_shown names w runs r new sheet kept same is = record {
   cached = set_each (λ q run. IsCacheOf (sheet_at w q) run) runs r new (subst (λ (s : Sheet). IsCacheOf s new) same is) (λ q run other at. kept.cached q run at);
 }
 
--- before any command
+-- and they are valid before any command
 pub cached_opening : (names : List (List ℕ)) (plan : Plan) (w : World) (runs : List QueryCache) (count : ℕ) → w ≡ opening_world plan count → count ≡ length names → length runs ≡ count
     → length names ≤ MOST_REPLICAS → ((sheet : Sheet) → All (IsCacheOf sheet) runs) → IsCached names w runs
 cached_opening names plan w runs count is named each few opening =
@@ -168,7 +168,7 @@ abbrev pub laboratory_with : List (List ℕ) → List (List ℕ) → World → L
 laboratory_with names messages w = record { replica_names = names; message_names = messages; world = w }
 
 module _ (names messages : List (List ℕ)) (w : World) (runs : List QueryCache) (lab : Laboratory) (view_is : laboratory_with names messages w ≡ lab) (kept : IsCached names w runs) where
-  -- a number below the number of names is that of a cache
+  -- each number below the number of names is the number of a cache
   pub run_below : (r : ℕ) → r < length lab.replica_names → r < length runs
   run_below r below =
       let same : length names ≡ length lab.replica_names = ap (λ (l : Laboratory). length l.replica_names) view_is in omega (arith, same, kept.each, below)

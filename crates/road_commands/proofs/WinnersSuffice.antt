@@ -1,5 +1,5 @@
 -- The winners suffice: the laboratory whose replicas and messages have only the winners answers every command as the
--- laboratory does. Afterwards it is again the laboratory of winners.
+-- whole laboratory does. Afterwards it is again the whole laboratory's laboratory of winners.
 use Rattle.std.proofs.Common.{◌≡◌, ℕ, List, ◌∷◌, [], ◌++◌, length, map, Option, Some, None, refl, ap, ◌∙◌}
 use Rattle.std.specs.Prelude.{suc, ◌-◌}
 use Rattle.std.specs.List.{range_with_len, slice_get}
@@ -57,21 +57,21 @@ alike a b names messages v w e f =
     ap (λ (x : Answer). outcome_with x names messages (world_of_winners v)) e
     ∙ ap (outcome_with b names messages) f
 
--- so are queries with the same answer
+-- outcomes of queries are alike if they have the same answer
 shown_alike : (lab : Laboratory) (a b : Answer) → a ≡ b → Alike (query_outcome (laboratory_of_winners lab) a) (query_outcome lab b)
 shown_alike lab a b e = alike a b lab.replica_names lab.message_names _ _ e (world-again lab.world)
 
--- and outcomes under the same refusal
+-- alike outcomes stay alike under the same refusal
 unless_alike : (lab : Laboratory) (r : Option Refusal) (o p : Outcome) → Alike o p → Alike (outcome_unless (laboratory_of_winners lab) r o) (outcome_unless lab r p)
 unless_alike lab (Some refusal) o p e = shown_alike lab (replies.Refused refusal) (replies.Refused refusal) refl
 unless_alike lab None o p e = e
 
--- or under two refusals that are equal
+-- and under two refusals that are equal
 under_alike : (lab : Laboratory) (r s : Option Refusal) (o p : Outcome) → r ≡ s → Alike o p → Alike (outcome_unless (laboratory_of_winners lab) r o) (outcome_unless lab s p)
 under_alike lab r s o p e f =
     ap (λ (q : Option Refusal). outcome_of_winners (outcome_unless (laboratory_of_winners lab) q o)) e ∙ unless_alike lab s o p f
 
--- and outcomes by one number
+-- outcomes for the same number are alike if they are alike for each number
 with_alike : (lab : Laboratory) (refusal : Refusal) (o : Option ℕ) (f g : ℕ → Outcome) → ((n : ℕ) → Alike (f n) (g n))
     → Alike (outcome_by_number (laboratory_of_winners lab) refusal o f) (outcome_by_number lab refusal o g)
 with_alike lab refusal None f g e = shown_alike lab (replies.Refused refusal) (replies.Refused refusal) refl
@@ -79,13 +79,13 @@ with_alike lab refusal (Some n) f g e = e n
 
 -- ---- changes
 
--- an event, if its answers are the same
+-- the outcomes of an event are alike if their answers are the same
 changed_alike : (lab : Laboratory) (e : Event) (a b : Answer) → a ≡ b → Alike (change_outcome (laboratory_of_winners lab) e a) (change_outcome lab e b)
 changed_alike lab e a b same =
     under_alike lab _ _ _ _ (ap (option_and_then world_refusal) (fault_at-of_winners e lab.world))
     (alike a b lab.replica_names lab.message_names _ _ same (event-of_winners e lab.world))
 
--- an event that makes a message
+-- the outcomes of an event that makes a message are alike if their answers are the same
 sent_alike : (lab : Laboratory) (e : Event) (name : List ℕ) (a b : Answer) → a ≡ b → Alike (message_outcome (laboratory_of_winners lab) e name a) (message_outcome lab e name b)
 sent_alike lab e name a b same =
     under_alike lab _ _ _ _ (ap (λ (f : Option WorldFault). option_or (option_and_then world_refusal f) (name_refusal lab name)) (fault_at-of_winners e lab.world))
@@ -98,11 +98,11 @@ reply_answer (world_replies.Touched step) = replies.Touched step
 reply_answer (world_replies.Message number) = Sent [] number
 reply_answer (world_replies.Horizon to) = replies.Horizon to
 
--- it is the same
+-- the world of winners gives the same answer to a change
 reply_alike : (e : Event) (w : World) → reply_answer (reply_to_event (world_of_winners w) e) ≡ reply_answer (reply_to_event w e)
 reply_alike e w = ap reply_answer (reply-of_winners e w)
 
--- edits from outside
+-- the outcomes of edits from outside are alike
 imported_alike : (lab : Laboratory) (r : ℕ) (es : List edit.Edit) → Alike (import_outcome (laboratory_of_winners lab) r es) (import_outcome lab r es)
 imported_alike lab r es =
     let one = winners_of_one_part (replica_at lab.world r).edits (from_list es) in
@@ -113,11 +113,11 @@ imported_alike lab r es =
 
 -- ---- queries
 
--- a sheet of the winners only
+-- the sheet that has only the winners of a sheet's edits
 abbrev sheet_of_winners : Sheet → Sheet
 sheet_of_winners s = record s { edits = winners s.edits }
 
--- a replica of a world of winners has it
+-- a replica of the world of winners has the sheet of winners
 sheet_is : (w : World) (r : ℕ) → sheet_at (world_of_winners w) r ≡ sheet_of_winners (sheet_at w r)
 sheet_is w r =
     ap (λ (x : WorldReplica). let s : Sheet = record { plan = w.plan; edits = x.edits; horizon = x.horizon } in s) (replica-of_winners w r)
@@ -146,18 +146,18 @@ query_alike s query =
     ap (λ (cause : Option ReplicaFault). answer_unless (option_and_then replica_refusal cause) (sheet_answer (sheet_of_winners s) query)) (fault_alike s query)
     ∙ ap (answer_unless (option_and_then replica_refusal (query_fault s query))) (answer_alike s query)
 
--- a function of a replica's sheet, if the winners suffice for it
+-- answers that are functions of a replica's sheet are alike, if the winners suffice for the function
 read_alike : (lab : Laboratory) (r : ℕ) (read : Sheet → Answer) → ((s : Sheet) → read (sheet_of_winners s) ≡ read s)
     → Alike (query_outcome (laboratory_of_winners lab) (read (sheet_at (laboratory_of_winners lab).world r))) (query_outcome lab (read (sheet_at lab.world r)))
 read_alike lab r read same = shown_alike lab _ _ (ap read (sheet_is lab.world r) ∙ same (sheet_at lab.world r))
 
 -- ---- crowds
 
--- a crowd depends only on the plan
+-- the outcomes of a crowd are alike, since they depend only on the plan
 crowd_alike : (lab : Laboratory) (shares : List (List edit.Edit)) (to : ℕ) → Alike (crowd_outcome (laboratory_of_winners lab) shares to) (crowd_outcome lab shares to)
 crowd_alike lab shares to = shown_alike lab _ _ refl
 
--- the crowd if there is one, and else the outcome of another command
+-- the outcomes of the crowd if there is one, and otherwise of another command, are alike
 by_crowd_alike : (lab : Laboratory) (crowd : Option (List (List edit.Edit) × ℕ)) (o p : Outcome) → Alike o p
     → Alike (option_map_or (λ c. crowd_outcome (laboratory_of_winners lab) c.0 c.1) crowd o) (option_map_or (λ c. crowd_outcome lab c.0 c.1) crowd p)
 by_crowd_alike lab None o p e = e
@@ -165,7 +165,7 @@ by_crowd_alike lab (Some crowd) o p e = crowd_alike lab crowd.0 crowd.1
 
 -- ---- commands
 
--- a command to a replica
+-- the outcomes of a command to a replica are alike,
 outcome_at_alike : (lab : Laboratory) (r : ℕ) (command : Command) → Alike (outcome_at (laboratory_of_winners lab) r command) (outcome_at lab r command)
 outcome_at_alike lab r (commands.Edit at object step number) = changed_alike lab (events.Edit r object step number) _ _ (reply_alike (events.Edit r object step number) lab.world)
 outcome_at_alike lab r (commands.Withdraw at object step) = changed_alike lab (events.Withdraw r object step) _ _ (reply_alike (events.Withdraw r object step) lab.world)
@@ -187,12 +187,12 @@ outcome_at_alike lab r (commands.Advance at to) = changed_alike lab (events.Adva
 outcome_at_alike lab r (commands.Ask at query) = read_alike lab r (λ s. query_answer s query) (λ s. query_alike s query)
 outcome_at_alike lab r (commands.Crowd shares to) = crowd_alike lab shares to
 
--- a command whose replica is looked up first
+-- of a command whose replica is looked up first,
 by_name_alike : (lab : Laboratory) (command : Command) → Alike (outcome_by_name (laboratory_of_winners lab) command) (outcome_by_name lab command)
 by_name_alike lab command =
     with_alike lab refusals.NoReplica (option_and_then (number_of lab.replica_names) (replica_name command)) _ _ (λ r. outcome_at_alike lab r command)
 
--- every command
+-- and of every command
 pub winners_suffice : (lab : Laboratory) (command : Command) → outcome_of_winners (outcome (laboratory_of_winners lab) command) ≡ outcome_of_winners (outcome lab command)
 winners_suffice lab command = by_crowd_alike lab (crowd_of command) _ _ (by_name_alike lab command)
 

@@ -45,8 +45,8 @@ use Rattle.road_format.specs.Replies.{Answer, Counted, Delta, Horizon, Refused, 
 use Rattle.road_format.specs.declared.refusal.Refusal.{Refusal}
 use Rattle.road_format.specs.declared.refusal.Refusal.TheVariants as refusals
 
--- the names of the replicas, in the order of their numbers; those of the messages, in the order in which they were
--- made; and their world
+-- the names of the replicas, in the order of their numbers; the names of the messages, in the order in which they were
+-- made; and the world of these replicas and messages
 pub record Laboratory : Type 0 where
   pub replica_names : List (List ℕ)
   pub message_names : List (List ℕ)
@@ -75,12 +75,12 @@ pub record Outcome : Type 0 where
 abbrev pub refusal_outcome : Laboratory → Refusal → Outcome
 refusal_outcome lab refusal = record { answer = Refused refusal; after = lab }
 
--- the refusal if there is one, and else the given outcome
+-- the outcome of the refusal, if there is one, otherwise the given outcome
 abbrev pub outcome_unless : Laboratory → Option Refusal → Outcome → Outcome
 outcome_unless lab (Some refusal) outcome = refusal_outcome lab refusal
 outcome_unless lab None outcome = outcome
 
--- the answer to a replica's refusal; lost workers and out of memory have none
+-- the answer to a replica's refusal; `WorkersGone` and `OutOfMemory` have none
 abbrev pub replica_refusal : ReplicaFault → Option Refusal
 replica_refusal replica_faults.NoObject = Some refusals.NoObject
 replica_refusal replica_faults.Step = Some refusals.Step
@@ -103,22 +103,22 @@ world_refusal (world_faults.Replica fault) = replica_refusal fault
 
 -- ---- names
 
--- the number of the thing with a name: the name's place in the list
+-- the number of the replica or message with this name: its place in the list
 abbrev pub number_of : List (List ℕ) → List ℕ → Option ℕ
 number_of names name = position (bytes_eq name) names
 
--- the outcome for a number, if there is one, and else the refusal
+-- the outcome for the number, if there is one, otherwise that of the refusal
 abbrev pub outcome_by_number : Laboratory → Refusal → Option ℕ → (ℕ → Outcome) → Outcome
 outcome_by_number lab refusal None next = refusal_outcome lab refusal
 outcome_by_number lab refusal (Some number) next = next number
 
--- the refusal of a name for a new message: no two messages have the same name
+-- the refusal of a name for a new message, if another message has it
 abbrev pub name_refusal : Laboratory → List ℕ → Option Refusal
 name_refusal lab name = if is_some (number_of lab.message_names name) then Some refusals.NameTaken else None
 
 -- ---- changes
 
--- the edits that replica r holds, as far as they are winners
+-- the winners of the edits that replica r holds
 abbrev pub edits_held : World → ℕ → Edits
 edits_held w r = winners (replica_at w r).edits
 
@@ -142,16 +142,16 @@ message_outcome lab event name answer =
       };
     })
 
--- the stamp of the edit that replica r makes
+-- the answer to an edit that replica r makes: its stamp
 abbrev pub stamp_answer : World → ℕ → Object → ℕ → Value → Answer
 stamp_answer w r object step value = Stamped (local_edit r (replica_at w r).edits object step value).stamp
 
--- the first step that edits touch when they reach replica r
+-- the answer to edits that reach replica r: the first step that they touch
 abbrev pub touched_answer : World → ℕ → Edits → Answer
 touched_answer w r edits = Touched (first_touched_step (replica_at w r).edits (union (replica_at w r).edits edits))
 
--- Edits reach replica r from outside, unless it refuses them. It is the outcome of the event `Import`. That event owns
--- a list of the program, which a definition cannot make, so the event is not named here.
+-- Edits reach replica r from outside, unless it refuses them. This is the outcome of the event `Import`. The event is
+-- not named here, because it owns a list of the program, which a definition cannot make.
 abbrev pub import_outcome : Laboratory → ℕ → List edit.Edit → Outcome
 import_outcome lab r edits =
     outcome_unless lab (option_and_then replica_refusal (import_fault lab.world.plan edits)) (record {
@@ -184,12 +184,12 @@ take_outcome lab r name =
 
 -- ---- queries: they change nothing
 
--- the refusal if there is one, and else the answer
+-- the refusal if there is one, and otherwise the answer
 abbrev pub answer_unless : Option Refusal → Answer → Answer
 answer_unless (Some refusal) answer = Refused refusal
 answer_unless None answer = answer
 
--- the cars of a road: number, cell, speed, in rising cells
+-- the cars of a road (number, cell, speed), sorted by cell
 abbrev pub cars_of_state : Array → List (ℕ × ℕ × ℕ)
 cars_of_state road = map (λ car. (car.number, car.cell, car.speed)) (cars_of road)
 
@@ -197,7 +197,7 @@ cars_of_state road = map (λ car. (car.number, car.cell, car.speed)) (cars_of ro
 abbrev pub totals_answer : Totals → Answer
 totals_answer totals = Counted totals.cars totals.speeds
 
--- why a sheet refuses a query, if it does
+-- why a sheet refuses a query, if it refuses it
 abbrev pub query_fault : Sheet → Query → Option ReplicaFault
 query_fault sheet (commands.Cells step) = state_fault sheet step
 query_fault sheet (commands.Cars step) = state_fault sheet step
@@ -213,18 +213,18 @@ sheet_answer sheet (commands.Count detector from to) = totals_answer (total_of s
 sheet_answer sheet (commands.Diagram from to) = replies.Rows (rows_of sheet from to)
 sheet_answer sheet commands.Scenario = replies.Edits (items (winners sheet.edits))
 
--- the answer to a query, by the replica's sheet: the refusal if there is a cause
+-- the answer of a sheet to a query, which may be a refusal
 abbrev pub query_answer : Sheet → Query → Answer
 query_answer sheet query =
     answer_unless (option_and_then replica_refusal (query_fault sheet query)) (sheet_answer sheet query)
 
--- a query is answered
+-- the outcome of a query: it changes nothing
 abbrev pub query_outcome : Laboratory → Answer → Outcome
 query_outcome lab answer = record { answer = answer; after = lab }
 
 -- ---- crowds: they use no replica, and change nothing
 
--- Why a crowd is refused: a replica would refuse its first faulty edit, in the order of the shares, or else its step.
+-- Why a crowd is refused: for its first edit, in the order of the shares, that a replica would refuse, or for its step.
 abbrev pub crowd_refusal : Plan → List (List edit.Edit) → ℕ → Option Refusal
 crowd_refusal plan shares to = option_and_then replica_refusal (shares_fault plan shares to)
 
@@ -282,12 +282,12 @@ answer_to lab command = (outcome lab command).answer
 abbrev pub laboratory_after : Laboratory → Command → Laboratory
 laboratory_after lab command = (outcome lab command).after
 
--- whether a command is a crowd that nothing refuses, so that sessions run on their own threads
+-- whether a command is a crowd that is not refused: its sessions then run on threads of their own
 abbrev pub is_gathered : Plan → Command → Bool
 is_gathered plan command =
     option_map_or (λ crowd. is_none (crowd_refusal plan crowd.0 crowd.1)) (crowd_of command) false
 
--- how often a crew has returned `WorkersGone`, after an answer to a command; a crowd that is gathered uses no crew
+-- how often a crew has returned `WorkersGone`, after the result of a command; a crowd that is gathered uses no crew
 abbrev pub gone_after_command : {A : Type 0} → Result A CrewFault → Bool → ℕ → ℕ
 gone_after_command (Ok answer) gathered n = n
 gone_after_command (Err crew_faults.OutOfMemory) gathered n = n

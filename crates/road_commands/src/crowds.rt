@@ -11,7 +11,7 @@ use road_plan::Plan;
 use road_replica::shares_fault;
 use road_scenario::Edit;
 
-// Return why a crowd is refused, if it is. If it is not refused, no cause applies to it.
+// Return why a crowd is refused, or None if no cause applies to it.
 pub(crate) fn crowd_refusal(plan: &Plan, shares: &[Vec<Edit>], to: u32) -> Option<Refusal>
     ensures refusal { result ≡ laboratory.crowd_refusal plan.now (shares_view shares.now) to }
     ensures accepted { IfNone result (shares_fault plan.now (shares_of shares.now) to ≡ None) }

@@ -45,7 +45,7 @@ use std::hash::BuildHasher;
 use std::marker::Model;
 use std::sync::Arc;
 
-/// The names of the replicas and the messages of a world, their world, and a cache of each replica's queries.
+/// A world, the names of its replicas and messages, and for each replica a cache of its queries.
 #[derive(Drop)]
 pub struct Laboratory<S: BuildHasher> {
     replicas: Names<S>,
@@ -76,7 +76,7 @@ impl<S: BuildHasher> Model for Laboratory<S> {
 
 impl<S: BuildHasher + Copy> Laboratory<S> {
     /// Open the laboratory of a plan line, before any command. No step is simulated. The line must have at most 64
-    /// names, all different, as every line that `read_plan` accepts.
+    /// names, all different, as has every line that `read_plan` accepts.
     ///
     /// # Errors
     ///
@@ -100,14 +100,14 @@ impl<S: BuildHasher + Copy> Laboratory<S> {
         })
     }
 
-    /// Answer a command. Before a write returns, it recomputes every simulated step that it touches, with the crew that
-    /// it is given. A crowd must have 1 to 8 shares of at most 1,000,000 writes. It is passed to `crowds` if nothing
-    /// refuses it. A refused command changes nothing, and neither does a crowd.
+    /// Answer a command. If the command writes, the crew recomputes every simulated step that the write touches, before
+    /// the call returns. A crowd must have 1 to 8 shares, with at most 1,000,000 writes together. If it is not refused,
+    /// it is passed to `crowds`. A refused command changes nothing, and neither does a crowd.
     ///
     /// # Errors
     ///
-    /// `WorkersGone` if the crew returned it, or if `crowds` did for a crowd that nothing refuses. `OutOfMemory` if an
-    /// allocation failed, or `crowds` returned it. The laboratory is then unchanged.
+    /// `WorkersGone` if the crew returned it, or if `crowds` returned it for a crowd that is not refused. `OutOfMemory`
+    /// if an allocation failed, or `crowds` returned it. The laboratory is then unchanged.
     pub fn answer<C: Crew, K: Crowds>(
         &mut self,
         alloc: Global,
@@ -159,7 +159,7 @@ impl<S: BuildHasher + Copy> Laboratory<S> {
         })
     }
 
-    // Answer a command, after looking up its replica. A crowd names no replica and has its own.
+    // Answer a command, after looking up its replica. A crowd names no replica: it has a road of its own.
     fn answer_by_name<C: Crew, K: Crowds>(
         &mut self,
         alloc: Global,
@@ -181,7 +181,7 @@ impl<S: BuildHasher + Copy> Laboratory<S> {
         self.answer_at(alloc, at, command, crew, crowds)
     }
 
-    // Return the number of a replica's name.
+    // Return the number of the replica with this name.
     fn replica_of(&self, name: &str) -> Option<u32>
         ensures number { result ≡ number_of self.now.replica_names name.now }
         ensures within { IfSome result (λ at. at < length self.now.replica_names) }
@@ -191,7 +191,7 @@ impl<S: BuildHasher + Copy> Laboratory<S> {
         Some(number as u32)
     }
 
-    // Answer a command to a replica. For a crowd it does not matter which replica it is.
+    // Answer a command at replica `at`. For a crowd, `at` has no effect.
     fn answer_at<C: Crew, K: Crowds>(
         &mut self,
         alloc: Global,
@@ -236,7 +236,7 @@ impl<S: BuildHasher + Copy> Laboratory<S> {
         }
     }
 
-    // Answer a command that is a query from its replica's sheet. No crew is needed.
+    // Answer a query from the sheet of its replica. No crew is needed.
     fn ask(&mut self, alloc: Global, at: u32, command: &Command) -> Result<Answer, CrewFault>
         requires there { at < length self.old.replica_names }
         requires query { IsSome (query_of (command_view command.now)) }
@@ -274,7 +274,7 @@ impl<S: BuildHasher + Copy> Laboratory<S> {
         }
     }
 
-    // Return the number of a message's name.
+    // Return the number of the message with this name.
     fn message_of(&self, name: &str) -> Option<u64>
         ensures number { result ≡ number_of self.now.message_names name.now }
         ensures winners { laboratory_of_winners self.now ≡ self.now }
@@ -321,7 +321,7 @@ impl<S: BuildHasher + Copy> Laboratory<S> {
         }
     }
 
-    // Make a message of a replica, and name it.
+    // Let a replica make a message, post it, and give it this name.
     fn make(
         &mut self,
         alloc: Global,
@@ -346,7 +346,7 @@ impl<S: BuildHasher + Copy> Laboratory<S> {
         Ok(answer)
     }
 
-    // Make a message of an existing replica.
+    // Let an existing replica make a message. It is not posted yet.
     fn make_message(&self, alloc: Global, at: u32, sending: Sending) -> Result<Message, WorldFault>
         requires there { at < length self.now.replica_names }
         ensures made { IsMade self.now.world (sending_event at sending) result }
@@ -358,7 +358,7 @@ impl<S: BuildHasher + Copy> Laboratory<S> {
         self.world.message_by(alloc, at, sending)
     }
 
-    // Apply an event whose message is already made, and name that message. No message may have the name yet.
+    // Apply an event whose message is already made, and give the message this name. No message may have the name yet.
     fn post(&mut self, event: &Event, message: Message, name: String) -> Result<(), OutOfMemory>
         requires accepted { fault_of_event self.old.world event.now ≡ None }
         requires made { message_of_event self.old.world event.now ≡ Some message }
@@ -380,7 +380,7 @@ impl<S: BuildHasher + Copy> Laboratory<S> {
         }
     }
 
-    // Apply an event to the world. If it may change its replica's edits, the replica gets a new cache.
+    // Apply an event to the world. If it may change its replica's edits, the replica's cache starts again.
     fn apply<C: Crew>(
         &mut self,
         alloc: Global,
@@ -404,7 +404,7 @@ impl<S: BuildHasher + Copy> Laboratory<S> {
     }
 }
 
-// Make the caches of replicas before any command.
+// Make a cache for each replica, before any command.
 fn opening_caches(alloc: Global, count: usize) -> Result<Vec<QueryCache>, OutOfMemory>
     ensures each { IfOk result (λ caches. length caches.items ≡ count) }
     ensures cached { IfOk result (λ caches. (sheet : Sheet) → All (IsCacheOf sheet) caches.items) }

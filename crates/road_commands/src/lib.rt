@@ -1,4 +1,4 @@
-//! Laboratories: worlds whose replicas and messages have names, and that answer commands.
+//! Laboratories. A laboratory is a world whose replicas and messages have names, and it answers commands.
 //!
 //! ```
 //! // The laboratory of a plan line. A command is read, answered by a crew (or by sessions on threads if it is a

@@ -13,8 +13,8 @@ use std::alloc::Global;
 use std::hash::BuildHasher;
 use std::marker::Model;
 
-/// Different names, numbered from 0 in their order. Contracts see the list of their texts. Each is stored once, and
-/// found by its hash, which an `S` makes. If the keys of the hashes are random, nobody can craft names with equal
+/// Different names, numbered from 0 in their order. Contracts see the list of their texts. Each name is stored once,
+/// and found by its hash, which an `S` makes. If the keys of the hashes are random, nobody can craft names with equal
 /// hashes.
 #[derive(Drop)]
 pub struct Names<S: BuildHasher> {
@@ -31,7 +31,7 @@ impl<S: BuildHasher> Model for Names<S> {
 }
 
 impl<S: BuildHasher + Drop> Names<S> {
-    /// Make the empty list of names, whose hashes this hasher will make. It takes no memory.
+    /// Make an empty list of names that hashes with `hasher`. It does not allocate.
     pub fn empty(alloc: Global, hasher: S) -> Names<S>
         ensures { result ≡ [] }
     {
@@ -40,7 +40,7 @@ impl<S: BuildHasher + Drop> Names<S> {
         }
     }
 
-    /// Number these names. They must all be different.
+    /// Make the list of these names, numbered in this order. They must all be different.
     ///
     /// # Errors
     ///
@@ -63,7 +63,7 @@ impl<S: BuildHasher + Drop> Names<S> {
         self.numbered.len()
     }
 
-    /// Return the number of a name.
+    /// Return the number of a name, or None if the name is not in the list.
     pub fn number_of(&self, name: &str) -> Option<usize>
         ensures number { result ≡ number_of self.now name.now }
         ensures within { IfSome result (λ number. number < length self.now) }
@@ -71,7 +71,7 @@ impl<S: BuildHasher + Drop> Names<S> {
         self.numbered.get_index_of(name)
     }
 
-    /// Add a name at the end. It must be new.
+    /// Add a name at the end. It must not be in the list yet.
     ///
     /// # Errors
     ///
@@ -85,7 +85,7 @@ impl<S: BuildHasher + Drop> Names<S> {
         Ok(())
     }
 
-    /// Remove the last names, and keep the first `count`.
+    /// Remove the last name. `count` must be the number of names that remain.
     pub fn truncate(&mut self, count: usize)
         requires { length self.old ≡ count + 1 }
         ensures { self.new ≡ take count self.old }

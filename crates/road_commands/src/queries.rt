@@ -12,7 +12,7 @@ use road_replica::ReplicaFault;
 use road_sheet::{QueryCache, Sheet};
 use std::alloc::Global;
 
-// Answer a command that is a query from a replica's sheet, through the sheet's cache.
+// Answer a query from a replica's sheet, through the sheet's cache. The command must be a query.
 pub(crate) fn ask_sheet(
     alloc: Global,
     sheet: &Sheet,

@@ -1,4 +1,4 @@
-//! Translation of the world's replies and faults to the program's.
+//! Translation of the world's replies and faults to the answers and faults of the program.
 
 ghost use Rattle.std.specs.Prelude.{◌≡◌, IfErr, IfOk, Some, false, string_bytes};
 ghost use Rattle.std.specs.Result.{result_ok};
@@ -33,7 +33,7 @@ pub(crate) fn keeps_edits(event: &Event) -> bool
     }
 }
 
-// Translate the world's reply to a change that makes no message.
+// Translate the world's reply to an event that makes no message.
 pub(crate) fn answer_of(reply: Reply) -> Answer
     requires { changes.names_message reply ≡ false }
     ensures { answer_view result ≡ changes.reply_answer reply }
@@ -46,7 +46,7 @@ pub(crate) fn answer_of(reply: Reply) -> Answer
     }
 }
 
-// Translate a refusal of the world to its answer, or to the fault if it has no answer.
+// Translate a refusal of the world to its answer, or to a crew's fault if it has no answer.
 pub(crate) fn answer_of_fault(fault: WorldFault) -> Result<Answer, CrewFault>
     ensures answered { changes.AnswersRefusal (laboratory.world_refusal fault) result }
     ensures lost { IfErr result (λ lost. fault ≡ world_faults.Replica (growth_fault lost)) }
@@ -58,7 +58,7 @@ pub(crate) fn answer_of_fault(fault: WorldFault) -> Result<Answer, CrewFault>
     }
 }
 
-// Translate a refusal of a replica to its answer, or to the fault if it has no answer.
+// Translate a refusal of a replica to its answer, or to a crew's fault if it has no answer.
 pub(crate) fn answer_of_replica_fault(fault: ReplicaFault) -> Result<Answer, CrewFault>
     ensures answered { changes.AnswersRefusal (laboratory.replica_refusal fault) result }
     ensures lost { IfErr result (λ lost. fault ≡ growth_fault lost) }
@@ -69,7 +69,7 @@ pub(crate) fn answer_of_replica_fault(fault: ReplicaFault) -> Result<Answer, Cre
     }
 }
 
-// Translate a refusal of a replica. A lost worker and out of memory have no answer.
+// Translate a refusal of a replica. `WorkersGone` and `OutOfMemory` have no answer.
 pub(crate) fn replica_refusal(fault: ReplicaFault) -> Result<Refusal, CrewFault>
     ensures refusal { result_ok result ≡ laboratory.replica_refusal fault }
     ensures lost { IfErr result (λ lost. fault ≡ growth_fault lost) }
@@ -90,7 +90,7 @@ pub(crate) fn replica_refusal(fault: ReplicaFault) -> Result<Refusal, CrewFault>
     }
 }
 
-// Make the answer for a message of this name, from what the message carries.
+// Make the answer for a message with this name, from what the message carries.
 pub(crate) fn answer_of_message(
     alloc: Global,
     message: &Message,

@@ -28,7 +28,7 @@ use Rattle.road_crowd.specs.Private.Works.{AreAccepted, IsAccepted, IsFullOrNoMe
 
 -- ---- a write without a named cause
 
--- the crew would have counted a `WorkersGone`, so the refusal is another one
+-- the crew would have counted a refusal as `WorkersGone`, so the refusal is a different one
 gone_is_counted : (fault : WriteFault) → 0 ≡ gone_after_fault fault 0 → fault ≡ OfReplica causes.WorkersGone → IsFullOrNoMemory fault
 gone_is_counted fault same is =
     let counted : 0 ≡ gone_after_fault (OfReplica causes.WorkersGone) 0 = subst (λ (f : WriteFault). 0 ≡ gone_after_fault f 0) is same in

@@ -25,7 +25,7 @@ works_last n (first ∷ shares) share to =
     ap (λ (works : List (ℕ × List Entry)). (n, share_entries n first to) ∷ works)
     (works_last (n + 1) shares share to ∙ ap (λ (k : ℕ). works_from (n + 1) shares to ++ (k, share_entries k share to) ∷ []) (omega arith))
 
--- if the last session has made its writes too, all sessions have
+-- if the last session has also made its writes, all sessions have made theirs
 pub all_with_last : (after : List Session) (last : Session) (n : ℕ) (others : List (List Edit)) (share : List Edit) (to : ℕ) → map work_of after ≡ works_from 0 others to
     → n ≡ length others → work_of last ≡ (n, share_entries n share to) → map work_of (after ++ last ∷ []) ≡ works_from 0 (others ++ share ∷ []) to
 all_with_last after last n others share to before at work =

@@ -111,7 +111,7 @@ fn start<
 // Let the sessions write, one for each share, each on a thread of its own. The thread of the last session is started
 // first and joined last. So all threads run before one is joined, and the sessions come back in their order. The
 // caller's handle of the group `taking` is dropped once all threads have started or one cannot be started. No session
-// advances before.
+// advances before that.
 fn run_sessions<
     's,
     J: Naming + Send + Sync + 's,

@@ -108,7 +108,7 @@ not_less Less = refl
 not_less Equal = refl
 not_less Greater = refl
 
--- the derived test that a stamp is at most another is that the first is not greater
+-- the derived test that a stamp is at most another says that it is not greater
 pub not_above : (s t : Stamp) → partial_le derived_stamp.ghosts.partial_cmp s t ≡ not (is_lt (number_pair_cmp (stamp_key t) (stamp_key s)))
 not_above s t =
     ap (is_some_and is_le) (Some-then (nat_cmp s.count t.count) (nat_cmp s.number t.number))

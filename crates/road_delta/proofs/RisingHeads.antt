@@ -23,8 +23,7 @@ head_cmp g h = number_triple_cmp (head_place g) (head_place h)
 
 -- ---- heads of winners
 
--- if the results of two comparisons together say less, and not because they are equal and then less, the first says
--- less
+-- of two comparisons, one after the other, the first decides unless it finds the values equal
 by_first : (p q : Ordering) → T (is_lt (ordering_then p q)) → (is_eq p && is_lt q) ≡ false → T (is_lt p)
 by_first Less q h none = tt
 by_first Equal q h none = subst T none h

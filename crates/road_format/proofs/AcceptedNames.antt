@@ -1,4 +1,4 @@
--- The names of replicas, and facts about those that pass their check.
+-- The names of replicas, and facts about names that pass the check.
 use Rattle.std.proofs.Common.{◌≡◌, ◌≤◌, ◌==◌, ◌&&◌, List, ◌∷◌, Bool, true, false, not, cond, suc, length, refl, arith, string_bytes, String, nat_lt}
 use Rattle.std.specs.declared.alloc.Global.{Global}
 use Rattle.std.specs.List.{list_any, IsDistinct}
@@ -13,7 +13,7 @@ use Rattle.road_plan.specs.declared.limits.TheConstants.{MOST_REPLICAS}
 use Rattle.road_format.specs.PlanGrammar.{are_names}
 use Rattle.road_format.specs.Views.{texts}
 
--- one more is one more different one if it is not among the others
+-- one more element makes one more different element if it is not among the others
 one_more : {X : Type 0} (among : Bool) (x : X) (unique others : List X) → length unique ≤ length others
     → (length (cond among unique (x ∷ unique)) == suc (length others)) ≡ (not among && (length unique == length others))
 one_more true x unique others few = grind (arith, nat_tests)

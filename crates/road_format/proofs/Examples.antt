@@ -103,7 +103,7 @@ an_import : command_of (codes "{\"import\":{\"at\":\"A\",\"edits\":[[\"limit\",0
 unfolding road_format_on_literals
 an_import = refl
 
--- null is a withdrawal; the count is the greatest of 64 bits, the number the greatest of 16
+-- null is a withdrawal; the count is the largest number of 64 bits, and the number the largest of 16
 an_import_of_a_withdrawal : command_of (codes "{\"import\":{\"form\":1,\"edits\":[[\"block\",8,4,18446744073709551615,65535,null]],\"at\":\"A\"}}")
     ≡ Ok (Import (codes "A") (record { object = Block 8; step = 4; stamp = record { count = 18446744073709551615; number = 65535 }; value = Withdrawn } ∷ []))
 unfolding road_format_on_literals

@@ -46,7 +46,7 @@ checked false = tt
 
 -- ---- items
 
--- a member has no more items than the object
+-- whichever of three values is chosen has at most n items, if each of them has
 one_of : (o : Ordering) (n : ℕ) (a b c : Option Data) → AtMost data_items n a → AtMost data_items n b → AtMost data_items n c → AtMost data_items n (match_ordering o a b c)
 one_of Less n a b c p q r = p
 one_of Equal n a b c p q r = q
@@ -103,7 +103,7 @@ each_read read_one values.no_items = omega arith
 each_read read_one (values.item d ds) =
     anyway _ (read_one d) _ (λ x. then_holds (λ xs. length xs ≤ items_within ds) _ (values_of_items read_one ds) _ (each_read read_one ds) (λ xs some. omega (arith, some)))
 
--- what is at most one number is at most a greater one
+-- a list whose length is at most one number has a length of at most a larger number
 longer : {A : Type 0} (m n : ℕ) → m ≤ n → (o : Option (List A)) → IfSome o (λ xs. length xs ≤ m) → IfSome o (λ xs. length xs ≤ n)
 longer m n less None x = tt
 longer m n less (Some xs) x = omega (arith, less, x)
@@ -113,7 +113,7 @@ share_items d =
     then_holds (λ ds. items_within ds ≤ data_items d) (λ (share : List Edit). length share ≤ data_items d) (as_array d) (values_of_items edit_in) (array_items d)
     (λ ds least. longer (items_within ds) (data_items d) least (values_of_items edit_in ds) (each_read edit_in ds))
 
--- one more share makes a write for each edit, and one more
+-- one more share makes one write for each of its edits, and one more write
 one_share_more : (share : List Edit) (shares : List (List Edit)) → share_writes (share ∷ shares) ≡ suc (length share + share_writes shares)
 one_share_more share shares = let both = length-append share (flat_map (λ (s : List Edit). s) shares) in omega (arith, both)
 
@@ -141,7 +141,7 @@ items_least n (values.string s) least = tt
 items_least n (values.array ds) least = least
 items_least n (values.object ms) least = tt
 
--- a command, if one is read, has few writes
+-- if a command is read, it has few writes
 record Few (n : ℕ) (read : Option Command) : Type 0 where
   few : IfSome read (HasFewWrites n)
 
@@ -258,7 +258,7 @@ pub line_few : (line : List ℕ) (d : Data) (result : Result declared.Command Li
 line_few line d (Err fault) is given = tt
 line_few line d (Ok command) is given = data_few (length line) (Some d) (command_view command) (subst (λ (o : Option Data). IfSome o (λ e. data_items e ≤ length line)) is (value_items line)) given
 
--- a command with few enough writes for one bound has few enough for a greater one
+-- a command with few enough writes for one bound has few enough for a larger bound
 pub few_within : (m n : ℕ) → m ≤ n → (c : Command) → HasFewWrites m c → HasFewWrites n c
 few_within m n less (grammar.Crowd shares to) few = (few.0, few.1, omega (arith, less, few.2))
 few_within m n less command few = tt

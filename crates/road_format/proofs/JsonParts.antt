@@ -18,12 +18,12 @@ pub item_count-items_view : (vs : List Value) → item_count (items_view vs) ≡
 item_count-items_view [] = refl
 item_count-items_view (v ∷ vs) = ap suc (item_count-items_view vs)
 
--- these, and then what was read
+-- these values, followed by what was read, if something was read
 abbrev pub with_front : {A : Type 0} → List A → Option (List A) → Option (List A)
 with_front front None = None
 with_front front (Some xs) = Some (front ++ xs)
 
--- a value read after those found
+-- one more value is found, or is the first of what is read later
 with_front-behind : {A : Type 0} (found : List A) (x : A) (later : Option (List A)) → with_front (found ++ x ∷ []) later ≡ with_front found (later >>= λ xs. Some (x ∷ xs))
 with_front-behind found x None = refl
 with_front-behind found x (Some xs) = ap Some (append_assoc found (x ∷ []) xs)

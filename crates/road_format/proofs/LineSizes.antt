@@ -12,7 +12,7 @@ use Rattle.serde_json.specs.Data.{Data, Items, Members, put}
 use Rattle.serde_json.specs.Data as values
 use Rattle.serde_json.specs.Read.{number_of, of_json, of_items, of_members, max_depth, read}
 
--- ---- a text has a byte for each lexeme, and so one for each token except one
+-- ---- a text has a byte for each lexeme, and thus a byte for each token except one
 
 short_byte : (m : Mode) (c : Class) (x : ℕ) (xs : List ℕ) (k : Mode → List Lexeme) → ((next : Mode) → length (k next) ≤ length xs) → length (lex_byte m c x xs k) ≤ suc (length xs)
 short_byte between quote x xs k short = omega (arith, short in_string)
@@ -93,7 +93,7 @@ abbrev mutual
   fields_items json.no_members = 0
   fields_items (json.member k j ms) = json_items j + fields_items ms
 
--- reading took at least this number of tokens, beside those for its items
+-- reading took at least n tokens, not counting those for the items
 abbrev Takes : {A : Type 0} → (A → ℕ) → ℕ → List Token → Option (A × List Token) → Type 0
 Takes f n ts None = ⊤
 Takes f n ts (Some p) = n + f p.0 + length p.1 ≤ length ts
@@ -107,7 +107,7 @@ fewer : {A : Type 0} (f : A → ℕ) (rs ts : List Token) → length rs ≤ leng
 fewer f rs ts less None took = tt
 fewer f rs ts less (Some p) took = omega (arith, less, took)
 
--- one more, and then the others
+-- one more value, and then the others
 then_more : {B : Type 0} (g : B → ℕ) (h : json.Json → B → B) → ((j : json.Json) (b : B) → g (h j b) ≤ suc (json_items j + g b)) → (more : Parse B) → ((ts : List Token) → Takes g 0 ts (more ts))
     → (ts : List Token) (o : Option (json.Json × List Token)) → Takes json_items 1 ts o → Takes g 0 ts (option_and_then (λ q. parse_map (h q.0) (more q.1)) o)
 then_more g h least more others ts None took = tt
@@ -164,7 +164,7 @@ value_takes (suc d) ts = one_takes (λ rs. items (value d) (length rs) rs) (λ r
 
 -- ---- the same for the content of the value
 
--- at most this number, if there is something
+-- at most n, if there is a value
 abbrev pub AtMost : {A : Type 0} → (A → ℕ) → ℕ → Option A → Type 0
 AtMost f n None = ⊤
 AtMost f n (Some a) = f a ≤ n

@@ -1,4 +1,4 @@
--- What a proof unfolds to compute the grammar of lines, and the texts of replies, on literals.
+-- The definitions that a proof unfolds to compute the grammar of lines, and the texts of replies, on literals.
 use Rattle.std.specs.Prelude.{⊤}
 use Rattle.std.specs.Str.{is_utf8, chars}
 use Rattle.std.specs.Fmt.{digits}

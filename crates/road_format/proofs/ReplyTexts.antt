@@ -12,7 +12,7 @@ use Rattle.road_format.specs.CutLaws.{HasNoNewline}
 use Rattle.road_format.specs.Replies.{data_of, reply}
 use Rattle.road_format.specs.RepliesLaws.{RepliesAreLines}
 
--- a text contains no newline. It does not unfold, so that the text is taken from the claim about it.
+-- a text contains no newline. This definition does not unfold, so that the text is taken from the claim about it.
 IsPlain : List ℕ → Type 0
 IsPlain text = HasNoNewline text
 
@@ -20,7 +20,7 @@ plain_cons : (x : ℕ) (xs : List ℕ) → x ≢ newline → IsPlain xs → IsPl
 unfolding IsPlain
 plain_cons x xs other plain = All-cons (λ byte. byte ≢ newline) x xs other plain
 
--- a byte that computes to something else than a newline, followed by a text
+-- a byte that does not compute to a newline, followed by a text without a newline
 behind : (x : ℕ) (xs : List ℕ) → (x == newline) ≡ false → IsPlain xs → IsPlain (x ∷ xs)
 behind x xs other = plain_cons x xs (eqb-false x newline other)
 
@@ -32,7 +32,7 @@ plain_nil : IsPlain []
 unfolding IsPlain
 plain_nil = All-nil (λ byte. byte ≢ newline)
 
--- a newline cuts off exactly the text before it
+-- a text without a newline, followed by a newline, is cut into this one line
 pieces_with_byte-plain : (x : ℕ) (xs : List ℕ) → x ≢ newline → pieces_with_byte x (xs ∷ [], []) ≡ ((x ∷ xs) ∷ [], [])
 pieces_with_byte-plain x xs other = rw (ne_eqb x newline other) refl
 
@@ -64,7 +64,7 @@ letter_at : (x y : ℕ) (q : Bool) → (q ≡ true → x ≢ newline) → y ≢ 
 letter_at x y true quoted other = quoted refl
 letter_at x y false quoted other = other
 
--- the letter of a short escape
+-- the letter of a short escape is not a newline
 letter_plain : (x : ℕ) → escape_letter x ≢ newline
 letter_plain x =
     letter_at x _ ((x == 34) || (x == 92)) (λ h. or_cases_of x (x == 34) (x == 92) refl refl h)

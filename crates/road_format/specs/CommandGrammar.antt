@@ -1,5 +1,5 @@
--- Which lines are commands. A command is an object of one field, the command's name, whose value is the object of its
--- fields: those of the command and, if it is a command at a replica, `at`, the replica's name.
+-- Which lines are commands. A command is an object of one field. The field's name is the command's name, and its value
+-- is an object of the command's fields. A command at a replica also has the field `at`, the replica's name.
 use Rattle.std.specs.Prelude.{◌+◌, ◌<◌, ◌≤◌, ℕ, List, length, codes, Bool, ◌&&◌, ◌||◌, nat_lt, nat_le}
 use Rattle.std.specs.Prelude.{if◌then◌else◌}
 use Rattle.std.specs.Prelude.{Option, Some, None, option_map, Result, Ok, Err}
@@ -109,7 +109,7 @@ scenario_in d = do
   exact ← check (has_fields 1 d)
   Some Scenario
 
--- the query of a name, with these fields
+-- the query that has this name and these fields
 unfoldable pub query_of_name : List ℕ → Data → Option Query
 query_of_name name d =
     if bytes_eq name (codes "cells") then option_map Cells (only_number (codes "step") d)
@@ -170,7 +170,7 @@ beyond_in at d = do
   name ← name_at (codes "name") d
   Some (Beyond at heads name)
 
--- the command of a name and a form at a replica, with these fields
+-- the command of this name, form and fields at a replica
 unfoldable pub command_at : List ℕ → ℕ → List ℕ → Data → Option Command
 command_at name form at d =
     if bytes_eq name (codes "import") then import_in form at d
@@ -186,7 +186,7 @@ command_at name form at d =
 abbrev pub are_few_shares : List (List edit.Edit) → Bool
 are_few_shares shares = nat_lt 0 (length shares) && nat_le (length shares) MOST_SESSIONS
 
--- the writes of shares: one for each edit, and an advance for each share
+-- the writes of shares: one for each edit, and one for each share's advance
 abbrev pub share_writes : List (List edit.Edit) → ℕ
 share_writes shares = length (flat_map (λ share. share) shares) + length shares
 
@@ -208,15 +208,15 @@ crowd_in form d = do
 
 -- ---- every command
 
--- whether the command of a name has the field `form`
+-- whether the command with this name has the field `form`
 abbrev pub has_form : List ℕ → Bool
 has_form name = bytes_eq name (codes "import") || bytes_eq name (codes "crowd")
 
--- the form of a command of a name: its `form` if the command has this field, and else the last form
+-- the form of the command with this name: its field `form` if the command has one, and otherwise the last form
 abbrev pub form_of_name : List ℕ → Data → Option ℕ
 form_of_name name d = if has_form name then long_number_at (codes "form") d else Some LAST_FORM
 
--- the command of a name and a form: a crowd, or a command at a replica
+-- the command of this name, form and fields: a crowd, or a command at a replica
 unfoldable pub command_of_name : List ℕ → ℕ → Data → Option Command
 command_of_name name form d =
     if bytes_eq name (codes "crowd") then crowd_in form d
@@ -234,8 +234,8 @@ command_in d = do
 abbrev pub command_of_form : ℕ × Command → Result Command Refusal
 command_of_form read = if is_known read.0 then Ok read.1 else Err UnknownForm
 
--- the command of a line, or its refusal: first a line that is not JSON, then a value that is not a command, then an
--- unknown form
+-- the command of a line, or its refusal. The causes in order: the line is not JSON, the value is not a command, the
+-- form is unknown.
 unfoldable pub command_of : List ℕ → Result Command Refusal
 command_of line =
     result_or_refusal NotJson (value_of line) (λ d. result_or_refusal NotACommand (command_in d) command_of_form)

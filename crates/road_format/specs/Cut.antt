@@ -14,7 +14,7 @@ abbrev pub pieces_with_byte_in_line : ℕ → List (List ℕ) → List ℕ → P
 pieces_with_byte_in_line x [] rest = ([], x ∷ rest)
 pieces_with_byte_in_line x (line ∷ lines) rest = ((x ∷ line) ∷ lines, rest)
 
--- the pieces after a byte is put in front: a newline is an empty line of its own
+-- the pieces after a byte is put in front: a newline makes an empty line
 abbrev pub pieces_with_byte : ℕ → Pieces → Pieces
 pieces_with_byte x pieces =
     if x == newline then ([] ∷ pieces.0, pieces.1) else pieces_with_byte_in_line x pieces.0 pieces.1

@@ -10,11 +10,11 @@ use Rattle.road_format.specs.Fields.{◌>>=◌, check, number_in, long_number_in
 use Rattle.road_format.specs.Fields.{values_of_items}
 use Rattle.road_format.specs.ObjectGrammar.{object_in_front}
 
--- the effect of an edit, from its value: null for a withdrawal, else the number that it sets
+-- the effect of an edit, from its value: null for a withdrawal, otherwise the number that it sets
 abbrev pub value_in : Data → Option Value
 value_in d = if is_some (as_null d) then Some Withdrawn else option_map Put (number_in d)
 
--- the stamp whose count, of at most 64 bits, and number, of at most 16, are the fourth and the fifth item of a list
+-- the stamp whose count (of at most 64 bits) and number (of at most 16) are the fourth and the fifth item of a list
 unfoldable pub stamp_in : Data → Option Stamp
 stamp_in d = do
   count ← at 3 d >>= long_number_in

@@ -5,13 +5,13 @@ use Rattle.serde_json.specs.Data.{Data, Items, no_items, item, Members, no_membe
 use Rattle.serde_json.specs.Find.{get, as_str, as_number, as_array, as_object, as_u64}
 use Rattle.road_format.specs.declared.names.TheConstants.{LONGEST_NAME}
 
--- two steps in turn: the result of the second for the result of the first, or nothing if one of them has none
+-- two steps in turn: the second step is given the result of the first; nothing if one of them has no result
 infixl 10 ◌>>=◌
 abbrev pub ◌>>=◌ : {A B : Type 0} → Option A → (A → Option B) → Option B
 None >>= f = None
 (Some x) >>= f = f x
 
--- a step that has a result only if this is true
+-- a step that has a result only if the test is true
 abbrev pub check : Bool → Option Bool
 check true = Some true
 check false = None
@@ -23,13 +23,13 @@ abbrev pub member_count : Members → ℕ
 member_count no_members = 0
 member_count (member name d fields) = suc (member_count fields)
 
--- whether there are fields, and this number of them
+-- whether there are fields, and their number is n
 abbrev pub has_members : ℕ → Option Members → Bool
 has_members n None = false
 has_members n (Some fields) = member_count fields == n
 
--- whether this is an object of this number of fields. With that many look-ups by different names it has exactly these
--- fields (`NoOtherField`).
+-- whether this is an object of this number of fields. If as many fields with different names are then found in it, it
+-- has exactly these fields (`NoOtherField`).
 abbrev pub has_fields : ℕ → Data → Bool
 has_fields n d = has_members n (as_object d)
 
@@ -49,7 +49,7 @@ only_field d = as_object d >>= only_member
 abbrev pub number_of_32_bits : ℕ → Option ℕ
 number_of_32_bits n = if nat_lt n (2 ^ 32) then Some n else None
 
--- a whole number of at most 64 bits, written without point and exponent
+-- a whole number of at most 64 bits, without a decimal point or exponent
 abbrev pub long_number_in : Data → Option ℕ
 long_number_in d = as_number d >>= as_u64
 
@@ -57,11 +57,11 @@ long_number_in d = as_number d >>= as_u64
 abbrev pub number_of_16_bits : ℕ → Option ℕ
 number_of_16_bits n = if nat_lt n (2 ^ 16) then Some n else None
 
--- a whole number of at most 16 bits, written without point and exponent
+-- a whole number of at most 16 bits, without a decimal point or exponent
 abbrev pub short_number_in : Data → Option ℕ
 short_number_in d = long_number_in d >>= number_of_16_bits
 
--- a whole number of at most 32 bits, written without point and exponent
+-- a whole number of at most 32 bits, without a decimal point or exponent
 abbrev pub number_in : Data → Option ℕ
 number_in d = long_number_in d >>= number_of_32_bits
 
@@ -94,7 +94,7 @@ abbrev pub item_count : Items → ℕ
 item_count no_items = 0
 item_count (item d ds) = suc (item_count ds)
 
--- whether there are items, and this number of them
+-- whether there are items, and their number is n
 abbrev pub has_count : ℕ → Option Items → Bool
 has_count n None = false
 has_count n (Some ds) = item_count ds == n
@@ -116,7 +116,7 @@ items_at field d = get field d >>= as_array
 abbrev pub list_at : {A : Type 0} → (Data → Option A) → List ℕ → Data → Option (List A)
 list_at read field d = items_at field d >>= values_of_items read
 
--- the two items of a list of exactly two
+-- the items of a list that has exactly two
 abbrev pub two_items : Items → Option (Data × Data)
 two_items no_items = None
 two_items (item a no_items) = None

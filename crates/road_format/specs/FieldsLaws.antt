@@ -1,4 +1,4 @@
--- A law of the fields of an object: counting and finding them shows that it has exactly these.
+-- A law of the fields of an object: if they are counted and each one is found, the object has no other field.
 use Rattle.std.specs.Prelude.{◌≡◌, ◌≢◌, ℕ, List, [], ◌∷◌, true, length, None}
 use Rattle.std.specs.List.{IsDistinct}
 use Rattle.std.specs.Set.{is_member}

@@ -44,6 +44,6 @@ object_from both = as_str both.0 >>= λ kind. number_in both.1 >>= λ index. obj
 abbrev pub object_at : List ℕ → Data → Option Object
 object_at field d = items_at field d >>= two_items >>= object_from
 
--- the object whose kind's name and index are a list's first two items
+-- the object whose kind's name and index are the first two items of a list
 abbrev pub object_in_front : Data → Option Object
 object_in_front d = at 0 d >>= as_str >>= λ kind. at 1 d >>= number_in >>= λ index. object_of kind index

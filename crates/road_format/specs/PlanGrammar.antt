@@ -25,11 +25,11 @@ pub record PlanLine : Type 0 where
 
 -- ---- where the words come from: a seed, or the text `steady`
 
--- steady words, for that text only
+-- steady words for the text `steady`, and none for any other text
 abbrev pub steady_words : List ℕ → Option WordKind
 steady_words text = if bytes_eq text (codes "steady") then Some Steady else None
 
--- a seed if there is a number, and else what the text names
+-- a seed if there is a number, otherwise the words that the text names
 abbrev pub words_from : Option ℕ → Option (List ℕ) → Option WordKind
 words_from (Some seed) text = Some (Seeded seed)
 words_from None None = None
@@ -45,7 +45,7 @@ words_at field d = get field d >>= words_in
 
 -- ---- the fields
 
--- the cells of a road, of its deleted zone and of a zone, at `length`, `exit` and `zone`
+-- the numbers of cells of a road, its deleted zone and a zone, at `length`, `exit` and `zone`
 unfoldable pub measures_in : Data → Option (ℕ × ℕ × ℕ)
 measures_in d = do
   cells ← number_at (codes "length") d
@@ -53,7 +53,7 @@ measures_in d = do
   width ← number_at (codes "zone") d
   Some (cells, exit, width)
 
--- the plan, at these fields and at `words`, `zones`, `inlets` and `detectors`
+-- the plan at these three fields and at `words`, `zones`, `inlets` and `detectors`
 unfoldable pub plan_in : Data → Option Plan
 plan_in d = do
   measures ← measures_in d
@@ -71,7 +71,7 @@ plan_in d = do
     words = words;
   })
 
--- exactly the fields of a plan, and `replicas`
+-- exactly the fields of a plan and the field `replicas`
 unfoldable pub plan_line_in : Data → Option PlanLine
 plan_line_in d = do
   exact ← check (has_fields 8 d)
@@ -101,8 +101,8 @@ line_or_refusal line (Some refusal) = Err refusal
 abbrev pub checked_line : PlanLine → Result PlanLine Refusal
 checked_line line = line_or_refusal line (refusal_of line)
 
--- the plan line of a line, or its refusal: first a line that is not JSON, then a value that is not a plan line, then
--- the names, then the plan
+-- the plan line of a line, or its refusal. The causes in order: the line is not JSON, the value is not a plan line, the
+-- names are refused, the plan is refused.
 unfoldable pub plan_line_of : List ℕ → Result PlanLine Refusal
 plan_line_of line =
     result_or_refusal NotJson (value_of line) (λ d. result_or_refusal NotAPlan (plan_line_in d) checked_line)

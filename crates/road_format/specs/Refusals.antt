@@ -63,7 +63,7 @@ line_refusal line_faults.NotACommand = Some refusals.NotACommand
 line_refusal line_faults.UnknownForm = Some refusals.UnknownForm
 line_refusal line_faults.OutOfMemory = None
 
--- the result of the next step for a value, or this refusal if there is no value
+-- the result of the next step for the value, or this refusal if there is none
 abbrev pub result_or_refusal : {A B : Type 0} → Refusal → Option A → (A → Result B Refusal) → Result B Refusal
 result_or_refusal refusal None next = Err refusal
 result_or_refusal refusal (Some x) next = next x

@@ -33,7 +33,7 @@ pub data Answer : Type 0 where
   Stamped : Stamp → Answer
   -- the edits that a replica holds
   Edits : List Edit → Answer
-  -- the first step at which the number set for an object has changed, if there is one
+  -- the first step at which the number set for an object has changed, if there is such a step
   Touched : Option ℕ → Answer
   -- the name of a message, and the number of its edits
   Sent : List ℕ → ℕ → Answer

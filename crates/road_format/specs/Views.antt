@@ -66,12 +66,12 @@ answer_view (answers.Crowd edits journal row) = replies.Crowd edits.items journa
 
 -- ---- the returned value, compared with the grammar
 
--- refused as by the grammar; out of memory, which is not a refusal, has no condition
+-- the grammar refuses in the same way; there is no condition if memory ran out, which is not a refusal
 abbrev pub Refuses : {Y : Type 0} → Option Refusal → Result Y Refusal → Type 0
 Refuses None given = Unit {0}
 Refuses (Some refusal) given = given ≡ Err refusal
 
--- the returned value is that of the grammar, and a fault is that of its refusal
+-- a returned value is the grammar's, and a returned fault is that of the grammar's refusal
 abbrev pub Gives : {X Y F : Type 0} → (X → Y) → (F → Option Refusal) → Result X F → Result Y Refusal → Type 0
 Gives view refusal_of (Ok x) given = given ≡ Ok (view x)
 Gives view refusal_of (Err fault) given = Refuses (refusal_of fault) given

@@ -19,7 +19,7 @@ pub enum Answer {
     Horizon(u32),
     /// One row of cells, with a character for each cell.
     Cells(String),
-    /// The cars of a road, in rising cells.
+    /// The cars of a road, sorted by cell.
     Cars(Vec<Car>),
     /// The counts of a detector.
     Counted {
@@ -34,7 +34,7 @@ pub enum Answer {
     Stamped(Stamp),
     /// The edits that a replica holds, by object and step.
     Edits(Vec<Edit>),
-    /// The first step at which the number set for an object has changed, if there is one.
+    /// The first step at which the number set for an object has changed, if there is such a step.
     Touched(Option<u32>),
     /// A message of all the edits that a replica holds.
     Sent {
@@ -50,7 +50,7 @@ pub enum Answer {
         /// The heads, by object and step.
         heads: Vec<Head>,
     },
-    /// A message of the edits that are beyond heads.
+    /// A message of the edits that are beyond the heads of another message.
     Delta {
         /// The name of the message.
         message: String,
@@ -59,11 +59,11 @@ pub enum Answer {
     },
     /// The result of a crowd.
     Crowd {
-        /// The winners of all their edits, by object and step.
+        /// The winners of the edits of all sessions, by object and step.
         edits: Vec<Edit>,
         /// The number of writes that the sessions made: one for each edit, and one for each session's advance.
         journal: u32,
-        /// The row of cells of the step to which they advanced, with a character for each cell.
+        /// The row of cells of the step to which the sessions advanced, with a character for each cell.
         row: String,
     },
 }

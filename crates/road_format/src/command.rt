@@ -21,7 +21,7 @@ pub enum Command {
         /// The number.
         value: u32,
     },
-    /// Withdraws what was set for an object at a step.
+    /// Withdraws the number that was set for an object at a step.
     Withdraw {
         /// The name of the replica.
         at: String,
@@ -30,7 +30,7 @@ pub enum Command {
         /// The step from which that edit takes effect.
         step: u32,
     },
-    /// Raises a replica's horizon to a step, if it is below.
+    /// Raises a replica's horizon to a step, if the horizon is lower.
     Advance {
         /// The name of the replica.
         at: String,
@@ -114,10 +114,10 @@ pub enum Command {
         /// The name of the message.
         message: String,
     },
-    /// Starts a session for each share, which takes its edits and advances. All sessions write to one road that belongs
-    /// to no replica.
+    /// Starts a session for each share. The session takes the share's edits, and then advances. All sessions write to
+    /// one road, which belongs to no replica.
     Crowd {
-        /// The edits of each share, in the order of the line: 1 to 8 shares.
+        /// 1 to 8 shares, each with its edits in the order of the line.
         shares: Vec<Vec<Edit>>,
         /// The step to which each session advances.
         to: u32,

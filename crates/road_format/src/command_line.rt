@@ -11,11 +11,11 @@ ghost use Rattle.road_format.specs.Private.UncheckedViews.{formed_view};
 ghost use Rattle.road_format.specs.declared.faults.LineFault.TheVariants as line_faults;
 
 use crate::command::Command;
-use crate::crowd::crowd_in;
+use crate::crowd::parse_crowd;
 use crate::faults::LineFault;
 use crate::fields::{long_number_at, name_at, only_field};
 use crate::form::{LAST_FORM, is_known};
-use crate::message_commands::{beyond_in, heads_in, import_in, send_in, take_in};
+use crate::message_commands::{parse_beyond, parse_heads, parse_import, parse_send, parse_take};
 use crate::reading::value_in;
 use crate::replica_commands::replica_command_of_name;
 use road_plan::OutOfMemory;
@@ -23,13 +23,13 @@ use serde_json::Value;
 use std::alloc::Global;
 
 /// Read the command of a line. The line is an object of one field. The field's name is a variant of `Command` in lower
-/// case, and its value an object of exactly the variant's fields, in any order. `import` and `crowd` also have the
+/// case, and its value is an object of exactly the variant's fields, in any order. `import` and `crowd` also have the
 /// number `form`, and in form 1 they have no edit of kind `start`.
 ///
-/// A name is a string of 1 to 64 bytes. A number is whole, has at most 32 bits, and is written without point and
-/// exponent. An object is a list of its kind and its index. An edit is a list of its kind, index, step, count (of at
-/// most 64 bits), number (of at most 16 bits) and value, where null is a withdrawal. Shares are 1 to 8 lists of edits,
-/// which may be empty. If a field is repeated, the last one counts.
+/// A name is a string of 1 to 64 bytes. A number is whole, has at most 32 bits, and is written without a decimal point
+/// or exponent. An object is a list of its kind and its index. An edit is a list of its kind, index, step, count (of at
+/// most 64 bits), number (of at most 16 bits) and value, where null is a withdrawal. `shares` is a list of 1 to 8 lists
+/// of edits, which may be empty lists. If a field is repeated, the last one counts.
 ///
 /// # Errors
 ///
@@ -39,16 +39,16 @@ use std::alloc::Global;
 /// - `NotACommand`: the value is not a command.
 /// - `UnknownForm`: its `form` is neither 1 nor 2.
 ///
-/// `OutOfMemory` may replace any of them if the line is not empty. The length of the line is not checked here.
+/// `OutOfMemory` may replace any of these results if the line is not empty. The length of the line is not checked here.
 #[tactic(auto, using(crate::proofs::LineValues::length_of_value), unfolding(crate::specs::CommandGrammar::command_of))]
 pub fn read_command(alloc: Global, line: &[u8]) -> Result<Command, LineFault>
     // The result is the grammar's command, or its refusal. Out of memory is not a refusal.
     ensures command { Gives command_view line_refusal result (grammar.command_of line.now) }
 
-    // A line has at least one byte for each write of its shares.
+    // The line has at least one byte for each write of its shares.
     ensures shares { IfOk result (λ command. grammar.HasFewWrites (length line.now) (command_view command)) }
 
-    // An empty line allocates nothing.
+    // An empty line never causes `OutOfMemory`.
     ensures memory { IfErr result (λ fault. fault ≡ line_faults.OutOfMemory → 0 < length line.now) }
 {
     let Some(value) = value_in(alloc, line)? else {
@@ -87,7 +87,7 @@ fn command_in(alloc: Global, value: &Value) -> Result<Option<(u64, Command)>, Ou
     }
 }
 
-// Read the form of a command of a name: its `form` if the command has this field, and else the last form.
+// Read the form of the command with this name: its field `form` if the command has one, and otherwise the last form.
 fn form_of_name(name: &str, fields: &Value) -> Option<u64>
     ensures { result ≡ grammar.form_of_name name.now (view fields.now) }
 {
@@ -97,7 +97,7 @@ fn form_of_name(name: &str, fields: &Value) -> Option<u64>
     }
 }
 
-// Read the command of a name and a form, with these fields: a crowd, or a command at a replica.
+// Read the command of this name, form and fields: a crowd, or a command at a replica.
 #[tactic(auto, unfolding(crate::specs::CommandGrammar::command_of_name))]
 fn command_of_name(
     alloc: Global,
@@ -109,7 +109,7 @@ fn command_of_name(
         ≡ grammar.command_of_name name.now form (view fields.now)) }
 {
     if name == "crowd" {
-        return crowd_in(alloc, form, fields);
+        return parse_crowd(alloc, form, fields);
     }
     match name_at("at", fields) {
         Some(at) => command_at(alloc, name, form, String::from_str(alloc, at)?, fields),
@@ -117,7 +117,7 @@ fn command_of_name(
     }
 }
 
-// Read the command of a name and a form at a replica, with these fields.
+// Read the command of this name, form and fields at a replica.
 #[tactic(auto, unfolding(crate::specs::CommandGrammar::command_at))]
 fn command_at(
     alloc: Global,
@@ -130,11 +130,11 @@ fn command_at(
         ≡ grammar.command_at name.now form (string_bytes at) (view fields.now)) }
 {
     match name {
-        "import" => import_in(alloc, form, at, fields),
-        "send" => send_in(alloc, at, fields),
-        "heads" => heads_in(alloc, at, fields),
-        "beyond" => beyond_in(alloc, at, fields),
-        "take" => take_in(alloc, at, fields),
+        "import" => parse_import(alloc, form, at, fields),
+        "send" => parse_send(alloc, at, fields),
+        "heads" => parse_heads(alloc, at, fields),
+        "beyond" => parse_beyond(alloc, at, fields),
+        "take" => parse_take(alloc, at, fields),
         _ => Ok(replica_command_of_name(name, at, fields)),
     }
 }

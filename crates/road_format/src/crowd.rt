@@ -19,9 +19,9 @@ use road_scenario::Edit;
 use serde_json::Value;
 use std::alloc::Global;
 
-// Read the `crowd` of a form, with exactly its fields. Its `form` is read separately.
+// Parse a `crowd` in this form; None unless it has exactly its fields. The caller reads its `form`.
 #[tactic(auto, unfolding(crate::specs::CommandGrammar::crowd_in))]
-pub(crate) fn crowd_in(
+pub(crate) fn parse_crowd(
     alloc: Global,
     form: u64,
     fields: &Value,
@@ -78,7 +78,7 @@ fn shares_at(
     }
 }
 
-// Read the shares from the items of a list.
+// Read each item of a list as a share.
 fn shares_in(alloc: Global, items: &[Value]) -> Result<Option<Vec<Vec<Edit>>>, OutOfMemory>
     ensures { IfOk result (λ found. option_map (λ found. shares_view found.items) found
         ≡ spec_fields.values_of_items edit_grammar.edits_in (items_view items.now)) }

@@ -48,7 +48,7 @@ fn stamp_in(value: &Value) -> Option<Stamp>
     Some(Stamp { count, number })
 }
 
-// Read the effect of an edit from its value: null for a withdrawal, else the number that it sets.
+// Read the effect of an edit from its value: null for a withdrawal, otherwise the number that it sets.
 fn put_in(value: &Value) -> Option<Put>
     ensures { result ≡ grammar.value_in (view value.now) }
 {

@@ -9,8 +9,8 @@ use crate::refusal::Refusal;
 use road_plan::{OutOfMemory, PlanFault};
 use thiserror::Error;
 
-/// Why a line after the first cannot be read. The causes are checked in this order. Out of memory may replace any of
-/// them.
+/// Why a line after the first cannot be read. The causes are checked in this order, but `OutOfMemory` may replace any
+/// of them.
 #[derive(Clone, Copy, Debug, PartialEq, Eq, Error)]
 pub enum LineFault {
     /// The line is not a JSON value.
@@ -22,12 +22,12 @@ pub enum LineFault {
     /// The command's form is not known.
     #[error("unknown form")]
     UnknownForm,
-    /// There was no memory to read the line.
+    /// An allocation failed while the line was read.
     #[error("no memory")]
     OutOfMemory,
 }
 
-/// Why the first line cannot be read. The causes are checked in this order. Out of memory may replace any of them.
+/// Why the first line cannot be read. The causes are checked in this order, but `OutOfMemory` may replace any of them.
 #[derive(Clone, Copy, Debug, PartialEq, Eq, Error)]
 pub enum PlanLineFault {
     /// The line is not a JSON value.
@@ -36,13 +36,13 @@ pub enum PlanLineFault {
     /// The value is not a plan line.
     #[error("not a plan")]
     NotAPlan,
-    /// There are not 1 to 64 replicas, or their names are not all different and of 1 to 64 bytes.
+    /// There is no replica, or there are more than 64; or two names are equal, or one does not have 1 to 64 bytes.
     #[error("the names are not 1 to 64 different texts of 1 to 64 bytes")]
     Names,
     /// The plan is refused.
     #[error("{0}")]
     Plan(PlanFault),
-    /// There was no memory to read the line.
+    /// An allocation failed while the line was read.
     #[error("no memory")]
     OutOfMemory,
 }

@@ -10,7 +10,7 @@ use road_scenario::Edit;
 /// The first form, which has no edits of kind `start`.
 pub const FIRST_FORM: u64 = 1;
 
-/// The last form, in which replies are written.
+/// The last form. Replies are written in it.
 pub const LAST_FORM: u64 = 2;
 
 // Return whether a form is known.
@@ -20,7 +20,7 @@ pub(crate) fn is_known(form: u64) -> bool
     FIRST_FORM <= form && form <= LAST_FORM
 }
 
-// Return whether edits may be in a command of a form.
+// Return whether a command of this form may contain these edits.
 pub(crate) fn are_of_form(form: u64, edits: &[Edit]) -> bool
     ensures { result ≡ forms.are_of_form form edits.now }
 {

@@ -11,7 +11,7 @@ pub fn lines_go_on()
     ensures { LinesGoOn }
 {}
 
-/// Show that the lines of an input, each followed by a newline, and then its last piece are the input again.
+/// Show that the lines of an input, each followed by a newline, and then its last piece make up the whole input.
 pub fn cut_loses_nothing()
     ensures { CutLosesNothing }
 {}

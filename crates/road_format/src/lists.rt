@@ -1,4 +1,4 @@
-//! The lists of a line. An empty list, and a list that is refused, take no memory.
+//! The lists of a line. Reading an empty list does not allocate. If a list is refused, nothing of it stays allocated.
 
 ghost use Rattle.std.specs.Prelude.{◌≡◌, ◌<◌, length, Option, IfOk, OnErr, option_map};
 ghost use Rattle.serde_json.specs.Data.{Data};
@@ -12,9 +12,9 @@ use road_plan::OutOfMemory;
 use serde_json::Value;
 use std::alloc::Global;
 
-// A type as which the items of a list are read.
+// A type that the items of a list can be read as.
 pub(crate) trait ListItem: Drop {
-    // The reading of a value as this type.
+    // What a value is read as, or None if it is not of this type.
     ghost read: { Data → Option Self };
 
     // Read an item.
@@ -30,7 +30,7 @@ impl ListItem for u32 {
     }
 }
 
-// The two numbers of a list of exactly two.
+// The two numbers of a list that has exactly two items.
 impl ListItem for (u32, u32) {
     ghost read = { fields.pair_in };
 
@@ -116,7 +116,7 @@ pub(crate) fn list_in<T: ListItem>(
     Ok(Some(found))
 }
 
-// Return the items of a list of exactly two.
+// Return the two items of a list that has exactly two.
 pub(crate) fn two_items(items: &[Value]) -> Option<(&Value, &Value)>
     ensures { option_map (λ both. (view both.0.now, view both.1.now)) result ≡ fields.two_items (items_view items.now) }
 {

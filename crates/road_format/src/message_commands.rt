@@ -14,9 +14,9 @@ use road_plan::OutOfMemory;
 use serde_json::Value;
 use std::alloc::Global;
 
-// Read the `import` of a form at a replica, with exactly its fields. Its `form` is read separately.
+// Parse an `import` in this form; None unless it has exactly its fields. The caller reads its `form`.
 #[tactic(auto, unfolding(crate::specs::CommandGrammar::import_in))]
-pub(crate) fn import_in(
+pub(crate) fn parse_import(
     alloc: Global,
     form: u64,
     at: String,
@@ -37,8 +37,8 @@ pub(crate) fn import_in(
     Ok(Some(Command::Import { at, edits }))
 }
 
-// Read the `send` at a replica, with exactly its fields.
-pub(crate) fn send_in(
+// Parse a `send`; None unless it has exactly its fields.
+pub(crate) fn parse_send(
     alloc: Global,
     at: String,
     fields: &Value,
@@ -52,8 +52,8 @@ pub(crate) fn send_in(
     }
 }
 
-// Read the `heads` at a replica, with exactly its fields.
-pub(crate) fn heads_in(
+// Parse a `heads`; None unless it has exactly its fields.
+pub(crate) fn parse_heads(
     alloc: Global,
     at: String,
     fields: &Value,
@@ -67,8 +67,8 @@ pub(crate) fn heads_in(
     }
 }
 
-// Read the `beyond` at a replica, with exactly its fields.
-pub(crate) fn beyond_in(
+// Parse a `beyond`; None unless it has exactly its fields.
+pub(crate) fn parse_beyond(
     alloc: Global,
     at: String,
     fields: &Value,
@@ -101,8 +101,8 @@ fn heads_and_name(alloc: Global, fields: &Value) -> Result<Option<(String, Strin
     Ok(Some((heads, name)))
 }
 
-// Read the `take` at a replica, with exactly its fields.
-pub(crate) fn take_in(
+// Parse a `take`; None unless it has exactly its fields.
+pub(crate) fn parse_take(
     alloc: Global,
     at: String,
     fields: &Value,
@@ -126,7 +126,7 @@ fn only_name(alloc: Global, field: &str, fields: &Value) -> Result<Option<String
     owned_name_at(alloc, field, fields)
 }
 
-// Read the name at this field, as a string of its own.
+// Read the name at this field, and copy it to a new string.
 fn owned_name_at(alloc: Global, field: &str, fields: &Value) -> Result<Option<String>, OutOfMemory>
     ensures { IfOk result (λ name. option_map string_bytes name ≡ spec_fields.name_at field.now (view fields.now)) }
 {

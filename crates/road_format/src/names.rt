@@ -10,7 +10,7 @@ ghost use Rattle.road_format.specs.Views.{texts};
 
 use road_plan::limits::MOST_REPLICAS;
 
-// The most bytes of a name, in UTF-8. A name has at least one byte.
+// The maximum length of a name, in bytes of UTF-8. The minimum is one byte.
 pub(crate) const LONGEST_NAME: usize = 64;
 
 // Return whether this is a name: a string of 1 to 64 bytes.

@@ -9,7 +9,7 @@ use crate::lists::{items_at, two_items};
 use road_plan::Object;
 use serde_json::Value;
 
-// Return the object at this field: a list of exactly a kind's name and an index.
+// Return the object at this field: a list of exactly two items, a kind's name and an index.
 pub(crate) fn object_at(field: &str, value: &Value) -> Option<Object>
     ensures { result ≡ objects.object_at field.now (view value.now) }
 {
@@ -17,7 +17,7 @@ pub(crate) fn object_at(field: &str, value: &Value) -> Option<Object>
     object_of(kind.as_str()?, number_in(index)?)
 }
 
-// Return the object whose kind's name and index are a list's first two items.
+// Return the object whose kind's name and index are the first two items of a list.
 pub(crate) fn object_in_front(value: &Value) -> Option<Object>
     ensures { result ≡ objects.object_in_front (view value.now) }
 {
@@ -40,7 +40,7 @@ pub(crate) fn kind_of(object: Object) -> &'static str
     }
 }
 
-// Return the index of an object among those of its kind.
+// Return the index of an object among the objects of its kind.
 pub(crate) fn index_of(object: Object) -> u32
     ensures { result ≡ objects.index_of object }
 {

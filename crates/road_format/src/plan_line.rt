@@ -38,43 +38,43 @@ struct PlanLineParts {
     parts: PlanParts,
 }
 
-/// Read the plan line of a line: an object of exactly eight fields, in any order.
+/// Read a line as a plan line: an object of exactly eight fields, in any order.
 ///
 /// | Field | Value |
 /// |---|---|
-/// | `length` | the cells of the road |
-/// | `exit` | the cells of the deleted zone |
-/// | `zone` | the cells of a zone |
+/// | `length` | the number of cells of the road |
+/// | `exit` | the number of cells of the deleted zone |
+/// | `zone` | the number of cells of a zone |
 /// | `zones` | for each zone a list of its speed limit and its slowing chance |
 /// | `inlets` | for each inlet a list of its cell and its inflow chance |
-/// | `detectors` | the site of each detector |
-/// `words`
-/// the seed of the random words, or the string `steady`
+/// | `detectors` | for each detector its site, which is a cell |
+/// | `words` | the seed of the random words, or the string `steady` |
 /// | `replicas` | the names of the replicas |
 ///
-/// A number is whole, has at most 32 bits (a seed at most 64), and is written without point and exponent. If a field is
-/// repeated, the last one counts.
+/// A number is whole, has at most 32 bits (a seed at most 64), and is written without a decimal point or exponent. If a
+/// field is repeated, the last one counts.
 ///
 /// # Errors
 ///
 /// In this order:
 ///
 /// - `NotJson`: the line is not a JSON value.
-/// - `NotAPlan`: the value has another shape.
-/// - `Names`: there are not 1 to 64 replicas, or their names are not all different and of 1 to 64 bytes.
-/// - `Plan`: the plan is refused, with its first fault, which is never its `OutOfMemory`.
+/// - `NotAPlan`: the value is not a plan line.
+/// - `Names`: there is no replica, or there are more than 64; or two names are equal, or one does not have 1 to 64
+///   bytes.
+/// - `Plan`: the plan is refused. It carries the plan's first fault, which is never `PlanFault::OutOfMemory`.
 ///
-/// `OutOfMemory` may replace any of them if the line is not empty. The length of the line is not checked here.
+/// `OutOfMemory` may replace any of these results if the line is not empty. The length of the line is not checked here.
 #[tactic(auto, using(crate::proofs::LineValues::length_of_value), unfolding(crate::specs::PlanGrammar::plan_line_of))]
 pub fn read_plan(alloc: Global, line: &[u8]) -> Result<PlanLine, PlanLineFault>
     // The result is the grammar's plan line, or its refusal. Out of memory is not a refusal.
     ensures plan_line { Gives plan_line_view plan_line_refusal result (grammar.plan_line_of line.now) }
 
-    // The names of an accepted line are few, and all different.
+    // An accepted line has at most 64 names, all different.
     ensures few { IfOk result (λ line. length line.names.items ≤ MOST_REPLICAS) }
     ensures apart { IfOk result (λ line. IsDistinct bytes_eq (texts line.names.items)) }
 
-    // Out of memory is reported in one way only, and an empty line allocates nothing.
+    // Out of memory is reported only as `PlanLineFault::OutOfMemory`, and never for an empty line.
     ensures memory { IfErr result (λ fault. plan_line_refusal fault ≡ None
         → (fault ≡ plan_line_faults.OutOfMemory) × (0 < length line.now)) }
 {
@@ -87,7 +87,7 @@ pub fn read_plan(alloc: Global, line: &[u8]) -> Result<PlanLine, PlanLineFault>
     }
 }
 
-// Make the plan line of these parts. It takes no memory.
+// Make a plan line from these parts, if its names and its plan are accepted. It does not allocate.
 #[tactic(auto, using(crate::proofs::AcceptedNames::names_are_few, crate::proofs::AcceptedNames::names_are_different))]
 fn checked_line(line: PlanLineParts) -> Result<PlanLine, PlanLineFault>
     ensures plan_line { Gives plan_line_view plan_line_refusal result (grammar.checked_line (parts_view line)) }
@@ -168,7 +168,7 @@ fn measures_in(value: &Value) -> Option<(u32, u32, u32)>
     Some((length, exit, width))
 }
 
-// Return where the words come from, at this field: a seed, or the string `steady`.
+// Read where the words come from, at this field: a seed, or the string `steady`.
 fn words_at(field: &str, value: &Value) -> Option<WordKind>
     ensures { result ≡ grammar.words_at field.now (view value.now) }
 {
@@ -178,7 +178,7 @@ fn words_at(field: &str, value: &Value) -> Option<WordKind>
     }
 }
 
-// Return where the words come from.
+// Read where the words come from.
 fn words_in(value: &Value) -> Option<WordKind>
     ensures { result ≡ grammar.words_in (view value.now) }
 {

@@ -14,19 +14,19 @@ pub enum Refusal {
     NotJson,
     /// The first line is a JSON value, but not a plan line.
     NotAPlan,
-    /// There are not 1 to 64 replicas, or their names are not all different and of 1 to 64 bytes.
+    /// There is no replica, or there are more than 64; or two names are equal, or one does not have 1 to 64 bytes.
     Names,
     /// The road is too short or too long.
     Length,
     /// The deleted zone is empty, too long, or no shorter than the road.
     Exit,
-    /// The zones have no width, are too many, or the list does not have one entry for each zone.
+    /// The zones have no width or are too many, or the list does not have one entry for each zone.
     Zones,
     /// The inlets are too few or too many, or not at different cells before the deleted zone.
     Inlets,
     /// The detectors are too many, or one is at the first cell or in the deleted zone.
     Detectors,
-    /// A speed limit, a slowing chance or an inflow is too great.
+    /// A speed limit, a slowing chance or an inflow is too large.
     Default,
     /// The line is a JSON value, but not a command.
     NotACommand,
@@ -40,17 +40,17 @@ pub enum Refusal {
     NameTaken,
     /// The plan has no such object.
     NoObject,
-    /// The step from which an edit takes effect is too great.
+    /// The step from which an edit takes effect is too large.
     Step,
-    /// The object does not take the value.
+    /// The object does not allow the value.
     ValueOutOfRange,
     /// No count is left for the stamp of an edit.
     CountsSpent,
-    /// The count of an edit's stamp is 0 or too great.
+    /// The count of an edit's stamp is 0 or too large.
     Count,
     /// The number in an edit's stamp is that of a replica.
     Insider,
-    /// The requested horizon is too great.
+    /// The requested horizon is too large.
     Horizon,
     /// The plan has no such detector.
     NoDetector,

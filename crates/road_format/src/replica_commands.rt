@@ -10,16 +10,16 @@ use crate::fields::{has_fields, number_at};
 use crate::object::object_at;
 use serde_json::Value;
 
-// Read the command of a name that changes or queries one replica, with these fields.
+// Read the command that has this name and these fields, and changes or queries one replica.
 #[tactic(auto, unfolding(crate::specs::CommandGrammar::replica_command_of_name))]
 pub(crate) fn replica_command_of_name(name: &str, at: String, fields: &Value) -> Option<Command>
     ensures { option_map command_view result
         ≡ grammar.replica_command_of_name name.now (string_bytes at) (view fields.now) }
 {
     match name {
-        "edit" => edit_command_in(at, fields),
-        "withdraw" => withdraw_in(at, fields),
-        "advance" => advance_in(at, fields),
+        "edit" => parse_edit(at, fields),
+        "withdraw" => parse_withdraw(at, fields),
+        "advance" => parse_advance(at, fields),
         _ => query_of_name(name, at, fields),
     }
 }
@@ -34,9 +34,9 @@ fn only_number(field: &str, fields: &Value) -> Option<u32>
     number_at(field, fields)
 }
 
-// Read the `edit` at a replica, with exactly its fields.
+// Parse an `edit`; None unless it has exactly its fields.
 #[tactic(auto, unfolding(crate::specs::CommandGrammar::edit_command_in))]
-fn edit_command_in(at: String, fields: &Value) -> Option<Command>
+fn parse_edit(at: String, fields: &Value) -> Option<Command>
     ensures { option_map command_view result ≡ grammar.edit_command_in (string_bytes at) (view fields.now) }
 {
     if !has_fields(4, fields) {
@@ -53,9 +53,9 @@ fn edit_command_in(at: String, fields: &Value) -> Option<Command>
     })
 }
 
-// Read the `withdraw` at a replica, with exactly its fields.
+// Parse a `withdraw`; None unless it has exactly its fields.
 #[tactic(auto, unfolding(crate::specs::CommandGrammar::withdraw_in))]
-fn withdraw_in(at: String, fields: &Value) -> Option<Command>
+fn parse_withdraw(at: String, fields: &Value) -> Option<Command>
     ensures { option_map command_view result ≡ grammar.withdraw_in (string_bytes at) (view fields.now) }
 {
     if !has_fields(3, fields) {
@@ -66,8 +66,8 @@ fn withdraw_in(at: String, fields: &Value) -> Option<Command>
     Some(Command::Withdraw { at, object, step })
 }
 
-// Read the `advance` at a replica, with exactly its fields.
-fn advance_in(at: String, fields: &Value) -> Option<Command>
+// Parse an `advance`; None unless it has exactly its fields.
+fn parse_advance(at: String, fields: &Value) -> Option<Command>
     ensures { option_map command_view result
         ≡ option_map (grammar.Advance (string_bytes at)) (grammar.only_number (codes "to") (view fields.now)) }
 {
@@ -77,24 +77,24 @@ fn advance_in(at: String, fields: &Value) -> Option<Command>
 
 // ---- queries
 
-// Read the query of a name at a replica, with these fields.
+// Read the query that has this name and these fields.
 #[tactic(auto, unfolding(crate::specs::CommandGrammar::query_of_name))]
 fn query_of_name(name: &str, at: String, fields: &Value) -> Option<Command>
     ensures { option_map command_view result
         ≡ option_map (grammar.Ask (string_bytes at)) (grammar.query_of_name name.now (view fields.now)) }
 {
     match name {
-        "cells" => cells_in(at, fields),
-        "cars" => cars_in(at, fields),
-        "count" => count_in(at, fields),
-        "diagram" => diagram_in(at, fields),
-        "scenario" => scenario_in(at, fields),
+        "cells" => parse_cells(at, fields),
+        "cars" => parse_cars(at, fields),
+        "count" => parse_count(at, fields),
+        "diagram" => parse_diagram(at, fields),
+        "scenario" => parse_scenario(at, fields),
         _ => None,
     }
 }
 
-// Read the `cells` at a replica, with exactly its fields.
-fn cells_in(at: String, fields: &Value) -> Option<Command>
+// Parse a `cells` query; None unless it has exactly its fields.
+fn parse_cells(at: String, fields: &Value) -> Option<Command>
     ensures { option_map command_view result ≡ option_map (grammar.Ask (string_bytes at))
         (option_map grammar.Cells (grammar.only_number (codes "step") (view fields.now))) }
 {
@@ -102,8 +102,8 @@ fn cells_in(at: String, fields: &Value) -> Option<Command>
     Some(Command::Cells { at, step })
 }
 
-// Read the `cars` at a replica, with exactly its fields.
-fn cars_in(at: String, fields: &Value) -> Option<Command>
+// Parse a `cars` query; None unless it has exactly its fields.
+fn parse_cars(at: String, fields: &Value) -> Option<Command>
     ensures { option_map command_view result ≡ option_map (grammar.Ask (string_bytes at))
         (option_map grammar.Cars (grammar.only_number (codes "step") (view fields.now))) }
 {
@@ -118,9 +118,9 @@ fn steps_at(fields: &Value) -> Option<(u32, u32)>
     Some((number_at("from", fields)?, number_at("to", fields)?))
 }
 
-// Read the `count` at a replica, with exactly its fields.
+// Parse a `count` query; None unless it has exactly its fields.
 #[tactic(auto, unfolding(crate::specs::CommandGrammar::count_in))]
-fn count_in(at: String, fields: &Value) -> Option<Command>
+fn parse_count(at: String, fields: &Value) -> Option<Command>
     ensures { option_map command_view result
         ≡ option_map (grammar.Ask (string_bytes at)) (grammar.count_in (view fields.now)) }
 {
@@ -137,9 +137,9 @@ fn count_in(at: String, fields: &Value) -> Option<Command>
     })
 }
 
-// Read the `diagram` at a replica, with exactly its fields.
+// Parse a `diagram` query; None unless it has exactly its fields.
 #[tactic(auto, unfolding(crate::specs::CommandGrammar::diagram_in))]
-fn diagram_in(at: String, fields: &Value) -> Option<Command>
+fn parse_diagram(at: String, fields: &Value) -> Option<Command>
     ensures { option_map command_view result
         ≡ option_map (grammar.Ask (string_bytes at)) (grammar.diagram_in (view fields.now)) }
 {
@@ -150,8 +150,8 @@ fn diagram_in(at: String, fields: &Value) -> Option<Command>
     Some(Command::Diagram { at, from, to })
 }
 
-// Read the `scenario` at a replica, with exactly its field.
-fn scenario_in(at: String, fields: &Value) -> Option<Command>
+// Parse a `scenario` query; None unless it has exactly its field.
+fn parse_scenario(at: String, fields: &Value) -> Option<Command>
     ensures { option_map command_view result
         ≡ option_map (grammar.Ask (string_bytes at)) (grammar.scenario_in (view fields.now)) }
 {

@@ -27,11 +27,12 @@ use road_scenario::{Edit, Stamp};
 use serde_json::{Map, Value, put};
 use std::alloc::Global;
 
-/// Write the line of an answer with its newline: one compact JSON object, with its fields sorted by their bytes.
+/// Write the line of an answer with its newline: one compact JSON object, with its fields sorted by the bytes of their
+/// names.
 ///
 /// # Errors
 ///
-/// `OutOfMemory` is the only error: every answer has a line.
+/// `OutOfMemory` if an allocation failed. There is no other error: every answer has a line.
 pub fn reply_line(alloc: Global, answer: &Answer) -> Result<String, OutOfMemory>
     ensures { IfOk result (λ line. string_bytes line ≡ reply (answer_view answer.now)) }
 {
@@ -164,7 +165,7 @@ fn edits_value(alloc: Global, edits: &[Edit]) -> Result<Value, OutOfMemory>
     Ok(Value::Object(fields))
 }
 
-// Write the fields of edits: the list of them, and its form.
+// Write the two fields of a list of edits: the list, and its form.
 fn edits_fields(alloc: Global, edits: &[Edit]) -> Result<Map<String, Value>, OutOfMemory>
     ensures { IfOk result (λ fields. members_view fields.entries
         ≡ member (codes "edits") (list_data (map edit_data edits.now))
@@ -175,14 +176,14 @@ fn edits_fields(alloc: Global, edits: &[Edit]) -> Result<Map<String, Value>, Out
     with_field(alloc, fields, "form", Value::from(LAST_FORM))
 }
 
-// Write the first step at which a number set has changed.
+// Write the first step at which the number set for an object has changed.
 fn touched_value(alloc: Global, step: Option<u32>) -> Result<Value, OutOfMemory>
     ensures { IfOk result (λ value. view value ≡ data_of (replies.Touched step)) }
 {
     field_value(alloc, "touched", step_value(step))
 }
 
-// Write a message of all the edits that a replica holds.
+// Write the name of a message of all the edits that a replica holds, and the number of these edits.
 fn sent_value(alloc: Global, message: &str, size: u64) -> Result<Value, OutOfMemory>
     ensures { IfOk result (λ value. view value ≡ data_of (replies.Sent message.now size)) }
 {
@@ -201,7 +202,7 @@ fn heads_value(alloc: Global, message: &str, heads: &[Head]) -> Result<Value, Ou
     Ok(Value::Object(fields))
 }
 
-// Write a message of the edits that are beyond heads.
+// Write a message of the edits that are beyond the heads of another message.
 fn delta_value(alloc: Global, message: &str, edits: &[Edit]) -> Result<Value, OutOfMemory>
     ensures { IfOk result (λ value. view value ≡ data_of (replies.Delta message.now edits.now)) }
 {

@@ -6,7 +6,7 @@ use road_serve::{Ended, StdSink, StdSource, run};
 use std::process::ExitCode;
 use std::{env, io};
 
-// Read the arguments of the program.
+// Return the arguments of the program, without its name.
 fn words(rt: &HostRuntime) -> io::Result<Vec<String>> {
     let mut words = Vec::new(rt.alloc());
     for word in env::args(rt)?.skip(1) {

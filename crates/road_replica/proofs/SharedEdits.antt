@@ -20,7 +20,7 @@ import_fault-append plan (e ∷ es) more =
     ap (λ (x : Option ReplicaFault). option_or (imported_edit_fault plan e) x) (import_fault-append plan es more)
     ∙ sym (option_or-assoc (imported_edit_fault plan e) (import_fault plan es) (import_fault plan more))
 
--- the fault of the shares from one on is the fault of this share, or else that of the shares after it
+-- the first fault of a share and the shares after it is that of the share, or else that of the shares after it
 pub fault_of_rest : (plan : Plan) (vecs : List (Vec Edit Global)) (i : ℕ) (share : Vec Edit Global) → i < length vecs → share ≡ get_or vecs i share
     → import_fault plan (edits_of (shares_of (drop i vecs))) ≡ option_or (import_fault plan share.items) (import_fault plan (edits_of (shares_of (drop (i + 1) vecs))))
 fault_of_rest plan vecs i share within is =

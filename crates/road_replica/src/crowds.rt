@@ -27,8 +27,7 @@ pub struct Crowd {
     pub row: String,
 }
 
-/// Something that runs crowds. The trait does not promise that a call does not block or start threads: the caller
-/// blocks if the implementation does.
+/// Something that runs crowds. An implementation may start threads, and may block its caller.
 pub trait Crowds {
     /// Return the result for a replica without edits once 1 to 8 sessions have written to it, in whatever order. Each
     /// session takes the edits of its share, one after another, and then advances to the step.

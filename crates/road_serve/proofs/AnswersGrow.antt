@@ -1,4 +1,4 @@
--- The answers so far stay, as more bytes come.
+-- The answers so far stay the same as more bytes come.
 use Rattle.std.proofs.Common.{◌≡◌, ◌≤◌, ◌<◌, ◌==◌, ℕ, zero, suc, List, [], ◌∷◌, ◌++◌, length, take, Bool, true, false, Some, Result, Ok, Err, refl, ap, sym, ◌∙◌, append_assoc, append-nil, length-append, arith}
 use Rattle.std.proofs.lemmas.Bool.{ltb-true, ltb-false, lt-ltb, le-ltb}
 use Rattle.std.proofs.lemmas.List.{take_all}
@@ -74,7 +74,7 @@ pub are_many : (n : ℕ) (a : List ℕ) → suc n < length (lines_of a true) →
 unfolding has_more_lines
 are_many n a many = lt-ltb (suc n) (length (lines_of a true)) many
 
--- a last piece is at most one line, and none if it is empty
+-- a last piece is at most one line, and no line if it is empty
 pub last_len : (r : List ℕ) → length (last_line true r) ≤ 1
 last_len [] = omega arith
 last_len (x ∷ r) = omega arith
@@ -87,7 +87,7 @@ some_at x (line ∷ lines, rest) false e = rw e (omega arith)
 some_line : (x : ℕ) (b : List ℕ) → 0 < length (lines_of (x ∷ b) true)
 some_line x b = some_at x (pieces_of b) (x == newline) refl
 
--- the lines of bytes and of what continues them
+-- the lines of bytes, followed by the lines of their last piece with the bytes after them
 pub lines-append : (a b : List ℕ) (ended : Bool) → lines_of (a ++ b) ended ≡ (pieces_of a).0 ++ lines_of ((pieces_of a).1 ++ b) ended
 lines-append a b ended =
     let after : Pieces = pieces_of ((pieces_of a).1 ++ b) in
@@ -103,7 +103,7 @@ lines_rise a b =
     let all = ap (λ (ls : List (List ℕ)). length ls) (lines-append a b true) in
     omega (arith, least, all, length-append (pieces_of a).0 (last_line true (pieces_of a).1), length-append (pieces_of a).0 (lines_of ((pieces_of a).1 ++ b) true))
 
--- ---- answers to whole lines only
+-- ---- only lines that have ended are answered
 
 pub answers_few : (n : ℕ) (a : List ℕ) → length (pieces_of a).0 ≤ suc n → answers n a false ≡ line_replies false (pieces_of a).0
 unfolding answers
@@ -112,7 +112,7 @@ answers_few n a few = ap (λ (ls : List (List ℕ)). line_replies false (take (s
 pub whole_few : (n : ℕ) (a : List ℕ) → has_more_lines n a ≡ false → length (pieces_of a).0 ≤ suc n
 whole_few n a few = omega (arith, few_lines n a few, length-append (pieces_of a).0 (last_line true (pieces_of a).1))
 
--- bytes of a line that has not ended add none
+-- bytes of a line that has not ended add no answer
 pub answers_line : (n : ℕ) (a b : List ℕ) → IsLine b → answers n (a ++ b) false ≡ answers n a false
 unfolding answers
 answers_line n a b line = ap (λ (p : Pieces). line_replies false (take (suc n) (p.0 ++ []))) (cut-more a b line)
@@ -122,20 +122,20 @@ take_more zero a b few = refl
 take_more (suc n) [] b few = absurd (omega arith)
 take_more {A = A} (suc n) (x ∷ a) b few = ap (λ (l : List A). x ∷ l) (take_more n a b (omega arith))
 
--- if all lines that may come have ended, they stay
+-- if all lines that are allowed have ended, more bytes add no line,
 pub lines_full : (n : ℕ) (a b : List ℕ) → suc n ≤ length (pieces_of a).0 → take (suc n) (lines_of (a ++ b) false) ≡ take (suc n) (pieces_of a).0
 lines_full n a b full = ap (take (suc n)) (lines-append a b false) ∙ take_more (suc n) (pieces_of a).0 (lines_of ((pieces_of a).1 ++ b) false) full
 
--- the whole lines are those of an input that goes on
+-- the lines of an input that goes on are those that have ended
 pub lines_whole : (n : ℕ) (a : List ℕ) → take (suc n) (lines_of a false) ≡ take (suc n) (pieces_of a).0
 lines_whole n a = ap (take (suc n)) (append-nil (pieces_of a).0)
 
--- so nothing is added
+-- so more bytes add no answer
 pub answers_full : (n : ℕ) (a b : List ℕ) → suc n ≤ length (pieces_of a).0 → answers n (a ++ b) false ≡ answers n a false
 unfolding answers
 answers_full n a b full = ap (line_replies false) (lines_full n a b full ∙ sym (lines_whole n a))
 
--- ---- how the plan line is read stays
+-- ---- the reading of the plan line stays the same
 
 refused_lines : (ls rest : List (List ℕ)) (ended : Bool) (b : Bool) → 0 < length ls → is_refusal (first_reading false ls) ≡ b → is_refusal (first_reading ended (ls ++ rest)) ≡ b
 refused_lines [] rest ended b some is = absurd (omega arith)
@@ -152,7 +152,7 @@ some_refused : (ls : List (List ℕ)) → is_refusal (first_reading false ls) �
 some_refused [] is = absurd (cc)
 some_refused (l ∷ ls) is = omega arith
 
--- a refused plan line has come whole
+-- a plan line that is refused has ended
 pub refused_some : (a : List ℕ) → is_plan_refused a false ≡ true → 0 < length (pieces_of a).0
 unfolding is_plan_refused
 refused_some a is = some_refused (pieces_of a).0 (ap (λ (ls : List (List ℕ)). is_refusal (first_reading false ls)) (sym (append-nil (pieces_of a).0)) ∙ is)
@@ -165,19 +165,19 @@ alone_lines : (n : ℕ) (ls rest : List (List ℕ)) (ended : Bool) → is_refusa
 alone_lines n [] rest ended is = absurd (cc)
 alone_lines n (l ∷ ls) rest ended is = alone (plan_reading l) (take n (ls ++ rest)) (take n ls) is
 
--- after a refused plan line nothing is answered
+-- after a refused plan line nothing more is answered
 pub answers_refused : (n : ℕ) (a b : List ℕ) (ended : Bool) → is_plan_refused a false ≡ true → answers n (a ++ b) ended ≡ answers n a false
 unfolding answers is_plan_refused
 answers_refused n a b ended is =
     let q = lines_go_on a b ended in
     ap (λ (ls : List (List ℕ)). line_replies ended (take (suc n) ls)) q.1 ∙ alone_lines n (lines_of a false) q.0 ended is
 
--- by the whole lines only
+-- whether the plan line is refused depends only on the lines that have ended
 pub refused_whole : (a : List ℕ) → is_plan_refused a false ≡ is_refusal (first_reading false (pieces_of a).0)
 unfolding is_plan_refused
 refused_whole a = ap (λ (ls : List (List ℕ)). is_refusal (first_reading false ls)) (append-nil (pieces_of a).0)
 
--- ---- lines after the whole ones
+-- ---- lines after those that have ended
 
 -- more bytes are at least one more line
 pub some_lines : (r b : List ℕ) → 0 < length b → 0 < length (lines_of (r ++ b) true)

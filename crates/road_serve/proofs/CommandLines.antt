@@ -16,7 +16,7 @@ use Rattle.road_serve.specs.Arguments.{are_accepted, are_read, command_line, wor
 
 -- ---- the program's command
 
--- no argument stands for the program's own name
+-- the command without an argument for the program's own name
 abbrev pub named_less : App → App
 named_less a = on_top (λ top. record top { no_binary_name = true }) a
 
@@ -28,9 +28,9 @@ pub free_line : is_simple_and_free command_line ≡ true
 unfolding clap_on_literals
 free_line = refl
 
--- ---- by the reading, and by the value of `--workers`
+-- ---- arguments, by what `clap` read and by the value of `--workers`
 
--- whether arguments are accepted, by whether there is no fault, and by that value
+-- whether arguments are accepted, given whether `clap` found no fault, and given the value of `--workers`
 abbrev is_accepted : Bool → Option (List ℕ) → Bool
 is_accepted faultless value = faultless && option_map_or (λ text. is_some (worker_count text)) value true
 
@@ -77,7 +77,7 @@ path_found words found is = first_value-rows found (codes "script") ∙ ap (firs
 pub workers_found : (found : Found) (text : Option (List ℕ)) → first_value found (codes "workers") ≡ text → first_of (codes "workers") (rows_of found) ≡ text
 workers_found found text is = sym (first_value-rows found (codes "workers")) ∙ is
 
--- ---- by the command that was built
+-- ---- arguments, by the command that was built
 
 pub read_by : (a : App) (words : List (List ℕ)) → a ≡ command_line → fault_of a words ≡ [] → are_read words ≡ true
 unfolding are_read

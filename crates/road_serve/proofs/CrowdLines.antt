@@ -1,4 +1,4 @@
--- Crowds among the lines: a held one becomes one of the lines, and stays one as more bytes come.
+-- Crowds among the lines: a held crowd becomes one of the lines, and stays among them as more bytes come.
 use Rattle.std.proofs.Common.{◌≡◌, ◌<◌, ◌≤◌, ◌+◌, ℕ, suc, List, [], ◌∷◌, ◌++◌, ◌||◌, length, take, drop, Bool, true, false, Option, Some, None, Result, Ok, Err, refl, ap, sym, ◌∙◌, append-nil}
 use Rattle.std.specs.Prelude.{MatchResult}
 use Rattle.std.specs.List.{list_any}
@@ -53,7 +53,7 @@ crowd_more n a b ended is =
     let u = take_front (suc n) (lines_of a false) q.0 in
     ap (λ (ls : List (List ℕ)). lines_gather ended (take (suc n) ls)) q.1 ∙ ap (lines_gather ended) u.1 ∙ lines_more ended (take (suc n) (lines_of a false)) u.0 is
 
--- up to the end of a line, and then in all the bytes
+-- a crowd among the lines up to a newline is among the lines of all the bytes
 pub crowd_line : (n : ℕ) (a b : List ℕ) (i : ℕ) → EndsAt b i → has_crowd n ((a ++ take i b) ++ newline ∷ []) false ≡ true → has_crowd n (a ++ b) false ≡ true
 crowd_line n a b i ends is =
     let whole : ((a ++ take i b) ++ newline ∷ []) ++ drop (i + 1) b ≡ a ++ b = ap (λ (x : List ℕ). x ++ drop (i + 1) b) (line_taken a b i ends) ∙ both_parts a b (i + 1) in
@@ -82,7 +82,7 @@ line_ends n a first sink d (Err fault) gone later few some s = record {
   counts = counts_same fault _ _ _ _ _ (sym (crowd_ended n a some)) refl s.counts;
 }
 
--- ---- the plan stays
+-- ---- the plan stays the same
 
 line_keeps : (lab : Laboratory) (reading : Result Command Refusal) → (laboratory_after_line lab reading).world.plan ≡ lab.world.plan
 line_keeps lab (Err refusal) = refl

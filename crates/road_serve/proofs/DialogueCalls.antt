@@ -10,7 +10,7 @@ use Rattle.road_workers.specs.declared.faults.CrewFault.TheVariants as crew_faul
 use Rattle.road_serve.specs.Answers.{answers, has_crowd, has_more_lines}
 use Rattle.road_serve.specs.Faults.{CountsGone, crew_fault}
 use Rattle.road_serve.specs.Failures.{RisesByOne}
-use Rattle.road_serve.specs.Dialogue.{Holds, GoesOn, Stands, HasAnswered, IsStopped}
+use Rattle.road_serve.specs.Dialogue.{Holds, GoesOn, IsAfterBytes, HasAnswered, IsStopped}
 use Rattle.road_serve.specs.StreamViews.{SinkView, TakesAllBut, TakesFront, Stops}
 use Rattle.road_serve.specs.Dialogue.{Dialogue}
 use Rattle.road_serve.specs.declared.faults.EarlyEnd.{EarlyEnd}
@@ -28,7 +28,7 @@ answered_same n a a' first sink d e h = let Family : List ℕ → Type 0 = λ x.
 pub stops_same : (a b : SinkView) (text text' : List ℕ) (fault : ServeFault) → text ≡ text' → Stops a b text fault → Stops a b text' fault
 stops_same a b text text' fault e s = let Family : List ℕ → Type 0 = λ x. Stops a b x fault in subst Family e s
 
--- out of memory or lost workers, with nothing more written
+-- if a call ended with `OutOfMemory` or `WorkersGone` and wrote nothing more, a prefix of the answers is written
 stopped_front : (n : ℕ) (a b : List ℕ) (ended : Bool) (first sink : SinkView) (d : Dialogue) → HasAnswered n a first sink d → TakesFront first sink (answers n (a ++ b) ended)
 stopped_front n a b ended first sink d h =
     let more = answers_more n a b ended in
@@ -53,7 +53,7 @@ goes_on_same n a d d' lab left held g = record {
   few = g.few;
 }
 
-stands_same : (n : ℕ) (a : List ℕ) (d d' : Dialogue) (o : Option EarlyEnd) → d'.laboratory ≡ d.laboratory → d'.left ≡ d.left → d'.line ≡ d.line → Stands n a d o → Stands n a d' o
+stands_same : (n : ℕ) (a : List ℕ) (d d' : Dialogue) (o : Option EarlyEnd) → d'.laboratory ≡ d.laboratory → d'.left ≡ d.left → d'.line ≡ d.line → IsAfterBytes n a d o → IsAfterBytes n a d' o
 stands_same n a d d' None lab left held s = goes_on_same n a d d' lab left held s
 stands_same n a d d' (Some ends.BadPlan) lab left held s = (s.0, lab ∙ s.1, left ∙ s.2)
 stands_same n a d d' (Some ends.TooMany) lab left held s = (s.0, s.1, after_same n _ _ d.laboratory d'.laboratory d.left d'.left refl (sym lab) (sym left) s.2)
@@ -62,12 +62,12 @@ abbrev pub Put : SinkView → SinkView → List ℕ → List ℕ → Result (Uni
 Put sink sink' text rest r =
     OnOk r (TakesAllBut sink sink' text rest) × OnOk r (sink'.failures ≡ sink.failures) × IfErr r (λ fault. Stops sink sink' text fault)
 
--- the dialogue after the line, d', has a different text waiting than before its reply was put, d
-pub answer_ends : (n : ℕ) (a b text all : List ℕ) (first sink sink' : SinkView) (d0 d d' : Dialogue) (r : Result (Unit {0}) ServeFault) (count later : ℕ) → HasAnswered n a first sink d0 → answers n (a ++ b) false ≡ answers n a false ++ text → Stands n (a ++ b) d d.over
+-- d is the dialogue before its reply waits or is written, and d' the dialogue after that
+pub answer_ends : (n : ℕ) (a b text all : List ℕ) (first sink sink' : SinkView) (d0 d d' : Dialogue) (r : Result (Unit {0}) ServeFault) (count later : ℕ) → HasAnswered n a first sink d0 → answers n (a ++ b) false ≡ answers n a false ++ text → IsAfterBytes n (a ++ b) d d.over
     → all ≡ d0.waiting ++ text → Put sink sink' all d'.waiting r → d'.laboratory ≡ d.laboratory → d'.left ≡ d.left → d'.line ≡ d.line → d'.over ≡ d.over
     → IfErr r (λ fault. CountsGone fault (has_crowd n (a ++ b) false) count later) → MatchResult r (λ _. HasAnswered n (a ++ b) first sink' d') (λ fault. IsStopped n (a ++ b) false first sink' fault count later)
 answer_ends n a b text all first sink sink' d0 d d' (Ok done) count later h says stands e put lab left held over counts =
-    let Family : Option EarlyEnd → Type 0 = λ o. Stands n (a ++ b) d' o in
+    let Family : Option EarlyEnd → Type 0 = λ o. IsAfterBytes n (a ++ b) d' o in
     record {
       answered = takes_same first sink' _ _ _ _ (sym says) refl (takes_more first sink sink' (answers n a false) d0.waiting text d'.waiting h.answered (takes_same sink sink' all _ _ _ e refl put.0));
       well = put.1 ∙ h.well;
@@ -126,7 +126,7 @@ flush_ends first sink sink' text waiting waiting' t all none =
 pub flushed : (n : ℕ) (a : List ℕ) (first sink sink' : SinkView) (d d' : Dialogue) → HasAnswered n a first sink d → Appends sink.contents sink'.contents d.waiting → sink'.failures ≡ sink.failures → d'.waiting ≡ []
     → d'.laboratory ≡ d.laboratory → d'.left ≡ d.left → d'.line ≡ d.line → d'.over ≡ d.over → HasAnswered n a first sink' d'
 flushed n a first sink sink' d d' h all well none lab left held over =
-    let Family : Option EarlyEnd → Type 0 = λ o. Stands n a d' o in
+    let Family : Option EarlyEnd → Type 0 = λ o. IsAfterBytes n a d' o in
     record {
       answered = flush_ends first sink sink' (answers n a false) d.waiting d'.waiting h.answered all none;
       well = well ∙ h.well;

@@ -7,7 +7,7 @@ use Rattle.road_format.specs.Replies.{Refused, reply}
 use Rattle.road_format.specs.declared.refusal.Refusal.TheVariants as refusals
 use Rattle.road_commands.specs.Laboratory.{Laboratory}
 use Rattle.road_serve.specs.Answers.{first_reading, line_replies, answers, has_crowd, is_refusal, is_plan_refused, has_more_lines}
-use Rattle.road_serve.specs.Dialogue.{IsAfterLines, Holds, Whole, TooLong, GoesOn, Stands, StandsAtEnd, HasAnswered, HasFinished, IsStopped}
+use Rattle.road_serve.specs.Dialogue.{IsAfterLines, Holds, Whole, TooLong, GoesOn, IsAfterBytes, IsAfterInput, HasAnswered, HasFinished, IsStopped}
 use Rattle.road_serve.specs.Faults.{CountsGone}
 use Rattle.road_serve.specs.StreamViews.{SinkView, Stops}
 use Rattle.road_serve.specs.Dialogue.{Dialogue}
@@ -36,7 +36,7 @@ one_last : (r : List ℕ) → 0 < length r → last_line true r ≡ r ∷ []
 one_last [] some = absurd (omega arith)
 one_last (x ∷ r) some = refl
 
--- ---- it is a line: as if a newline followed it
+-- ---- the rest is a line, as if a newline followed it
 
 pub ended_line : (a : List ℕ) → 0 < length (pieces_of a).1 → lines_of a true ≡ (pieces_of a).0 ++ (pieces_of a).1 ∷ []
 ended_line a some = ap (λ (p : List (List ℕ)). (pieces_of a).0 ++ p) (one_last (pieces_of a).1 some)
@@ -76,7 +76,7 @@ accepted_lines n [] lab left after some = absurd (omega arith)
 accepted_lines n (first ∷ later) None left after some = absurd after
 accepted_lines n (first ∷ later) (Some kept) left after some = rw (after.1) refl
 
-stands_accepted : (n : ℕ) (a : List ℕ) (d : Dialogue) (ls : List (List ℕ)) → lines_of a true ≡ ls → has_more_lines n a ≡ false → IsAfterLines n ls d.laboratory d.left → 0 < length ls → StandsAtEnd n a d None
+stands_accepted : (n : ℕ) (a : List ℕ) (d : Dialogue) (ls : List (List ℕ)) → lines_of a true ≡ ls → has_more_lines n a ≡ false → IsAfterLines n ls d.laboratory d.left → 0 < length ls → IsAfterInput n a d None
 unfolding is_plan_refused
 stands_accepted n a d ls e few after some =
     let Family : List (List ℕ) → Type 0 = λ x. IsAfterLines n x d.laboratory d.left in (
@@ -85,7 +85,7 @@ stands_accepted n a d ls e few after some =
       subst Family (sym e) after,
     )
 
-stands_line : (n : ℕ) (a : List ℕ) (d : Dialogue) (o : Option EarlyEnd) → has_more_lines n a ≡ false → 0 < length (pieces_of a).1 → Stands n (a ++ newline ∷ []) d o → StandsAtEnd n a d o
+stands_line : (n : ℕ) (a : List ℕ) (d : Dialogue) (o : Option EarlyEnd) → has_more_lines n a ≡ false → 0 < length (pieces_of a).1 → IsAfterBytes n (a ++ newline ∷ []) d o → IsAfterInput n a d o
 stands_line n a d None few some on =
     let Family : List (List ℕ) → Type 0 = λ ls. IsAfterLines n ls d.laboratory d.left in
     let after = subst Family (ap (λ (p : Pieces). p.0) (cut-newline a)) on.after in
@@ -128,7 +128,7 @@ clear_ends n a first sink d h none empty kept =
     let on = goes_on n a first sink d h none in
     let clear = no_rest d.line (pieces_of a).1 on.holds empty in
     let some = some_kept n (pieces_of a).0 d.laboratory d.left on.after kept in
-    let Family : Option EarlyEnd → Type 0 = λ o. StandsAtEnd n a d o in
+    let Family : Option EarlyEnd → Type 0 = λ o. IsAfterInput n a d o in
     record {
       answered = takes_same first sink _ _ _ _ (sym (answers_clear n a clear some)) refl h.answered;
       well = h.well;
@@ -176,7 +176,7 @@ pub no_plan_ends : (n : ℕ) (a text all : List ℕ) (first sink sink' : SinkVie
     → IfErr r (λ fault. CountsGone fault (has_crowd n a true) count later) → MatchResult r (λ _. HasFinished n a first sink' d') (λ fault. IsStopped n a true first sink' fault count later)
 no_plan_ends n a text all first sink sink' d d' (Ok done) count later h none empty kept says e put over lab left counts =
     let f = no_plan_facts n a d (goes_on n a first sink d h none) empty kept in
-    let Family : Option EarlyEnd → Type 0 = λ o. StandsAtEnd n a d' o in
+    let Family : Option EarlyEnd → Type 0 = λ o. IsAfterInput n a d' o in
     record {
       answered = takes_same first sink' _ _ _ _ (ap (λ (t : List ℕ). answers n a false ++ t) says ∙ sym f.0) refl
           (takes_more first sink sink' (answers n a false) d.waiting text d'.waiting h.answered (takes_same sink sink' all _ _ _ e refl put.0));
@@ -193,7 +193,7 @@ no_plan_ends n a text all first sink sink' d d' (Err fault) count later h none e
 
 -- ---- the waiting replies are flushed
 
-stands_end_same : (n : ℕ) (a : List ℕ) (d d' : Dialogue) (o : Option EarlyEnd) → d'.laboratory ≡ d.laboratory → d'.left ≡ d.left → StandsAtEnd n a d o → StandsAtEnd n a d' o
+stands_end_same : (n : ℕ) (a : List ℕ) (d d' : Dialogue) (o : Option EarlyEnd) → d'.laboratory ≡ d.laboratory → d'.left ≡ d.left → IsAfterInput n a d o → IsAfterInput n a d' o
 stands_end_same n a d d' None lab left s = (s.0, s.1, after_same n _ _ d.laboratory d'.laboratory d.left d'.left refl (sym lab) (sym left) s.2)
 stands_end_same n a d d' (Some ends.BadPlan) lab left s = (s.0, lab ∙ s.1, left ∙ s.2)
 stands_end_same n a d d' (Some ends.TooMany) lab left s = s
@@ -201,19 +201,19 @@ stands_end_same n a d d' (Some ends.TooMany) lab left s = s
 pub finished_flushed : (n : ℕ) (a : List ℕ) (first sink sink' : SinkView) (d d' : Dialogue) → HasFinished n a first sink d → Appends sink.contents sink'.contents d.waiting → sink'.failures ≡ sink.failures → d'.waiting ≡ []
     → d'.laboratory ≡ d.laboratory → d'.left ≡ d.left → d'.over ≡ d.over → HasFinished n a first sink' d'
 finished_flushed n a first sink sink' d d' h all well none lab left over =
-    let Family : Option EarlyEnd → Type 0 = λ o. StandsAtEnd n a d' o in
+    let Family : Option EarlyEnd → Type 0 = λ o. IsAfterInput n a d' o in
     record {
       answered = flush_ends first sink sink' (answers n a true) d.waiting d'.waiting h.answered all none;
       well = well ∙ h.well;
       stands = subst Family (sym over) (stands_end_same n a d d' d.over lab left h.stands);
     }
 
--- ---- there is no memory
+-- ---- memory ran out
 
 pub memory_at_end : (n : ℕ) (a : List ℕ) (first sink : SinkView) (d : Dialogue) → HasAnswered n a first sink d → Stops first sink (answers n a true) faults.OutOfMemory
 memory_at_end n a first sink d h = stops_same first sink _ _ faults.OutOfMemory (ap (λ (x : List ℕ). answers n x true) (append-nil a)) (stops_memory n a [] true first sink d h)
 
--- ---- a dialogue that goes on has refused no plan
+-- ---- a dialogue that goes on has not refused a plan line
 
 refused_after : (n : ℕ) (ls : List (List ℕ)) (lab : Option Laboratory) (left : ℕ) → IsAfterLines n ls lab left → is_refusal (first_reading false ls) ≡ false
 refused_after n [] lab left after = refl

@@ -7,7 +7,7 @@ use Rattle.road_format.specs.PlanGrammar.{plan_line_of}
 use Rattle.road_format.specs.Replies.{reply}
 use Rattle.road_commands.specs.Laboratory.{Laboratory}
 use Rattle.road_serve.specs.Answers.{opening_answer, line_answer, first_reading, line_replies, answers, is_refusal, is_plan_refused, has_more_lines}
-use Rattle.road_serve.specs.Dialogue.{IsAfterLines, Holds, GoesOn, Stands, HasAnswered}
+use Rattle.road_serve.specs.Dialogue.{IsAfterLines, Holds, GoesOn, IsAfterBytes, HasAnswered}
 use Rattle.road_serve.specs.Private.KeptLaboratory.{kept_after_line, opened_laboratory}
 use Rattle.road_serve.specs.Private.Readings.{read_held}
 use Rattle.road_serve.specs.StreamViews.{SinkView}
@@ -26,9 +26,9 @@ after_same n ls ls' lab lab' left left' e f g h =
     let Lefts : ℕ → Type 0 = λ x. IsAfterLines n ls' lab' x in
     subst Lefts g (subst Keepers f (subst Lines e h))
 
--- ---- over: further bytes change nothing
+-- ---- if the dialogue is over, further bytes change nothing
 
-stands_over : (n : ℕ) (a b : List ℕ) (d : Dialogue) (o : Option EarlyEnd) → IsSome o → Stands n a d o → Stands n (a ++ b) d o × (answers n (a ++ b) false ≡ answers n a false)
+stands_over : (n : ℕ) (a b : List ℕ) (d : Dialogue) (o : Option EarlyEnd) → IsSome o → IsAfterBytes n a d o → IsAfterBytes n (a ++ b) d o × (answers n (a ++ b) false ≡ answers n a false)
 stands_over n a b d None some s = absurd (cc)
 stands_over n a b d (Some ends.BadPlan) some s = ((refused_stays a b false true (refused_some a s.0) s.0, s.1, s.2), answers_refused n a b false s.0)
 stands_over n a b d (Some ends.TooMany) some s =
@@ -50,19 +50,19 @@ over_more n a b first sink d h some =
     let s = stands_over n a b d d.over some h.stands in
     record { answered = takes_same first sink _ _ d.waiting d.waiting (sym s.1) refl h.answered; well = h.well; stands = s.0 }
 
--- ---- going on
+-- ---- the dialogue goes on
 
 pub goes_on : (n : ℕ) (a : List ℕ) (first sink : SinkView) (d : Dialogue) → HasAnswered n a first sink d → d.over ≡ None → GoesOn n a d
 goes_on n a first sink d h none =
-    let Family : Option EarlyEnd → Type 0 = λ o. Stands n a d o in
+    let Family : Option EarlyEnd → Type 0 = λ o. IsAfterBytes n a d o in
     subst Family none h.stands
 
-pub stands_on : (n : ℕ) (a : List ℕ) (d : Dialogue) → d.over ≡ None → GoesOn n a d → Stands n a d d.over
+pub stands_on : (n : ℕ) (a : List ℕ) (d : Dialogue) → d.over ≡ None → GoesOn n a d → IsAfterBytes n a d d.over
 stands_on n a d none on =
-    let Family : Option EarlyEnd → Type 0 = λ o. Stands n a d o in
+    let Family : Option EarlyEnd → Type 0 = λ o. IsAfterBytes n a d o in
     subst Family (sym none) on
 
--- ---- the first byte past the last line that may come
+-- ---- the first byte past the last line that is allowed
 
 abbrev Full : ℕ → List (List ℕ) → Type 0
 Full n ls = (length ls ≡ suc n) × (is_refusal (first_reading false ls) ≡ false)
@@ -83,7 +83,7 @@ full_more n a b first sink d d' h none some spent more over waits lab left =
     let many = are_many n (a ++ b) (omega (arith, f.0, one, all, length-append (pieces_of a).0 (lines_of ((pieces_of a).1 ++ b) true))) in
     let same = answers_full n a b (omega (arith, f.0)) in
     let lines = sym (lines_full n a b (omega (arith, f.0)) ∙ take_all (suc n) (pieces_of a).0 (omega (arith, f.0))) in
-    let Family : Option EarlyEnd → Type 0 = λ o. Stands n (a ++ b) d' o in
+    let Family : Option EarlyEnd → Type 0 = λ o. IsAfterBytes n (a ++ b) d' o in
     record {
       answered = takes_same first sink _ _ _ _ (sym same) (sym waits) h.answered;
       well = h.well;
@@ -157,7 +157,7 @@ lab_after n a d lab g is = after_same n _ _ d.laboratory lab d.left d.left refl 
 pub later_step : (n : ℕ) (a text : List ℕ) (d d' : Dialogue) (kept kept' : Laboratory) → GoesOn n a d → d.laboratory ≡ Some kept → has_more_lines n (a ++ newline ∷ []) ≡ false
     → text ≡ reply (line_answer kept (read_held command_of d.line)) → kept' ≡ kept_after_line kept (read_held command_of d.line)
     → d'.laboratory ≡ Some kept' → d'.left ≡ d.left - 1 → d'.line ≡ Some [] → d'.over ≡ None
-    → (answers n (a ++ newline ∷ []) false ≡ answers n a false ++ text) × Stands n (a ++ newline ∷ []) d' d'.over
+    → (answers n (a ++ newline ∷ []) false ≡ answers n a false ++ text) × IsAfterBytes n (a ++ newline ∷ []) d' d'.over
 later_step n a text d d' kept kept' g is few says kept_is lab left clear over =
     let after = lab_after n a d (Some kept) g is in
     let one = later_replied n (pieces_of a).0 kept d.line d.left (pieces_of a).1 after g.holds in
@@ -169,7 +169,7 @@ later_step n a text d d' kept kept' g is few says kept_is lab left clear over =
 pub opening_step : (n : ℕ) (a text : List ℕ) (d d' : Dialogue) → GoesOn n a d → d.laboratory ≡ None → has_more_lines n (a ++ newline ∷ []) ≡ false
     → text ≡ reply (opening_answer (read_held plan_line_of d.line)) → d'.laboratory ≡ opened_laboratory (read_held plan_line_of d.line) → d'.laboratory ≢ None
     → d'.left ≡ d.left → d'.line ≡ Some [] → d'.over ≡ None
-    → (answers n (a ++ newline ∷ []) false ≡ answers n a false ++ text) × Stands n (a ++ newline ∷ []) d' d'.over
+    → (answers n (a ++ newline ∷ []) false ≡ answers n a false ++ text) × IsAfterBytes n (a ++ newline ∷ []) d' d'.over
 opening_step n a text d d' g is few says lab some left clear over =
     let after = lab_after n a d None g is in
     let one = opening_replied n (pieces_of a).0 d.line d.left (pieces_of a).1 after g.holds in

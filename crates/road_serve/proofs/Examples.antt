@@ -36,7 +36,7 @@ most_bytes = refl
 unfoldable free_road : List ℕ
 free_road = codes "{\"detectors\":[5],\"exit\":1,\"inlets\":[[0,65536]],\"length\":12,\"replicas\":[\"A\",\"B\",\"C\"],\"words\":\"steady\",\"zone\":12,\"zones\":[[2,0]]}\n"
 
--- queries, refusals of each kind, and a last piece without a newline
+-- queries, refusals of each kind, and a last line without a newline
 unfoldable queries : List ℕ
 queries = codes "{\"cells\":{\"at\":\"A\",\"step\":0}}\n{\"cells\":{\"at\":\"A\",\"step\":1}}\n\n{\"advance\":{\"at\":\"A\",\"to\":6}}\n{\"advance\":{\"at\":\"A\",\"to\":3}}\n{\"cells\":{\"step\":6,\"at\":\"A\"}}\n{\"cells\":{\"at\":\"B\",\"step\":6}}\n{\"advance\":{\"at\":\"D\",\"to\":1}}\n{\"advance\":{\"at\":\"A\",\"to\":1048577}}\n{\"advance\":{\"at\":\"A\",\"to\":1,\"form\":1}}\n{\"cells\":{\"at\":\"A\",\"step\":2}}"
 

@@ -1,4 +1,4 @@
--- One more whole line: its answer, and the laboratory kept after it.
+-- One more line that has ended: its answer, and the laboratory kept after it.
 use Rattle.std.proofs.Common.{◌≡◌, ◌≢◌, ◌≤◌, ℕ, suc, List, [], ◌∷◌, ◌++◌, ◌-◌, length, Bool, true, false, Option, Some, None, Result, Ok, Err, refl, ap, sym, ◌∙◌, append_assoc, append-nil, length-append, arith}
 use Rattle.std.specs.Prelude.{nat_lt}
 use Rattle.std.proofs.lemmas.Bool.{lt-ltb, le-ltb}
@@ -33,7 +33,7 @@ unfolding laboratory_after_lines
 after-snoc lab [] l = refl
 after-snoc lab (x ∷ ls) l = after-snoc (laboratory_after_line lab (command_reading x)) ls l
 
--- the winners suffice for the answer to a line, and for the winners after it
+-- the winners suffice for the answer to a line, and for the winners after the line
 answered_by_winners : (lab : Laboratory) (reading : Result Command Refusal) → line_answer (laboratory_of_winners lab) reading ≡ line_answer lab reading
 answered_by_winners lab (Err refusal) = refl
 answered_by_winners lab (Ok command) = answer-of_winners lab command
@@ -66,7 +66,7 @@ held_reading f held line (TooLong e l) =
 pub no_bytes : (held : Option (List ℕ)) → held ≡ Some [] → Holds held []
 no_bytes held none = Whole none (omega arith)
 
--- ---- it ends as a later line
+-- ---- the held line ends, and is a later line
 
 -- the laboratory kept after the later lines of a plan
 abbrev kept_after_lines : PlanLine → List (List ℕ) → Laboratory
@@ -104,7 +104,7 @@ later_kept n (first ∷ later) kept held left l after holds few =
       omega (arith, after.3, length-append later (l ∷ [])),
     )
 
--- ---- it ends as the plan line
+-- ---- the held line ends, and is the plan line
 
 opened : (reading : Result PlanLine Refusal) → input_replies reading [] ≡ reply (opening_answer reading)
 unfolding later_replies

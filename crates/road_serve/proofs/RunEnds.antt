@@ -10,7 +10,7 @@ use Rattle.std.specs.Io.KnownBytes.{Appends, Consumes, IsAtEnd, Keeps}
 use Rattle.road_format.specs.Cut.{lines_of}
 use Rattle.road_commands.specs.Laboratory.{Laboratory}
 use Rattle.road_serve.specs.Answers.{later_lines, answers, answers_within, has_crowd, has_crowd_within, is_plan_refused, is_plan_refused_within, has_more_lines, has_byte_past_most, reply_count}
-use Rattle.road_serve.specs.Dialogue.{IsAfterLines, HasAnswered, HasFinished, GoesOn, Stands, StandsAtEnd}
+use Rattle.road_serve.specs.Dialogue.{IsAfterLines, HasAnswered, HasFinished, GoesOn, IsAfterBytes, IsAfterInput}
 use Rattle.road_serve.specs.Failures.{RisesByOne}
 use Rattle.road_workers.specs.declared.faults.CrewFault.{CrewFault}
 use Rattle.road_workers.specs.declared.faults.CrewFault.TheVariants as crew_faults
@@ -230,7 +230,7 @@ stopped lines limit room n m source s1 s2 sink k1 k2 was gone d piece fault so m
 
 -- ---- the run is over before the end of its input
 
-over_ends : (run : Serving) (input z : List ℕ) (d : Dialogue) (end : EarlyEnd) → take run.most_bytes input ≡ z → run.source_after.at_end ≡ false → WritesAll run input → Stands run.most_lines z d (Some end) → Ends run input (Err (early_fault end))
+over_ends : (run : Serving) (input z : List ℕ) (d : Dialogue) (end : EarlyEnd) → take run.most_bytes input ≡ z → run.source_after.at_end ≡ false → WritesAll run input → IsAfterBytes run.most_lines z d (Some end) → Ends run input (Err (early_fault end))
 over_ends run input z d ends.BadPlan part going writes s =
     (writes, ap (is_plan_refused_within run.most_bytes input) going ∙ refused_going run.most_bytes input ∙ ap (λ (x : List ℕ). is_plan_refused x false) part ∙ s.0)
 over_ends run input z d ends.TooMany part going writes s = (
@@ -239,8 +239,8 @@ over_ends run input z d ends.TooMany part going writes s = (
   past_lines run.most_lines run.most_bytes input (ap (has_more_lines run.most_lines) part ∙ s.1),
 )
 
-stands_at : (n : ℕ) (a : List ℕ) (d : Dialogue) (o o' : Option EarlyEnd) → o ≡ o' → Stands n a d o → Stands n a d o'
-stands_at n a d o o' e s = let Family : Option EarlyEnd → Type 0 = λ x. Stands n a d x in subst Family e s
+stands_at : (n : ℕ) (a : List ℕ) (d : Dialogue) (o o' : Option EarlyEnd) → o ≡ o' → IsAfterBytes n a d o → IsAfterBytes n a d o'
+stands_at n a d o o' e s = let Family : Option EarlyEnd → Type 0 = λ x. IsAfterBytes n a d x in subst Family e s
 
 writes_going : (lines limit room n m : ℕ) (source s1 s2 : SourceView) (sink k1 k2 : SinkView) (was gone : ℕ) (d d' : Dialogue) (piece : List ℕ) (result : Result Served ServeFault) (so : SoFar lines limit room source s1 sink k1 d) → ReadMore s1 s2 n piece → (n ≡ 0 → ⊥)
     → m ≡ min room n → HasAnswered lines (so.input ++ take m piece) sink k2 d' → d'.waiting ≡ [] → k2.flushed ≡ true → WritesAll (run_of lines limit source s2 sink k2 was gone result) (so.input ++ take n piece)
@@ -270,7 +270,7 @@ over lines limit room n m source s1 s2 sink k1 k2 was gone d d' piece end so mor
       counts = early_counts end _ was gone kept;
     }
 
--- ---- more bytes than may come
+-- ---- more bytes than are allowed
 
 pub past : (lines limit room n m : ℕ) (source s1 s2 : SourceView) (sink k1 k2 : SinkView) (was gone : ℕ) (d d' : Dialogue) (piece : List ℕ) (so : SoFar lines limit room source s1 sink k1 d) → ReadMore s1 s2 n piece → (n ≡ 0 → ⊥)
     → m ≡ min room n → m < n → HasAnswered lines (so.input ++ take m piece) sink k2 d' → d'.waiting ≡ [] → k2.flushed ≡ true → d'.over ≡ None → gone ≡ was → AnswersInput (run_of lines limit source s2 sink k2 was gone (Err faults.TooMany))
@@ -327,10 +327,10 @@ writes_ended lines limit room n source s1 s2 sink k1 k2 was gone d d' piece resu
       writes_well = h.well;
     }
 
-ends_at : (n : ℕ) (a : List ℕ) (d : Dialogue) (o o' : Option EarlyEnd) → o ≡ o' → StandsAtEnd n a d o → StandsAtEnd n a d o'
-ends_at n a d o o' e s = let Family : Option EarlyEnd → Type 0 = λ x. StandsAtEnd n a d x in subst Family e s
+ends_at : (n : ℕ) (a : List ℕ) (d : Dialogue) (o o' : Option EarlyEnd) → o ≡ o' → IsAfterInput n a d o → IsAfterInput n a d o'
+ends_at n a d o o' e s = let Family : Option EarlyEnd → Type 0 = λ x. IsAfterInput n a d x in subst Family e s
 
-refused_ends : (run : Serving) (input : List ℕ) (d : Dialogue) (end : EarlyEnd) → run.source_after.at_end ≡ true → length input ≤ run.most_bytes → WritesAll run input → StandsAtEnd run.most_lines input d (Some end) → Ends run input (Err (early_fault end))
+refused_ends : (run : Serving) (input : List ℕ) (d : Dialogue) (end : EarlyEnd) → run.source_after.at_end ≡ true → length input ≤ run.most_bytes → WritesAll run input → IsAfterInput run.most_lines input d (Some end) → Ends run input (Err (early_fault end))
 refused_ends run input d ends.BadPlan ended short writes s = (writes, ap (is_plan_refused_within run.most_bytes input) ended ∙ refused_ended run.most_bytes input short ∙ s.0)
 refused_ends run input d ends.TooMany ended short writes s = absurd s
 
@@ -410,7 +410,7 @@ first_read_failed lines limit source sink = record {
 pub unopened : (lines limit : ℕ) (sink : SinkView) → AnswersInput (run_of lines limit (unopened_source 0) (unopened_source 1) sink sink 0 0 (Err faults.Read))
 unopened lines limit sink = first_read_failed lines limit (unopened_source 0) sink
 
--- there was no memory to begin
+-- memory ran out before the run began
 pub not_begun : (lines limit : ℕ) (source : SourceView) (sink : SinkView) → AnswersInput (run_of lines limit source source sink sink 0 0 (Err faults.OutOfMemory))
 not_begun lines limit source sink = record {
   input = [];
@@ -419,7 +419,7 @@ not_begun lines limit source sink = record {
   counts = refl;
 }
 
--- nor were there workers to begin, which counts as having returned that
+-- the crew did not start, which counts as having returned `WorkersGone` if that was the fault
 pub not_manned : (lines limit : ℕ) (source : SourceView) (sink : SinkView) (failed : CrewFault) → (gone : ℕ) × AnswersInput (run_of lines limit source source sink sink 0 gone (Err (crew_fault failed)))
 not_manned lines limit source sink crew_faults.OutOfMemory = (0, not_begun lines limit source sink)
 not_manned lines limit source sink crew_faults.WorkersGone = (

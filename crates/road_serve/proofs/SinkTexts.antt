@@ -19,15 +19,15 @@ taken_all a b text t =
     let Family : List ℕ → Type 0 = λ s. Appends a.contents b.contents s in
     subst Family (sym (append-nil t.front) ∙ t.whole) t.taken
 
--- the same text, the same rest
+-- equal texts and equal rests
 pub takes_same : (a b : SinkView) (text text' rest rest' : List ℕ) → text ≡ text' → rest ≡ rest' → TakesAllBut a b text rest → TakesAllBut a b text' rest'
 takes_same a b text text' rest rest' e f t = record { front = t.front; taken = t.taken; whole = ap (λ (r : List ℕ). t.front ++ r) (sym f) ∙ t.whole ∙ e }
 
--- its first n bytes were taken
+-- the first n bytes of a text were taken
 pub front_taken : (a b : SinkView) (text : List ℕ) (n : ℕ) → Appends a.contents b.contents (take n text) → TakesFront a b text
 front_taken a b text n taken = (drop n text, record { front = take n text; taken = taken; whole = take-append-drop n text })
 
--- the rest was taken with more after it
+-- the rest was taken together with more text after it
 pub takes_more : (a b c : SinkView) (text rest more rest' : List ℕ) → TakesAllBut a b text rest → TakesAllBut b c (rest ++ more) rest' → TakesAllBut a c (text ++ more) rest'
 takes_more a b c text rest more rest' t u = record {
   front = t.front ++ u.front;
@@ -35,7 +35,7 @@ takes_more a b c text rest more rest' t u = record {
   whole = append_assoc t.front u.front rest' ∙ ap (λ (s : List ℕ). t.front ++ s) u.whole ∙ sym (append_assoc t.front rest more) ∙ ap (λ (s : List ℕ). s ++ more) t.whole;
 }
 
--- a prefix of a text is one of a longer text
+-- a prefix of a text is a prefix of a longer text
 pub front_longer : (a b : SinkView) (text more text' : List ℕ) → text' ≡ text ++ more → TakesFront a b text → TakesFront a b text'
 front_longer a b text more text' e f = (
   f.0 ++ more,

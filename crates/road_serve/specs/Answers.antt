@@ -18,7 +18,7 @@ use Rattle.road_commands.specs.Laboratory.{Laboratory, answer_to, is_gathered, l
 abbrev pub is_long : List ℕ → Bool
 is_long line = nat_lt LONGEST_LINE (length line)
 
--- the reading of a line: one that is too long is refused unread
+-- the reading of a line: a line that is too long is refused unread
 abbrev pub reading_unless : {A : Type 0} → Bool → Result A Refusal → Result A Refusal
 reading_unless true reading = Err refusals.LineTooLong
 reading_unless false reading = reading
@@ -41,19 +41,19 @@ abbrev pub line_answer : Laboratory → Result Command Refusal → Answer
 line_answer lab (Err refusal) = Refused refusal
 line_answer lab (Ok command) = answer_to lab command
 
--- the laboratory after a later line: a refused one changes nothing
+-- the laboratory after a later line: a refused line changes nothing
 abbrev pub laboratory_after_line : Laboratory → Result Command Refusal → Laboratory
 laboratory_after_line lab (Err refusal) = lab
 laboratory_after_line lab (Ok command) = laboratory_after lab command
 
--- whether a later line is a crowd that nothing refuses
+-- whether a later line is a crowd that is not refused
 abbrev pub gathers : Plan → Result Command Refusal → Bool
 gathers plan (Err refusal) = false
 gathers plan (Ok command) = is_gathered plan command
 
 -- ---- all lines
 
--- the replies to the lines after the plan line, each by the laboratory after those before it
+-- the replies to the lines after the plan line, each given by the laboratory after the lines before it
 unfoldable pub later_replies : Laboratory → List (List ℕ) → List ℕ
 later_replies lab [] = []
 later_replies lab (line ∷ lines) =
@@ -66,7 +66,7 @@ input_replies (Err refusal) lines = reply (opening_answer (Err refusal))
 input_replies (Ok plan) lines =
     reply (opening_answer (Ok plan)) ++ later_replies (opening_laboratory plan) lines
 
--- the reading of the plan line: none yet, if there is no line and the input goes on
+-- the reading of the plan line; none yet if there is no line and the input goes on
 abbrev pub first_reading : Bool → List (List ℕ) → Option (Result PlanLine Refusal)
 first_reading ended (first ∷ lines) = Some (plan_reading first)
 first_reading true [] = Some (Err refusals.NoPlan)
@@ -77,7 +77,7 @@ abbrev pub later_lines : List (List ℕ) → List (List ℕ)
 later_lines [] = []
 later_lines (first ∷ lines) = lines
 
--- the replies, given the reading of the plan line: none before that
+-- the replies, given the reading of the plan line; none if it is not read yet
 abbrev pub replies_by : Option (Result PlanLine Refusal) → List (List ℕ) → List ℕ
 replies_by None lines = []
 replies_by (Some reading) lines = input_replies reading lines
@@ -86,13 +86,13 @@ replies_by (Some reading) lines = input_replies reading lines
 abbrev pub line_replies : Bool → List (List ℕ) → List ℕ
 line_replies ended lines = replies_by (first_reading ended lines) (later_lines lines)
 
--- whether a line after the plan line is a crowd that nothing refuses, given the reading of the plan line
+-- whether a line after the plan line is a crowd that is not refused, given the reading of the plan line
 abbrev pub gathers_by : Option (Result PlanLine Refusal) → List (List ℕ) → Bool
 gathers_by None lines = false
 gathers_by (Some (Err refusal)) lines = false
 gathers_by (Some (Ok first)) lines = list_any (λ line. gathers first.plan (command_reading line)) lines
 
--- whether one of these lines is a crowd that nothing refuses, of an input that has ended or goes on
+-- whether one of these lines is a crowd that is not refused, of an input that has ended or goes on
 abbrev pub lines_gather : Bool → List (List ℕ) → Bool
 lines_gather ended lines = gathers_by (first_reading ended lines) (later_lines lines)
 
@@ -102,7 +102,7 @@ lines_gather ended lines = gathers_by (first_reading ended lines) (later_lines l
 unfoldable pub answers : ℕ → List ℕ → Bool → List ℕ
 answers lines bytes ended = line_replies ended (take (suc lines) (lines_of bytes ended))
 
--- whether a line of these bytes, of an input that has ended or goes on, is a crowd that nothing refuses
+-- whether a line of these bytes, of an input that has ended or goes on, is a crowd that is not refused
 unfoldable pub has_crowd : ℕ → List ℕ → Bool → Bool
 has_crowd lines bytes ended = lines_gather ended (take (suc lines) (lines_of bytes ended))
 
@@ -116,7 +116,7 @@ is_refusal None = false
 unfoldable pub is_plan_refused : List ℕ → Bool → Bool
 is_plan_refused bytes ended = is_refusal (first_reading ended (lines_of bytes ended))
 
--- whether there is a byte past the last line that may come
+-- whether there is a byte past the last line that is allowed
 unfoldable pub has_more_lines : ℕ → List ℕ → Bool
 has_more_lines lines bytes = nat_lt (suc lines) (length (lines_of bytes true))
 
@@ -126,12 +126,12 @@ has_more_lines lines bytes = nat_lt (suc lines) (length (lines_of bytes true))
 abbrev pub ends_within : ℕ → List ℕ → Bool → Bool
 ends_within limit bytes ended = ended && nat_le (length bytes) limit
 
--- the answers to the first `limit` bytes of an input; if more came, these have not ended, so the bytes after their last
--- newline are not a line
+-- the answers to the first `limit` bytes of an input; if there are more bytes, the input has not ended there, so the
+-- bytes after the last newline are not a line
 unfoldable pub answers_within : ℕ → ℕ → List ℕ → Bool → List ℕ
 answers_within lines limit bytes ended = answers lines (take limit bytes) (ends_within limit bytes ended)
 
--- whether a line of the first `limit` bytes of an input is a crowd that nothing refuses
+-- whether a line of the first `limit` bytes of an input is a crowd that is not refused
 unfoldable pub has_crowd_within : ℕ → ℕ → List ℕ → Bool → Bool
 has_crowd_within lines limit bytes ended = has_crowd lines (take limit bytes) (ends_within limit bytes ended)
 
@@ -139,11 +139,11 @@ has_crowd_within lines limit bytes ended = has_crowd lines (take limit bytes) (e
 unfoldable pub is_plan_refused_within : ℕ → List ℕ → Bool → Bool
 is_plan_refused_within limit bytes ended = is_plan_refused (take limit bytes) (ends_within limit bytes ended)
 
--- whether there is a byte past the most lines or the most bytes
+-- whether there is a byte past the limit of lines or the limit of bytes
 unfoldable pub has_byte_past_most : ℕ → ℕ → List ℕ → Bool
 has_byte_past_most lines limit bytes = nat_lt limit (length bytes) || has_more_lines lines bytes
 
--- the number of replies after the plan line's, to an input that has ended and whose plan line is accepted
+-- the number of replies, without the plan line's, to an input that has ended and whose plan line is accepted
 unfoldable pub reply_count : ℕ → ℕ → List ℕ → ℕ
 reply_count lines limit bytes =
     length (later_lines (take (suc lines) (lines_of (take limit bytes) (ends_within limit bytes true))))

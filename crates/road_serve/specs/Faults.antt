@@ -19,15 +19,15 @@ crew_fault crew_faults.WorkersGone = faults.WorkersGone
 crew_fault crew_faults.OutOfMemory = faults.OutOfMemory
 
 -- how often a crew has returned `WorkersGone` after a call with this result: the count increases by one if that was the
--- fault; at the greatest u64 it stays
+-- fault, unless it is already the largest u64
 abbrev pub gone_after_call : {A : Type 0} → Result A ServeFault → ℕ → ℕ
 gone_after_call (Ok done) n = n
 gone_after_call (Err faults.WorkersGone) n = min (n + 1) (2 ^ 64 - 1)
 gone_after_call (Err fault) n = n
 
--- How often a crew has returned `WorkersGone`, before and after a call with a fault. If the fault is `WorkersGone`, it
--- is once more, or equally often if a crowd was read, because its sessions' threads may be the cause. For any other
--- fault it is equally often.
+-- How often a crew has returned `WorkersGone`, before and after a call with a fault. For any fault but `WorkersGone`
+-- the count is the same. For `WorkersGone` it is one more, or the same if a crowd was read, because a thread of the
+-- crowd may be the cause.
 abbrev pub CountsGone : ServeFault → Bool → ℕ → ℕ → Type 0
 CountsGone faults.WorkersGone crowd before after = RisesByOne before after ⊎ ((after ≡ before) × (crowd ≡ true))
 CountsGone fault crowd before after = after ≡ before

@@ -3,7 +3,7 @@ use Rattle.std.specs.Prelude.{ℕ, ◌==◌, Bool, false, nat_le}
 use Rattle.road_serve.specs.declared.memory.Failing.{Failing}
 use Rattle.road_serve.specs.declared.memory.Failing.TheVariants.{Never, Once, From}
 
--- whether this call fails, counted from 0
+-- whether the call with this number, counted from 0, fails
 abbrev pub is_failing : Failing → ℕ → Bool
 is_failing Never call = false
 is_failing (Once failed) call = call == failed

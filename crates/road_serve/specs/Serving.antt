@@ -43,7 +43,7 @@ program_serving source_before source_after sink_before sink_after gone_before go
 abbrev pub run_answers : Serving → List ℕ → List ℕ
 run_answers run input = answers_within run.most_lines run.most_bytes input run.source_after.at_end
 
--- the answers to the input were written, all of them and nothing else, and flushed; no call failed
+-- all answers to the input, and nothing else, were written and flushed; no call failed
 pub record WritesAll (run : Serving) (input : List ℕ) : Type 0 where
   pub written : Appends run.sink_before.contents run.sink_after.contents (run_answers run input)
   pub flushed : run.sink_after.flushed ≡ true
@@ -54,12 +54,12 @@ pub record WritesAll (run : Serving) (input : List ℕ) : Type 0 where
 abbrev pub RefusesPlan : Serving → List ℕ → Bool → Type 0
 RefusesPlan run input answer = is_plan_refused_within run.most_bytes input run.source_after.at_end ≡ answer
 
--- whether this input goes past the most lines or the most bytes
+-- whether this input goes past the limit of lines or the limit of bytes
 abbrev pub PassesMost : Serving → List ℕ → Bool → Type 0
 PassesMost run input answer = has_byte_past_most run.most_lines run.most_bytes input ≡ answer
 
--- A run that ends well: at the end of input, with nothing left. The plan line is accepted, and the input does not go
--- past the most lines or the most bytes.
+-- A run that ends well: at the end of input, with nothing left. The plan line is accepted, and the input is within the
+-- limits of lines and bytes.
 pub record EndsWell (run : Serving) (input : List ℕ) (served : Served) : Type 0 where
   pub writes : WritesAll run input
   pub at_end : run.source_after.at_end ≡ true
@@ -68,8 +68,8 @@ pub record EndsWell (run : Serving) (input : List ℕ) (served : Served) : Type 
   pub within : PassesMost run input false
   pub counted : served.lines ≡ reply_count run.most_lines run.most_bytes input
 
--- A run that a failed read ends: the answers to the lines that were read whole were written. The plan line was not
--- refused so far, and the input did not go past the most lines or the most bytes, because nothing is read after that.
+-- A run that a failed read ends: the answers to the lines that were read completely were written. The plan line was not
+-- refused so far, and the input was within the limits of lines and bytes, because otherwise nothing more is read.
 pub record EndsUnread (run : Serving) (input : List ℕ) : Type 0 where
   pub written : Appends run.sink_before.contents run.sink_after.contents
       (answers_within run.most_lines run.most_bytes input false)
@@ -78,7 +78,7 @@ pub record EndsUnread (run : Serving) (input : List ℕ) : Type 0 where
   pub reads_failed : RisesByOne run.source_before.failures run.source_after.failures
   pub writes_well : run.sink_after.failures ≡ run.sink_before.failures
 
--- A run that ends for a failed write, for out of memory or for lost workers: a prefix of the answers was written.
+-- A run that ends with `Write`, `OutOfMemory` or `WorkersGone`: a prefix of the answers was written.
 pub record EndsUnwritten (run : Serving) (input : List ℕ) (fault : ServeFault) : Type 0 where
   pub stops : Stops run.sink_before run.sink_after (run_answers run input) fault
   pub reads_well : run.source_after.failures ≡ run.source_before.failures
@@ -93,12 +93,12 @@ Ends run input (Err faults.Write) = EndsUnwritten run input faults.Write
 Ends run input (Err faults.OutOfMemory) = EndsUnwritten run input faults.OutOfMemory
 Ends run input (Err faults.WorkersGone) = EndsUnwritten run input faults.WorkersGone
 
--- whether a crowd that nothing refuses is among the lines of this input
+-- whether a crowd that is not refused is among the lines of this input
 abbrev pub run_crowd : Serving → List ℕ → Bool
 run_crowd run input = has_crowd_within run.most_lines run.most_bytes input run.source_after.at_end
 
--- The crew has returned `WorkersGone` as often as before the run. If that ended the run, it did once more, or there was
--- a crowd with a thread that could not be started.
+-- The crew has returned `WorkersGone` as often as before the run. If `WorkersGone` ended the run, the crew has returned
+-- it once more, or there was a crowd with a thread that could not be started.
 abbrev pub CountsCrew : Serving → List ℕ → Result Served ServeFault → Type 0
 CountsCrew run input (Ok served) = run.gone_after ≡ run.gone_before
 CountsCrew run input (Err fault) = CountsGone fault (run_crowd run input) run.gone_before run.gone_after

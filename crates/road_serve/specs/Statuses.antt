@@ -40,7 +40,7 @@ line_of (Err fault) = Some (fault_line fault)
 abbrev pub HasStatus : Ended → ℕ → Option (List ℕ) → Type 0
 HasStatus ended status line = (ended.status ≡ status) × (option_map (λ text. text.now) ended.line ≡ line)
 
--- the program ends because its arguments are refused, or because there was no memory to read them
+-- the program ends because its arguments are refused, or because memory ran out while they were read
 abbrev pub IsRefused : Ended → Type 0
 IsRefused ended = HasStatus ended 2 (Some (codes "bad arguments")) ⊎ HasStatus ended 3 (Some (codes "no memory"))
 
@@ -74,8 +74,8 @@ pub record EndsReader (before after : SourceView) (ended : Ended) (run : Serving
 abbrev pub source_of_file : {F : Type 0} → (F → Option (List ℕ)) → F → SourceView
 source_of_file remaining file = record { remaining = remaining file; at_end = false; failures = 0 }
 
--- A run of a script read the source made from the file that was opened. If none was opened, because that failed or
--- there was no memory to read the arguments, nothing was written.
+-- A run of a script read the source made from the file that was opened. If no file was opened, because opening it
+-- failed or memory ran out while the arguments were read, nothing was written.
 abbrev pub ReadsScript : {F : Type 0} → (F → Option (List ℕ)) → Option F → Serving → Type 0
 ReadsScript remaining (Some file) run = run.source_before ≡ source_of_file remaining file
 ReadsScript remaining None run =

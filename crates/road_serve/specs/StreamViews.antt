@@ -37,7 +37,7 @@ sink_view sink writer = record {
   failures = sink.failures writer;
 }
 
--- the sink took this text except a part at its end
+-- the sink took this text except this rest at its end
 pub record TakesAllBut (old new : SinkView) (text rest : List ℕ) : Type 0 where
   pub front : List ℕ
   pub taken : Appends old.contents new.contents front
@@ -47,8 +47,8 @@ pub record TakesAllBut (old new : SinkView) (text rest : List ℕ) : Type 0 wher
 abbrev pub TakesFront : SinkView → SinkView → List ℕ → Type 0
 TakesFront old new text = (rest : List ℕ) × TakesAllBut old new text rest
 
--- A call that would have taken this text ended with a fault: there was no memory, or no worker, or a call of the sink
--- failed.
+-- A call that would have written this text ended with this fault: memory ran out, or a worker was lost, or a call of
+-- the sink failed.
 abbrev pub Stops : SinkView → SinkView → List ℕ → ServeFault → Type 0
 Stops old new text faults.OutOfMemory = TakesFront old new text × (new.failures ≡ old.failures)
 Stops old new text faults.WorkersGone = TakesFront old new text × (new.failures ≡ old.failures)

@@ -14,7 +14,7 @@ use clap::{Arg, ArgMatches, Command, Error};
 use road_plan::limits::MOST_WORKERS;
 use std::alloc::{AllocError, Global};
 
-// Why arguments are not read.
+// Why arguments cannot be read.
 #[derive(Clone, Copy, Debug, PartialEq, Eq)]
 pub(crate) enum ArgumentFault {
     // They are not accepted.
@@ -70,7 +70,7 @@ pub(crate) fn arguments_in<'a>(
     }
 }
 
-// Make the command line of the program.
+// Make the `clap` command of the program, with its options.
 fn program_command<'a>(alloc: Global) -> Result<Command<'a>, AllocError>
     ensures { IfOk result (λ command. app_of command ≡ command_line) }
 {
@@ -96,7 +96,7 @@ fn matches_in<'a>(alloc: Global, words: &'a [String]) -> Result<ArgMatches<'a>, 
     }
 }
 
-// Read the number of workers that a value names.
+// Read the number of workers that a value names. Return None if it is not a number from 1 to 16.
 fn count_in(text: &str) -> Option<u32>
     ensures number { result ≡ worker_count text.now }
     ensures few { IfSome result (λ count. (0 < count) × (count ≤ MOST_WORKERS)) }

@@ -15,7 +15,7 @@ ghost use Rattle.road_commands.specs.Laboratory.{answer_to, gone_after_command, 
 ghost use Rattle.road_commands.specs.Laboratory.{laboratory_after, laboratory_of_winners};
 ghost use Rattle.road_serve.specs.Answers.{opening_answer, line_answer, gathers};
 ghost use Rattle.road_serve.specs.Answers.{answers, has_more_lines};
-ghost use Rattle.road_serve.specs.Dialogue.{Holds, GoesOn, Stands, HasAnswered, HasFinished, IsStopped};
+ghost use Rattle.road_serve.specs.Dialogue.{Holds, GoesOn, IsAfterBytes, HasAnswered, HasFinished, IsStopped};
 ghost use Rattle.road_serve.specs.Private.KeptLaboratory.{holds_crowd, kept_after_line, opened_laboratory};
 ghost use Rattle.road_serve.specs.Private.Readings.{IfAccepted, IsRead, read_held};
 ghost use Rattle.road_serve.specs.StreamViews.{SinkView, sink_view};
@@ -42,7 +42,7 @@ enum LineRead<T: Drop> {
     Refused(Refusal),
 }
 
-// Read a line as the first one.
+// Read the held line as the plan line.
 fn first_line(alloc: Global, held: &HeldLine) -> Result<LineRead<PlanLine>, OutOfMemory>
     ensures read { IfOk result (λ read. IsRead plan_line_view read (read_held plan_line_of held.now)) }
     ensures few { IfOk result (λ read. IfAccepted read (λ line. vec_len line.names ≤ 64)) }
@@ -60,7 +60,7 @@ fn first_line(alloc: Global, held: &HeldLine) -> Result<LineRead<PlanLine>, OutO
     }
 }
 
-// Read a line as a later one.
+// Read the held line as a command.
 fn later_line(alloc: Global, held: &HeldLine) -> Result<LineRead<Command>, OutOfMemory>
     ensures shares { IfOk result (λ read. IfAccepted read (λ command.
         HasFewWrites MOST_CROWD_WRITES (command_view command))) }
@@ -163,15 +163,15 @@ fn command_reply<S: BuildHasher + Copy, C: Crew, K: Crowds>(
     Ok(reply_line(alloc, &answer)?)
 }
 
-// Return the place where the first line of these bytes ends.
+// Return the place of the first newline in these bytes, if there is one.
 fn line_end(bytes: &[u8]) -> Option<usize>
     ensures { result ≡ position (λ x. x == newline) bytes.now }
 {
     bytes.iter().position(|x| *x == b'\n')
 }
 
-/// A dialogue answers each whole line that came, and holds the bytes of the next one, at most as many as the longest
-/// line has. At most 64 KiB of replies wait to be written.
+/// A dialogue answers each line that has ended, and holds the bytes of the next line, at most as many as a line may
+/// have. At most 64 KiB of replies wait to be written.
 #[derive(Drop)]
 pub struct Dialogue<S: BuildHasher> {
     // The allocator of the replies.
@@ -186,7 +186,7 @@ pub struct Dialogue<S: BuildHasher> {
     left: u32,
     // The replies that are not written yet.
     waiting: Vec<u8>,
-    // Why no further line is answered, if that is so.
+    // Why no further line is answered, or None while the dialogue goes on.
     over: Option<EarlyEnd>,
 }
 
@@ -209,8 +209,8 @@ impl<S: BuildHasher> Model for Dialogue<S> {
 }
 
 impl<S: BuildHasher + Copy> Dialogue<S> {
-    /// Make the dialogue before any byte. At most `lines` lines may come after the plan line, and names are found by
-    /// hashes that this hasher makes.
+    /// Make a dialogue to which no byte has come. At most `lines` lines may come after the plan line, and names are
+    /// found by hashes that this hasher makes.
     pub fn new(alloc: Global, lines: u32, hasher: S) -> Dialogue<S>
         ensures none_came { (first : SinkView) → HasAnswered lines [] first first result }
         ensures going { result.over ≡ None }
@@ -227,7 +227,7 @@ impl<S: BuildHasher + Copy> Dialogue<S> {
         }
     }
 
-    /// Return why no further line is answered, if that is so.
+    /// Return why no further line is answered, or None while the dialogue goes on.
     pub fn early_end(&self) -> Option<EarlyEnd>
         ensures { result ≡ self.now.over }
     {
@@ -274,14 +274,14 @@ impl<S: BuildHasher + Copy> Dialogue<S> {
         self.line.is_empty()
     }
 
-    // Return the reply to the held line, which has ended.
+    // Return the reply to the held line. The line must have ended.
     fn reply<C: Crew, K: Crowds>(&mut self, crew: &mut C, crowds: &K) -> Result<String, CrewFault>
         requires { self.old.over ≡ None }
         ensures answered { (lines : ℕ) (bytes : List ℕ) → GoesOn lines bytes self.old
             → has_more_lines lines (bytes ++ newline ∷ []) ≡ false
             → IfOk result (λ text.
             (answers lines (bytes ++ newline ∷ []) false ≡ answers lines bytes false ++ string_bytes text)
-            × Stands lines (bytes ++ newline ∷ []) self.new self.new.over) }
+            × IsAfterBytes lines (bytes ++ newline ∷ []) self.new self.new.over) }
         ensures waiting { self.new.waiting ≡ self.old.waiting }
         ensures gone { C.times_gone crew.new
             ≡ gone_after_command result (holds_crowd self.old) (C.times_gone crew.old) }
@@ -302,7 +302,7 @@ impl<S: BuildHasher + Copy> Dialogue<S> {
         Ok(reply)
     }
 
-    // Answer the held line, which has ended.
+    // Answer the held line. The line must have ended.
     fn answer<W: Sink, C: Crew, K: Crowds>(
         &mut self,
         writer: &mut W,
@@ -323,7 +323,7 @@ impl<S: BuildHasher + Copy> Dialogue<S> {
         append_reply(&mut self.waiting, writer, reply.as_bytes())
     }
 
-    // Take the next of these bytes, up to the end of a line if one of them ends it, and return their number.
+    // Take bytes from the front of these: up to and with the first newline, or all. Return how many were taken.
     fn take_line<W: Sink, C: Crew, K: Crowds>(
         &mut self,
         writer: &mut W,
@@ -361,14 +361,14 @@ impl<S: BuildHasher + Copy> Dialogue<S> {
         }
     }
 
-    /// Take the next bytes of the input: write the reply to each line that they end, and flush. A dialogue that is over
+    /// Take the next bytes of the input. Write the reply to each line that they end, and flush. A dialogue that is over
     /// answers nothing more.
     ///
     /// # Errors
     ///
-    /// `Write` if the sink failed, `WorkersGone` if the crew did or a thread of a crowd could not be started,
-    /// `OutOfMemory` if an allocation failed. What was written is then a prefix of the replies. The line that the
-    /// dialogue held may have been answered or not, so the dialogue must not be called again.
+    /// `Write` if the sink failed, `WorkersGone` if the crew returned it or a thread of a crowd could not be started,
+    /// `OutOfMemory` if an allocation failed. A prefix of the replies has then been written. The line that the dialogue
+    /// held may have been answered or not, so the dialogue must not be called again.
     pub fn take<W: Sink, C: Crew, K: Crowds>(
         &mut self,
         writer: &mut W,
@@ -394,7 +394,7 @@ impl<S: BuildHasher + Copy> Dialogue<S> {
         Ok(())
     }
 
-    // Answer a last line without a newline, or an input without a line, after the input has ended.
+    // After the input has ended, answer a last line without a newline, or an input without a line.
     fn answer_last<W: Sink, C: Crew, K: Crowds>(
         &mut self,
         writer: &mut W,
@@ -421,7 +421,7 @@ impl<S: BuildHasher + Copy> Dialogue<S> {
         append_reply(&mut self.waiting, writer, reply.as_bytes())
     }
 
-    /// Write the reply to a last line without a newline, or to an input without a line, after the input has ended, and
+    /// After the input has ended, write the reply to a last line without a newline, or to an input without a line, and
     /// flush. The dialogue must not be over.
     ///
     /// # Errors

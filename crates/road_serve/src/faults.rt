@@ -23,7 +23,7 @@ pub enum ServeFault {
     /// A read failed.
     #[error("read fault")]
     Read,
-    /// A byte past the limits was read: past the limit of lines or the limit of bytes.
+    /// A byte past the limit of lines or the limit of bytes was read.
     #[error("too many lines")]
     TooMany,
     /// A worker of the crew, or a session's thread, could not be started or has ended.
@@ -36,12 +36,12 @@ pub enum ServeFault {
 pub enum EarlyEnd {
     /// The plan line was refused, or there was none.
     BadPlan,
-    /// There was a byte after the last line that may come.
+    /// There was a byte after the last line that is allowed.
     TooMany,
 }
 
 impl EarlyEnd {
-    /// Return the fault of a run that ends for this cause.
+    /// Return the fault with which a run ends for this cause.
     pub fn fault(self) -> ServeFault
         ensures { result ≡ early_fault self }
     {

@@ -9,16 +9,16 @@ use road_plan::limits::LONGEST_LINE;
 use std::alloc::Global;
 use std::marker::Model;
 
-// The bytes of a line that have come.
+// The bytes of a line that have come so far.
 #[derive(Drop)]
 enum Held {
-    // Its bytes.
+    // These bytes, at most as many as a line may have.
     Bytes(Vec<u8>),
-    // More than the longest line has. None of them is held.
+    // More bytes than a line may have. None of them is held.
     TooLong,
 }
 
-// The bytes of the line that has not ended, at most as many as the longest line has.
+// The bytes of the line that has not ended, at most as many as a line may have.
 #[derive(Drop)]
 pub(crate) struct HeldLine {
     held: Held,
@@ -37,7 +37,7 @@ impl Model for HeldLine {
 }
 
 impl HeldLine {
-    // Make the line before any of its bytes.
+    // Make a line that has no bytes yet.
     pub fn new(alloc: Global) -> HeldLine
         ensures { result ≡ Some [] }
     {

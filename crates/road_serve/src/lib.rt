@@ -1,4 +1,4 @@
-//! Dialogues: lines come from a source, and their replies go to a sink.
+//! Serves lines: reads them from a source, and writes their replies to a sink.
 //!
 //! ```
 //! // The answers to an input in memory, by a single worker. Its crowds are gathered by threads.
@@ -6,7 +6,7 @@
 //! let mut writer = MemorySink::new(Vec::new(alloc), 65_536, Failing::Never, Failing::Never);
 //! match serve(alloc, &mut reader, &mut writer, &mut Alone, &OnThreads::new(&rt), RandomState::new(&rt)?) {
 //!     Ok(served) => println!(&rt; "{} lines were answered", served.lines),
-//!     Err(fault) => println!(&rt; "{fault} behind {} bytes of replies", writer.bytes().len()),
+//!     Err(fault) => println!(&rt; "{fault} after {} bytes of replies", writer.bytes().len()),
 //! }
 //! ```
 #![tactic(auto)]

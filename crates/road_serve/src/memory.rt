@@ -9,14 +9,14 @@ ghost use Rattle.road_serve.specs.MemoryStreams.{is_failing};
 use crate::faults::{ReadFailed, WriteFailed};
 use crate::streams::{Sink, Source};
 
-/// Which calls fail, counted from 0.
+/// Which calls fail. Calls are counted from 0.
 #[derive(Clone, Copy, Debug)]
 pub enum Failing {
-    /// None.
+    /// No call fails.
     Never,
-    /// Only that call: those after it succeed.
+    /// Only the call with this number fails.
     Once(u64),
-    /// That call and all after it.
+    /// The call with this number and all later calls fail.
     From(u64),
 }
 
@@ -67,7 +67,7 @@ pub struct MemorySource<'a> {
 }
 
 impl<'a> MemorySource<'a> {
-    /// Make the source of these bytes. Its step must be above 0.
+    /// Make a source of these bytes. `step` must be above 0.
     pub fn new(bytes: &'a [u8], step: usize, failing: Failing) -> MemorySource<'a>
         requires { 0 < step }
         ensures remaining { ⟦<MemorySource<'a> as Source>⟧.remaining result ≡ Some bytes.now }
@@ -104,7 +104,7 @@ impl<'a> Source for MemorySource<'a> {
         ensures well { OnOk result (self.new.failures ≡ self.old.failures) }
         ensures not_ended { OnErr result (⟦<MemorySource<'a> as Source>⟧.at_end self.new ≡ false) }
         ensures failed { OnErr result (RisesByOne self.old.failures self.new.failures) }
-        // It fails if the call is one that must fail, and else gives as many bytes as it may.
+        // The call fails if it must fail. Otherwise it gives as many bytes as it may.
         ensures fails { is_err result ≡ is_failing self.old.reads.failing self.old.reads.made }
         ensures count { IfOk result (λ n. n
             ≡ min (min (length self.old.bytes.now - self.old.place) self.old.step) (length piece.old)) }
@@ -128,8 +128,8 @@ impl<'a> Source for MemorySource<'a> {
     }
 }
 
-/// A sink that stores the bytes that it takes, at most `room` in all: a write past them fails. It takes at most `step`
-/// bytes in each call, and the rest in the next ones.
+/// A sink that stores the bytes that it takes, at most `room` bytes in all. A write to a full sink fails. The sink
+/// takes at most `step` bytes in each call.
 #[derive(Drop)]
 pub struct MemorySink {
     bytes: Vec<u8>,
@@ -142,8 +142,8 @@ pub struct MemorySink {
 }
 
 impl MemorySink {
-    /// Make the sink that begins with these bytes and takes as many in each call as it has room for. Its writes and its
-    /// flushes are counted separately.
+    /// Make a sink that begins with these bytes, and takes as many bytes in each call as it has room for. Its writes
+    /// and its flushes are counted separately.
     pub fn new(bytes: Vec<u8>, room: usize, writes: Failing, flushes: Failing) -> MemorySink
         ensures contents { ⟦<MemorySink as Sink>⟧.contents result ≡ Some bytes.items }
         ensures failures { ⟦<MemorySink as Sink>⟧.failures result ≡ 0 }
@@ -171,14 +171,14 @@ impl MemorySink {
         }
     }
 
-    /// Return the sink that takes at most `step` bytes in each call. If `step` is 0, each write fails.
+    /// Return this sink, but let it take at most `step` bytes in each call. If `step` is 0, each write fails.
     pub fn with_step(self, step: usize) -> MemorySink
         ensures { result ≡ record self { step = step } }
     {
         MemorySink { step, ..self }
     }
 
-    /// Return the bytes that were taken, after those with which the sink began.
+    /// Return the bytes with which the sink began, followed by those that it took.
     pub fn bytes(&self) -> &[u8]
         ensures { ⟦<MemorySink as Sink>⟧.contents self.now ≡ Some result.now }
     {
@@ -202,7 +202,7 @@ impl Sink for MemorySink {
         ensures unflushed { ⟦<MemorySink as Sink>⟧.flushed self.new ≡ false }
         ensures well { OnOk result (self.new.failures ≡ self.old.failures) }
         ensures failed { OnErr result (RisesByOne self.old.failures self.new.failures) }
-        // It takes as many bytes as it may in one call and has room for, if the call is not one that must fail.
+        // Unless the call must fail, it takes as many bytes as the sink's step and its room allow.
         ensures fails { OnOk result (is_failing self.old.writes.failing self.old.writes.made ≡ false) }
         ensures count { IfOk result (λ n. n ≡ min (min (length piece.now) self.old.room) self.old.step) }
         ensures room { MatchResult result
@@ -230,7 +230,7 @@ impl Sink for MemorySink {
         ensures flushed { ⟦<MemorySink as Sink>⟧.flushed self.new ≡ is_ok result }
         ensures well { OnOk result (self.new.failures ≡ self.old.failures) }
         ensures failed { OnErr result (RisesByOne self.old.failures self.new.failures) }
-        // It fails if and only if the call is one that must fail.
+        // The call fails if and only if it must fail.
         ensures fails { is_err result ≡ is_failing self.old.flushes.failing self.old.flushes.made }
         ensures call { RisesByOne self.old.flushes.made self.new.flushes.made }
         ensures same_calls { self.new.flushes.failing ≡ self.old.flushes.failing }

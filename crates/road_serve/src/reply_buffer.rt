@@ -9,7 +9,7 @@ ghost use Rattle.road_serve.specs.StreamViews.{sink_view, TakesAllBut, TakesFron
 use crate::faults::{ServeFault, WriteFailed};
 use crate::streams::Sink;
 
-// The most bytes of replies that wait.
+// The maximum number of bytes of replies that wait.
 const MOST_WAITING: usize = 65_536;
 
 // Write all these bytes.
@@ -28,8 +28,9 @@ fn write_all<W: Sink>(writer: &mut W, bytes: &[u8]) -> Result<(), WriteFailed>
     Ok(())
 }
 
-// Append a reply to the waiting ones, or write these and then the reply if they would be too many. `Write` if the sink
-// failed, `OutOfMemory` if an allocation failed: what was written is then a prefix of the waiting replies and this one.
+// Append a reply to the waiting replies. If they would then be too long, write them instead, and then the reply.
+// `Write` if the sink failed, `OutOfMemory` if an allocation failed: a prefix of the waiting replies and this reply has
+// then been written.
 pub(crate) fn append_reply<W: Sink>(
     waiting: &mut Vec<u8>,
     writer: &mut W,
@@ -52,8 +53,8 @@ pub(crate) fn append_reply<W: Sink>(
     Ok(())
 }
 
-// Write the waiting replies, and flush. `WriteFailed` if a write or the flush failed: what was written is then a prefix
-// of the waiting replies.
+// Write the waiting replies, and flush. `WriteFailed` if a write or the flush failed: a prefix of the waiting replies
+// has then been written.
 pub(crate) fn flush<W: Sink>(waiting: &mut Vec<u8>, writer: &mut W) -> Result<(), WriteFailed>
     ensures all { OnOk result (Appends (W.contents writer.old) (W.contents writer.new) waiting.old.items) }
     ensures flushed { OnOk result (W.flushed writer.new ≡ true) }

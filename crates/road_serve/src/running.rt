@@ -1,4 +1,4 @@
-//! The program without its process.
+//! The program, apart from its process.
 
 ghost use Rattle.std.specs.Prelude.{◌≡◌, ◌<◌, ◌≤◌, ℕ, IfNone, IfOk, IfSome, IsSome, codes, true, false, None, Option};
 ghost use Rattle.std.specs.Prelude.{Some, Result};
@@ -49,7 +49,7 @@ impl Ended {
         }
     }
 
-    /// Return the end of the program if there is no memory for its arguments.
+    /// Return the end of the program if an allocation for its arguments failed.
     pub fn no_memory() -> Ended
         ensures { HasStatus result 3 (Some (codes "no memory")) }
     {
@@ -60,10 +60,10 @@ impl Ended {
     }
 }
 
-/// Run the program with these arguments: from the script that they name or else from the reader, and with the workers
-/// that they request or else alone. A script is opened before workers are started. The sessions of a crowd run on their
-/// own threads. Names are found by hashes with keys from the system's random bytes. If the system has no entropy, the
-/// program ends as after a failed read, before it reads a line.
+/// Run the program with these arguments. It reads the script that they name, or the reader if they name none. It uses
+/// the workers that they request, or only this thread if they request none. A script is opened before workers are
+/// started. The sessions of a crowd run on their own threads. Names are found by hashes with keys from the system's
+/// random bytes. If the system has no entropy, the program ends as after a failed read, before it reads a line.
 pub fn run<
     F: Files + Threads + Wait + RandomSource + AllocGlobal + Clone + Drop + Send + 'static,
     R: Source,
@@ -95,7 +95,7 @@ pub fn run<
     }
 }
 
-// Run the program from a script, from its first byte. If the script could not be opened, report a read error.
+// Run the program on a script, from its first byte. If the script could not be opened, report a read error.
 fn run_opened<
     F: Files + Threads + Wait + RandomSource + AllocGlobal + Clone + Drop + Send + 'static,
     W: Sink,
@@ -116,8 +116,8 @@ fn run_opened<
     }
 }
 
-// Run the program with `workers` workers, or alone, from a reader to a writer. Names are found by hashes with random
-// keys. If the system has no entropy for these, report a read error.
+// Run the program from a reader to a writer, with `workers` workers or alone. Names are found by hashes with random
+// keys. If the system has no entropy for the keys, report a read error.
 fn run_reader<
     F: Threads + Wait + RandomSource + AllocGlobal + Clone + Drop + Send + 'static,
     R: Source,
@@ -135,7 +135,7 @@ fn run_reader<
     }
 }
 
-// Run the program with `workers` workers, or alone, from a reader to a writer, and find names by this hasher. Workers
+// Run the program from a reader to a writer, with `workers` workers or alone, and find names by this hasher. Workers
 // are stopped before the program ends.
 fn run_hashed<F: Threads + Wait + AllocGlobal + Clone + Drop + Send + 'static, R: Source, W: Sink>(
     rt: &F,
@@ -176,7 +176,7 @@ fn crew_of<F: Threads + Wait + AllocGlobal + Clone + Drop + Send + 'static>(
     Pool::start(rt.clone()?, rt.alloc(), count)
 }
 
-/// Run the program with a crew and a gatherer of crowds, from a reader to a writer, and find names by this hasher.
+/// Run the program from a reader to a writer, with a crew and a gatherer of crowds, and find names by this hasher.
 pub fn run_by<R: Source, W: Sink, C: Crew, K: Crowds, S: BuildHasher + Copy>(
     alloc: Global,
     reader: &mut R,

@@ -14,37 +14,37 @@ use road_workers::Crew;
 use std::alloc::Global;
 use std::hash::BuildHasher;
 
-// The most bytes that are read at once.
+// The maximum number of bytes that are read at once.
 const PIECE: usize = 16_384;
 
 /// The result of a successful run of `serve`.
 #[derive(Debug, Drop)]
 pub struct Served {
-    /// The number of replies after the plan line's.
+    /// The number of replies, without the reply to the plan line.
     pub lines: u32,
 }
 
-// The limits of an input that is answered.
+// How much of an input is answered.
 #[derive(Clone, Copy, Debug)]
 struct Limits {
-    // The most lines that may come after the plan line.
+    // The maximum number of lines after the plan line.
     lines: u32,
-    // The most bytes that may come in all.
+    // The maximum number of bytes in all.
     bytes: u64,
 }
 
 /// Read an input to its end, and write the reply to each of its lines. At most 1,000,000 lines after the plan line are
 /// read, and at most 2^32 bytes. The crew computes the speeds of simulated steps, and `crowds` gathers crowds. The
-/// hasher hashes names to find them, and no reply depends on it. Without crowds only calls of the source, the sink and
-/// the crew may block.
+/// hasher hashes names to find them, and no reply depends on it. If no crowd is read, only calls of the source, the
+/// sink and the crew may block.
 ///
 /// # Errors
 ///
-/// - `BadPlan`: the plan line is refused. `TooMany`: it is not refused, and there is a byte past the limits. After
-///   both, the replies are written whole.
-/// - `Read`: the source failed. The replies to all lines that were read whole are then written.
-/// - `Write`: the sink failed. `WorkersGone`: the crew did, or a thread of a crowd could not be started. `OutOfMemory`:
-///   an allocation failed. After these, what was written is a prefix of the replies.
+/// - `BadPlan`: the plan line is refused. `TooMany`: it is not refused, and there is a byte past the limits. In both
+///   cases all replies have been written.
+/// - `Read`: the source failed. The replies to all lines that were read completely have been written.
+/// - `Write`: the sink failed. `WorkersGone`: the crew returned it, or a thread of a crowd could not be started.
+///   `OutOfMemory`: an allocation failed. In these cases a prefix of the replies has been written.
 pub fn serve<R: Source, W: Sink, C: Crew, K: Crowds, S: BuildHasher + Copy>(
     alloc: Global,
     reader: &mut R,
@@ -96,8 +96,8 @@ pub fn serve_within<R: Source, W: Sink, C: Crew, K: Crowds, S: BuildHasher + Cop
 
 // Read an input to its end into a new dialogue, and write the replies.
 //
-// The dialogue is borrowed. Each way out of the function that owns it drops it, and for each of these drops the prover
-// visits everything that a laboratory holds.
+// The dialogue is borrowed: each way out of a function that owns it would drop it, and for each drop the prover visits
+// everything that a laboratory holds.
 fn answer_input<R: Source, W: Sink, C: Crew, K: Crowds, S: BuildHasher + Copy>(
     reader: &mut R,
     writer: &mut W,
@@ -146,7 +146,7 @@ fn answer_input<R: Source, W: Sink, C: Crew, K: Crowds, S: BuildHasher + Copy>(
     }
 }
 
-// Return how many of these bytes are within the limit.
+// Return how many of this number of bytes may still be answered, if there is room for `room` bytes.
 fn bytes_within(room: u64, bytes: usize) -> usize
     ensures { result ≡ min room bytes }
 {

@@ -18,12 +18,12 @@ pub trait Source {
     /// The number of reads that failed, at most 2^64 - 1.
     ghost failures: { Self → ℕ };
 
-    /// Read the next bytes to the front of the piece, which must not be empty, and return their number. 0 is the end of
-    /// input.
+    /// Read the next bytes into the front of the piece, which must not be empty, and return their number. 0 means the
+    /// end of input.
     ///
     /// # Errors
     ///
-    /// `ReadFailed` if the source could not be read. It then takes none of the bytes that are left.
+    /// `ReadFailed` if the source could not be read. It then keeps all bytes that are left.
     fn read(&mut self, piece: &mut [u8]) -> Result<usize, ReadFailed>
         requires { 0 < length piece.old }
         ensures within { IfOk result (λ n. n ≤ length piece.new) }
@@ -64,7 +64,7 @@ pub trait Sink {
     ///
     /// # Errors
     ///
-    /// `WriteFailed` if that failed. The bytes that were taken stay taken.
+    /// `WriteFailed` if they could not be passed on. The sink still holds them.
     fn flush(&mut self) -> Result<(), WriteFailed>
         ensures bytes { Keeps (contents self.old) (contents self.new) }
         ensures flushed { flushed self.new ≡ is_ok result }

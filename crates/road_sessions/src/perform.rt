@@ -77,7 +77,7 @@ pub(crate) fn errand_of(
     }
 }
 
-// Make an edit of the replica, which is then to be taken.
+// Make the errand for an edit that the replica makes: to take that edit.
 fn edit(alloc: Global, replica: &Replica, local: LocalEdit) -> Result<Errand, ReplicaFault>
     ensures command { IfOk result (λ errand. errand.command
         ≡ commands.Take (single_edit (edit_made replica.now local.object local.step local.value))) }

@@ -47,7 +47,7 @@ settled_total s run d is below =
     get_or-map-range_with_len (total_after run) 0 (length run.totals) d d no_totals below there
     ∙ ap (λ (x : StepInput). plus (slice_index_or run.totals d no_totals) (passes_at x (input_speeds x) d)) (settled_input s run is)
 
--- the first counts are one for each detector
+-- at the start there is a count of zero for each detector
 pub length-zero_counts : (p : Plan) → length (zero_counts p) ≡ length p.detectors
 length-zero_counts p = length-map-range_with_len (λ (d : ℕ). no_totals) 0 (length p.detectors)
 

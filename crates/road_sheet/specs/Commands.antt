@@ -12,7 +12,7 @@ pub data SheetCommand : Type 0 where
   Take : Edits → SheetCommand
   Advance : ℕ → SheetCommand
 
--- the sheet after a command: the edits are joined in, or the horizon becomes the step if it was less
+-- the sheet after a command: the edits are joined in, or the horizon becomes the step if that is later
 abbrev pub sheet_after : SheetCommand → Sheet → Sheet
 sheet_after (Take edits) s = record s { edits = join s.edits edits }
 sheet_after (Advance to) s = record s { horizon = max s.horizon to }

@@ -55,7 +55,7 @@ sheet_row s step = row_at s.plan s.edits step
 abbrev pub rows_of : Sheet → ℕ → ℕ → List (List ℕ)
 rows_of s from to = rows_at s.plan s.edits from to
 
--- what a sheet shows that a detector counts in the steps from one to before another
+-- what a detector counts in the steps from one to before another, as a sheet shows it
 abbrev pub total_of : Sheet → ℕ → ℕ → ℕ → Totals
 total_of s detector from to = total_at s.plan s.edits detector from to
 
@@ -85,7 +85,8 @@ abbrev pub rows_fault : Sheet → ℕ → ℕ → Option SheetFault
 rows_fault s from to = if is_out_of_range from to then Some Range
     else (if nat_lt s.horizon to then Some NotSimulated else None)
 
--- the steps from one to before another are whole intervals: both are checkpoints, or the second is the horizon
+-- the steps from one to before another are whole intervals: the first is a checkpoint, and the second is a checkpoint
+-- or the horizon
 pub record AreWholeIntervals (s : Sheet) (from to : ℕ) : Type 0 where
   pub begin : from % INTERVAL_STEPS ≡ 0
   pub end : (to % INTERVAL_STEPS ≡ 0) ⊎ (to ≡ s.horizon)

@@ -7,7 +7,7 @@ use road_plan::limits::MOST_ROWS;
 use std::alloc::AllocError;
 use thiserror::Error;
 
-/// The reason why a sheet cannot answer a query. They are checked in this order, and the first that applies is
+/// The reason why a sheet cannot answer a query. The reasons are checked in this order, and the first that applies is
 /// returned.
 #[derive(Clone, Copy, Debug, PartialEq, Eq, Error)]
 pub enum SheetFault {

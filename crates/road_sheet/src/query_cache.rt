@@ -20,8 +20,8 @@ use road_plan::limits::MOST_ROWS;
 use std::alloc::Global;
 use std::mem;
 
-// At most this many steps are counted one after another. More steps are counted interval by interval, and then about
-// this many are computed on average.
+// At most this many steps are counted one after another. More steps are counted interval by interval, which computes
+// about as many steps on average.
 const MOST_COUNTED_STEPS: u32 = INTERVAL_STEPS;
 
 /// The run that the last query left under way, or the memory of a run under other edits.
@@ -234,7 +234,7 @@ impl QueryCache {
         ensures cached { IsCacheOf sheet.now self.new }
     {
         if from % INTERVAL_STEPS != 0 && to - from <= MOST_COUNTED_STEPS {
-            return self.counted(alloc, sheet, detector, from, to);
+            return self.count_steps(alloc, sheet, detector, from, to);
         }
         totals_are_bounded(sheet.plan());
         let mut totals = Totals { cars: 0, speeds: 0 };
@@ -271,13 +271,13 @@ impl QueryCache {
         let first = from - from % INTERVAL_STEPS;
         let end = (first + INTERVAL_STEPS).min(horizon);
         if to < end {
-            return self.counted(alloc, sheet, detector, from, to);
+            return self.count_steps(alloc, sheet, detector, from, to);
         }
         let whole = sheet.interval_totals(first / INTERVAL_STEPS, detector);
         if from == first {
             return Ok(whole);
         }
-        let before = self.counted(alloc, sheet, detector, first, from)?;
+        let before = self.count_steps(alloc, sheet, detector, first, from)?;
         Ok(Totals {
             cars: whole.cars - before.cars,
             speeds: whole.speeds - before.speeds,
@@ -285,7 +285,7 @@ impl QueryCache {
     }
 
     // Count some steps one after another.
-    fn counted(
+    fn count_steps(
         &mut self,
         alloc: Global,
         sheet: &Sheet,

@@ -40,8 +40,8 @@ use std::alloc::Global;
 use std::marker::Model;
 use std::sync::Arc;
 
-/// A scenario, a horizon, and the run up to the horizon. It shows the road at each step up to the horizon, and what the
-/// detectors count up to there. It never changes; [`Sheet::draft`] resumes its run in a new sheet.
+/// A scenario, a horizon, and the run up to the horizon. A sheet shows the road at each step up to the horizon, and
+/// what the detectors count up to there. It never changes; [`Sheet::draft`] resumes its run in a new sheet.
 ///
 /// The run is stored as intervals of 64 steps. Each has a checkpoint, which is the road at its first step, and what
 /// each detector counts in it. Sheets share whole intervals, so resuming a run costs no more at a far horizon.
@@ -129,8 +129,8 @@ impl Sheet {
         }
     }
 
-    /// Return the road at a step. It computes at most 63 steps, from the nearest checkpoint, and none if the sheet has
-    /// stored the road.
+    /// Return the road at a step. It computes at most 63 steps, from the nearest earlier checkpoint, and none if the
+    /// sheet has stored the road.
     ///
     /// # Errors
     ///
@@ -270,7 +270,7 @@ impl Sheet {
         Ok(Draft { sheet })
     }
 
-    // Replace the edits by others that give the same run up to the horizon.
+    // Make a sheet with other edits that give the same run up to the horizon.
     fn resume_at_horizon(&self, alloc: Global, scenario: Scenario) -> Result<Sheet, OutOfMemory>
         requires winners { AreWinners scenario }
         requires fits { AreInRange self.now.plan scenario }
@@ -301,7 +301,8 @@ impl Sheet {
         })
     }
 
-    // Replace the edits by others that give the same run up to an interval's checkpoint. Its step becomes the horizon.
+    // Make a sheet with other edits that give the same run up to an interval's checkpoint. The checkpoint's step is the
+    // new horizon.
     fn resume_at_checkpoint(
         &self,
         alloc: Global,

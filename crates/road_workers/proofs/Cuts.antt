@@ -21,7 +21,7 @@ itself : (n : ℕ) → nat_eq n n ≡ true
 itself n = grind (arith, nat_tests)
 
 module _ (cells : ℕ) (a : Array) (n : ℕ) where
-  -- the car at which a stretch begins that is neither the first nor behind the last
+  -- the cell where a stretch begins that is not the first one: the cell of a car
   abbrev at : ℕ → ℕ
   at w = cell_at (cars_of a) (length (cars_of a) / n * w)
 

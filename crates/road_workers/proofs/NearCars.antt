@@ -1,4 +1,4 @@
--- The cars near a stretch, of a road whose cars a run can have.
+-- The cars near a stretch, of a road whose cars can be held in a run.
 use Rattle.std.specs.Prelude.{◌≡◌, ℕ, zero, suc, ◌+◌, ◌-◌, ◌*◌, ◌<◌, ◌≤◌, List, [], ◌∷◌, map, min, refl}
 use Rattle.std.specs.List.{All, range_with_len}
 use Rattle.std.specs.declared.option.Option.{Option}
@@ -18,7 +18,7 @@ use Rattle.road_columns.proofs.CarsByPlaces.{among_cars}
 use Rattle.road_workers.specs.Private.Stretches.{IsRunnableNear, cars_between}
 use Rattle.road_workers.proofs.StretchCars.{between_rises}
 
--- what holds of all cars holds of the one at a cell
+-- what holds for all cars holds for the car at a cell
 among_all : (P : Car → Type 0) (cars : List Car) → All P cars → (c : ℕ) (v : Vehicle) → vehicle_among c cars ≡ Some v → P (car_of c v)
 among_all P [] all c v is = absurd (none-some v is)
 among_all P (car ∷ cars) all c v is = elim (cases_eq car.cell c) as (λ _. P (car_of c v)) [
@@ -29,7 +29,7 @@ among_all P (car ∷ cars) all c v is = elim (cases_eq car.cell c) as (λ _. P (
   | inr other ↦ among_all P cars (λ j d below. all (suc j) d (omega arith)) c v (sym (vehicle_among-other car cars c other) ∙ is)
 ]
 
--- what holds of whoever stands at some cells holds of all cars there
+-- what holds for the vehicle at each of some cells holds for all cars there
 all_among : (P : Car → Type 0) (f : ℕ → Option Vehicle) (lo n : ℕ) → ((c : ℕ) (v : Vehicle) → lo ≤ c → c < lo + n → f c ≡ Some v → P (car_of c v)) → All P (cars_from lo (map f (range_with_len lo n)))
 all_among P f lo zero each = λ j d below. absurd (omega arith)
 all_among P f lo (suc n) each = by (f lo) refl (all_among P f (lo + 1) n (λ c v above below at. each c v (omega arith) (omega arith) at))
@@ -39,7 +39,7 @@ all_among P f lo (suc n) each = by (f lo) refl (all_among P f (lo + 1) n (λ c v
     by (Some v) is rest zero d below = each lo v (omega arith) (omega arith) is
     by (Some v) is rest (suc j) d below = rest j d (omega arith)
 
--- a run can have them
+-- the cars near a stretch can be held in a run
 pub near_runnable : (lo hi : ℕ) (span : Span) (a : Array) (cars : List Car) → IsRunnable 0 span.plan.cells span.plan a
     → cars ≡ cars_between (lo - GREATEST_SPEED * span.steps) (hi + GREATEST_SPEED * span.steps) a → IsRunnableNear lo hi span (array_of cars)
 near_runnable lo hi span a cars all are =

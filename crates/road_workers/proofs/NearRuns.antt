@@ -26,7 +26,7 @@ both_or_none : (b : Bool) (x y : Totals) → (if b then plus x y else no_totals)
 both_or_none true x y = refl
 both_or_none false x y = refl
 
--- no step is made yet
+-- before the first step
 pub near_ready : (lo hi : ℕ) (span : Span) (a : Array) (run : UnderWay)
     → IsReady (lo - GREATEST_SPEED * span.steps) (min (hi + GREATEST_SPEED * span.steps) span.plan.cells) span a run → IsAfter lo hi span 0 a (uncounted run)
 near_ready lo hi span a run is =
@@ -47,7 +47,7 @@ near_ready lo hi span a run is =
           ∙ sym (none_on lo hi span a d);
     }
 
--- one more step
+-- after one more step
 near_more : (lo hi : ℕ) (span : Span) (k : ℕ) (a : Array) (run : UnderWay) → k < span.steps → IsAfter lo hi span k a run → IsAfter lo hi span (suc k) a (run_after_step run)
 near_more lo hi span k a run more is =
     let near = near_run span k lo hi run is.plan is.settings is.step is.from is.to is.on_road in

@@ -1,4 +1,5 @@
--- One more step of a run near a stretch: it agrees with the step of the whole road there, and is counted like it.
+-- One more step of a run near a stretch: there it agrees with the step of the whole road, and the detectors count the
+-- same.
 use Rattle.std.specs.Prelude.{◌≡◌, ℕ, ◌+◌, ◌-◌, ◌*◌, ◌<◌, ◌≤◌, ◌&&◌, Bool, true, false, if◌then◌else◌, nat_le, nat_lt, slice_index, refl}
 use Rattle.std.proofs.Common.{ap, ◌∙◌, arith}
 use Rattle.std.proofs.lemmas.Bool.Decides.{nat_tests}
@@ -14,11 +15,11 @@ use Rattle.road_detector.proofs.CountsNearby.{before_motion, passes-nearby}
 use Rattle.road_workers.specs.Private.Stretches.{has_site, road_after}
 use Rattle.road_workers.proofs.StretchTotals.{IsCountedLike, road_after-more, step_input}
 
--- the whole road agrees with itself
+-- a road agrees with itself near every stretch
 pub agrees_with_itself : (k lo hi : ℕ) (a : Array) → AgreeNear k lo hi a a
 agrees_with_itself k lo hi a = record { same = λ c above below. refl }
 
--- where no step is left, it is the stretch itself
+-- if no step is left, roads that agree near a stretch agree on the stretch itself
 pub at_end : (k lo hi : ℕ) (x y : Array) → k ≡ 0 → AgreeNear k lo hi x y → AgreeBetween lo hi x y
 at_end k lo hi x y none agree = record { same = λ c above below. agree.same c (omega arith) (omega arith) }
 

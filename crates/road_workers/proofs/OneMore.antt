@@ -1,4 +1,4 @@
--- What is so of each worker is so with one more.
+-- What holds for the first workers still holds with one more.
 use Rattle.std.specs.Prelude.{◌≡◌, ℕ, ◌+◌, ◌<◌, List, ◌++◌, ◌∷◌, [], length, slice_index_or, slice_set, IfSome}
 use Rattle.std.specs.declared.option.Option.{Option}
 use Rattle.std.specs.declared.option.Option.TheVariants.{Some}
@@ -14,15 +14,15 @@ use Rattle.road_workers.specs.Private.Gathered.{AreGathered, AreMissing, AreRigh
 use Rattle.road_workers.specs.Private.Started.{AreStartedFrom, IsOfWorker}
 use Rattle.road_workers.specs.declared.scoped.SpeedsOf.{SpeedsOf}
 
--- behind the first one each has the place before
+-- without the first element of a list, each other one is one place earlier
 pub get_or_next : {A : Type 0} → (xs ys : List A) (x : A) (k : ℕ) (d : A) → xs ≡ x ∷ ys → slice_index_or xs (k + 1) d ≡ slice_index_or ys k d
 get_or_next xs ys x k d is = grind rules
 
--- where no answer has come, each is right
+-- if no answer has come, each answer that has come is right
 pub missing_right : {A : Type 0} → (right : ℕ → A → Type 0) (places : List (Option A)) → AreMissing places → AreRight right places
 missing_right right places missing = λ w d below. subst (λ p. IfSome p (right w)) (sym (missing w d below)) tt
 
--- one answer put at its worker's place
+-- an answer is put at its worker's place
 pub right_set : {A : Type 0} → (right : ℕ → A → Type 0) (places : List (Option A)) (w : ℕ) (answer : A)
     → AreRight right places → w < length places → right w answer → AreRight right (slice_set places w (Some answer))
 right_set right places w answer was inside its = λ k d below.
@@ -46,7 +46,7 @@ run_set span a own places w answer was inside its =
     subst (λ n. AreRight (λ w. IsRunAt span a (own + n) (own + w)) (slice_set places w (Some answer))) (sym (length-set places w (Some answer)))
     (right_set (λ w. IsRunAt span a (own + length places) (own + w)) places w answer was inside its)
 
--- one thread started behind those of the first workers
+-- one more thread is started after those of the first workers
 pub started_one_more : {T : Type 0} → (input : StepInput) (n : ℕ) (threads : List (PromisedHandle T SpeedsOf)) (thread : PromisedHandle T SpeedsOf)
     → AreStartedFrom input n 0 threads → IsOfWorker input n (length threads) thread.promise → AreStartedFrom input n 0 (threads ++ thread ∷ [])
 started_one_more input n threads thread was its = λ k d below.

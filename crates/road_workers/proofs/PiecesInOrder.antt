@@ -1,4 +1,4 @@
--- The pieces of all workers, one behind the other, are the whole.
+-- The pieces of all workers, one after another, are the whole.
 use Rattle.std.specs.Prelude.{◌≡◌, ℕ, ◌+◌, ◌-◌, ◌<◌, ◌≤◌, List, ◌++◌, length, take, slice_range, slice_index_or, IfSome}
 use Rattle.std.specs.declared.option.Option.{Option}
 use Rattle.std.proofs.Common.{rules, sym, ap, ◌∙◌, arith}
@@ -22,17 +22,17 @@ take_piece xs first end order = sym (take-add first (end - first) xs) ∙ ap (λ
 pub pieces_rise : (n m w : ℕ) → piece_start n m w ≤ piece_start n m (w + 1)
 pieces_rise n m w = search rules
 
--- the last piece ends with the cars
+-- the last piece ends after the last car
 pub all_pieces : (n m : ℕ) → 0 < n → piece_start n m n ≡ m
 all_pieces n m some = mul-div_cancel_left m some
 
--- so all speeds before its end are all speeds
+-- so the speeds before the end of the last piece are all speeds
 pub whole_step : (input : StepInput) (n : ℕ) → 0 < n → take (piece_start n (length (cars_of input.road)) n) (input_speeds input) ≡ input_speeds input
 whole_step input n some =
     let all = all_pieces n (length (cars_of input.road)) some in
     let each = speed_each input.plan input.settings input.step input.road in
     take_all (piece_start n (length (cars_of input.road)) n) (input_speeds input) (omega arith)
 
--- each answer that has come is right, where the first place is that of worker w
+-- each answer that has come is right, if the first place is that of worker w
 abbrev pub AreRightFrom : {A : Type 0} → (ℕ → A → Type 0) → ℕ → List (Option A) → Type 0
 AreRightFrom {A} right w places = (k : ℕ) (d : Option A) → k < length places → IfSome (slice_index_or places k d) (right (w + k))

@@ -23,7 +23,7 @@ use Rattle.road_detector.specs.declared.counts.Totals.{Totals}
 use Rattle.road_workers.specs.Private.Stretches.{cars_between, road_after, total_on, AreTotalsOn}
 use Rattle.road_workers.proofs.StretchTotals.{site_on, total_on-bounded}
 
--- the cars of two stretches, one list behind the other
+-- the cars of two stretches side by side, in one list
 pub cars_beside : (lo mid hi : ℕ) (a : Array) → lo ≤ mid → mid ≤ hi → cars_between lo mid a ++ cars_between mid hi a ≡ cars_between lo hi a
 cars_beside lo mid hi a begins order =
     let count : hi - lo ≡ (mid - lo) + (hi - mid) = omega arith in
@@ -63,7 +63,7 @@ sums : (counted : Totals) (first second both x y z : Bool) → first ≡ x → s
     → plus (chosen counted first) (chosen counted second) ≡ chosen counted both
 sums counted first second both x y z is_first is_second is_both sum = (λ i. plus (chosen counted (is_first i)) (chosen counted (is_second i))) ∙ sum ∙ sym (ap (chosen counted) is_both)
 
--- a site is on one of two stretches at most
+-- a site is on at most one of two stretches
 by_site : (lo mid hi site : ℕ) (counted : Totals) → lo ≤ mid → mid ≤ hi
     → plus (chosen counted (nat_le lo site && nat_lt site mid)) (chosen counted (nat_le mid site && nat_lt site hi)) ≡ chosen counted (nat_le lo site && nat_lt site hi)
 by_site lo mid hi site counted begins order =
@@ -113,7 +113,7 @@ both_totals lo mid hi span a front next both begins order are others same sums =
       sums d early ∙ (λ i. plus (are.counted d early i) (others.counted d early_next i)) ∙ totals_beside lo mid hi span span.steps a d begins order;
 }
 
--- an array in a longer one is the same
+-- an array is the same in a longer tabulation
 again : (n m : ℕ) (f : ℕ → Option Vehicle) → m ≤ n → array n (vehicle_at (array m f)) ≡ array m f
 again n m f le = array-same n m (vehicle_at (array m f)) f (λ j. elim (cases_lt j n) as (λ _. vehicle_at (array n (vehicle_at (array m f))) j ≡ vehicle_at (array m f) j) [
   | inl below ↦ vehicle_at-array n (vehicle_at (array m f)) j below
@@ -128,7 +128,7 @@ after_step span k cells a le =
     ∙ array_of-cars_from cells (vehicle_at (road_after span (suc k) a))
     ∙ again cells (exit_start span.plan) (arrival_at (speed span.plan span.settings (span.step + k) entered) entered) le
 
--- the cars of all cells make the road after a step at least
+-- after at least one step, the cars of all cells make the road
 pub whole_road : (span : Span) (cells : ℕ) (a : Array) → 0 < span.steps → cells ≡ span.plan.cells → array_of (cars_between 0 cells (span_road span a)) ≡ span_road span a
 whole_road span cells a some all =
     let last : span.steps ≡ suc (span.steps - 1) = omega arith in

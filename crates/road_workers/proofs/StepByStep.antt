@@ -1,4 +1,4 @@
--- A span that is run one step after another: the road after one more, and its counts.
+-- A span that is run one step after another: the road and the counts after one more step.
 use Rattle.std.specs.Prelude.{◌≡◌, ℕ, ◌+◌, ◌^◌, ◌<◌, ◌≤◌, List, length, slice_index_or}
 use Rattle.std.proofs.Common.{sym, ap, subst, ◌∙◌, arith}
 use Rattle.std.proofs.lemmas.List.FromFn.{fill_by_all}
@@ -17,7 +17,7 @@ use Rattle.road_workers.proofs.StretchTotals.{road_after-more, sums_fit}
 abbrev pub count_of : Span → ℕ → Array → ℕ → Totals
 count_of span k a d = total_from span.plan (λ _. span.settings) span.step k a d
 
--- what it counts in the step after k, from the road before that step
+-- what a detector counts in the step after k, from the road before that step
 abbrev pub step_count : Span → ℕ → Array → ℕ → Totals
 step_count span k here d = passes_from span.plan span.settings (span.step + k) here d
 
@@ -25,7 +25,7 @@ step_count span k here d = passes_from span.plan span.settings (span.step + k) h
 abbrev pub AreCounted : Span → ℕ → Array → List Totals → Type 0
 AreCounted span k a totals = (d : ℕ) → d < length totals → slice_index_or totals d no_totals ≡ count_of span k a d
 
--- the sums of two totals fit
+-- the sums of two totals are below 2^32
 abbrev pub Fit : Totals → Totals → Type 0
 Fit before more = (before.cars + more.cars < 2 ^ 32) × (before.speeds + more.speeds < 2 ^ 32)
 
@@ -33,11 +33,11 @@ Fit before more = (before.cars + more.cars < 2 ^ 32) × (before.speeds + more.sp
 pub road_more : (span : Span) (k : ℕ) (a here later : Array) → here ≡ road_after span k a → later ≡ input_next (input_of span.plan span.settings (span.step + k) here) → later ≡ road_after span (k + 1) a
 road_more span k a here later is next = next ∙ ap (λ (x : Array). input_next (input_of span.plan span.settings (span.step + k) x)) is ∙ road_after-more span k a
 
--- it is what it counts at the speeds of the step's input
+-- a detector counts the same at the speeds of the step's input
 pub same_count : (span : Span) (k : ℕ) (here : Array) (input : StepInput) (speeds : List ℕ) (d : ℕ) → input ≡ input_of span.plan span.settings (span.step + k) here → speeds ≡ input_speeds input → passes_at input speeds d ≡ step_count span k here d
 same_count span k here input speeds d entered by_rules = ap (λ (ys : List ℕ). passes_at input ys d) by_rules ∙ ap (λ (x : StepInput). passes_at x (input_speeds x) d) entered
 
--- the counts of one more step fit
+-- the sums with the counts of one more step are below 2^32
 pub counts_fit : (span : Span) (k : ℕ) (a here : Array) (totals : List Totals) → here ≡ road_after span k a → AreCounted span k a totals → k < span.steps → span.step + span.steps ≤ GREATEST_HORIZON
     → (d : ℕ) → d < length totals → Fit (slice_index_or totals d no_totals) (step_count span k here d)
 counts_fit span k a here totals is counted early within d below =
@@ -47,7 +47,7 @@ counts_fit span k a here totals is counted early within d below =
     (sums_fit span k (count_of span k a d) (step_count span k (road_after span k a) d) early within
     (bounded_from span.plan (λ _. span.settings) span.step k a d) (record { few = one.0; slow = one.1 })))
 
--- they are added
+-- the totals after the counts of one more step are added
 pub one_more_counted : (span : Span) (k : ℕ) (a here : Array) (before after : List Totals) → here ≡ road_after span k a → AreCounted span k a before → length after ≡ length before
     → ((d : ℕ) → d < length before → slice_index_or after d no_totals ≡ plus (slice_index_or before d no_totals) (step_count span k here d))
     → AreCounted span (k + 1) a after
@@ -57,7 +57,7 @@ one_more_counted span k a here before after is counted long more d below =
     ∙ ap (λ (x : Array). plus (count_of span k a d) (step_count span k x d)) is
     ∙ total_from_more span.plan (λ _. span.settings) span.step k a d
 
--- all steps are counted
+-- once all steps are counted, the totals are those of the span
 pub span_counted : (span : Span) (a : Array) (totals : List Totals) → length totals ≡ length span.plan.detectors → AreCounted span span.steps a totals → totals ≡ span_totals span a
 span_counted span a totals each counted =
     fill_by_all (count_of span span.steps a) totals (length span.plan.detectors) no_totals each (λ d below. counted d (omega arith))

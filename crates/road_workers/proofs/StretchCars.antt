@@ -1,4 +1,4 @@
--- The cars of a stretch: they depend on the cells near it alone, and stretches side by side are the road.
+-- The cars of a stretch depend only on the cells near it.
 use Rattle.std.specs.Prelude.{◌≡◌, ℕ, zero, suc, ◌+◌, ◌-◌, ◌<◌, ◌≤◌, ◌&&◌, Bool, true, false, if◌then◌else◌, List, [], ◌∷◌, drop, map, nat_le, nat_lt, slice_index, take, refl}
 use Rattle.std.specs.List.{range_with_len}
 use Rattle.std.specs.declared.option.Option.{Option}
@@ -19,13 +19,13 @@ use Rattle.road_detector.specs.declared.span_result.SpanResult.{SpanResult}
 use Rattle.road_detector.proofs.TotalsFrom.{total-nearby}
 use Rattle.road_workers.specs.Private.Stretches.{cars_between, has_site, AreTotalsOn, IsRunOf}
 
--- what a function gives at n numbers from a on
+-- the values of a function at n numbers from a on
 place : (f : ℕ → Option Vehicle) (n a j : ℕ) → j < n → vehicle_at (map f (range_with_len a n)) j ≡ f (a + j)
 place f zero a j below = absurd (omega arith)
 place f (suc n) a zero below = let here : a ≡ a + 0 = omega arith in ap f here
 place f (suc n) a (suc j) below = let next : (a + 1) + j ≡ a + suc j = omega arith in place f n (a + 1) j (omega arith) ∙ ap f next
 
--- the road of the cars between two cells has what the road has there
+-- the road of the cars between two cells agrees with the road there
 pub near_agrees : (a : Array) (from to : ℕ) (cars : List Car) → cars ≡ cars_between from to a → AgreeBetween from to (array_of cars) a
 near_agrees a from to cars are = record {
   same = λ c above below.
@@ -59,13 +59,13 @@ first_cars a end =
     ∙ (λ i. take (cars_before end (cars_of a) - sym none i) (drop (sym none i) (cars_of a)))
     ∙ found_between a 0 end (omega arith)
 
--- what is near a stretch gives its cars after the steps of a span
+-- roads that agree near a stretch have the same cars on it after the steps of a span
 pub stretch_cars : (lo hi : ℕ) (span : Span) (near a : Array) → lo ≤ hi → AgreeNear span.steps lo hi near a
     → cars_between lo hi (span_road span near) ≡ cars_between lo hi (span_road span a)
 stretch_cars lo hi span near a order agree = same_cars lo hi (span_road span near) (span_road span a) order
     (depend_on_cells_nearby span.plan (λ _. span.settings) span.step span.steps lo hi near a agree)
 
--- and the totals of its detectors
+-- roads that agree near a stretch give its detectors the same totals
 pub stretch_totals : (lo hi : ℕ) (span : Span) (near a : Array) (totals : List Totals) → AgreeNear span.steps lo hi near a
     → AreTotalsOn lo hi span span.steps near totals → AreTotalsOn lo hi span span.steps a totals
 stretch_totals lo hi span near a totals agree are = record {
@@ -84,7 +84,7 @@ stretch_totals lo hi span near a totals agree are = record {
         total-nearby span.plan (λ _. span.settings) span.step span.steps near a d (record { same = λ c from to. agree.same c (omega arith) (omega arith) })
     by d false is = refl
 
--- so a stretch that was run from what is near it was run
+-- so a stretch that was run from the cars near it was run from the road
 pub run-nearby : (lo hi : ℕ) (span : Span) (near a : Array) (ran : SpanResult) → lo ≤ hi → AgreeNear span.steps lo hi near a
     → IsRunOf lo hi span near ran → IsRunOf lo hi span a ran
 run-nearby lo hi span near a ran order agree run = record {

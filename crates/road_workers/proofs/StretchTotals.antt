@@ -1,4 +1,4 @@
--- The totals of a stretch: none at first, one step more, and bounds.
+-- The totals of a stretch: none at first, after one more step, and their bounds.
 use Rattle.std.specs.Prelude.{◌≡◌, ℕ, ◌+◌, ◌-◌, ◌^◌, ◌<◌, ◌≤◌, ◌&&◌, Bool, true, false, if◌then◌else◌, List, length, replicate, nat_le, nat_lt, slice_index, slice_index_or, IfOk, refl}
 use Rattle.std.specs.declared.result.Result.{Result}
 use Rattle.std.specs.declared.result.Result.TheVariants.{Ok, Err}
@@ -53,7 +53,7 @@ total_on-more lo hi span k a d = by (has_site lo hi span.plan d)
 pub road_after-more : (span : Span) (k : ℕ) (a : Array) → input_next (step_input span k a) ≡ road_after span (k + 1) a
 road_after-more span k a = sym (ap (λ n. road_after span n a) (add-one k))
 
--- sums of one more step are below 2^32
+-- the sums with the counts of one more step are below 2^32
 pub sums_fit : (span : Span) (k : ℕ) (before more : Totals) → k < span.steps → span.step + span.steps ≤ GREATEST_HORIZON → AreBounded k before → AreBounded 1 more
     → (before.cars + more.cars < 2 ^ 32) × (before.speeds + more.speeds < 2 ^ 32)
 sums_fit span k before more early within bounded one =
@@ -77,7 +77,7 @@ none_at lo hi span a totals none = record {
   counted = λ d below. ap (λ xs. slice_index_or xs d no_totals) none ∙ get_or-replicate (length span.plan.detectors) d no_totals no_totals (let long = ap length none ∙ length-replicate (length span.plan.detectors) no_totals in omega arith) ∙ sym (none_on lo hi span a d);
 }
 
--- each detector on these cells counts in an input's step what it counts in the step after k of a span
+-- each detector on these cells counts in the step of an input what it counts in the step after k steps of a span
 abbrev pub IsCountedLike : ℕ → ℕ → Span → ℕ → Array → StepInput → Type 0
 IsCountedLike lo hi span k a input = (d : ℕ) → passes_on lo hi input (input_speeds input) d ≡ passes_on lo hi (step_input span k a) (input_speeds (step_input span k a)) d
 
@@ -121,7 +121,7 @@ whole_totals span cells a totals within all are =
     (λ d below. are.counted d (let long = are.each in omega arith)
     ∙ ap (λ b. if b then total_from span.plan (λ _. span.settings) span.step span.steps a d else no_totals) (ap (λ n. has_site 0 n span.plan d) all ∙ site_on_road span.plan d within below))
 
--- what follows of an answer
+-- what follows from a property of each result follows if there is a result
 pub if_ok : {A E : Type 0} (r : Result A E) (P Q : A → Type 0) → ((x : A) → P x → Q x) → IfOk r P → IfOk r Q
 if_ok (Ok x) P Q f is = f x is
 if_ok (Err e) P Q f is = tt

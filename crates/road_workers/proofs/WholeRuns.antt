@@ -1,4 +1,4 @@
--- A run that goes on with the whole road makes the steps of a span.
+-- A run on the whole road makes the steps of a span.
 use Rattle.std.specs.Prelude.{◌≡◌, ℕ, zero, suc, ◌+◌, ◌<◌, length, refl, IfSome}
 use Rattle.std.specs.declared.option.Option.{Option}
 use Rattle.std.specs.declared.option.Option.TheVariants.{Some}
@@ -17,7 +17,7 @@ use Rattle.road_workers.specs.Private.RunsUnderWay.{IsReady, IsWhole, after_step
 use Rattle.road_workers.specs.Private.Stretches.{road_after}
 use Rattle.road_workers.proofs.StretchTotals.{step_input}
 
--- no step is made yet
+-- before the first step
 whole_ready : (span : Span) (a : Array) (run : UnderWay) → IsReady 0 span.plan.cells span a run → IsWhole span 0 a (uncounted run)
 whole_ready span a run is =
     let long = length-map-range_with_len (λ d. no_totals) 0 (length run.plan.detectors) in
@@ -32,13 +32,13 @@ whole_ready span a run is =
       counted = λ d below. get_or-map-range_with_len (λ d. no_totals) 0 (length run.plan.detectors) d d no_totals (omega arith) (omega arith);
     }
 
--- its next input is that of the step
+-- the next input of the run is that of the step
 whole_input : (span : Span) (k : ℕ) (a : Array) (run : UnderWay) → IsWhole span k a run → next_input run ≡ step_input span k a
 whole_input span k a run is =
     ap next_input (λ i. record { plan = is.plan i; settings = is.settings i; step = is.step i; lo = is.from i; hi = is.to i; road = is.road i; totals = run.totals })
     ∙ whole-input span.plan span.plan span.settings (span.step + k) (road_after span k a) 0 span.plan.cells refl refl refl
 
--- one more step
+-- after one more step
 whole_more : (span : Span) (k : ℕ) (a : Array) (run : UnderWay) → IsWhole span k a run → IsWhole span (suc k) a (run_after_step run)
 whole_more span k a run is =
     let input = whole_input span k a run is in
@@ -59,7 +59,7 @@ whole_more span k a run is =
           ∙ ap (λ n. total_from span.plan (λ _. span.settings) span.step n a d) (add-one k);
     }
 
--- several steps
+-- after k steps
 whole_after : (span : Span) (k : ℕ) (a : Array) (run : UnderWay) → IsWhole span 0 a run → IsWhole span k a (after_steps k run)
 whole_after span zero a run is = is
 whole_after span (suc k) a run is = whole_more span k a (after_steps k run) (whole_after span k a run is)
@@ -70,7 +70,7 @@ whole_run span a ready run later is here made =
     let begun = subst (λ (o : Option UnderWay). IfSome o (IsReady 0 span.plan.cells span a)) here is in
     subst (IsWhole span span.steps a) (sym made) (whole_after span span.steps a (uncounted run) (whole_ready span a run begun))
 
--- then all is counted
+-- after all steps the totals of the run are those of the span
 pub all_counted : (span : Span) (a : Array) (run : UnderWay) → IsWhole span span.steps a run → run.totals ≡ span_totals span a
 all_counted span a run is =
     fill_by_all (total_from span.plan (λ _. span.settings) span.step span.steps a) run.totals (length span.plan.detectors) no_totals is.each

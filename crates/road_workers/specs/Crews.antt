@@ -1,4 +1,4 @@
--- What is counted of a crew, and what it runs.
+-- What contracts see of a crew of threads, and which spans crews run.
 use Rattle.std.specs.Prelude.{ℕ, ◌+◌, ◌-◌, ◌^◌, ◌<◌, min, Result}
 use Rattle.std.specs.declared.result.Result.TheVariants.{Ok, Err}
 use Rattle.road_cells.specs.Array.{Array}
@@ -12,13 +12,13 @@ pub record CrewOfThreads : Type 0 where
   pub workers : ℕ
   pub gone : ℕ
 
--- how often a crew has answered `WorkersGone` after one more answer: the count is one more if that was its answer;
--- one at the greatest u64 stays there
+-- how often a crew has answered `WorkersGone` after one more answer: once more if that was the answer; the count stays
+-- at 2^64 - 1 once it is there
 abbrev pub gone_after : {A : Type 0} → Result A CrewFault → ℕ → ℕ
 gone_after (Ok speeds) n = n
 gone_after (Err WorkersGone) n = min (n + 1) (2 ^ 64 - 1)
 gone_after (Err OutOfMemory) n = n
 
--- the steps of a span can be run from a road: there are some, and a run can have each of its cars
+-- the steps of a span can be run from a road: the span has steps, and each car of the road can be held in a run
 abbrev pub CanBeRun : Span → Array → Type 0
 CanBeRun span a = (0 < span.steps) × IsRunnable 0 span.plan.cells span.plan a

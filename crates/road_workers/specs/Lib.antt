@@ -1,3 +1,3 @@
--- What is counted of crews.
+-- Crews, as contracts see them.
 pub mod Crews
 pub mod Private

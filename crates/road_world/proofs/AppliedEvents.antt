@@ -52,7 +52,7 @@ use Rattle.road_world.proofs.MadeMessages.{memory_refuses, no_command, none_is_n
 
 -- ---- what is allowed
 
--- an allowed command makes a sheet of a sheet
+-- a sheet is still a valid sheet after an allowed command
 sheet_kept : (command : SheetCommand) (s : Sheet) → IsSheet s → IsAllowed s.plan command → IsSheet (sheet_after command s)
 sheet_kept (commands.Take edits) s is fits = subst IsSheet (grown_by_edits s edits) (grown_is_sheet s edits 0 is fits (omega arith))
 sheet_kept (commands.Advance to) s is within = record {
@@ -70,21 +70,21 @@ nothing : (o : Option EditFault) → o ≡ None → IsNone o
 nothing None none = refl
 nothing (Some fault) none = cc
 
--- an edit to which no cause applies is allowed,
+-- an edit to which no cause applies is allowed
 pub edit_allowed : (x : Replica) (object : Object) (step : ℕ) (value : Value) → edit_fault x object step value ≡ None → IsAllowed x.sheet.plan (commands.Take (single_edit (edit_made x object step value)))
 edit_allowed x object step value none =
     let made : edit.Edit = edit_made x object step value in
     in_range-one x.sheet.plan made (none_of own_edit_fault (fault_of_edit x.sheet.plan made) none)
 
--- imported edits to which no cause applies are allowed,
+-- imported edits to which no cause applies are allowed
 pub import_allowed : (p : Plan) (edits : List edit.Edit) → import_fault p edits ≡ None → IsAllowed p (commands.Take (from_list edits))
 import_allowed p edits none e i = each_in_range p edits (no_fault_imported p edits none) e (sym (contains-from_list edit_total edits e) ∙ i)
 
--- the edits of a scenario to which no cause applies are allowed,
+-- the edits of a scenario to which no cause applies are allowed
 pub take_allowed : (p : Plan) (edits : Edits) → take_fault p edits ≡ None → IsAllowed p (commands.Take edits)
 take_allowed p edits none = all_in_range p edits (fault_in p edits) refl (nothing _ (none_of received_edit_fault (fault_in p edits) none))
 
--- and so is a step to which no cause applies
+-- an advance to which no cause applies is allowed
 pub advance_allowed : (p : Plan) (to : ℕ) → advance_fault to ≡ None → IsAllowed p (commands.Advance to)
 advance_allowed p to none = grind (arith, nat_tests)
 
@@ -94,7 +94,7 @@ advance_allowed p to none = grind (arith, nat_tests)
 read_command : (read : SheetCommand → Sheet → ℕ) (o : Option SheetCommand) (command : SheetCommand) (s : Sheet) → o ≡ Some command → unwrap_or (option_map (λ c. read c s) o) 0 ≡ read command s
 read_command read o command s is = ap (λ (p : Option SheetCommand). unwrap_or (option_map (λ c. read c s) p) 0) is
 
--- and at most as many as a refused one may compute
+-- an accepted command computes at most as many steps as a refused one may
 few_of_command : (o : Option SheetCommand) (s : Sheet) → unwrap_or (option_map (λ c. steps_of_command c s) o) 0 ≤ unwrap_or (option_map (λ c. most_steps_of_command c s) o) 0
 few_of_command None s = omega arith
 few_of_command (Some (commands.Take edits)) s = few_steps s.horizon s.horizon (touched_step s edits)
@@ -135,7 +135,7 @@ module _ (plan : Plan) (xs : List Replica) (ms : List Message) (kept : IsWorldKe
     same : x ≡ replica_with_sheet k (replica_number event)
     same = with_sheet plan xs ms kept k v (replica_number event) x is there
 
-    -- a function of the replica's sheet has the same value for the world's
+    -- a function of the replica's sheet has the same value for the world's sheet of the replica
     read_there : (read : SheetCommand → Sheet → ℕ) → command_of_event k event ≡ Some command → read command x.sheet ≡ unwrap_or (option_map (λ c. read c (sheet_at k (replica_number event))) (command_of_event k event)) 0
     read_there read of =
         ap (λ (z : Replica). read command z.sheet) same ∙ sym (read_command read (command_of_event k event) command (sheet_at k (replica_number event)) of)
@@ -183,7 +183,7 @@ module _ (plan : Plan) (xs : List Replica) (ms : List Message) (kept : IsWorldKe
     stamp_local : (value : Value) (stamp : Stamp) → stamp ≡ (edit_made x object step value).stamp → replies.Stamped stamp ≡ stamp_reply k r object step value
     stamp_local value stamp is_stamp = ap replies.Stamped (is_stamp ∙ ap (λ (z : Replica). (edit_made z object step value).stamp) same_local)
 
-    -- if accepted, the reply is its stamp
+    -- if the replica accepts it, the reply is its stamp
     pub local_accepted : (value : Value) (stamp : Stamp) → stamp ≡ (edit_made x object step value).stamp → IsAccepted (commands.Take (single_edit (edit_made x object step value))) (edit_fault x object step value) x y meter later
         → IsApplied (local_event r object step value) (Ok (replies.Stamped stamp)) k (viewed plan (slice_set xs r y) ms) meter later
     local_accepted (Put number) stamp is_stamp accepted =
@@ -209,7 +209,7 @@ module _ (plan : Plan) (xs : List Replica) (ms : List Message) (kept : IsWorldKe
 no_steps : (most meter : ℕ) → TicksAtMost most meter meter
 no_steps most meter = record { ticks = 0; few = omega arith; counted = refl }
 
--- a message that is made already, and is that of its event
+-- a message that is already made, and is the one that its event makes
 module _ (plan : Plan) (xs : List Replica) (ms now : List Message) (kept : IsWorldKept plan xs ms) (k : World) (v : viewed plan xs ms ≡ k) (event : Event) (message : Message) (accepted : fault_of_event k event ≡ None) (made : message_of_event k event ≡ Some message) where
   no_steps_made : (meter : ℕ) → meter ≡ meter_after meter (steps_of_event k event)
   no_steps_made meter =
@@ -226,7 +226,7 @@ module _ (plan : Plan) (xs : List Replica) (ms now : List Message) (kept : IsWor
     few_steps = no_steps (most_steps_of_event k event) meter;
   }
 
--- if there is no memory for it, the event is refused
+-- if there is no memory for the message, the event is refused
 pub post_refused : (event : Event) (k : World) (meter : ℕ) → fault_of_event k event ≡ None → IsApplied event (Err (faults.Replica OutOfMemory)) k k meter meter
 post_refused event k meter accepted = record {
   answer = subst (λ (o : Option WorldFault). IsRefusal event o (faults.Replica OutOfMemory)) (sym accepted) (memory_refuses event);
@@ -237,7 +237,7 @@ post_refused event k meter accepted = record {
   few_steps = no_steps (most_steps_of_event k event) meter;
 }
 
--- if its message is refused, the event is
+-- if the message of an event is refused, the event is refused
 pub made_refused : (event : Event) (k : World) (fault : WorldFault) (meter : ℕ) → IsRefusal event (fault_of_event k event) fault → IsApplied event (Err fault) k k meter meter
 made_refused event k fault meter is = record {
   answer = is;

@@ -20,7 +20,7 @@ use Rattle.road_world.specs.declared.faults.WorldFault.TheVariants.{NoReplica}
 abbrev pub IsWrite : Event → Type 0
 IsWrite event = (fault : WorldFault) → (fault ≡ faults.Replica WorkersGone) ⊎ (fault ≡ faults.Replica OutOfMemory) → IsUnnamedRefusal event fault
 
--- a replica's refusal of a write is the world's
+-- a replica's refusal of a write is a refusal of the event
 pub refused : (event : Event) (cause : Option ReplicaFault) (fault : ReplicaFault) → IsWrite event → IsWriteRefusal cause fault → IsRefusal event (option_map faults.Replica cause) (faults.Replica fault)
 refused event (Some cause) fault writes is = ap faults.Replica is
 refused event None fault writes is = elim is as (λ _. IsRefusal event None (faults.Replica fault)) [

@@ -47,7 +47,7 @@ gone-one_more (past ∷ replies) reply n = gone-one_more replies reply (gone_aft
 
 -- ---- what stays
 
--- an event keeps the plan
+-- an event does not change the plan
 plan-after_event : (event : Event) (w : World) → (world_after_event event w).plan ≡ w.plan
 plan-after_event (Edit r object step number) w = refl
 plan-after_event (Withdraw r object step) w = refl
@@ -58,12 +58,12 @@ plan-after_event (Beyond r message) w = refl
 plan-after_event (Take r message) w = refl
 plan-after_event (Advance r to) w = refl
 
--- the plan stays
+-- several events do not change the plan
 pub plan-after_events : (events : List Event) (w : World) → (world_after_events events w).plan ≡ w.plan
 plan-after_events [] w = refl
 plan-after_events (event ∷ events) w = plan-after_events events (world_after_event event w) ∙ plan-after_event event w
 
--- an event keeps the number of replicas
+-- an event does not change the number of replicas
 pub replicas-after_event : (event : Event) (w : World) → length (world_after_event event w).replicas ≡ length w.replicas
 replicas-after_event (Edit r object step number) w = length-set w.replicas r _
 replicas-after_event (Withdraw r object step) w = length-set w.replicas r _
@@ -74,7 +74,7 @@ replicas-after_event (Beyond r message) w = refl
 replicas-after_event (Take r message) w = length-set w.replicas r _
 replicas-after_event (Advance r to) w = length-set w.replicas r _
 
--- the number of replicas stays
+-- several events do not change the number of replicas
 pub replicas-after_events : (events : List Event) (w : World) → length (world_after_events events w).replicas ≡ length w.replicas
 replicas-after_events [] w = refl
 replicas-after_events (event ∷ events) w =
@@ -82,16 +82,16 @@ replicas-after_events (event ∷ events) w =
 
 -- ---- from the opening world on
 
--- the world that events make has the plan that was given,
+-- the world that events make has the given plan
 pub plan-of_events : (plan : Plan) (count : ℕ) (events : List Event) (replies : List EventAnswer) → (world_of_events plan count events replies).plan ≡ plan
 plan-of_events plan count events replies = plan-after_events (accepted_events events replies) (opening_world plan count)
 
--- and the requested number of replicas,
+-- the world that events make has the given number of replicas
 pub replicas-of_events : (plan : Plan) (count : ℕ) (events : List Event) (replies : List EventAnswer) → length (world_of_events plan count events replies).replicas ≡ count
 replicas-of_events plan count events replies =
     replicas-after_events (accepted_events events replies) (opening_world plan count) ∙ length-replicate count opening_replica
 
--- even with only the winners
+-- so does the world with only the winners
 pub replicas-of_winners : (plan : Plan) (count : ℕ) (events : List Event) (replies : List EventAnswer) → length (world_of_winners (world_of_events plan count events replies)).replicas ≡ count
 replicas-of_winners plan count events replies =
     length-map (world_of_events plan count events replies).replicas replica_of_winners

@@ -76,13 +76,13 @@ touched-of_winners w r s t e =
     ∙ ap (λ (u : Edits). first_touched_step_in (items u) (items (winners (join (winners held) s)))) (winners_again held)
     ∙ ap (λ (u : Edits). first_touched_step_in (items (winners held)) (items (winners u))) e
 
--- so as many steps are computed if they are taken
+-- so as many steps are computed if these edits are taken
 taking-of_winners : (read : ℕ → Option ℕ → ℕ) (w : World) (r : ℕ) (s t : Edits) → winners (union (winners (replica_at w r).edits) s) ≡ winners (union (replica_at w r).edits t) → read (sheet_at (world_of_winners w) r).horizon (touched_step (sheet_at (world_of_winners w) r) s) ≡ read (sheet_at w r).horizon (touched_step (sheet_at w r) t)
 taking-of_winners read w r s t e =
     ap (λ (x : WorldReplica). read x.horizon (touched_step (sheet_at (world_of_winners w) r) s)) (replica-of_winners w r)
     ∙ ap (read (replica_at w r).horizon) (touched-of_winners w r s t e)
 
--- and if a replica makes an edit
+-- as many steps are computed if a replica makes an edit
 edit-of_winners : (read : ℕ → Option ℕ → ℕ) (w : World) (r : ℕ) (object : Object) (step : ℕ) (value : Value)
     → read (sheet_at (world_of_winners w) r).horizon (touched_step (sheet_at (world_of_winners w) r) (single_edit (local_edit r (replica_at (world_of_winners w) r).edits object step value)))
     ≡ read (sheet_at w r).horizon (touched_step (sheet_at w r) (single_edit (local_edit r (replica_at w r).edits object step value)))
@@ -91,7 +91,7 @@ edit-of_winners read w r object step value =
     ap (λ (e : edits.Edit). read (sheet_at (world_of_winners w) r).horizon (touched_step (sheet_at (world_of_winners w) r) (single_edit e))) (local_edit-of_winners w r object step value)
     ∙ taking-of_winners read w r (single_edit made) (single_edit made) (winners_of_one_part (replica_at w r).edits (single_edit made))
 
--- and if a message is taken
+-- as many steps are computed if a message is taken
 carried-of_both : (read : ℕ → Option ℕ → ℕ) (w : World) (r message : ℕ)
     → read (sheet_at (world_of_winners w) r).horizon (touched_step (sheet_at (world_of_winners w) r) (carried_edits (slice_get (world_of_winners w).messages message)))
     ≡ read (sheet_at w r).horizon (touched_step (sheet_at w r) (carried_edits (slice_get w.messages message)))
@@ -105,25 +105,25 @@ added-of_winners : (w : World) (r to : ℕ) → max (sheet_at (world_of_winners 
 added-of_winners w r to = ap (λ (x : WorldReplica). max x.horizon to - x.horizon) (replica-of_winners w r)
 
 -- the number of steps computed, from the horizon and the touched step
-abbrev just : ℕ → Option ℕ → ℕ
-just horizon touched = horizon - draft_start horizon (kept_step horizon touched)
+abbrev computed_steps : ℕ → Option ℕ → ℕ
+computed_steps horizon touched = horizon - draft_start horizon (kept_step horizon touched)
 
 abbrev most : ℕ → Option ℕ → ℕ
 most horizon touched = most_steps horizon horizon touched
 
--- an event costs as many steps in a world of winners as in the world,
+-- an accepted event costs as many steps in a world of winners as in the world
 steps-of_winners : (w : World) (event : Event) → steps_of_event (world_of_winners w) event ≡ steps_of_event w event
-steps-of_winners w (Edit r object step number) = edit-of_winners just w r object step (Put number)
-steps-of_winners w (Withdraw r object step) = edit-of_winners just w r object step Withdrawn
+steps-of_winners w (Edit r object step number) = edit-of_winners computed_steps w r object step (Put number)
+steps-of_winners w (Withdraw r object step) = edit-of_winners computed_steps w r object step Withdrawn
 steps-of_winners w (Import r edits) =
-    taking-of_winners just w r (from_list edits.items) (from_list edits.items) (winners_of_one_part (replica_at w r).edits (from_list edits.items))
+    taking-of_winners computed_steps w r (from_list edits.items) (from_list edits.items) (winners_of_one_part (replica_at w r).edits (from_list edits.items))
 steps-of_winners w (Send r) = refl
 steps-of_winners w (Heads r) = refl
 steps-of_winners w (Beyond r message) = refl
-steps-of_winners w (Take r message) = carried-of_both just w r message
+steps-of_winners w (Take r message) = carried-of_both computed_steps w r message
 steps-of_winners w (Advance r to) = added-of_winners w r to
 
--- and at most as many
+-- an event may cost at most as many steps in a world of winners as in the world
 most_steps-of_winners : (w : World) (event : Event) → most_steps_of_event (world_of_winners w) event ≡ most_steps_of_event w event
 most_steps-of_winners w (Edit r object step number) = edit-of_winners most w r object step (Put number)
 most_steps-of_winners w (Withdraw r object step) = edit-of_winners most w r object step Withdrawn
@@ -135,7 +135,7 @@ most_steps-of_winners w (Beyond r message) = refl
 most_steps-of_winners w (Take r message) = carried-of_both most w r message
 most_steps-of_winners w (Advance r to) = added-of_winners w r to
 
--- so is what it costs with its answer
+-- an event with its answer costs as many steps in a world of winners as in the world
 answer_steps-of_winners : (w : World) (event : Event) (reply : EventAnswer) → steps_of_answer (world_of_winners w) event reply ≡ steps_of_answer w event reply
 answer_steps-of_winners w event (Ok reply) = steps-of_winners w event
 answer_steps-of_winners w event (Err fault) = refl
@@ -148,7 +148,7 @@ wasted_steps-of_winners w event (Err fault) =
 
 -- ---- one more event
 
--- it adds its count in the world after the events before it
+-- one more event adds its count in the world after the events before it
 sum-one_more : (count : World → Event → EventAnswer → ℕ) (w : World) (events : List Event) (replies : List EventAnswer) (event : Event) (reply : EventAnswer) → AreAnswers w events replies
     → sum_of_answers count w (events ++ event ∷ []) (replies ++ reply ∷ []) ≡ sum_of_answers count w events replies + count (world_after_events (accepted_events events replies) w) event reply
 sum-one_more count w [] [] event reply h = omega arith
@@ -188,6 +188,6 @@ metered_one_more plan count events replies old new event reply meter now later p
     (subst (λ n. TicksAtMost (most_wasted_steps_of_events start events replies + most_wasted_steps known event reply) (meter_after meter n) later) (sym (sum-one_more steps_of_answer start events replies event reply played.answers))
     (ticks_of_both _ _ _ _ meter now later metered more))
 
--- at the end of a loop over the events it has counted those of all
+-- at the end of a loop over the events a meter has counted the steps of all
 pub metered_all : (plan : Plan) (count i : ℕ) (events : List Event) (replies : List EventAnswer) (meter later : ℕ) → length events ≤ i → IsMetered plan count (take i events) replies meter later → IsMetered plan count events replies meter later
 metered_all plan count i events replies meter later all metered = subst (λ (es : List Event). IsMetered plan count es replies meter later) (take_all i events all) metered

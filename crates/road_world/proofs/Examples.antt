@@ -36,7 +36,7 @@ small = record { cells = 12; exit = 1; width = 12; zones = (2, 0) ∷ []; inlets
 abbrev EventAnswers : Type 0
 EventAnswers = List (Result Reply WorldFault)
 
--- these are answers to events at three replicas of that plan
+-- whether these are answers to events at three replicas of that plan
 abbrev AnswersOfThree : List Event → EventAnswers → Type 0
 AnswersOfThree events answers = AreAnswers (opening_world small 3) events answers
 
@@ -105,11 +105,11 @@ made_apart_answers =
 greater_number_touches : AnswersOfThree made_apart made_apart_answers
 greater_number_touches = computed_answers small 3 made_apart made_apart_answers refl
 
--- it wins at the first replica,
+-- the greater number wins at the first replica
 greater_number_wins : winners (reached made_apart made_apart_answers 0) ≡ from_list (edit (Limit 0) 3 1 1 (Put 1) ∷ [])
 greater_number_wins = computed_winners small 3 made_apart made_apart_answers refl 0 _ refl
 
--- and at the second, which they reached in the other order
+-- it also wins at the second replica, which the edits reached in the other order
 greater_number_wins_there : winners (reached made_apart made_apart_answers 1) ≡ from_list (edit (Limit 0) 3 1 1 (Put 1) ∷ [])
 greater_number_wins_there = computed_winners small 3 made_apart made_apart_answers refl 1 _ refl
 
@@ -129,7 +129,7 @@ regrouped_answers =
 repeated_block_touches_nothing : AnswersOfThree regrouped regrouped_answers
 repeated_block_touches_nothing = computed_answers small 3 regrouped regrouped_answers refl
 
--- the same edits have reached both
+-- the same edits have reached both replicas
 same_edits_reached_both : reached regrouped regrouped_answers 1 ≡ reached regrouped regrouped_answers 2
 same_edits_reached_both =
     computed_edits small 3 regrouped regrouped_answers refl 1 _ refl
@@ -156,9 +156,9 @@ again_touches_nothing : AnswersOfThree asking asking_answers
 again_touches_nothing = computed_answers small 3 asking asking_answers refl
 
 -- the third replica has the edits that the reply lists, and no more: not the limit that the asker has exceeded
-just_the_answer : reached asking asking_answers 2
+only_the_answer : reached asking asking_answers 2
     ≡ from_list (edit (Block 8) 4 2 0 (Put 1) ∷ edit (Limit 0) 5 3 0 (Put 0) ∷ [])
-just_the_answer = computed_edits small 3 asking asking_answers refl 2 _ refl
+only_the_answer = computed_edits small 3 asking asking_answers refl 2 _ refl
 
 -- ---- horizons
 
@@ -172,8 +172,8 @@ advances_answers =
     Ok (Horizon 100) ∷ Ok (Horizon 100) ∷ Ok (Horizon 40) ∷ Err (Replica replica_faults.Horizon) ∷ []
 
 -- these are its answers
-greatest_step_counts : AnswersOfThree advances advances_answers
-greatest_step_counts = computed_answers small 3 advances advances_answers refl
+latest_step_counts : AnswersOfThree advances advances_answers
+latest_step_counts = computed_answers small 3 advances advances_answers refl
 
 -- ---- refused events do nothing
 
@@ -248,7 +248,7 @@ advances_compute_eight = refl
 advances_waste_none : most_wasted_steps_of_events (opening_world small 3) counted_advances all_advance ≡ 0
 advances_waste_none = refl
 
--- else six, and up to two more before the refusal
+-- if the last is refused, they compute six, and up to two more before the refusal
 refused_advance_leaves_six : steps_of_events (opening_world small 3) counted_advances last_refused ≡ 6
 refused_advance_leaves_six = refl
 

@@ -48,7 +48,7 @@ count_at w r = greatest_count (replica_at w r).edits
 at_most_itself : (n : ℕ) → n ≤ n
 at_most_itself n = omega arith
 
--- if one replica is set to one that holds more, no replica's greatest count falls
+-- if one replica is replaced by one with a greatest count that is not smaller, no replica's greatest count falls
 set_grows : (xs : List WorldReplica) (r n : ℕ) (x : WorldReplica) → greatest_count (slice_index_or xs r opening_replica).edits ≤ greatest_count x.edits
     → greatest_count (slice_index_or xs n opening_replica).edits ≤ greatest_count (slice_index_or (slice_set xs r x) n opening_replica).edits
 set_grows [] r n x more = at_most_itself _
@@ -74,7 +74,8 @@ counts_grow (Advance r to) w n = set_grows w.replicas r n _ (at_most_itself _)
 
 -- ---- a stamp in the reply to an event
 
--- a stamp is above a world: it has the number of a replica, and its count is greater than all that reached this replica
+-- a stamp is above a world: it has the number of a replica, and its count is greater than that of each edit that
+-- reached this replica
 pub record IsAbove (w : World) (s : Stamp) : Type 0 where
   pub of_replica : s.number < length w.replicas
   pub greater : count_at w s.number < s.count
@@ -91,7 +92,7 @@ made_above w r o step v b = record { of_replica = b; greater = next (count_at w 
     next : (n : ℕ) → n < suc n
     next n = omega arith
 
--- and the replica holds it from then on
+-- the replica holds the edit that it makes from then on
 made_held : (w : World) (r : ℕ) (o : Object) (step : ℕ) (v : Value) → r < length w.replicas → suc (count_at w r) ≤ count_at (world_with_local_edit r o step v w) r
 made_held w r o step v b =
     let held : Edits = (replica_at w r).edits in
@@ -167,7 +168,7 @@ above_before e w s a = record {
     still : (n m k : ℕ) → n ≤ m → m < k → n < k
     still n m k p q = omega arith
 
--- the same for each stamp of a list
+-- each stamp of a list that is above the world after an event was above it before
 all_above_before : (e : Event) (w : World) (ss : List Stamp) → AllByRecursion (IsAbove (world_after_event e w)) ss → AllByRecursion (IsAbove w) ss
 all_above_before e w [] all = tt
 all_above_before e w (s ∷ ss) all = (above_before e w s all.0, all_above_before e w ss all.1)
@@ -215,7 +216,7 @@ issued_distinct w (e ∷ events) (Err fault ∷ replies) h = issued_distinct w e
 
 -- ---- the stamps of imports
 
--- a stamp has no replica's number
+-- a stamp whose number is not that of a replica
 abbrev IsOutside : Stamp → Type 0
 IsOutside s = FIRST_IMPORT_NUMBER ≤ s.number
 
@@ -268,7 +269,7 @@ imports_outside w (e ∷ events) (Err fault ∷ replies) h = imports_outside w e
 
 -- ---- both
 
--- a stamp with a replica's number is not a stamp without
+-- a stamp with a replica's number is not the stamp of an import
 not_imported : (s : Stamp) (imports : List Stamp) → s.number < FIRST_IMPORT_NUMBER → AllByRecursion IsOutside imports → list_any (is_same_stamp s) imports ≡ false
 not_imported s [] inside all = refl
 not_imported s (t ∷ imports) inside all =
@@ -279,7 +280,7 @@ not_imported s (t ∷ imports) inside all =
     on_both_sides : (n m : ℕ) → n ≡ m → n < FIRST_IMPORT_NUMBER → FIRST_IMPORT_NUMBER ≤ m → ⊥
     on_both_sides n m e p q = omega arith
 
--- the same for each stamp above a world
+-- no stamp above a world is the stamp of an import
 none_of_imports : (w : World) (stamps imports : List Stamp) → length w.replicas ≤ FIRST_IMPORT_NUMBER → AllByRecursion (IsAbove w) stamps → AllByRecursion IsOutside imports
     → list_any (λ s. list_any (is_same_stamp s) imports) stamps ≡ false
 none_of_imports w [] imports few above outside = refl

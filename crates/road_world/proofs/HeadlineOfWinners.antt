@@ -31,29 +31,29 @@ not_above step horizon below = grind (arith, nat_tests)
 within : (n m : ℕ) → n < m → not (nat_lt n m) ≡ false
 within n m below = grind (arith, nat_tests)
 
--- if each test fails, no cause is named: of three,
+-- if each of three tests fails, no cause is named
 none_of_three : (a b c : Bool) (x y z : SheetFault) → a ≡ false → b ≡ false → c ≡ false
     → option_map query_fault (if a then Some x else (if b then Some y else (if c then Some z else None))) ≡ None
 none_of_three a b c x y z p q r = rw p (rw q (rw r refl))
 
--- of two,
+-- if each of two tests fails, no cause is named
 none_of_two : (a b : Bool) (x y : SheetFault) → a ≡ false → b ≡ false → option_map query_fault (if a then Some x else (if b then Some y else None)) ≡ None
 none_of_two a b x y p q = rw p (rw q refl)
 
--- of one
+-- if one test fails, no cause is named
 none_of_one : (a : Bool) (x : SheetFault) → a ≡ false → option_map query_fault (if a then Some x else None) ≡ None
 none_of_one a x p = rw p refl
 
--- a state of a simulated step is not refused,
+-- a state of a simulated step is not refused
 pub state_answered : (s : Sheet) (step : ℕ) → step ≤ s.horizon → state_fault s step ≡ None
 state_answered s step below = none_of_one (nat_lt s.horizon step) sheet_faults.NotSimulated (not_above step s.horizon below)
 
--- nor are as many rows of simulated steps as one diagram shows,
+-- rows of simulated steps are not refused, if there are no more of them than a diagram may have
 pub rows_answered : (s : Sheet) (from to : ℕ) → is_out_of_range from to ≡ false → to ≤ s.horizon → rows_fault s from to ≡ None
 rows_answered s from to range below =
     none_of_two (is_out_of_range from to) (nat_lt s.horizon to) sheet_faults.Range sheet_faults.NotSimulated range (not_above to s.horizon below)
 
--- nor are a detector's totals of simulated steps
+-- a detector's totals of simulated steps are not refused
 pub totals_answered : (s : Sheet) (detector from to : ℕ) → detector < length s.plan.detectors → from ≤ to → to ≤ s.horizon → totals_fault s detector from to ≡ None
 totals_answered s detector from to has ordered below =
     none_of_three (not (nat_lt detector (length s.plan.detectors))) (nat_lt to from) (nat_lt s.horizon to) sheet_faults.NoDetector sheet_faults.Range sheet_faults.NotSimulated

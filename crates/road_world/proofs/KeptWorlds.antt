@@ -60,7 +60,7 @@ set_each P (z ∷ xs) zero y each new (suc n) x h = each (suc n) x h
 set_each P (z ∷ xs) (suc r) y each new zero x h = each zero x h
 set_each P (z ∷ xs) (suc r) y each new (suc n) x h = set_each (λ k. P (suc k)) xs r y (λ k w. each (suc k) w) new n x h
 
--- and if one is added
+-- a fact about each item at its place stays true if an item is added for which it is true
 add_each : (P : ℕ → Replica → Type 0) (xs : List Replica) (y : Replica) → ((n : ℕ) (x : Replica) → slice_get xs n ≡ Some x → P n x) → P (length xs) y → (n : ℕ) (x : Replica) → slice_get (xs ++ y ∷ []) n ≡ Some x → P n x
 add_each P [] y each new zero x h = subst (P 0) (same_some y x h) new
 add_each P [] y each new (suc n) x h = absurd (none_is_no_item x h)
@@ -146,7 +146,7 @@ module _ (plan : Plan) (xs : List Replica) (ms : List Message) (kept : IsWorldKe
         ∙ ap (λ (p : Plan). let y : Replica = record { number = r; sheet = record { plan = p; edits = x.sheet.edits; horizon = x.sheet.horizon } } in y) (of.plan_is ∙ plan_same)
         ∙ ap (λ (q : WorldReplica). let y : Replica = record { number = r; sheet = record { plan = k.plan; edits = q.edits; horizon = q.horizon } } in y) (sym (read r x is below))
 
-    -- of its edits and horizon
+    -- the sheet of a replica of the world is valid
     pub is_sheet : (r : ℕ) → r < length k.replicas → IsSheet (sheet_at k r)
     is_sheet r below =
         let x : Replica = slice_index_or xs r (record { number = r; sheet = opening_sheet plan }) in
@@ -159,26 +159,26 @@ module _ (plan : Plan) (xs : List Replica) (ms : List Message) (kept : IsWorldKe
         let same : length xs ≡ length k.replicas = sym (length-map xs world_replica) ∙ ap (λ (w : World). length w.replicas) v in
         omega (arith, same, kept.few)
 
-    -- a message that is read
+    -- a message that is read may be sent
     pub is_sendable : (m : ℕ) (x : Message) → slice_get ms m ≡ Some x → IsSendable plan x
     is_sendable m x h = subst (IsSendable plan) (get_or_from_slice_get ms m x x h) (kept.sendable m x (slice_get_within ms m x h))
 
-    -- the edits of a message that carries edits
+    -- the edits of a message that carries edits may be sent
     pub carried : (m : ℕ) → edits_wanted_fault (slice_get ms m) ≡ None → AreSendable plan (carried_edits (slice_get ms m))
     carried m wanted = carried_by plan (slice_get ms m) (λ x. is_sendable m x) wanted
 
-    -- they fit the plan of each replica
+    -- the edits of a message fit the plan of each replica
     pub carried_in_range : (r : ℕ) (x : Replica) (m : ℕ) (edits : Edits) (ns : List Message) → x ≡ slice_index_or xs r x → r < length xs → ns ≡ ms → edits ≡ carried_edits (slice_get ns m) → edits_wanted_fault (slice_get ns m) ≡ None → AreInRange x.sheet.plan edits
     carried_in_range r x m edits ns is below same carries wanted =
         let sendable = carried m (subst (λ (l : List Message). edits_wanted_fault (slice_get l m) ≡ None) same wanted) in
         let here : edits ≡ carried_edits (slice_get ms m) = carries ∙ ap (λ (l : List Message). carried_edits (slice_get l m)) same in
         subst (λ (p : Plan). AreInRange p edits) (sym (is_replica r x is below).plan_is) (subst (λ (s : Edits). AreInRange plan s) (sym here) sendable.in_range)
 
-    -- and of any
+    -- the edits of any message of the world may be sent
     pub carried_there : (m : ℕ) → AreSendable k.plan (carried_edits (slice_get k.messages m))
     carried_there m = subst (λ (w : World). AreSendable w.plan (carried_edits (slice_get w.messages m))) v (carried_of_any plan (slice_get ms m) (λ x. is_sendable m x))
 
-    -- the world's answer to edits is the replica's
+    -- the first step that edits touch is the same for the world's replica
     pub same_touched : (r : ℕ) (x : Replica) (edits : Edits) → x ≡ slice_index_or xs r x → r < length xs → touched_step x.sheet edits ≡ first_touched_step (replica_at k r).edits (union (replica_at k r).edits edits)
     same_touched r x edits is below =
         ap (λ (s : Edits). first_touched_step_in (items (winners x.sheet.edits)) (items s)) (winners_laws.of_tops (union x.sheet.edits edits))
@@ -186,7 +186,7 @@ module _ (plan : Plan) (xs : List Replica) (ms : List Message) (kept : IsWorldKe
 
     -- ---- a write
 
-    -- a replica after a command
+    -- a replica after a command has the same number and plan, and a valid sheet
     pub written : (r : ℕ) (x y : Replica) (command : SheetCommand) → x ≡ slice_index_or xs r x → r < length xs → y ≡ replica_after command x → IsSheet y.sheet → IsReplicaOf plan r y
     written r x y command is below after sheet =
         let of = is_replica r x is below in record {
@@ -232,13 +232,13 @@ module _ (plan : Plan) (xs : List Replica) (ms : List Message) (kept : IsWorldKe
     whole_made r x edits is below all =
         ap (λ (q : WorldReplica). Some (Whole q.edits)) (read r x is below) ∙ ap (λ (s : Edits). Some (Whole s)) (sym all)
 
-    -- its heads
+    -- the heads of all edits that a replica holds, as the event's message
     pub heads_made : (r : ℕ) (x : Replica) (hs : List Head) → x ≡ slice_index_or xs r x → r < length xs → hs ≡ heads x.sheet.edits → message_of_event k (Heads r) ≡ Some (Asked hs)
     heads_made r x hs is below all =
         ap (λ (q : WorldReplica). Some (Asked (heads (winners q.edits)))) (read r x is below)
         ∙ ap (λ (s : Edits). Some (Asked (heads s))) (is_replica r x is below).sheet.winners ∙ ap (λ (ts : List Head). Some (Asked ts)) (sym all)
 
-    -- the edits that it holds beyond heads
+    -- the edits that a replica holds beyond heads, as the event's message
     pub answer_made : (r : ℕ) (x : Replica) (m : ℕ) (delta : Edits) → x ≡ slice_index_or xs r x → r < length xs → delta ≡ beyond x.sheet.edits (asked_heads (slice_get k.messages m)) → message_of_event k (Beyond r m) ≡ Some (Answer delta)
     answer_made r x m delta is below all =
         let asked : List Head = asked_heads (slice_get k.messages m) in
@@ -279,13 +279,13 @@ module _ (plan : Plan) (xs : List Replica) (ms : List Message) (kept : IsWorldKe
         }
     made_fits e (Err fault) made = tt
 
-    -- with the message added, the world is still valid,
+    -- with the message added, the world is still valid
     pub posted_kept : (e : Event) (m : Message) → fault_of_event k e ≡ None → message_of_event k e ≡ Some m → IsWorldKept plan xs (ms ++ m ∷ [])
     posted_kept e m accepted made =
         let sendable = subst (λ (p : Plan). IsSendable p m) (sym plan_same) (made_sendable e m accepted made) in
         record { few = kept.few; each = kept.each; sendable = All-push (IsSendable plan) ms m kept.sendable sendable }
 
-    -- and it is the world after the event
+    -- with the message added, the world is the world after the event
     pub posted : (e : Event) (m : Message) → fault_of_event k e ≡ None → message_of_event k e ≡ Some m → viewed plan xs (ms ++ m ∷ []) ≡ world_of_winners (world_after_event e k)
     posted e m accepted made =
         ap (world_with_message m) v ∙ sent m m (sym (message_wins k.plan m (made_sendable e m accepted made)))

@@ -59,22 +59,22 @@ no_entry : (xs : List (edits.Edit × Unit {0})) → map (λ x. x.0) xs ≡ [] �
 no_entry [] h = refl
 no_entry (x ∷ xs) h = cc
 
--- they are those of the set
+-- the entries of the set of a list are these sorted entries
 entries_of_list : (es : List edits.Edit) → maps.entries (from_list {R = edit_cmp} es) ≡ sorted_entries es
 unfolding from_list insert items
 entries_of_list [] = no_entry _ (items-empty edit_cmp)
 entries_of_list (e ∷ es) = maps.entries-insert edit_total (from_list es) e tt ∙ ap (put edit_cmp e tt) (entries_of_list es)
 
--- so these are the set's items
+-- the items of the set of a list are the sorted edits
 pub items_of_list : (es : List edits.Edit) → items (from_list {R = edit_cmp} es) ≡ sorted es
 unfolding items
 items_of_list es = ap (map (λ x. x.0)) (entries_of_list es)
 
--- lists that are the same when sorted have one set: order and repetition do not matter
+-- lists that are the same when sorted have the same set: order and repetition do not matter
 pub same_set_of_lists : (es fs : List edits.Edit) → sorted es ≡ sorted fs → from_list {R = edit_cmp} es ≡ from_list fs
 same_set_of_lists es fs same = same_items _ _ (items_of_list es ∙ same ∙ sym (items_of_list fs))
 
--- the union of the sets of two lists is that of both
+-- the union of the sets of two lists is the set of both lists together
 pub union_of_lists : (es fs : List edits.Edit) → union (from_list {R = edit_cmp} es) (from_list fs) ≡ from_list (es ++ fs)
 union_of_lists es fs = same_set edit_total edit_exact _ _ (λ q.
     contains-union edit_total (from_list es) (from_list fs) q
@@ -92,7 +92,7 @@ retained_of_list p es = same_set edit_total edit_exact _ _ (λ q.
 winners_of_list : (es : List edits.Edit) → winners (from_list es) ≡ from_list (winners_in es)
 winners_of_list es = sym (from_list-winners_in es)
 
--- and their items
+-- the items of the winners of the set of a list
 winner_items_of_list : (es : List edits.Edit) → items (winners (from_list es)) ≡ sorted (winners_in es)
 winner_items_of_list es = ap items (winners_of_list es) ∙ items_of_list (winners_in es)
 
@@ -144,7 +144,7 @@ opening_lists count = record { replicas = replicate count unedited; messages = [
 abbrev pub at : ListWorld → ℕ → ListReplica
 at w r = slice_index_or w.replicas r unedited
 
--- ---- events in them
+-- ---- events in worlds of lists
 
 -- the edit that a replica makes
 abbrev pub made : ListWorld → ℕ → Object → ℕ → Value → edits.Edit
@@ -193,7 +193,7 @@ after (Advance r to) w =
     let advanced = record (at w r) { horizon = max (at w r).horizon to } in
     record w { replicas = slice_set w.replicas r advanced }
 
--- the first step that edits touch where they reach a replica
+-- the reply if edits reach a replica: the first step that they touch
 abbrev pub touched_there : ListWorld → ℕ → List edits.Edit → Reply
 touched_there w r es =
     replies.Touched (first_touched_step_in (sorted (winners_in (at w r).edits)) (sorted (winners_in ((at w r).edits ++ es))))
@@ -250,7 +250,7 @@ abbrev pub after_all : Plan → ListWorld → List Event → ListWorld
 after_all plan w [] = w
 after_all plan w (e ∷ es) = after_all plan (after_answer e (answer_to plan w e) w) es
 
--- ---- they agree with the worlds of the sets
+-- ---- worlds of lists agree with the worlds of their sets
 
 -- a replica before any event
 opening_of_list : opening_replica ≡ replica_of_list unedited
@@ -376,7 +376,7 @@ module _ (plan : Plan) (w : ListWorld) where
   number_of_lists : replies.Message (length sets.messages) ≡ replies.Message (length w.messages)
   number_of_lists = ap replies.Message (length-map w.messages message_of_list)
 
-  -- the reply to it
+  -- the reply to an event
   pub reply_of_lists : (e : Event) → reply_to_event sets e ≡ reply_to w e
   reply_of_lists (Edit r o step n) = stamp_of_lists r o step (Put n)
   reply_of_lists (Withdraw r o step) = stamp_of_lists r o step Withdrawn
@@ -424,7 +424,7 @@ module _ (plan : Plan) (w : ListWorld) where
           let Refused : Option WorldFault → Type 0 = λ o. IsRefusal e o cause in
           subst Refused (sym h) refl
 
--- the answers to some events are answers to them
+-- the computed answers to some events are answers to them in the world of the sets
 answers_of_lists : (plan : Plan) (w : ListWorld) (events : List Event) → AreAnswers (world_of_lists plan w) events (answers_to plan w events)
 answers_of_lists plan w [] = tt
 answers_of_lists plan w (e ∷ events) =

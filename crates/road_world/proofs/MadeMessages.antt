@@ -35,7 +35,7 @@ none_is_no_item x h = cc
 abbrev with_option : Option Message → World → World
 with_option made w = record w { messages = messages_with made w.messages }
 
--- the world after it is the world with its message added
+-- the world after such an event is the world with its message added
 pub after_made : (e : Event) (w : World) (m : Message) → message_of_event w e ≡ Some m → world_after_event e w ≡ world_with_message m w
 after_made (Edit r o step n) w m made = absurd (none_is_no_item m made)
 after_made (Withdraw r o step) w m made = absurd (none_is_no_item m made)
@@ -46,7 +46,7 @@ after_made (Beyond r n) w m made = ap (λ (o : Option Message). with_option o w)
 after_made (Take r n) w m made = absurd (none_is_no_item m made)
 after_made (Advance r to) w m made = absurd (none_is_no_item m made)
 
--- the reply is the number of its message
+-- the reply to such an event is the number of its message
 pub reply_made : (e : Event) (w : World) (m : Message) → message_of_event w e ≡ Some m → reply_to_event w e ≡ replies.Message (length w.messages)
 reply_made (Edit r o step n) w m made = absurd (none_is_no_item m made)
 reply_made (Withdraw r o step) w m made = absurd (none_is_no_item m made)
@@ -57,7 +57,7 @@ reply_made (Beyond r n) w m made = refl
 reply_made (Take r n) w m made = absurd (none_is_no_item m made)
 reply_made (Advance r to) w m made = absurd (none_is_no_item m made)
 
--- it has no command to a sheet
+-- such an event has no command to a sheet
 pub no_command : (e : Event) (w : World) (m : Message) → message_of_event w e ≡ Some m → command_of_event w e ≡ None
 no_command (Edit r o step n) w m made = absurd (none_is_no_item m made)
 no_command (Withdraw r o step) w m made = absurd (none_is_no_item m made)
@@ -70,7 +70,7 @@ no_command (Advance r to) w m made = absurd (none_is_no_item m made)
 
 -- ---- any event
 
--- if no cause is named, each may be refused because memory ran out
+-- any event may be refused because memory ran out, if no cause is named
 pub memory_refuses : (e : Event) → IsUnnamedRefusal e (faults.Replica OutOfMemory)
 memory_refuses (Edit r o step n) = inr refl
 memory_refuses (Withdraw r o step) = inr refl
@@ -81,7 +81,7 @@ memory_refuses (Beyond r n) = refl
 memory_refuses (Take r n) = inr refl
 memory_refuses (Advance r to) = inr refl
 
--- the messages after it
+-- the messages after an event
 messages_after : (e : Event) (w : World) → (world_after_event e w).messages ≡ messages_with (message_of_event w e) w.messages
 messages_after (Edit r o step n) w = refl
 messages_after (Withdraw r o step) w = refl
@@ -97,7 +97,7 @@ held_wins : (w : World) (r : ℕ) → world_of_winners w ≡ w → winners (repl
 held_wins w r wins =
     sym (ap (λ (x : WorldReplica). x.edits) (replica-of_winners w r)) ∙ ap (λ (v : World). (replica_at v r).edits) wins
 
--- so are the edits of the message that its event makes
+-- the edits of the message that an event makes in a world of winners are winners
 made_wins : (e : Event) (w : World) → world_of_winners w ≡ w → option_map message_of_winners (message_of_event w e) ≡ message_of_event w e
 made_wins (Edit r o step n) w wins = refl
 made_wins (Withdraw r o step) w wins = refl
@@ -111,7 +111,7 @@ made_wins (Beyond r n) w wins =
 made_wins (Take r n) w wins = refl
 made_wins (Advance r to) w wins = refl
 
--- messages of winners, and one more if there is one
+-- the messages with only the winners, and one more if there is one
 winners_with : (o : Option Message) (ms : List Message) → map message_of_winners (messages_with o ms) ≡ messages_with (option_map message_of_winners o) (map message_of_winners ms)
 winners_with None ms = refl
 winners_with (Some m) ms = map-append message_of_winners ms (m ∷ [])

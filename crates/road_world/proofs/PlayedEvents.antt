@@ -16,7 +16,7 @@ pub record IsPlayed (plan : Plan) (count : ℕ) (events : List Event) (replies :
   pub holds : world ≡ world_of_winners (world_of_events plan count events replies)
   pub answers : AreAnswers (opening_world plan count) events replies
 
--- before any event it is the opening world
+-- before any event the world is the opening world
 pub played_none : (plan : Plan) (count : ℕ) → IsPlayed plan count [] [] (opening_world plan count)
 played_none plan count = record { holds = sym (opening_world-of_winners plan count); answers = tt }
 
@@ -42,7 +42,7 @@ module _ (plan : Plan) (count : ℕ) (events : List Event) (replies : List (Resu
       let Answered : World → Type 0 = λ w. IsAnswer w event reply in
       answers-one_more (opening_world plan count) events replies event reply played.answers (answer-from_winners known event reply (subst Answered played.holds answer))
 
-  -- both: the events played, with one more
+  -- the events are played, with one more
   pub played_one_more : (reply : Result Reply WorldFault) → IsAnswer old event reply → OnOk reply (new ≡ world_of_winners (world_after_event event old)) → OnErr reply (new ≡ old)
       → IsPlayed plan count (events ++ event ∷ []) (replies ++ reply ∷ []) new
   played_one_more reply answer done same = record { holds = more_holds reply done same; answers = more_answers reply answer }

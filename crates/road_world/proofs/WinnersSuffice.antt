@@ -48,7 +48,7 @@ winners_of_one_part s t =
     winners_laws.of_union (winners s) t ∙ ap (λ (u : Edits). join u (winners t)) (winners_again s)
     ∙ sym (winners_laws.of_union s t)
 
--- and so may both
+-- in a union, both parts may be replaced by their winners
 pub winners_of_both_parts : (s t : Edits) → winners (union (winners s) (winners t)) ≡ winners (union s t)
 winners_of_both_parts s t = sym (winners_laws.of_union s t)
 
@@ -58,7 +58,7 @@ winners_of_both_parts s t = sym (winners_laws.of_union s t)
 abbrev pub replica_with : Edits → ℕ → WorldReplica
 replica_with held to = record { edits = held; horizon = to }
 
--- and a world, given its parts
+-- a world, given its parts
 abbrev pub world_with : Plan → List WorldReplica → List Message → World
 world_with plan replicas messages = record { plan = plan; replicas = replicas; messages = messages }
 
@@ -71,59 +71,59 @@ same_world plan xs ys ms ns e f =
 opening_winners : replica_of_winners opening_replica ≡ opening_replica
 opening_winners = ap (λ (s : Edits). replica_with s 0) winners-empty
 
--- a replica of a list of winners has the winners of that of the list
+-- a replica of a list, with only its winners, is the replica of the list with only winners
 at_of_winners : (xs : List WorldReplica) (r : ℕ) → slice_index_or (map replica_of_winners xs) r opening_replica ≡ replica_of_winners (slice_index_or xs r opening_replica)
 at_of_winners [] r = sym opening_winners
 at_of_winners (x ∷ xs) zero = refl
 at_of_winners (x ∷ xs) (suc r) = at_of_winners xs r
 
--- a replica of a world of winners has the winners of that of the world
+-- a replica of a world of winners is the world's replica with only its winners
 pub replica-of_winners : (w : World) (r : ℕ) → replica_at (world_of_winners w) r ≡ replica_of_winners (replica_at w r)
 replica-of_winners w r = at_of_winners w.replicas r
 
--- the winners of what a replica in the world of winners holds are those of what the world's replica holds
+-- a replica holds edits with the same winners in the world of winners and in the world
 pub held-of_winners : (w : World) (r : ℕ) → winners (replica_at (world_of_winners w) r).edits ≡ winners (replica_at w r).edits
 held-of_winners w r =
     ap (λ (x : WorldReplica). winners x.edits) (replica-of_winners w r) ∙ winners_again (replica_at w r).edits
 
--- replicas of winners are those of their own winners
+-- replicas with only winners are not changed by keeping only their winners
 replicas_again : (xs : List WorldReplica) → map replica_of_winners (map replica_of_winners xs) ≡ map replica_of_winners xs
 replicas_again [] = refl
 replicas_again (x ∷ xs) =
     ap (λ (s : Edits). replica_with s x.horizon ∷ map replica_of_winners (map replica_of_winners xs)) (winners_again x.edits)
     ∙ ap (λ (ys : List WorldReplica). replica_of_winners x ∷ ys) (replicas_again xs)
 
--- a message of winners is that of theirs
+-- a message with only winners is not changed by keeping only its winners
 message_again : (m : Message) → message_of_winners (message_of_winners m) ≡ message_of_winners m
 message_again (Whole s) = ap Whole (winners_again s)
 message_again (Answer s) = ap Answer (winners_again s)
 message_again (Asked hs) = refl
 
--- so are messages
+-- several such messages are not changed either
 messages_again : (ms : List Message) → map message_of_winners (map message_of_winners ms) ≡ map message_of_winners ms
 messages_again [] = refl
 messages_again (m ∷ ms) =
     ap (λ (n : Message). n ∷ map message_of_winners (map message_of_winners ms)) (message_again m)
     ∙ ap (λ (ns : List Message). message_of_winners m ∷ ns) (messages_again ms)
 
--- a world of winners is its own world of winners
+-- a world of winners is not changed by keeping only its winners
 pub world-again : (w : World) → world_of_winners (world_of_winners w) ≡ world_of_winners w
 world-again w = same_world w.plan _ _ _ _ (replicas_again w.replicas) (messages_again w.messages)
 
--- so are the winners of several
+-- several replicas before any event hold only winners
 opening_replicas : (count : ℕ) → map replica_of_winners (replicate count opening_replica) ≡ replicate count opening_replica
 opening_replicas zero = refl
 opening_replicas (suc count) =
     ap (λ (x : WorldReplica). x ∷ map replica_of_winners (replicate count opening_replica)) opening_winners
     ∙ ap (λ (xs : List WorldReplica). opening_replica ∷ xs) (opening_replicas count)
 
--- a world before any event is one of winners
+-- a world before any event is a world of winners
 pub opening_world-of_winners : (plan : Plan) (count : ℕ) → world_of_winners (opening_world plan count) ≡ opening_world plan count
 opening_world-of_winners plan count = same_world plan _ _ _ _ (opening_replicas count) refl
 
 -- ---- the effects of events
 
--- one replica set, in replicas of winners and in the replicas
+-- replacing one replica, in the replicas of winners and in the replicas
 set-of_winners : (xs : List WorldReplica) (r : ℕ) (x y : WorldReplica) → replica_of_winners x ≡ replica_of_winners y → map replica_of_winners (slice_set (map replica_of_winners xs) r x) ≡ map replica_of_winners (slice_set xs r y)
 set-of_winners xs r x y e =
     map-set replica_of_winners (map replica_of_winners xs) r x
@@ -166,14 +166,14 @@ message-of_winners w m n e =
     ∙ ap (λ (k : Message). map message_of_winners w.messages ++ k ∷ []) e
     ∙ sym (map-append message_of_winners w.messages (n ∷ [])))
 
--- a message carries the winners, and no message carries no edits
+-- a message with only winners carries the winners of the message's edits
 carried_by_winners : (o : Option Message) → carried_edits (option_map message_of_winners o) ≡ winners (carried_edits o)
 carried_by_winners None = sym winners-empty
 carried_by_winners (Some (Whole s)) = refl
 carried_by_winners (Some (Answer s)) = refl
 carried_by_winners (Some (Asked hs)) = sym winners-empty
 
--- a message has the same heads
+-- a message with only winners has the same heads
 asked_by_winners : (o : Option Message) → asked_heads (option_map message_of_winners o) ≡ asked_heads o
 asked_by_winners None = refl
 asked_by_winners (Some (Whole s)) = refl
@@ -185,7 +185,7 @@ pub carried-of_winners : (w : World) (m : ℕ) → carried_edits (slice_get (wor
 carried-of_winners w m =
     ap carried_edits (slice_get-map message_of_winners w.messages m) ∙ carried_by_winners (slice_get w.messages m)
 
--- and it has the same heads
+-- a message of a world of winners has the same heads as the world's message
 pub asked-of_winners : (w : World) (m : ℕ) → asked_heads (slice_get (world_of_winners w).messages m) ≡ asked_heads (slice_get w.messages m)
 asked-of_winners w m =
     ap asked_heads (slice_get-map message_of_winners w.messages m) ∙ asked_by_winners (slice_get w.messages m)
@@ -265,7 +265,7 @@ edits_wanted_of_winners (Some (Whole s)) = refl
 edits_wanted_of_winners (Some (Answer s)) = refl
 edits_wanted_of_winners (Some (Asked hs)) = refl
 
--- and heads if the message has heads
+-- a message of winners has heads if the message does
 heads_wanted_of_winners : (o : Option Message) → heads_wanted_fault (option_map message_of_winners o) ≡ heads_wanted_fault o
 heads_wanted_of_winners None = refl
 heads_wanted_of_winners (Some (Whole s)) = refl

@@ -1,4 +1,4 @@
--- The speeds of two pieces, one after the other, are those of all cars.
+-- The speeds of two pieces, one after the other, are the speeds of all cars.
 use Rattle.std.specs.Prelude.{◌≡◌, ℕ, ◌≤◌, ◌++◌, length, slice_range}
 use Rattle.std.proofs.Common.{ap, ◌∙◌, arith}
 use Rattle.std.proofs.lemmas.List.{take_all}

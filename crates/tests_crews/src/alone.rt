@@ -17,7 +17,7 @@ const CLOSED: Parts = Parts {
     ..FREE
 };
 
-/// There is no speed without a car.
+/// Without a car there is no speed.
 #[test]
 fn an_empty_road_has_no_speeds(rt: HostRuntime) -> Result<(), Fail> {
     let input = first_input(rt.alloc(), &CLOSED)?;

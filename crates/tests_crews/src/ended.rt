@@ -1,4 +1,4 @@
-//! The end of lasting workers: the thread of each owns the crew's gate until the thread has ended.
+//! Lasting workers have ended when the crew is finished: each thread owns the crew's gate until it has ended.
 
 use road_workers::{NoGate, Pool};
 use std::alloc::Global;
@@ -6,7 +6,7 @@ use std::sync::{Arc, Wait};
 use std::test::Fail;
 use std::thread::Threads;
 
-// Return whether workers own their gate until the crew is finished, and no worker owns it afterwards.
+// Return whether the workers own their gate until the crew is finished, and no worker owns it afterwards.
 fn have_ended<R: Threads + Wait + Clone + Drop + Send + 'static>(
     rt: R,
     alloc: Global,

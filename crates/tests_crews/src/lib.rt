@@ -21,8 +21,8 @@ mod workers;
 #[cfg(test)]
 use std::process::Abort;
 
-// Check the facts of a table's row.
+// Assert that a row of a table is right.
 #[cfg(test)]
-fn holds(rt: &impl Abort, row: usize, holds: bool) {
-    assert!(rt; holds, "row {row}");
+fn assert_row(rt: &impl Abort, row: usize, is_right: bool) {
+    assert!(rt; is_right, "row {row}");
 }

@@ -17,7 +17,7 @@ use std::thread::Threads;
 use std::time::Clock;
 use tests_plans::{DENSE, DENSE_ROWS, LONG, Meeting, queue};
 
-/// The most times that a worker looks for the others.
+/// The maximum number of times that a worker looks for the others.
 const TURNS: u32 = 1_000_000;
 
 /// A gate that a test shares with a crew.
@@ -37,7 +37,7 @@ impl<R: Clock> Gate for Shared<R> {
     }
 }
 
-/// The dense road has two worked rows: at each step two workers meet.
+/// The dense road has two worked rows. Two workers meet at each of the two steps.
 #[test]
 fn threads_made_for_a_call_meet(rt: HostRuntime) -> Result<(), Fail> {
     let alloc = rt.alloc();
@@ -61,7 +61,7 @@ fn lasting_workers_meet(rt: HostRuntime) -> Result<(), Fail> {
     given
 }
 
-// Let a crew run 64 steps of the long road twice, as a single caller runs them.
+// Let a crew run 64 steps of the long road twice, and compare with the run of a single caller.
 fn run_twice<C: Crew>(rt: &impl Abort, alloc: Global, crew: &mut C) -> Result<(), Fail> {
     let road = queue(alloc, 4_096)?;
     let span = span_of(alloc, &shared_plan(alloc, &LONG)?, 0, 0, 64)?;
@@ -72,7 +72,7 @@ fn run_twice<C: Crew>(rt: &impl Abort, alloc: Global, crew: &mut C) -> Result<()
     Ok(())
 }
 
-// Let this number of lasting workers run the long road, which is divided among them. All of them meet each time.
+// Let this number of lasting workers run the long road, which is divided among them. All of them must meet each time.
 fn meet_in_runs<R: Threads + Wait + Clock + Abort + Clone + Drop + Send + Sync + 'static>(
     rt: &R,
     alloc: Global,
@@ -99,10 +99,10 @@ fn lasting_workers_meet_in_a_run(rt: HostRuntime) -> Result<(), Fail> {
     Ok(())
 }
 
-/// As many lasting workers as the machine has processors, up to 16, work together. The crew asks the machine for that
-/// number, as [`Pool::start`] does. On one processor a run is not shared.
+/// As many lasting workers as the machine has processors, up to 16, meet. The crew asks the machine for that number, as
+/// [`Pool::start`] does. On one processor a run is not shared.
 #[test]
-fn as_many_meet_as_there_are_processors(rt: HostRuntime) -> Result<(), Fail> {
+fn as_many_workers_meet_as_there_are_processors(rt: HostRuntime) -> Result<(), Fail> {
     let alloc = rt.alloc();
     let processors = thread::available_parallelism(&rt)?.get().min(16) as u32;
     let meeting = Arc::new(alloc, Meeting::new(rt.clone()?, processors, TURNS))?;
@@ -119,7 +119,8 @@ fn as_many_meet_as_there_are_processors(rt: HostRuntime) -> Result<(), Fail> {
     Ok(())
 }
 
-// Compute the speeds of two pieces of a step, one after the other, each after passing a gate, and put them together.
+// Compute the speeds of two pieces of a step, one after the other, and put them together. Pass the gate before each
+// piece.
 #[tactic(auto, using(crate::proofs::TwoPieces::two_pieces))]
 fn in_turn<G: Gate>(alloc: Global, gate: &G, input: &StepInput) -> Result<Vec<u8>, OutOfMemory>
     ensures { IfOk result (λ new. new.items ≡ input_speeds input.now) }
@@ -148,8 +149,8 @@ impl<G: Gate> Crew for InTurn<G> {
     }
 }
 
-/// A crew that computes two pieces one after the other gives the same rows, but the two wait for each other in vain. So
-/// the gate distinguishes it from two workers at once.
+/// A crew that computes two pieces one after the other gives the same rows, but each piece waits for the other in vain.
+/// So the gate distinguishes this crew from two workers at once.
 #[test]
 fn pieces_in_turn_do_not_meet(rt: HostRuntime) -> Result<(), Fail> {
     let alloc = rt.alloc();

@@ -1,6 +1,6 @@
-//! Random roads by few lasting workers and by many, compared with the same steps one by one.
+//! Random roads, run by few lasting workers and by many, compared with the same steps one by one.
 
-use crate::spans::{Asked, Course, crews_run, run_course};
+use crate::spans::{Asked, Course, compare_crews, run_course};
 use road_plan::Plan;
 use std::alloc::Global;
 use std::process::Abort;
@@ -10,8 +10,9 @@ use std::test::Fail;
 use std::thread::Threads;
 use tests_plans::{Dice, random_plan};
 
-/// The seeds of settings, and for how many steps they hold. They change one step before a multiple of 64, at it, one
-/// step after it, and so on; not at the last step. Three of them are long enough to be shared.
+/// The seeds of settings, and the number of steps for which each is in force. The settings change one step before a
+/// multiple of 64, at it, one step after it, and so on, but not at the last step. Three of these spans are long enough
+/// to be shared.
 const SPANS: &[(u32, u32)] = &[
     (11, 63),
     (12, 1),
@@ -22,11 +23,11 @@ const SPANS: &[(u32, u32)] = &[
     (16, 6),
 ];
 
-/// Roads, of whose cells at most one in this number is free at first, and the workers that get work in their spans. A
-/// second program counted the cars before each span.
+/// Lengths of roads; one over the largest part of a road's cells that may be free at first; and in how many spans the
+/// workers get work. A second program counted the cars before each span.
 type Case = (&'static [u32], u32, &'static [Asked]);
 
-/// On the shortest road and others, stretches with the cells near them are no less work than the whole.
+/// On the shortest road and on others, stretches with the cells near them are no less work than the whole road.
 const SHORT: Case = (
     &[8, 9, 65, 700, 2_500],
     2,
@@ -40,14 +41,15 @@ const MIDDLE: Case = (
     &[(1, 2, 0), (2, 2, 0), (3, 4, 3), (7, 8, 3), (16, 16, 3)],
 );
 
-/// These are divided for any number of workers. The longest road is one of them.
+/// These roads are divided for any number of workers. The longest road is one of them.
 const LONG: Case = (
     &[5_000, 6_501, 8_192],
     20,
     &[(1, 2, 3), (2, 2, 3), (3, 4, 3), (7, 8, 3), (16, 16, 3)],
 );
 
-// Make the expected results of these spans on a road whose cells are taken at first, except at most one in this number.
+// Make the expected results of these spans on a random road. At first all of its cells are taken, except at most one in
+// `part`.
 fn random_course(
     alloc: Global,
     dice: &mut Dice,
@@ -71,7 +73,7 @@ fn run_road<R: Threads + Wait + Abort + Clone + Drop + Send + 'static>(
 ) -> Result<(), Fail> {
     let plan = Arc::new(alloc, random_plan(alloc, dice, length)?)?;
     let course = random_course(alloc, dice, &plan, part)?;
-    crews_run(rt, alloc, crews, &plan, slice::from_ref(&course))
+    compare_crews(rt, alloc, crews, &plan, slice::from_ref(&course))
 }
 
 // Compare the results of crews on random roads.
@@ -88,19 +90,21 @@ fn run_roads<R: Threads + Wait + Abort + Clone + Drop + Send + 'static>(
 }
 
 #[test]
-fn lasting_workers_run_short_random_roads_as_they_are_one_by_one(
+fn short_random_roads_run_by_lasting_workers_equal_their_steps_one_by_one(
     rt: HostRuntime,
 ) -> Result<(), Fail> {
     run_roads(&rt, rt.alloc(), SHORT)
 }
 
 #[test]
-fn lasting_workers_run_random_roads_as_they_are_one_by_one(rt: HostRuntime) -> Result<(), Fail> {
+fn random_roads_run_by_lasting_workers_equal_their_steps_one_by_one(
+    rt: HostRuntime,
+) -> Result<(), Fail> {
     run_roads(&rt, rt.alloc(), MIDDLE)
 }
 
 #[test]
-fn lasting_workers_run_long_random_roads_as_they_are_one_by_one(
+fn long_random_roads_run_by_lasting_workers_equal_their_steps_one_by_one(
     rt: HostRuntime,
 ) -> Result<(), Fail> {
     run_roads(&rt, rt.alloc(), LONG)

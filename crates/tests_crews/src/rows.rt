@@ -1,6 +1,6 @@
 //! Steps by a crew, drawn as rows of text.
 
-use crate::holds;
+use crate::assert_row;
 use road_cells::Road;
 use road_ends::{EMPTY, OutOfMemory, STANDING, StepInput, enter, finish};
 use road_plan::{Plan, Settings};
@@ -31,7 +31,7 @@ pub(crate) fn settings_of(
     Ok(settings)
 }
 
-/// Make the input of a step by these settings.
+/// Make the input of a step with these settings.
 pub(crate) fn input_of(
     alloc: Global,
     plan: &Arc<Plan>,
@@ -93,13 +93,13 @@ fn compare_rows<C: Crew>(
     let mut road = Road::empty(alloc);
     for (step, row) in (0u32..).zip(rows) {
         road = step_by(crew, alloc, plan, start, step, &road)?;
-        holds(rt, step as usize, is_drawn_as(&road, row.as_bytes()));
+        assert_row(rt, step as usize, is_drawn_as(&road, row.as_bytes()));
     }
     Ok(())
 }
 
 /// Run a plan from the empty road step by step with a crew, and compare the row after each step. Standing cars may have
-/// a slowing chance of their own.
+/// their own slowing chance.
 pub(crate) fn compare_plan_rows<C: Crew>(
     rt: &impl Abort,
     alloc: Global,
@@ -111,7 +111,7 @@ pub(crate) fn compare_plan_rows<C: Crew>(
     compare_rows(rt, alloc, crew, &plan, start, rows)
 }
 
-/// Run the dense road, the half slowed one, and the dense one that is slow to start through their worked rows.
+/// Run the dense road, the half slowed one, and the dense road with slow-to-start, and compare their worked rows.
 pub(crate) fn compare_all_rows<C: Crew>(
     rt: &impl Abort,
     alloc: Global,

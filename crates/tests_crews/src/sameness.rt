@@ -1,6 +1,6 @@
-//! Whether two inputs of a step are the same.
+//! Inputs of a step that are the same, and inputs that differ.
 
-use crate::holds;
+use crate::assert_row;
 use crate::rows::{input_of, shared_plan};
 use road_cells::Car;
 use road_ends::StepInput;
@@ -22,8 +22,8 @@ const BOTH: &[Car] = cars![(0, 3, 2), (16, 7, 1)];
 /// The parts of an input: a slowing chance of standing cars, a step, and cars.
 type Made = (Option<u32>, u32, &'static [Car]);
 
-/// Inputs, and whether each is the same as that of step 3 with both cars. A car may be missing, or have another number,
-/// cell or speed. The slowing chance of all cars, given for standing cars too, makes the same input.
+/// Inputs, and whether each is the same as the input of step 3 with both cars. A car may be missing, or have another
+/// number, cell or speed. If standing cars have the slowing chance of all cars, the input is the same.
 const INPUTS: &[(Made, bool)] = pairs![
     (None, 3, BOTH) => true,
     (None, 4, BOTH) => false,
@@ -54,24 +54,24 @@ fn is_as_said(
     Ok(input.same(&other) == *wanted && other.same(input) == *wanted)
 }
 
-// Compare an input with each of the table.
-fn are_as_said(
+// Compare an input with each input of the table.
+fn compare_inputs(
     rt: &impl Abort,
     alloc: Global,
     plan: &Arc<Plan>,
     input: &StepInput,
 ) -> Result<(), Fail> {
     for (row, said) in INPUTS.iter().enumerate() {
-        holds(rt, row, is_as_said(alloc, plan, input, said)?);
+        assert_row(rt, row, is_as_said(alloc, plan, input, said)?);
     }
     Ok(())
 }
 
 #[test]
-fn an_input_is_the_same_as_another_of_its_step_cars_and_chances(
+fn inputs_are_the_same_if_their_steps_cars_and_chances_are_equal(
     rt: HostRuntime,
 ) -> Result<(), Fail> {
     let plan = shared_plan(rt.alloc(), &CLOSED)?;
     let input = input_with(rt.alloc(), &plan, &(None, 3, BOTH))?;
-    are_as_said(&rt, rt.alloc(), &plan, &input)
+    compare_inputs(&rt, rt.alloc(), &plan, &input)
 }

@@ -1,10 +1,10 @@
-//! Spans of steps that lasting workers run, a stretch of road each, compared with the same steps one by one.
+//! Spans of steps that lasting workers run, each worker a stretch of the road, compared with the same steps one by one.
 
 ghost use Rattle.std.specs.Prelude.{◌<◌, ◌≤◌, IfOk};
 ghost use Rattle.std.specs.Arc.{arc_value};
 ghost use Rattle.road_plan.specs.Settings.{Fits};
 
-use crate::holds;
+use crate::assert_row;
 use crate::rows::shared_plan;
 use road_cells::Road;
 use road_columns::{RoadOrRun, SpanOutcome};
@@ -24,8 +24,8 @@ const BLOCKS: &[u32] = &[
     1_024, 2_047, 2_048, 2_731, 4_095, 4_097, 5_461, 6_143, 6_145,
 ];
 
-// Make settings of a kind: the plan's own; cells blocked; changed limits and chances of standing cars; changed inflows,
-// with detectors off; every other kind is a seed of random settings.
+// Make settings of a kind. 0 are the plan's own. 1 blocks cells. 2 changes limits and the chances of standing cars. 3
+// changes inflows and turns detectors off. Any other kind is the seed of random settings.
 fn settings_of(alloc: Global, plan: &Plan, kind: u32) -> Result<Settings, Fail>
     ensures { IfOk result (λ settings. Fits plan.now settings) }
 {
@@ -64,7 +64,7 @@ pub(crate) fn span_of(
     Ok(Span::new(Arc::try_clone(plan)?, settings, step, steps))
 }
 
-/// Return whether a run is that of the crew of one: its cars, and the counts of the detectors.
+/// Return whether a run has the cars, and the counts of the detectors, of the run of the crew of one.
 pub(crate) fn is_run_of_one(
     alloc: Global,
     span: &Span,
@@ -144,10 +144,10 @@ fn run_one_by_one(
     Ok(SpanResult { road, totals })
 }
 
-/// Spans, one after another: the kind of settings and the steps of each.
+/// Spans, one after another: for each, the kind of its settings and its number of steps.
 const SPANS: &[(u32, u32)] = &[(0, 64), (1, 64), (2, 63), (3, 1), (1, 21), (3, 33), (2, 64)];
 
-/// The results of spans one by one, from a queue.
+/// The results of spans from a queue, one step after another.
 #[derive(Drop)]
 pub(crate) struct Course<'a> {
     spans: &'a [(u32, u32)],
@@ -155,7 +155,7 @@ pub(crate) struct Course<'a> {
     ran: Vec<SpanResult>,
 }
 
-// Run a span one by one, and add its results. Return the road after it.
+// Run a span step by step, and add its results. Return the road after it.
 fn run_and_add(
     alloc: Global,
     plan: &Arc<Plan>,
@@ -170,7 +170,7 @@ fn run_and_add(
     Ok(road)
 }
 
-// Run spans one by one, from a road.
+// Run spans step by step, from a road.
 fn run_and_add_all(
     alloc: Global,
     plan: &Arc<Plan>,
@@ -186,7 +186,7 @@ fn run_and_add_all(
     Ok(())
 }
 
-/// Run spans one by one, from a queue on this number of cells.
+/// Run spans step by step, from a queue on this number of cells.
 pub(crate) fn run_course<'a>(
     alloc: Global,
     plan: &Arc<Plan>,
@@ -202,7 +202,7 @@ pub(crate) fn run_course<'a>(
     Ok(course)
 }
 
-// Compare the result of a crew for a span with the expected one. Return the road after it, as the crew gives it.
+// Compare the result of a crew for a span with the expected result. Return the road after it, as the crew gives it.
 fn compare_span<C: Crew>(
     rt: &impl Abort,
     alloc: Global,
@@ -214,12 +214,13 @@ fn compare_span<C: Crew>(
     let Some(ran) = crew.run(alloc, span, road)? else {
         return Err(Fail::new("a crew that does not run a span"));
     };
-    holds(rt, span.steps() as usize, is_result(alloc, &ran, wanted)?);
+    assert_row(rt, span.steps() as usize, is_result(alloc, &ran, wanted)?);
     let SpanOutcome { road, .. } = ran;
     Ok(road)
 }
 
-// Compare the results of a crew for these spans: each gets the road as the crew gave it after the one before.
+// Compare the results of a crew for these spans. Each span starts from the road that the crew gave for the span before
+// it.
 fn compare_course<C: Crew>(
     rt: &impl Abort,
     alloc: Global,
@@ -273,10 +274,10 @@ fn pool_runs<R: Threads + Wait + Abort + Clone + Drop + Send + 'static>(
     Ok(gate.passed())
 }
 
-/// The number of workers and of processors, and the number of spans in which all workers get work.
+/// The number of workers, the number of processors, and the number of spans in which all workers get work.
 pub(crate) type Asked = (u32, u32, u32);
 
-// Compare the results of a crew for courses, and return whether its workers get work that often.
+// Compare the results of a crew for courses. Return whether its workers get work in as many spans as expected.
 fn is_run<R: Threads + Wait + Abort + Clone + Drop + Send + 'static>(
     rt: &R,
     alloc: Global,
@@ -291,8 +292,8 @@ fn is_run<R: Threads + Wait + Abort + Clone + Drop + Send + 'static>(
     Ok(asked == workers.saturating_mul(spans))
 }
 
-/// Compare the results of each crew for courses, and whether its workers get work as expected.
-pub(crate) fn crews_run<R: Threads + Wait + Abort + Clone + Drop + Send + 'static>(
+/// Compare the results of each crew for courses, and assert that its workers get work as expected.
+pub(crate) fn compare_crews<R: Threads + Wait + Abort + Clone + Drop + Send + 'static>(
     rt: &R,
     alloc: Global,
     crews: &[Asked],
@@ -300,14 +301,14 @@ pub(crate) fn crews_run<R: Threads + Wait + Abort + Clone + Drop + Send + 'stati
     courses: &[Course<'_>],
 ) -> Result<(), Fail> {
     for (row, crew) in crews.iter().enumerate() {
-        holds(rt, row, is_run(rt, alloc, *crew, plan, courses)?);
+        assert_row(rt, row, is_run(rt, alloc, *crew, plan, courses)?);
     }
     Ok(())
 }
 
 /// How many cells are taken at first, the spans that are run from there, and the workers that get work in them. A
-/// second program counted the cars before each span. The road is shared if each stretch, with the cells near it and its
-/// way to a worker, takes at most four fifths of the time of one thread.
+/// second program counted the cars before each span. The road is shared if each stretch, with the cells near it and the
+/// time to reach its worker, takes at most four fifths of the time of one thread.
 type Case = (&'static [u32], &'static [(u32, u32)], &'static [Asked]);
 
 /// With no car or a few at first, no worker gets work.
@@ -317,19 +318,19 @@ const FEW: Case = (
     &[(1, 1, 0), (3, 4, 0), (7, 7, 0), (16, 17, 0)],
 );
 
-/// With some more, still no worker in the first span.
+/// With more cars, still no worker gets work in the first span.
 const MORE: Case = (&[600], &[(0, 64)], &[(3, 4, 0)]);
 
-/// With 1,182 cars at first and 1,524 before the last span, few workers get work only in the last one, and more workers
-/// in the long ones.
+/// There are 1,182 cars at first, and 1,524 before the last span. Three workers get work only in the last span, and
+/// more workers in all long spans.
 const SOME: Case = (
     &[1_200],
     SPANS,
     &[(1, 1, 0), (3, 4, 1), (7, 7, 4), (16, 17, 4)],
 );
 
-/// Else all get work in each span except that of one step, whether or not the caller has another processor; none if not
-/// each worker has one.
+/// With many cars, all workers get work in each span except the one of one step, whether or not the caller has another
+/// processor. No worker gets work if there are fewer processors than workers.
 const MANY: Case = (
     &[8_000],
     SPANS,
@@ -359,15 +360,15 @@ fn courses_of(
 }
 
 #[test]
-fn one_runs_spans_as_they_are_one_by_one(rt: HostRuntime) -> Result<(), Fail> {
+fn spans_run_by_one_worker_equal_their_steps_one_by_one(rt: HostRuntime) -> Result<(), Fail> {
     let alloc = rt.alloc();
     let plan = shared_plan(alloc, &LONG)?;
     let courses = courses_of(alloc, &plan, &[0, 200, 8_000], SPANS)?;
     compare_courses(&rt, alloc, &mut Alone, &plan, &courses)
 }
 
-// Give one caller a run that stands before a later step, and one of another plan: it starts from their roads.
-fn starts_from_the_roads_of_other_runs(
+// Give a single caller a run that is before a later step, and a run of another plan. It starts from their roads.
+fn start_from_the_roads_of_other_runs(
     rt: &impl Abort,
     alloc: Global,
     free: &Arc<Plan>,
@@ -385,11 +386,11 @@ fn starts_from_the_roads_of_other_runs(
 }
 
 #[test]
-fn one_starts_from_the_road_of_a_run_that_stands_elsewhere(rt: HostRuntime) -> Result<(), Fail> {
+fn one_worker_starts_from_the_road_of_a_run_that_does_not_fit(rt: HostRuntime) -> Result<(), Fail> {
     let alloc = rt.alloc();
     let free = shared_plan(alloc, &FREE)?;
     let long = shared_plan(alloc, &LONG)?;
-    starts_from_the_roads_of_other_runs(&rt, alloc, &free, &long)
+    start_from_the_roads_of_other_runs(&rt, alloc, &free, &long)
 }
 
 #[test]
@@ -406,37 +407,37 @@ fn a_crew_that_computes_speeds_runs_spans_one_step_after_another(
 }
 
 // Let lasting workers run the courses of a case.
-fn workers_run<R: Threads + Wait + Abort + Clone + Drop + Send + 'static>(
+fn compare_workers<R: Threads + Wait + Abort + Clone + Drop + Send + 'static>(
     rt: &R,
     alloc: Global,
     plan: &Arc<Plan>,
     (queues, spans, crews): Case,
 ) -> Result<(), Fail> {
     let courses = courses_of(alloc, plan, queues, spans)?;
-    crews_run(rt, alloc, crews, plan, &courses)
+    compare_crews(rt, alloc, crews, plan, &courses)
 }
 
 #[test]
-fn lasting_workers_run_spans_of_few_cars_as_they_are_one_by_one(
+fn spans_of_few_cars_run_by_lasting_workers_equal_their_steps_one_by_one(
     rt: HostRuntime,
 ) -> Result<(), Fail> {
     let plan = shared_plan(rt.alloc(), &LONG)?;
     for case in [FEW, MORE, SOME] {
-        workers_run(&rt, rt.alloc(), &plan, case)?;
+        compare_workers(&rt, rt.alloc(), &plan, case)?;
     }
     Ok(())
 }
 
 #[test]
-fn lasting_workers_run_spans_of_many_cars_as_they_are_one_by_one(
+fn spans_of_many_cars_run_by_lasting_workers_equal_their_steps_one_by_one(
     rt: HostRuntime,
 ) -> Result<(), Fail> {
     let plan = shared_plan(rt.alloc(), &LONG)?;
-    workers_run(&rt, rt.alloc(), &plan, MANY)
+    compare_workers(&rt, rt.alloc(), &plan, MANY)
 }
 
-// Return whether a crew runs nothing if there is no step, or if the road has a car in the exit, which no run of a plan
-// has.
+// Return whether a crew runs nothing if there is no step, or if the road has a car in the exit. No run of a plan has
+// such a road.
 fn runs_nothing<C: Crew>(alloc: Global, crew: &mut C, plan: &Arc<Plan>) -> Result<bool, Fail> {
     let (none, span) = (
         span_of(alloc, plan, 0, 0, 0)?,
@@ -449,7 +450,7 @@ fn runs_nothing<C: Crew>(alloc: Global, crew: &mut C, plan: &Arc<Plan>) -> Resul
 }
 
 #[test]
-fn no_step_and_no_car_in_the_exit_is_run(rt: HostRuntime) -> Result<(), Fail> {
+fn nothing_is_run_without_a_step_or_with_a_car_in_the_exit(rt: HostRuntime) -> Result<(), Fail> {
     let alloc = rt.alloc();
     let plan = shared_plan(alloc, &LONG)?;
     let mut crew = Pool::start(rt.clone()?, alloc, 2)?;

@@ -1,5 +1,5 @@
-//! The results of every crew, with few workers and with more than there are cars: the worked rows, and the results of
-//! the crew of one on roads with few cars and with many.
+//! The results of every crew, with few workers and with more workers than cars: the worked rows, and the speeds of the
+//! crew of one on roads with few cars and with many.
 
 ghost use Rattle.std.specs.Prelude.{◌<◌, ◌≤◌};
 
@@ -13,8 +13,12 @@ use std::test::Fail;
 use std::thread::Threads;
 use tests_plans::{FREE, Parts, queue};
 
-// Compare them for workers whose threads are made for each call.
-fn scoped_gives<R: Threads + Wait + Abort>(rt: &R, alloc: Global, workers: u32) -> Result<(), Fail>
+// Compare the worked rows for workers whose threads are made for each call.
+fn compare_scoped<R: Threads + Wait + Abort>(
+    rt: &R,
+    alloc: Global,
+    workers: u32,
+) -> Result<(), Fail>
     requires some { 0 < workers }
     requires few { workers ≤ 16 }
 {
@@ -25,7 +29,7 @@ fn scoped_gives<R: Threads + Wait + Abort>(rt: &R, alloc: Global, workers: u32) 
 #[test]
 fn threads_made_for_each_call_give_the_worked_rows(rt: HostRuntime) -> Result<(), Fail> {
     for workers in [1, 2, 7, 16] {
-        scoped_gives(&rt, rt.alloc(), workers)?;
+        compare_scoped(&rt, rt.alloc(), workers)?;
     }
     Ok(())
 }
@@ -38,8 +42,8 @@ const LONG: Parts = Parts {
     ..FREE
 };
 
-/// How many cells are taken by a queue, with 5, 63 and 8,064 cars. The first are fewer than the workers, and the second
-/// not a multiple of two.
+/// How many cells are taken by a queue, with 5, 63 and 8,064 cars. 5 is less than the number of workers, and 63 is not
+/// even.
 const CELLS: &[u32] = &[5, 64, 8_192];
 
 // Make the input of a step of this queue.
@@ -48,7 +52,7 @@ fn input_of_queue(alloc: Global, cells: u32) -> Result<Arc<StepInput>, Fail> {
     input_of(alloc, &plan, None, 0, &queue(alloc, cells)?)
 }
 
-// Return whether a crew returns the speeds of the crew of one.
+// Return whether a crew returns the same speeds as the crew of one.
 fn gives_as_one<C: Crew>(alloc: Global, crew: &mut C, cells: u32) -> Result<bool, Fail> {
     let input = input_of_queue(alloc, cells)?;
     let wanted = Alone.speeds(alloc, &input)?;
@@ -56,7 +60,7 @@ fn gives_as_one<C: Crew>(alloc: Global, crew: &mut C, cells: u32) -> Result<bool
     Ok(speeds.as_slice() == wanted.as_slice())
 }
 
-// Compare the worked rows, and then all these roads, forwards and in reverse.
+// Compare the worked rows, and then the speeds on all these roads, forwards and in reverse.
 fn compare_rows_and_queues<C: Crew>(
     rt: &impl Abort,
     alloc: Global,
@@ -69,8 +73,8 @@ fn compare_rows_and_queues<C: Crew>(
     Ok(())
 }
 
-// Compare them for lasting workers.
-fn pool_gives<R: Threads + Wait + Abort + Clone + Drop + Send + 'static>(
+// Compare the worked rows and the speeds on these roads for lasting workers.
+fn compare_pool<R: Threads + Wait + Abort + Clone + Drop + Send + 'static>(
     rt: &R,
     alloc: Global,
     workers: u32,
@@ -85,9 +89,11 @@ fn pool_gives<R: Threads + Wait + Abort + Clone + Drop + Send + 'static>(
 }
 
 #[test]
-fn lasting_workers_give_the_worked_rows_and_what_one_gives(rt: HostRuntime) -> Result<(), Fail> {
+fn lasting_workers_give_the_worked_rows_and_the_speeds_of_one_worker(
+    rt: HostRuntime,
+) -> Result<(), Fail> {
     for workers in [1, 2, 7, 16] {
-        pool_gives(&rt, rt.alloc(), workers)?;
+        compare_pool(&rt, rt.alloc(), workers)?;
     }
     Ok(())
 }

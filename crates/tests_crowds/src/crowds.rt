@@ -22,7 +22,7 @@ pub(crate) fn edit(object: Object, step: u32, count: u64, number: u16, value: Va
     }
 }
 
-/// One share blocks the cell 8 from step 4 on, and the other withdraws that with a greater stamp.
+/// Make two shares: one blocks cell 8 from step 4 on, and the other withdraws that with a greater stamp.
 pub(crate) fn block_and_withdrawal(alloc: Global) -> Result<Vec<Vec<Edit>>, Fail> {
     let cell = Object::Block(8);
     let block = vec![in alloc; edit(cell, 4, 1, 64, Value::Put(1))]?;
@@ -35,7 +35,7 @@ pub(crate) fn free_road(alloc: Global) -> Result<Arc<Plan>, Fail> {
     Ok(Arc::new(alloc, plan_of(alloc, &FREE)?)?)
 }
 
-/// Return the result of a crowd of these shares on the free road.
+/// Run a crowd of these shares on the free road, and return its result.
 pub(crate) fn run_crowd<R: Threads + Wait, G: Gate + Sync>(
     rt: &R,
     alloc: Global,

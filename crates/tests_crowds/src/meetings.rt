@@ -5,7 +5,7 @@ use std::slice;
 use std::test::Fail;
 use tests_plans::Meeting;
 
-/// The most times that a session looks for the other one.
+/// The maximum number of times that a session looks for the other one.
 const TURNS: u32 = 1_000_000;
 
 #[test]
@@ -19,10 +19,10 @@ fn two_sessions_meet(rt: HostRuntime) -> Result<(), Fail> {
     Ok(())
 }
 
-/// Two crowds of one session each, one after the other, pass the gate alone. So the gate distinguishes them from two
-/// sessions at once.
+/// Two crowds of one session each, one after the other, pass the gate without meeting. So the gate distinguishes them
+/// from two sessions at once.
 #[test]
-fn one_after_another_do_not_meet(rt: HostRuntime) -> Result<(), Fail> {
+fn sessions_one_after_another_do_not_meet(rt: HostRuntime) -> Result<(), Fail> {
     let alloc = rt.alloc();
     let shares = block_and_withdrawal(alloc)?;
     let meeting = Meeting::new(rt.clone()?, 2, 100);

@@ -13,14 +13,14 @@ const EDITS: u32 = 40;
 /// The number of crowds with these shares.
 const TIMES: u32 = 100;
 
-// Return the limit that is set for the only zone at a step.
+// Return the edit that sets the limit of the only zone from a step on.
 fn limit(step: u32) -> Edit {
     let count = u64::from(step).saturating_add(1);
     let number = (64 + step % 4) as u16;
     edit(Object::Limit(0), step, count, number, Value::Put(step % 3))
 }
 
-// Return the limits of all steps, beginning at one step and going around.
+// Return the edits of all steps, beginning at one step and going around.
 fn limits_from(alloc: Global, first: u32) -> Result<Vec<Edit>, Fail> {
     let mut edits = Vec::new(alloc);
     for turn in 0..EDITS {
@@ -30,7 +30,7 @@ fn limits_from(alloc: Global, first: u32) -> Result<Vec<Edit>, Fail> {
 }
 
 #[test]
-fn the_greater_withdrawal_wins(rt: HostRuntime) -> Result<(), Fail> {
+fn the_withdrawal_with_the_greater_stamp_wins(rt: HostRuntime) -> Result<(), Fail> {
     let alloc = rt.alloc();
     let shares = block_and_withdrawal(alloc)?;
     let withdrawal = edit(Object::Block(8), 4, 2, 64, Value::Withdrawn);
@@ -42,7 +42,7 @@ fn the_greater_withdrawal_wins(rt: HostRuntime) -> Result<(), Fail> {
 }
 
 #[test]
-fn forty_edits_in_four_orders(rt: HostRuntime) -> Result<(), Fail> {
+fn forty_edits_in_four_orders_have_one_result(rt: HostRuntime) -> Result<(), Fail> {
     let alloc = rt.alloc();
     let shares = vec![in alloc;
         limits_from(alloc, 0)?,

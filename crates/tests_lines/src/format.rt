@@ -27,7 +27,7 @@ fn are_named(names: &[String], wanted: &[&str]) -> bool {
 /// The names of `PLAN`.
 const NAMES: &[&str] = &["A", "B", "C"];
 
-/// A part of `PLAN`, its replacement, and the names and the parts that are then read.
+/// A part of `PLAN`, its replacement, and the names and parts that are then read.
 const PLANS: &[((&str, &str), (&[&str], Parts))] = pairs![
     ("[5]", "[5]") => (NAMES, FREE),
     ("[5]", "[]") => (NAMES, parts!(detectors: &[])),
@@ -39,7 +39,7 @@ const PLANS: &[((&str, &str), (&[&str], Parts))] = pairs![
     ("\"B\",\"C\"", "\"éééééééééééééééééééééééééééééééé\"") => (&["A", "éééééééééééééééééééééééééééééééé"], FREE),
 ];
 
-// Return whether these names and parts are read from `PLAN` with something replaced.
+// Return whether these names and parts are read from `PLAN` after a part of it is replaced.
 fn is_plan(
     alloc: Global,
     ((old, new), (names, parts)): &((&str, &str), (&[&str], Parts)),
@@ -50,14 +50,14 @@ fn is_plan(
 }
 
 #[test]
-fn reads_plan_lines(rt: HostRuntime) -> Result<(), Fail> {
+fn plan_lines_are_read_as_worked_out(rt: HostRuntime) -> Result<(), Fail> {
     for row in PLANS {
         assert!(rt; is_plan(rt.alloc(), row)?, "{}", row.0.1);
     }
     Ok(())
 }
 
-/// Lines, and what is read from each: commands, edits from outside and messages, crowds.
+/// Lines, and what is read from each: commands, edits from outside and messages, and crowds.
 const COMMANDS: &[(&str, &str)] = pairs![
     r#"{"advance":{"at":"A","to":6}}"# => r#"Ok(Advance { at: "A", to: 6 })"#,
     r#"{"advance":{"to":6,"at":"A"}}"# => r#"Ok(Advance { at: "A", to: 6 })"#,
@@ -98,7 +98,7 @@ const COMMANDS: &[(&str, &str)] = pairs![
     r#"{"import":{"at":"A","edits":[],"form":1}}"# => r#"Ok(Import { at: "A", edits: [] })"#,
     r#"{"import":{"at":"A","edits":[],"form":3,"form":1}}"# => r#"Ok(Import { at: "A", edits: [] })"#,
     r#"{"import":{"at":"A","edits":[],"form":2}}"# => r#"Ok(Import { at: "A", edits: [] })"#,
-    // slowing chances of standing cars: in the second form, in any command
+    // slowing chances of standing cars: in the second form they are allowed in any command
     r#"{"import":{"at":"A","edits":[["start",0,0,1,64,5]],"form":2}}"# =>
         r#"Ok(Import { at: "A", edits: [Edit { object: Start(0), step: 0, stamp: Stamp { count: 1, number: 64 }, value: Put(5) }] })"#,
     r#"{"import":{"at":"A","edits":[["watch",0,0,1,64,0],["start",63,1048576,0,3,null]],"form":2}}"# =>
@@ -117,7 +117,7 @@ const COMMANDS: &[(&str, &str)] = pairs![
     r#"{"crowd":{"form":3,"shares":[],"to":6,"form":1,"shares":[[]]}}"# => "Ok(Crowd { shares: [[]], to: 6 })",
 ];
 
-// Return what is read from a command line, as text. Out of memory ends the test.
+// Return what is read from a command line, as text. `OutOfMemory` is returned as an error.
 fn text_of(alloc: Global, read: &Result<Command, LineFault>) -> Result<String, OutOfMemory> {
     if matches!(read, Err(LineFault::OutOfMemory)) {
         return Err(OutOfMemory);
@@ -132,7 +132,7 @@ fn read_text(alloc: Global, line: &str) -> Result<String, OutOfMemory> {
 }
 
 #[test]
-fn reads_commands(rt: HostRuntime) -> Result<(), Fail> {
+fn commands_are_read_as_worked_out(rt: HostRuntime) -> Result<(), Fail> {
     for (line, want) in COMMANDS {
         let said = read_text(rt.alloc(), line)?;
         assert!(rt; said.as_str() == *want, "{line}");
@@ -159,7 +159,7 @@ const REPLICAS: &[(&str, Option<&str>)] = pairs![
 ];
 
 #[test]
-fn names_the_replica_of_each_command(rt: HostRuntime) -> Result<(), Fail> {
+fn each_command_has_the_name_of_its_replica(rt: HostRuntime) -> Result<(), Fail> {
     for (line, replica) in REPLICAS {
         let command = read_command(rt.alloc(), line.as_bytes())?;
         assert!(rt; command.replica() == *replica, "{line}");
@@ -167,7 +167,7 @@ fn names_the_replica_of_each_command(rt: HostRuntime) -> Result<(), Fail> {
     Ok(())
 }
 
-/// An answer as in a table, with borrowed names and lists.
+/// An answer as tables write it, with borrowed names and lists.
 enum Said {
     Open(u32),
     Horizon(u32),
@@ -184,7 +184,7 @@ enum Said {
     Crowd(&'static [Edit], u32, &'static str),
 }
 
-// Return these rows, with their own memory.
+// Copy these rows to new strings.
 fn rows_of(alloc: Global, rows: &[&str]) -> Result<Vec<String>, OutOfMemory> {
     let mut own = Vec::new(alloc);
     for row in rows {
@@ -193,7 +193,7 @@ fn rows_of(alloc: Global, rows: &[&str]) -> Result<Vec<String>, OutOfMemory> {
     Ok(own)
 }
 
-// Return that answer, with its own memory.
+// Make an answer from its form in a table.
 fn answer_of(alloc: Global, said: &Said) -> Result<Answer, OutOfMemory> {
     Ok(match *said {
         Said::Open(replicas) => Answer::Open { replicas },
@@ -225,13 +225,13 @@ fn answer_of(alloc: Global, said: &Said) -> Result<Answer, OutOfMemory> {
     })
 }
 
-// Return the line of that answer.
+// Return the reply line of an answer of a table.
 fn line_of(alloc: Global, said: &Said) -> Result<String, OutOfMemory> {
     let answer = answer_of(alloc, said)?;
     reply_line(alloc, &answer)
 }
 
-/// Edits of the greatest numbers, and withdrawals.
+/// Edits with the largest numbers, and withdrawals.
 const EDITS: &[Edit] = &[
     edit!(
         Object::Limit(0),
@@ -244,14 +244,14 @@ const EDITS: &[Edit] = &[
     edit!(Object::Start(63), 1_048_575, (2, 0), withdrawn),
 ];
 
-/// Heads of the least and the greatest numbers.
+/// Heads with the smallest and the largest numbers.
 const HEADS: &[Head] = &[
     head!(Object::Slow(0), 0, (1, 0)),
     head!(Object::Inflow(15), 1_048_575, (281_474_976_710_656, 65_535)),
     head!(Object::Start(63), 0, (1, 64)),
 ];
 
-/// Cars of the least and the greatest numbers.
+/// Cars with the smallest and the largest numbers.
 const CARS: &[Car] = cars![(0, 3, 1), (18_446_744_073_709_551_615, 1_048_575, 9)];
 
 /// Answers, and how each is written.
@@ -317,7 +317,7 @@ const REFUSALS: &[(Refusal, &str)] = &[
     (Refusal::NotSimulated, "NotSimulated"),
 ];
 
-// Return the import made from the answer to `scenario`, which has all fields but one.
+// Return an `import` line with the edits of an answer to `scenario`. The answer has all fields of the command but `at`.
 fn import_of(alloc: Global, said: &Said) -> Result<String, OutOfMemory> {
     let reply = line_of(alloc, said)?;
     let opened = reply.replacen(alloc, "{", "{\"import\":{\"at\":\"A\",", 1)?;
@@ -333,7 +333,7 @@ fn imports(command: &Command, wanted: &[Edit]) -> bool {
 }
 
 #[test]
-fn reads_back_the_edits_that_it_writes(rt: HostRuntime) -> Result<(), Fail> {
+fn edits_that_are_written_are_read_back(rt: HostRuntime) -> Result<(), Fail> {
     let line = import_of(rt.alloc(), &Said::Edits(EDITS))?;
     let command = read_command(rt.alloc(), line.as_bytes())?;
     assert!(rt; imports(&command, EDITS));
@@ -341,7 +341,7 @@ fn reads_back_the_edits_that_it_writes(rt: HostRuntime) -> Result<(), Fail> {
 }
 
 #[test]
-fn writes_answers(rt: HostRuntime) -> Result<(), Fail> {
+fn answers_are_written_as_worked_out(rt: HostRuntime) -> Result<(), Fail> {
     for (said, want) in ANSWERS {
         let line = line_of(rt.alloc(), said)?;
         assert!(rt; line.as_str() == *want);
@@ -349,7 +349,7 @@ fn writes_answers(rt: HostRuntime) -> Result<(), Fail> {
     Ok(())
 }
 
-// Return the line of a refusal, and what it must be.
+// Return the reply line of a refusal, and the expected line.
 fn refusal_lines(
     alloc: Global,
     refusal: Refusal,
@@ -360,7 +360,7 @@ fn refusal_lines(
 }
 
 #[test]
-fn writes_refusals(rt: HostRuntime) -> Result<(), Fail> {
+fn refusals_are_written_as_worked_out(rt: HostRuntime) -> Result<(), Fail> {
     for (refusal, name) in REFUSALS {
         let (line, want) = refusal_lines(rt.alloc(), *refusal, name)?;
         assert!(rt; line.as_str() == want.as_str());

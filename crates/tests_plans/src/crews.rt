@@ -1,4 +1,4 @@
-//! Crews of tests.
+//! Crews for tests.
 
 ghost use Rattle.std.specs.Prelude.{◌≡◌};
 ghost use Rattle.road_workers.specs.Crews.{gone_after};
@@ -9,28 +9,28 @@ use road_workers::{Crew, CrewFault};
 use std::alloc::Global;
 use std::sync::Arc;
 
-/// A crew that returns `WorkersGone` once, after some calls, and computes all other speeds itself.
+/// A crew that returns `WorkersGone` once, after some calls. It computes the speeds of all other calls itself.
 #[derive(Clone, Copy, Debug)]
-pub struct Leaving {
-    /// The number of calls that succeed before.
+pub struct FailingCrew {
+    /// The number of calls that still succeed before the one that fails.
     pub calls_left: u64,
     /// How often it has returned `WorkersGone`.
     pub gone: u64,
 }
 
-impl Leaving {
+impl FailingCrew {
     /// Make a crew that fails after `calls` calls.
-    pub fn after(calls: u64) -> Leaving
+    pub fn after(calls: u64) -> FailingCrew
         ensures { result ≡ record { calls_left = calls; gone = 0 } }
     {
-        Leaving {
+        FailingCrew {
             calls_left: calls,
             gone: 0,
         }
     }
 }
 
-impl Crew for Leaving {
+impl Crew for FailingCrew {
     ghost times_gone = { λ crew. crew.gone };
 
     fn speeds(&mut self, alloc: Global, input: &Arc<StepInput>) -> Result<Vec<u8>, CrewFault> {
@@ -46,7 +46,7 @@ impl Crew for Leaving {
 /// A crew that computes all speeds itself and counts its calls.
 #[derive(Clone, Copy, Debug)]
 pub struct Counting {
-    /// The calls so far.
+    /// The number of calls so far.
     pub calls: u64,
 }
 
@@ -59,7 +59,7 @@ impl Crew for Counting {
     }
 }
 
-/// A crew that asks another crew for the speeds of one step after another.
+/// A crew that lets another crew compute the speeds of one step after another.
 #[derive(Drop)]
 pub struct StepByStep<C> {
     /// The crew that computes.
@@ -74,23 +74,23 @@ impl<C: Crew> Crew for StepByStep<C> {
     }
 }
 
-/// A crew that asks another crew, but returns a fault for one of the calls for a run. It counts the steps of the runs.
+/// A crew that passes runs to another crew, but returns a fault for one of them. It counts the steps of the runs.
 #[derive(Drop)]
 pub struct Running<C> {
     /// The crew that computes.
     pub crew: C,
     /// The number of runs before the one that fails.
     pub runs_left: u64,
-    /// The fault, until it was returned.
+    /// The fault, until it has been returned.
     pub fault: Option<CrewFault>,
     /// How often it has returned `WorkersGone`.
     pub gone: u64,
-    /// The steps of all runs.
+    /// The number of steps of all runs.
     pub steps: u64,
 }
 
 impl<C> Running<C> {
-    /// Make a crew that succeeds in all runs.
+    /// Make a crew that never fails.
     pub fn of(crew: C) -> Running<C>
         ensures { result.gone ≡ 0 }
     {
@@ -103,7 +103,7 @@ impl<C> Running<C> {
         }
     }
 
-    /// Let the run after `runs` runs fail with a fault.
+    /// Let this crew fail with a fault at the run after `runs` runs.
     pub fn fail_after(&mut self, runs: u64, fault: CrewFault)
         ensures { self.new.gone ≡ self.old.gone }
     {
@@ -111,7 +111,7 @@ impl<C> Running<C> {
         self.fault = Some(fault);
     }
 
-    // Return the fault with which this run fails, if it does.
+    // Return the fault with which this run fails, or None if it does not fail.
     fn fault_of_run(&mut self) -> Option<CrewFault>
         ensures { self.new.gone ≡ self.old.gone }
     {
@@ -122,7 +122,7 @@ impl<C> Running<C> {
         self.fault.take()
     }
 
-    // Count a result `WorkersGone`.
+    // Count the result of a call, if it is `WorkersGone`.
     fn note<T>(&mut self, answer: &Result<T, CrewFault>)
         ensures { self.new.gone ≡ gone_after answer.now self.old.gone }
     {

@@ -1,12 +1,13 @@
-//! Gates of tests: one at which workers wait for each other, and one that counts them.
+//! Gates for tests: one at which workers wait for each other, and one that counts them.
 
 use road_workers::Gate;
 use std::sync::atomic::{AtomicU32, Ordering};
 use std::thread;
 use std::time::{Clock, Duration};
 
-/// A gate that holds each of at most 31 workers, numbered from 0, until all have arrived or the turns are used up, and
-/// again the next time. Each hundredth turn is a millisecond of sleep, so that the others arrive on a busy machine too.
+/// A gate that holds each of at most 31 workers, numbered from 0, until all have arrived, or until the worker has used
+/// up its turns. All may then meet there again. Each hundredth turn is a millisecond of sleep, so that the others also
+/// arrive on a busy machine.
 #[derive(Drop)]
 pub struct Meeting<R> {
     rt: R,
@@ -14,7 +15,7 @@ pub struct Meeting<R> {
     turns: u32,
     arrived: AtomicU32,
     missed: AtomicU32,
-    // A bit for each worker that has come.
+    // A bit for each worker that has arrived.
     came: AtomicU32,
 }
 
@@ -32,7 +33,7 @@ impl<R: Clock> Meeting<R> {
         }
     }
 
-    // Let others run, in the turn of this number.
+    // Let other threads run: sleep in each hundredth turn, and yield in all others.
     fn wait_a_turn(&self, turn: u32) {
         if turn % 100 == 99 {
             thread::sleep(&self.rt, Duration::from_millis(1));
@@ -41,13 +42,13 @@ impl<R: Clock> Meeting<R> {
         }
     }
 
-    // Return the number of arrivals once the meeting is full, if `before` workers came before this one.
+    // Return the number of arrivals at which this meeting is full, if `before` workers arrived before this one.
     fn full_after(&self, before: u32) -> u32 {
         let meeting = before.checked_div(self.workers).unwrap_or(0);
         meeting.saturating_add(1).saturating_mul(self.workers)
     }
 
-    // Return a bit for each of `workers` workers, or none from 32 on.
+    // Return a number with a bit for each of `workers` workers, or 0 from 32 workers on.
     fn bits(workers: u32) -> u32 {
         let behind = 1_u32.checked_shl(workers).unwrap_or(0);
         behind.saturating_sub(1)

@@ -1,5 +1,4 @@
-//! Plans, their worked rows, random roads, cars, objects, edits, events, crews and gates that the crates of tests
-//! share.
+//! Plans, their worked rows, random roads, cars, objects, edits, events, crews and gates that all test crates share.
 #![tactic(auto)]
 
 ghost use Rattle.std.specs.Prelude.{◌≡◌};
@@ -9,7 +8,7 @@ mod gates;
 mod roads;
 mod rows;
 
-pub use crews::{Counting, Leaving, Running, StepByStep};
+pub use crews::{Counting, FailingCrew, Running, StepByStep};
 pub use gates::{Counter, Meeting};
 use road_cells::Car;
 use road_plan::{Object, OutOfMemory, Plan, PlanFault, PlanParts, WordKind};
@@ -17,7 +16,7 @@ pub use roads::{Dice, queue, random_plan, random_road, random_settings, road_of}
 pub use rows::row_of;
 use std::alloc::Global;
 
-/// Lists pairs: an input, and the expected result.
+/// Lists pairs of an input and the expected result.
 #[macro_export]
 macro_rules! pairs {
     ($($given:expr => $wanted:expr),* $(,)?) => {
@@ -25,7 +24,7 @@ macro_rules! pairs {
     };
 }
 
-/// Writes the parts of a plan that differs from the free road's in some parts. `Parts` and `FREE` must be in scope.
+/// Writes the parts of a plan that differs from the free road in some parts. `Parts` and `FREE` must be in scope.
 #[macro_export]
 macro_rules! parts {
     ($($field:ident: $value:expr),* $(,)?) => {
@@ -33,7 +32,7 @@ macro_rules! parts {
     };
 }
 
-/// Lists parts like these, each with the expected result.
+/// Lists parts, each written as in [`parts`] and with the expected result.
 #[macro_export]
 macro_rules! parts_pairs {
     ($({ $($field:ident: $value:expr),* } => $wanted:expr),* $(,)?) => {
@@ -49,7 +48,7 @@ macro_rules! cars {
     };
 }
 
-/// Writes the stamp of a count and a writer's number. `Stamp` of `road_scenario` must be in scope.
+/// Writes a stamp: its count and its writer's number. `Stamp` of `road_scenario` must be in scope.
 #[macro_export]
 macro_rules! stamp {
     ($count:expr, $number:expr) => {
@@ -57,7 +56,7 @@ macro_rules! stamp {
     };
 }
 
-/// Writes the edit that sets a number from a step on, or withdraws: its object, its step, the count and the writer's
+/// Writes an edit that sets a number from a step on, or withdraws: its object, its step, the count and the writer's
 /// number of its stamp, and its effect. `Edit`, `Stamp` and `Value` of `road_scenario` must be in scope.
 #[macro_export]
 macro_rules! edit {
@@ -95,8 +94,8 @@ macro_rules! event {
     (advance($at:expr, $to:expr)) => { Event::Advance { at: $at, to: $to } };
 }
 
-/// Lists events, each written as in [`event`] with its answer: all events, and all answers. `Event` of `road_world`
-/// must be in scope.
+/// Makes two lists from events and their answers, each event written as in [`event`]: all events, and all answers.
+/// `Event` of `road_world` must be in scope.
 #[macro_export]
 macro_rules! answered_events {
     ($($kind:ident($($part:expr),*) => $answer:expr),* $(,)?) => {
@@ -104,8 +103,8 @@ macro_rules! answered_events {
     };
 }
 
-/// Writes the head of an object and a step: these, and the count and the writer's number of its stamp. `Head` of
-/// `road_delta` and `Stamp` of `road_scenario` must be in scope.
+/// Writes a head: its object, its step, and the count and the writer's number of its stamp. `Head` of `road_delta` and
+/// `Stamp` of `road_scenario` must be in scope.
 #[macro_export]
 macro_rules! head {
     ($object:expr, $step:expr, ($count:expr, $number:expr)) => {
@@ -126,19 +125,19 @@ pub const START: Object = Object::Start(0);
 /// The parts of a plan. Most tests change one or two of them.
 #[derive(Clone, Copy, Debug)]
 pub struct Parts {
-    /// The cells of the road, of its deleted zone and of a zone.
+    /// The numbers of cells of the road, of its deleted zone and of a zone.
     pub road: (u32, u32, u32),
     /// For each zone its speed limit and slowing chance.
     pub zones: &'static [(u32, u32)],
     /// For each inlet its cell and inflow chance.
     pub inlets: &'static [(u32, u32)],
-    /// The site of each detector.
+    /// The site of each detector, which is a cell.
     pub detectors: &'static [u32],
     /// The words.
     pub words: WordKind,
 }
 
-/// 12 cells, limit 2, no slowing, an inlet at the first cell that always lets in, a detector at cell 5.
+/// 12 cells, limit 2, no slowing, an inlet at the first cell that is always open, a detector at cell 5.
 pub const FREE: Parts = Parts {
     road: (12, 1, 12),
     zones: &[(2, 0)],
@@ -171,7 +170,7 @@ pub const BLOCKED_ROWS: &[Row] = &[
     (6, "0..2..10#..."),
 ];
 
-/// The rows of the free road if cell 7, where a car stands, is blocked from step 4 on.
+/// The rows of the free road if cell 7, where a car is standing, is blocked from step 4 on.
 pub const BLOCKED_UNDER_ROWS: &[Row] = &[
     (4, "0..2...2...."),
     (5, ".1...2.#.2.."),
@@ -197,7 +196,7 @@ pub const SLOWED_ROWS: &[Row] = &[
     (6, "0..........."),
 ];
 
-/// The rows of the free road if all standing cars are slowed up to step 3, and no car later.
+/// The rows of the free road if all standing cars are slowed up to step 3, and no car is slowed later.
 pub const SLOW_TO_START_ROWS: &[Row] = &[
     (1, "0..........."),
     (2, "0..........."),
@@ -216,14 +215,14 @@ pub const QUICK_TO_START_ROWS: &[Row] = &[
     (5, "0.1..1......"),
 ];
 
-/// The free road with slowing chance one half, by steady words.
+/// The free road with slowing chance one half and steady words.
 pub const HALF_SLOWED: Parts = Parts {
     zones: &[(2, 32_768)],
     words: WordKind::Steady,
     ..FREE
 };
 
-/// The rows of this road after each step from the first on.
+/// The rows of the half slowed road after each step from the first on.
 pub const HALF_SLOWED_ROWS: &[&str] = &[
     "0...........",
     "0...........",
@@ -233,7 +232,7 @@ pub const HALF_SLOWED_ROWS: &[&str] = &[
     ".1...1......",
 ];
 
-/// A run that shows random words: four zones, and places beyond the first blocks of the generator.
+/// A road whose run shows random words: it has four zones, and draws words beyond the first blocks of the generator.
 pub const RANDOM: Parts = Parts {
     road: (40, 2, 10),
     zones: &[(5, 20_000), (3, 30_000), (9, 10_000), (5, 20_000)],
@@ -242,7 +241,7 @@ pub const RANDOM: Parts = Parts {
     words: WordKind::Seeded(1992),
 };
 
-/// Rows of this road.
+/// Rows of the random road.
 pub const RANDOM_ROWS: &[Row] = &[
     (10, "............2.....3......4.............."),
     (20, "...0.....3............2................."),
@@ -252,7 +251,7 @@ pub const RANDOM_ROWS: &[Row] = &[
     (70, "..........300....2.........4.......5...."),
 ];
 
-/// Nine inlets on 32 cells that always let in, limit 2, slowing chance one half by steady words.
+/// Nine inlets on 32 cells that are always open, limit 2, slowing chance one half and steady words.
 pub const DENSE: Parts = Parts {
     road: (32, 1, 32),
     zones: &[(2, 32_768)],
@@ -271,13 +270,13 @@ pub const DENSE: Parts = Parts {
     words: WordKind::Steady,
 };
 
-/// The rows of this road after each step from the first on.
+/// The rows of the dense road after each step from the first on.
 pub const DENSE_ROWS: &[&str] = &[
     "0...1.0...1.0..0...1.0...1......",
     "0..00..1.00..1..1.00..1.0.1.....",
 ];
 
-/// A slowing chance of standing cars, and the rows of the dense road under it, after each step from the first on.
+/// A slowing chance of standing cars, and the rows of the dense road with it, after each step from the first on.
 pub const DENSE_START: u32 = 45_000;
 
 pub const DENSE_START_ROWS: &[&str] = &[
@@ -348,7 +347,7 @@ pub fn parts_of(alloc: Global, parts: &Parts) -> Result<PlanParts, OutOfMemory> 
 ///
 /// # Errors
 ///
-/// `OutOfMemory` if an allocation failed, else the fault of the plan.
+/// `OutOfMemory` if an allocation failed, otherwise the fault of the plan.
 pub fn plan_of(alloc: Global, parts: &Parts) -> Result<Plan, PlanFault> {
     match parts_of(alloc, parts) {
         Ok(parts) => Plan::new(parts),

@@ -1,4 +1,4 @@
-//! Random roads, from dice that look random and give the same for the same seed.
+//! Random roads, from dice that look random and give the same numbers for the same seed.
 
 use road_cells::{Car, Road};
 use road_plan::{OutOfMemory, Plan, PlanFault, PlanParts, Settings, WordKind};
@@ -16,7 +16,7 @@ impl Dice {
         Dice { seed }
     }
 
-    /// Return a number below `most`, or zero.
+    /// Return a number below `most`, or 0 if `most` is 0.
     pub fn below(&mut self, most: u32) -> u32 {
         self.seed = self
             .seed
@@ -25,7 +25,7 @@ impl Dice {
         (self.seed >> 33) as u32 % most.max(1)
     }
 
-    // Return a chance: never, always, or one between.
+    // Return a chance: 0, certain, or between.
     fn chance(&mut self) -> u32 {
         match self.below(4) {
             0 => 0,
@@ -58,7 +58,7 @@ impl Dice {
         Ok(cells)
     }
 
-    // Return random words of either kind.
+    // Return words of a random kind.
     fn words(&mut self) -> WordKind {
         if self.below(4) == 0 {
             WordKind::Steady
@@ -112,12 +112,12 @@ fn random_parts(alloc: Global, dice: &mut Dice, length: u32) -> Result<PlanParts
     })
 }
 
-/// Make a plan for a road of `length` cells: up to eight zones, up to 16 inlets, 64 detectors, seeded words or steady
-/// ones.
+/// Make a random plan for a road of `length` cells: up to eight zones, up to 16 inlets, 64 detectors, and seeded or
+/// steady words.
 ///
 /// # Errors
 ///
-/// `OutOfMemory` if an allocation failed, else the fault of the plan. Roads of 8 to 8,192 cells have none.
+/// `OutOfMemory` if an allocation failed, otherwise the fault of the plan. Roads of 8 to 8,192 cells have none.
 pub fn random_plan(alloc: Global, dice: &mut Dice, length: u32) -> Result<Plan, PlanFault> {
     match random_parts(alloc, dice, length) {
         Ok(parts) => Plan::new(parts),
@@ -125,7 +125,7 @@ pub fn random_plan(alloc: Global, dice: &mut Dice, length: u32) -> Result<Plan, 
     }
 }
 
-/// Make settings of a plan from a seed: all numbers are random, and a few cells are blocked.
+/// Make settings of a plan from a seed. All numbers are random, and a few cells are blocked.
 ///
 /// # Errors
 ///
@@ -146,8 +146,8 @@ pub fn random_settings(alloc: Global, plan: &Plan, seed: u32) -> Result<Settings
     Ok(settings)
 }
 
-/// Make a road with about this many cars before the exit of a plan. Their speeds and numbers are random. If there
-/// is not enough room, no cell is free.
+/// Make a road with about this many cars before the exit of a plan. Their speeds and numbers are random. If there are
+/// too few cells for the cars, no cell is free.
 ///
 /// # Errors
 ///
@@ -170,7 +170,7 @@ pub fn random_road(
     road_of(alloc, &cars)
 }
 
-/// Make a road whose first cells are taken by standing cars, except each 64th.
+/// Make a road whose first `cells` cells are taken by standing cars, except each 64th cell.
 ///
 /// # Errors
 ///
@@ -190,7 +190,7 @@ pub fn queue(alloc: Global, cells: u32) -> Result<Road, OutOfMemory> {
     road_of(alloc, &cars)
 }
 
-/// Make the road of these cars, without those that are not in front of all cars before them.
+/// Make the road of these cars. A car that is not in front of all cars before it in the list is left out.
 ///
 /// # Errors
 ///

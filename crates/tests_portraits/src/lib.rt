@@ -7,7 +7,7 @@ use road_sheet::Sheet;
 use road_sheet::simulation::{State, row_of};
 use std::alloc::Global;
 
-/// The things drawn, one after another: numbers, edits, and rows of text.
+/// What was drawn, one thing after another: numbers, edits, and rows of text.
 #[derive(Drop)]
 pub struct Portrait {
     numbers: Vec<u64>,
@@ -16,7 +16,7 @@ pub struct Portrait {
 }
 
 impl Portrait {
-    /// Make a portrait of nothing.
+    /// Make a portrait for which nothing is drawn yet.
     pub fn new(alloc: Global) -> Portrait {
         Portrait {
             numbers: Vec::new(alloc),
@@ -25,14 +25,14 @@ impl Portrait {
         }
     }
 
-    /// Return whether the same was drawn.
+    /// Return whether the same was drawn in both portraits.
     pub fn is_same(&self, other: &Portrait) -> bool {
         self.numbers.as_slice() == other.numbers.as_slice()
             && self.edits.as_slice() == other.edits.as_slice()
             && self.rows.as_str() == other.rows.as_str()
     }
 
-    /// Draw a number. It returns none if there was no memory for it, and so do all other calls that draw.
+    /// Draw a number. This and all other calls that draw return None if an allocation failed.
     pub fn draw_number(&mut self, number: u64) -> Option<()> {
         self.numbers.push(number).ok()
     }
@@ -63,7 +63,7 @@ impl Portrait {
         Some(())
     }
 
-    // Draw the cars and the row of a sheet at a step.
+    // Draw the cars and the row that a sheet shows at a step.
     fn draw_step(&mut self, alloc: Global, sheet: &Sheet, step: u32) -> Option<()> {
         let Ok(road) = sheet.state(alloc, step) else {
             return None;

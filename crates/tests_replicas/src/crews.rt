@@ -11,7 +11,7 @@ use road_workers::{Alone, Crew, CrewFault, Pool};
 use std::alloc::Global;
 use std::process::Abort;
 use std::test::Fail;
-use tests_plans::{BLOCK, LIMIT, Leaving, Running, edit, stamp};
+use tests_plans::{BLOCK, FailingCrew, LIMIT, Running, edit, stamp};
 use tests_portraits::Portrait;
 
 const BLOCKED: &[Edit] = &[edit!(BLOCK, 4, (1, 64), 1)];
@@ -137,7 +137,7 @@ fn outlives_leaving(
     calls: u64,
     last: &Portrait,
 ) -> Result<bool, Fail> {
-    let (mut crew, mut meter) = (Leaving::after(calls), Meter::new());
+    let (mut crew, mut meter) = (FailingCrew::after(calls), Meter::new());
     let gone = CrewFault::WorkersGone;
     if !is_lost(alloc, replica, case, &mut crew, &mut meter, gone)? {
         return Ok(false);

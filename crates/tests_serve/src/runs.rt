@@ -12,7 +12,7 @@ use std::hash::{BuildHasher, Hasher};
 use std::io;
 use std::sync::Arc;
 use std::test::Fail;
-use tests_plans::{Leaving, pairs};
+use tests_plans::{FailingCrew, pairs};
 
 // A road of 12 cells without slowing, and three replicas.
 const FREE_ROAD: &str =
@@ -213,7 +213,7 @@ fn a_crowd_without_threads(rt: HostRuntime) -> Result<(), Fail> {
     let input = format!(in rt.alloc(); "{FREE_ROAD}{CROWDS}")?;
     let mut writer = sink_for(rt.alloc(), 1000)?;
     let mut reader = MemorySource::new(input.as_bytes(), 1, ALL);
-    let mut crew = Leaving::after(0);
+    let mut crew = FailingCrew::after(0);
     let ended = serve(
         rt.alloc(),
         &mut reader,

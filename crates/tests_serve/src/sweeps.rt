@@ -4,7 +4,7 @@ use crate::runs::{AllAlike, Unmanned, sink_for};
 use road_serve::{Failing, MemorySource, run_by};
 use std::alloc::Global;
 use std::test::Fail;
-use tests_plans::Leaving;
+use tests_plans::FailingCrew;
 
 /// The stored run: a late edit, its withdrawal, and an older message that brings it back.
 pub(crate) const STORED: &str =
@@ -64,7 +64,7 @@ fn bytes_after(calls: u64) -> usize {
 fn ends_as_expected(alloc: Global, calls: u64) -> Result<bool, Fail> {
     let mut writer = sink_for(alloc, 1000)?;
     let mut reader = MemorySource::new(STORED.as_bytes(), 1, Failing::Never);
-    let mut crew = Leaving::after(calls);
+    let mut crew = FailingCrew::after(calls);
     let ended = run_by(
         alloc,
         &mut reader,

@@ -7,7 +7,7 @@ use road_world::{Event, Played, WorldFault, play};
 use std::alloc::Global;
 use std::sync::Arc;
 use std::test::Fail;
-use tests_plans::{BLOCK, FREE, Leaving, answered_events, plan_of};
+use tests_plans::{BLOCK, FREE, FailingCrew, answered_events, plan_of};
 
 const EVENTS: ([Event; 4], [Answer; 4]) = answered_events![
     advance(0, 6) => Ok(Reply::Horizon(6)),
@@ -17,14 +17,14 @@ const EVENTS: ([Event; 4], [Answer; 4]) = answered_events![
 ];
 
 // Return the world of two replicas after the events, with a crew that fails once.
-fn play_events(alloc: Global, crew: &mut Leaving) -> Result<Played, Fail> {
+fn play_events(alloc: Global, crew: &mut FailingCrew) -> Result<Played, Fail> {
     let plan = Arc::new(alloc, plan_of(alloc, &FREE)?)?;
     Ok(play(alloc, plan, 2, &EVENTS.0, crew, &mut Meter::new())?)
 }
 
 #[test]
 fn lost_workers_cost_one_event(rt: HostRuntime) -> Result<(), Fail> {
-    let mut crew = Leaving::after(8);
+    let mut crew = FailingCrew::after(8);
     let played = play_events(rt.alloc(), &mut crew)?;
     check_answers(&rt, &played, &EVENTS.1);
     assert!(&rt; crew.gone == 1);

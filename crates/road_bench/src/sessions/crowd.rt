@@ -18,7 +18,8 @@ use std::thread::{Threads, for_each_mut};
 /// The number of sessions that write.
 pub(crate) const SESSIONS: u32 = 8;
 
-// Write for a session, alternately an edit and an advance.
+// Make the write of a session that has this number: an advance if it is odd, otherwise an edit. Return whether it
+// succeeded.
 fn write_once<J: Naming, R: Wait + Drop, W: Wait>(
     rt: &W,
     alloc: Global,
@@ -53,7 +54,7 @@ fn sees_own_write<J: Naming, R: Wait + Drop>(
     }
 }
 
-// Return whether a session that writes and looks gets right results.
+// Let a session write `count` times, and look after each write. Return whether all results are right.
 fn write_and_look<J: Naming, R: Wait + Drop, W: Wait>(
     rt: &W,
     alloc: Global,
@@ -70,7 +71,7 @@ fn write_and_look<J: Naming, R: Wait + Drop, W: Wait>(
     is_right
 }
 
-// Return whether all sessions get right results, each on its own thread.
+// Let all sessions write and look, each on its own thread. Return whether all results are right.
 fn all_work<J: Naming + Send + Sync, R: Wait + Drop + Send, W: Threads + Wait + Sync>(
     rt: &W,
     alloc: Global,
@@ -122,7 +123,7 @@ fn close_and_check_merge<J: Naming, R: Wait + Drop>(
     has_merge(alloc, &closed, count)
 }
 
-// Return whether the journal is the merge of all writes, once all sessions have worked.
+// Let all sessions of a prepared store work. Return whether the journal is then the merge of all writes.
 fn is_merged<J: Naming + Send + Sync, R: Wait + Drop + Send, W: Threads + Wait + Sync>(
     rt: &W,
     alloc: Global,
@@ -140,7 +141,7 @@ fn is_merged<J: Naming + Send + Sync, R: Wait + Drop + Send, W: Threads + Wait +
     Ok(well && is_merged?)
 }
 
-/// Return whether the journal of eight sessions, each on its own thread, is the merge of their writes.
+/// Let eight sessions work, each on its own thread. Return whether their journal is the merge of their writes.
 pub(crate) fn merges<W: Threads + Wait + Sync>(
     rt: &W,
     alloc: Global,

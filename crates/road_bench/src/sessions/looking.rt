@@ -1,4 +1,4 @@
-//! Looks and publishings, each session on its own thread.
+//! Sessions that look or publish, each on its own thread.
 
 ghost use Rattle.std.specs.Prelude.{◌≡◌};
 
@@ -21,7 +21,7 @@ pub(crate) struct Done {
     pub(crate) nanoseconds: u128,
 }
 
-/// How often readers look, how often the writer publishes at most, and how many more steps it has simulated each time.
+/// How often each reader looks, how often the writer publishes at most, and how many steps it advances each time.
 #[derive(Clone, Copy)]
 pub(crate) struct Work {
     pub(crate) looks: u32,
@@ -52,7 +52,7 @@ fn look_repeatedly<J: Naming, R: Wait + Drop>(
     times
 }
 
-// Publish for a session while others look.
+// Publish for a session while others look. Return how often this succeeded.
 fn publish<J: Naming, R: Wait + Drop, W: Wait>(
     rt: &W,
     shared: &Shared<J, R>,
@@ -76,7 +76,7 @@ fn publish<J: Naming, R: Wait + Drop, W: Wait>(
     times
 }
 
-// Publish for the first session, or look for another one. Return how long that took.
+// Publish if this is the first session, otherwise look. Return how often, and how long that took.
 fn do_task<J: Naming, R: Wait + Drop, W: Wait + Clock>(
     rt: &W,
     shared: &Shared<J, R>,
@@ -93,7 +93,7 @@ fn do_task<J: Naming, R: Wait + Drop, W: Wait + Clock>(
     Some(Done { times, nanoseconds })
 }
 
-// Return the results of sessions, each on its own thread.
+// Let each session do its task on its own thread, and return their results.
 fn do_all<J: Naming + Send + Sync, R: Wait + Drop + Send, W: Threads + Wait + Clock + Sync>(
     rt: &W,
     shared: &Shared<J, R>,
@@ -107,7 +107,7 @@ fn do_all<J: Naming + Send + Sync, R: Wait + Drop + Send, W: Threads + Wait + Cl
     )?)
 }
 
-// Return the result of each session.
+// Open the sessions of a prepared store, let them do their tasks, and return their results.
 fn open_and_do_all<
     J: Naming + Send + Sync,
     R: Wait + Drop + Send,
@@ -122,8 +122,8 @@ fn open_and_do_all<
     do_all(rt, &shared, sessions, task)
 }
 
-/// Return the results of the writer and each of `readers` readers, the writer first, or none if the clock could not be
-/// read.
+/// Return the result of the writer, and then of each of `readers` readers, at most 7. A result is None if the clock
+/// could not be read.
 pub(crate) fn time<W: Threads + Wait + Clock + Sync>(
     rt: &W,
     alloc: Global,

@@ -14,7 +14,7 @@ fn value_of(write: u32) -> u32 {
     write % 10
 }
 
-/// Return the edit of a session's write: the first zone's limit from the step of the write's number on.
+/// Return the edit of a session's write: it sets the first zone's limit, from the step with the write's number on.
 pub(crate) fn edit_of(session: u32, write: u32) -> Edit {
     Edit {
         object: LIMIT,
@@ -27,7 +27,7 @@ pub(crate) fn edit_of(session: u32, write: u32) -> Edit {
     }
 }
 
-/// Return whether a sheet has a session's write, or that of another session instead.
+/// Return whether a sheet shows a session's write, or the write of another session with the same number.
 pub(crate) fn is_shown(sheet: &Sheet, write: u32) -> bool {
     if write % 2 == 1 {
         return sheet.horizon() >= write;

@@ -17,7 +17,7 @@ use Rattle.road_columns.specs.declared.cars.CarColumns.{CarColumns}
 abbrev pub road_of : CarColumns → Array
 road_of cars = road_in cars.cells.items cars.speeds.items cars.numbers.items cars.head cars.tail
 
--- these are all the cars of a road, given by its cells
+-- these are all the cars of a road, which is given by the vehicle at each of its cells
 abbrev pub AreAllOn : (ℕ → Option Vehicle) → CarColumns → Type 0
 AreAllOn road cars =
     AreCarsAt road (cars.tail - cars.head) (from_place cars.cells.items cars.head)

@@ -8,7 +8,7 @@ use Rattle.road_sheet.specs.declared.query_cache.QueryCache.{QueryCache}
 use Rattle.road_world.specs.Answers.{sheet_at}
 use Rattle.road_world.specs.Events.{World, world_of_winners}
 
--- each replica has a cache of its run
+-- each cache is a cache of the run of its replica
 abbrev pub AreCachesOf : World → List QueryCache → Type 0
 AreCachesOf w caches = (r : ℕ) (cache : QueryCache) → slice_get caches r ≡ Some cache → IsCacheOf (sheet_at w r) cache
 

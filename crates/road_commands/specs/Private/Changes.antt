@@ -40,20 +40,20 @@ names_message (replies.Touched step) = false
 names_message (replies.Message number) = true
 names_message (replies.Horizon to) = false
 
--- a world's reply to a change; the number of a message is not such a reply
+-- the answer for a world's reply to a change; such a reply is never the number of a message
 abbrev pub reply_answer : Reply → Answer
 reply_answer (replies.Stamped stamp) = Stamped stamp
 reply_answer (replies.Touched step) = Touched step
 reply_answer (replies.Message number) = Refused refusals.NoMessage
 reply_answer (replies.Horizon to) = Horizon to
 
--- the answer to the making of a message, from what it carries
+-- the answer to the command that makes a message, from what the message carries
 abbrev pub message_answer : List ℕ → Message → Answer
 message_answer name (messages.Whole edits) = Sent name (length (items edits))
 message_answer name (messages.Asked heads) = Heads name heads
 message_answer name (messages.Answer edits) = Delta name (items edits)
 
--- the answer to an event that makes a message of this name; none for another event
+-- the answer to an event that makes a message with this name; the answer for any other event has no meaning
 abbrev pub made_answer : World → Event → List ℕ → Answer
 made_answer w (events.Send r) name = Sent name (length (items (edits_held w r)))
 made_answer w (events.Heads r) name = Heads name (heads (edits_held w r))
@@ -61,7 +61,7 @@ made_answer w (events.Beyond r message) name =
     Delta name (items (beyond (edits_held w r) (asked_heads (slice_get w.messages message))))
 made_answer w event name = Refused refusals.NoMessage
 
--- a refusal is answered, if it has an answer; else a crew's fault is passed on
+-- if a refusal has an answer, it is answered; otherwise a crew's fault is passed on
 abbrev pub AnswersRefusal : Option Refusal → Result replies_declared.Answer CrewFault → Type 0
 AnswersRefusal refusal (Ok answer) = option_map Refused refusal ≡ Some (answer_view answer)
 AnswersRefusal refusal (Err lost) = refusal ≡ None

@@ -6,7 +6,7 @@ use Rattle.road_format.specs.Views.{answer_view}
 use Rattle.road_format.specs.declared.answer.Answer.{Answer}
 use Rattle.road_commands.specs.Laboratory.{Laboratory, Outcome, gone_after_command, laboratory_of_winners}
 
--- a command is answered, whether it is a crowd that is gathered or not
+-- a command, which may be a crowd that is gathered, is answered
 pub record IsAnswered (gathered : Bool) (outcome : Outcome) (result : Result Answer CrewFault) (old new : Laboratory)
     (count later : ℕ) : Type 0 where
   -- the answer is that of the outcome
@@ -15,7 +15,7 @@ pub record IsAnswered (gathered : Bool) (outcome : Outcome) (result : Result Ans
   pub after : OnOk result (new ≡ laboratory_of_winners outcome.after)
   -- if not answered, it is unchanged
   pub unchanged : OnErr result (new ≡ old)
-  -- the crew has gone once more if that is why there is no answer, and no crowd was gathered
+  -- the crew has gone once more if that is why there is no answer, unless a crowd was gathered
   pub gone : later ≡ gone_after_command result gathered count
 
 -- a command that is not a crowd is answered, and the count of how often the crew has gone is updated

@@ -9,7 +9,7 @@ abbrev pub bytes_held : Held → Option (List ℕ)
 bytes_held (Bytes bytes) = Some bytes.items
 bytes_held TooLong = None
 
--- at most as many bytes are held as the longest line has
+-- at most as many bytes are held as a line may have
 abbrev pub IsShort : Option (List ℕ) → Type 0
 IsShort (Some bytes) = length bytes ≤ LONGEST_LINE
 IsShort None = Unit {0}

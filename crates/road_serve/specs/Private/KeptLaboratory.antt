@@ -18,11 +18,11 @@ abbrev pub kept_after_line : Laboratory → Result Command Refusal → Laborator
 kept_after_line kept (Err refusal) = kept
 kept_after_line kept (Ok command) = laboratory_of_winners (laboratory_after kept command)
 
--- whether a line, as read, is a crowd that nothing refuses, if there is a laboratory
+-- whether a line, as read, is a crowd that is not refused, if there is a laboratory
 abbrev pub gathers_at : Option Laboratory → Result Command Refusal → Bool
 gathers_at None reading = false
 gathers_at (Some kept) reading = gathers kept.world.plan reading
 
--- whether the held bytes, if they were a line, are a crowd that nothing refuses
+-- whether the held bytes, read as a line, are a crowd that is not refused
 abbrev pub holds_crowd : Dialogue → Bool
 holds_crowd d = gathers_at d.laboratory (read_held command_of d.line)

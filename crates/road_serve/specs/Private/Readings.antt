@@ -5,7 +5,7 @@ use Rattle.road_format.specs.declared.refusal.Refusal.TheVariants as refusals
 use Rattle.road_serve.specs.declared.dialogue.LineRead.{LineRead}
 use Rattle.road_serve.specs.declared.dialogue.LineRead.TheVariants.{Accepted, Refused}
 
--- the reading of a held line: one that is too long is refused unread
+-- the reading of a held line: a line that is too long is refused unread
 abbrev pub read_held : {A : Type 0} → (List ℕ → Result A Refusal) → Option (List ℕ) → Result A Refusal
 read_held reading None = Err refusals.LineTooLong
 read_held reading (Some line) = reading line

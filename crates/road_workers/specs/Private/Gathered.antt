@@ -30,7 +30,7 @@ AreRight {A} right places = (w : ℕ) (d : Option A) → w < length places → I
 abbrev pub IsMissing : {A : Type 0} → List (Option A) → ℕ → Type 0
 IsMissing places w = (w < length places) × (slice_index_or places w None ≡ None)
 
--- an answer has come to one place that waited for it, and all others are as before
+-- an answer has come to one place that was waiting, and all other places are as before
 abbrev pub TakesOne : {A : Type 0} → List (Option A) → A → List (Option A) → Type 0
 TakesOne before answer after = (w : ℕ) × IsMissing before w × (after ≡ slice_set before w (Some answer))
 
@@ -46,27 +46,27 @@ IsAnswerOf input n w answer = IfOk answer (λ new. new.items ≡ speeds_of_worke
 abbrev pub AreGathered : StepInput → List (Option PieceAnswer) → Type 0
 AreGathered input places = AreRight (IsAnswerOf input (length places)) places
 
--- what a worker answered: what its stretch comes to, or out of memory
+-- what a worker answered: the result of its stretch, or out of memory
 abbrev pub StretchAnswer : Type 0
 StretchAnswer = Result SpanResult AllocError
 
--- it is what the stretch at place w of n comes to, if there is something
+-- the result, if there is one, is that of stretch number w of n
 abbrev pub IsRunAt : Span → Array → ℕ → ℕ → StretchAnswer → Type 0
 IsRunAt span a n w answer = IfOk answer
     (IsRunOf (cut span.plan.cells (cars_of a) n w) (cut span.plan.cells (cars_of a) n (w + 1)) span a)
 
--- one place for each worker, with its answer if that has come; this many stretches before theirs are the caller's own
+-- one place for each worker, with its answer if that has come; before their stretches the caller has `own` stretches
 abbrev pub AreRun : Span → Array → ℕ → List (Option StretchAnswer) → Type 0
 AreRun span a own places = AreRight (λ w. IsRunAt span a (own + length places) (own + w)) places
 
--- how many cars stand on a stretch from lo to before hi, if a worker has run it
+-- how many cars are on a stretch from lo to before hi, if a worker has run it
 abbrev pub cars_on : ℕ → ℕ → Option StretchAnswer → ℕ
 cars_on lo hi None = 0
 cars_on lo hi (Some (Err fault)) = 0
 cars_on lo hi (Some (Ok ran)) = length (cars_between lo hi ran.road)
 
--- how many cars stand on the stretches of the first k workers. The stretch of worker w goes from one beginning to the
--- next, behind the caller's own
+-- how many cars are on the stretches of the first k workers. The stretch of worker w is number own + w: it goes from
+-- where it begins to where the next one begins
 abbrev pub cars_on_first : ℕ → (ℕ → ℕ) → ℕ → List (Option StretchAnswer) → ℕ
 cars_on_first zero begin own places = 0
 cars_on_first (suc k) begin own places = cars_on_first k begin own places

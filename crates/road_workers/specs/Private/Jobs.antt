@@ -1,4 +1,4 @@
--- What a worker of a pool is to compute, and what comes back.
+-- What a worker of a pool is to compute, and what it sends back.
 use Rattle.std.specs.Prelude.{◌≡◌}
 use Rattle.road_workers.specs.declared.pool.job.Job.{Job}
 use Rattle.road_workers.specs.declared.pool.job.Job.TheVariants as jobs

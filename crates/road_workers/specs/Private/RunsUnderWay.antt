@@ -10,7 +10,7 @@ use Rattle.road_columns.specs.declared.road_or_run.RoadOrRun.{RoadOrRun}
 use Rattle.road_columns.specs.declared.road_or_run.RoadOrRun.TheVariants.{Road, Run}
 use Rattle.road_workers.specs.Private.Stretches.{has_site, road_after, total_on}
 
--- a run stands before the steps of a span, under its settings, on the cells from lo to before hi, with this road
+-- a run is before the steps of a span, under its settings, on the cells from lo to before hi, with this road
 pub record IsReady (lo hi : ℕ) (span : Span) (a : Array) (run : UnderWay) : Type 0 where
   pub plan : run.plan ≡ span.plan
   pub settings : run.settings ≡ span.settings
@@ -19,7 +19,7 @@ pub record IsReady (lo hi : ℕ) (span : Span) (a : Array) (run : UnderWay) : Ty
   pub to : run.hi ≡ hi
   pub road : run.road ≡ a
 
--- it is a run, and stands on the whole road of its plan before this step
+-- it is a run, which is on the whole road of its plan before this step
 abbrev pub IsRunAt : ℕ → RoadOrRun → Type 0
 IsRunAt t (Road a) = ⊥
 IsRunAt t (Run run) = IsAt t run
@@ -45,8 +45,8 @@ pub record IsWhole (span : Span) (k : ℕ) (a : Array) (run : UnderWay) : Type 0
   pub counted : (d : ℕ) → d < length run.totals → slice_index_or run.totals d no_totals
       ≡ total_from span.plan (λ _. span.settings) span.step k a d
 
--- k steps of a span are made, from an array, wherever they may matter on the cells from lo to before hi in those that
--- are left, and counted on these cells
+-- k steps of a span are made, from an array, on all cells that may matter to the cells from lo to before hi in the
+-- steps that are left, and are counted on the cells from lo to before hi
 pub record IsAfter (lo hi : ℕ) (span : Span) (k : ℕ) (a : Array) (run : UnderWay) : Type 0 where
   pub plan : run.plan ≡ span.plan
   pub settings : run.settings ≡ span.settings

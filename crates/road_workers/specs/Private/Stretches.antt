@@ -1,4 +1,4 @@
--- Stretches of road, each run alone by somebody.
+-- Stretches of road. Each is run by itself.
 use Rattle.std.specs.Prelude.{◌≡◌, ℕ, ◌+◌, ◌-◌, ◌*◌, ◌/◌, ◌<◌, ◌&&◌, Bool, List, length, map, min}
 use Rattle.std.specs.Prelude.{nat_eq, nat_le, nat_lt}
 use Rattle.std.specs.Prelude.{slice_index, slice_index_or, if◌then◌else◌}
@@ -43,7 +43,7 @@ pub record AreTotalsOn (lo hi : ℕ) (span : Span) (k : ℕ) (a : Array) (totals
   pub each : length totals ≡ length span.plan.detectors
   pub counted : (d : ℕ) → d < length totals → slice_index_or totals d no_totals ≡ total_on lo hi span k a d
 
--- a stretch was run: on it stand the cars of the road after the span, and its detectors have counted all of it
+-- a stretch was run: it has the cars of the road after the span, and its detectors have counted the whole span
 pub record IsRunOf (lo hi : ℕ) (span : Span) (a : Array) (ran : SpanResult) : Type 0 where
   pub cars : cars_between lo hi ran.road ≡ cars_between lo hi (span_road span a)
   pub totals : AreTotalsOn lo hi span span.steps a ran.totals.items
@@ -53,13 +53,14 @@ pub record IsJoined (hi : ℕ) (span : Span) (a : Array) (joined : Joined) : Typ
   pub cars : joined.cars.items ≡ cars_between 0 hi (span_road span a)
   pub totals : AreTotalsOn 0 hi span span.steps a joined.totals.items
 
--- a run can have the cars near a stretch: up to 9 cells behind it and ahead for each step of a span
+-- the cars near a stretch can be held in a run: those on it and, for each step of a span, on 9 cells behind it and 9
+-- ahead of it
 abbrev pub IsRunnableNear : ℕ → ℕ → Span → Array → Type 0
 IsRunnableNear lo hi span near = IsRunnable (lo - GREATEST_SPEED * span.steps)
     (min (hi + GREATEST_SPEED * span.steps) span.plan.cells) span.plan near
 
--- where the stretch at place w of n begins, of a road of this many cells: at the car that has w n-th parts of the cars
--- behind it; the first begins with the road, and the last ends with it
+-- where stretch number w of n begins, on a road of this many cells: at the car that has w n-th parts of the cars behind
+-- it; the first stretch begins at the start of the road, and the last one ends at its end
 abbrev pub cut : ℕ → List Car → ℕ → ℕ → ℕ
 cut cells cars n w =
     if nat_eq w 0 then 0

@@ -1,4 +1,4 @@
--- The lines and the rest of an input make the input again.
+-- The lines of an input and its last piece make up the whole input.
 use Rattle.road_format.proofs.CutLines.{cut_loses_nothing}
 use Rattle.road_format.proofs.laws.cut_loses_nothing.Goals as goal
 

@@ -1,4 +1,4 @@
--- The seed of the words.
+-- A number is the seed of the words.
 use Rattle.std.proofs.Common.{rules}
 use Rattle.road_format.proofs.plan_line.words_in.Goals as goal
 

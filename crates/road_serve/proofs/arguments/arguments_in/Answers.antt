@@ -33,7 +33,7 @@ returns-in-None-clause-workers c =
     record { read = c.in_ok-matches.ensures.read; found = c.in_ok-matches.ensures.found; value = workers_found found None (sym c.in-None.ensures) } in
     no_workers (texts c.args.words.now) (rows_of found) read
 
--- they have it
+-- the arguments have `--workers`
 
 pub returns-in-Some-count_in-clause-accepted : goal.returns-in-Some-count_in-clause-accepted
 returns-in-Some-count_in-clause-accepted c =

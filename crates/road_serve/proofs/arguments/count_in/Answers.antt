@@ -1,4 +1,4 @@
--- A text names a number of workers if it is parsed to 1 to 16, and else none.
+-- A text names a number of workers if it is parsed as 1 to 16, and otherwise names none.
 use Rattle.std.proofs.Common.{◌∙◌, inl, inr, sym, arith}
 use Rattle.road_serve.proofs.WorkerCounts.{counted_parse, uncounted_parse, unparsed}
 use Rattle.road_serve.proofs.arguments.count_in.Goals as goal

@@ -1,4 +1,4 @@
--- `clap` finds in the arguments what it finds by the command of the definition.
+-- `clap` finds in the arguments what it finds with the command of the definition.
 use Rattle.std.proofs.Common.{ap, ◌∙◌}
 use Rattle.clap.specs.Words.{app_of, is_simple, is_simple_and_free}
 use Rattle.road_format.specs.Views.{texts}

@@ -3,7 +3,7 @@ use Rattle.std.proofs.Common.{◌≡◌, ◌≤◌, ◌-◌, take, length}
 use Rattle.std.specs.Io.KnownBytes.{Appends}
 use Rattle.road_serve.proofs.reply_buffer.write_all.Given as goal
 
--- the bytes that are done were taken
+-- the sink has taken the bytes before this place
 abbrev pub invariant-loop-done : goal.invariant-loop-done
 invariant-loop-done g l =
     (l.done ≤ length l.bytes)

@@ -1,4 +1,4 @@
--- Out of memory for the arguments ends the program before it has read or written anything.
+-- If memory runs out for the arguments, the program ends before it has read or written anything.
 use Rattle.std.proofs.Common.{Err, None, inl, inr, refl}
 use Rattle.road_plan.specs.declared.limits.TheConstants.{MOST_LINES, MOST_BYTES}
 use Rattle.road_serve.specs.StreamViews.{source_view, sink_view}

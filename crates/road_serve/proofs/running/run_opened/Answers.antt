@@ -1,4 +1,4 @@
--- A script is read from its first byte. One that was not opened is like a source whose first read fails.
+-- A script is read from its first byte. A script that was not opened is like a source whose first read fails.
 use Rattle.std.proofs.Common.{Err, inl, refl}
 use Rattle.road_plan.specs.declared.limits.TheConstants.{MOST_LINES, MOST_BYTES}
 use Rattle.road_serve.specs.StreamViews.{sink_view}

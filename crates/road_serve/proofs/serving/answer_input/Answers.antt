@@ -91,7 +91,7 @@ returns-in-Some g c =
     (refused_at_end c.args.limits.lines c.args.limits.bytes l.room c.in_ok-count.count _ s1 s2 _ _ k2 _ _ l.dialogue c.finish.new.self c.read.new.piece c.in-Some.end l.invariant.0 more c.if-count-eq0.true
     (c.in_ok-finish.ensures.answered c.args.limits.lines l.invariant.0.input _ l.invariant.0.answered) c.in_ok-finish.ensures.none_wait c.in_ok-finish.ensures.flushed (sym c.early_end.ensures ∙ c.in-Some.is) (c.in_ok-finish.ensures.kept ∙ l.invariant.1))
 
--- it was accepted
+-- the end of the input: the plan line was accepted
 pub returns-then-count-eq0 : goal.returns-then-count-eq0
 returns-then-count-eq0 g c =
     let l = c.loop-count in

@@ -1,4 +1,4 @@
--- One worker more gives the speeds up to the end of its piece.
+-- One more worker gives the speeds up to the end of its piece.
 use Rattle.std.proofs.Common.{rules, arith, ◌≡◌, ◌≤◌, ◌+◌, length, slice_range, take, sym, subst, IfOk, ◌++◌, ◌∷◌, []}
 use Rattle.std.proofs.lemmas.List.{length-append}
 use Rattle.road_cells.specs.Cars.{cars_of}

@@ -1,4 +1,4 @@
--- One worker more is started.
+-- One more worker is started.
 use Rattle.std.proofs.Common.{rules, length, sym, subst}
 use Rattle.road_workers.specs.Private.Started.{AreStartedFrom, IsOfWorker}
 use Rattle.road_workers.proofs.OneMore.{started_one_more}

@@ -1,4 +1,4 @@
--- The run has made the steps wherever they may matter on the stretch.
+-- The run has made the steps on all cells that may matter to the stretch.
 use Rattle.std.proofs.Common.{◌∙◌, ap, subst, sym, arith}
 use Rattle.std.proofs.Math.Path.{transport}
 use Rattle.std.proofs.lemmas.Bool.{false≢true}

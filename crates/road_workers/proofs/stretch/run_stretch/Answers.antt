@@ -1,4 +1,4 @@
--- What is near a stretch gives its cars and its totals.
+-- The cars near a stretch determine its cars and its totals.
 use Rattle.road_workers.proofs.StretchCars.{run-nearby}
 use Rattle.road_workers.proofs.stretch.run_stretch.Goals as goal
 

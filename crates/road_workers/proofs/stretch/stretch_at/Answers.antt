@@ -1,4 +1,4 @@
--- A stretch ends where it begins or later, on the road.
+-- A stretch does not end before it begins, and it is on the road.
 use Rattle.std.proofs.Common.{◌≤◌, ◌+◌, ap, sym, subst, ◌∙◌, arith}
 use Rattle.road_cells.specs.Cars.{cars_of}
 use Rattle.road_workers.specs.Private.Stretches.{cut}

@@ -1,4 +1,4 @@
--- One step more is made.
+-- One more step is made.
 use Rattle.std.proofs.Common.{◌∙◌, ap, sym, arith}
 use Rattle.std.proofs.Math.Numerals.{add-one}
 use Rattle.road_columns.specs.UnderWay.{UnderWay, run_after_step}

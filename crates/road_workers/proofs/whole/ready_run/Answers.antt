@@ -1,4 +1,4 @@
--- A new run begins wherever it can have each car of the road.
+-- A new run starts if each car of the road can be held in a run.
 use Rattle.std.proofs.Common.{◌≡◌, ◌∙◌, IfOk, IsSome, ap, sym}
 use Rattle.std.proofs.Math.Path.{transport}
 use Rattle.road_plan.specs.Plan.{Plan}

@@ -10,7 +10,7 @@ rise-push : (k : ℕ) (cars : List Car) (car : Car) → AreRisingFrom k cars →
 rise-push k [] car rise behind after = (after, tt)
 rise-push k (first ∷ cars) car rise behind after = (rise.0, rise-push (first.cell + 1) cars car rise.1 (omega arith) (omega arith))
 
--- and that one is then the last
+-- and the added car is then the last
 end-push : (cars : List Car) (car : Car) → end_of cars ≤ car.cell → end_of (cars ++ car ∷ []) ≤ car.cell + 1
 end-push [] car behind = omega arith
 end-push (first ∷ cars) car behind = let rest = end-push cars car (omega arith) in omega arith

@@ -5,7 +5,7 @@ use Rattle.road_columns.specs.Private.Entering.{IsPutIn, place_beside}
 use Rattle.road_columns.proofs.Refilled.{refilled}
 use Rattle.road_columns.proofs.cars.CarColumns.put.Goals as goal
 
--- an inserted value stays where a 0 is written behind
+-- an inserted value stays if a 0 is written behind it
 put_closed : (xs ys : List ℕ) (place tail v : ℕ) → place ≤ tail → IsPutIn xs ys place tail v 0 → IsPutIn xs (slice_set ys (tail + 1) 0) place tail v 0
 put_closed xs ys place tail v order put = record {
   low = λ k below. get_or-set_other ys (tail + 1) k 0 0 (omega arith) ∙ put.low k below;

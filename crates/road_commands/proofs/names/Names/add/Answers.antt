@@ -1,4 +1,4 @@
--- A new name goes to the end.
+-- A new name is added at the end.
 use Rattle.std.proofs.Common.{◌≡◌, ◌++◌, ◌∷◌, [], ◌∙◌, ℕ, List, None, ap, string_bytes}
 use Rattle.road_format.specs.Views.{texts}
 use Rattle.road_commands.specs.Laboratory.{number_of}

@@ -1,4 +1,4 @@
--- A line that is not JSON is refused as that.
+-- A line that is not JSON is refused as not JSON.
 use Rattle.std.proofs.Common.{rules}
 use Rattle.road_format.proofs.faults.LineFault.refusal.Goals as goal
 

@@ -1,4 +1,4 @@
--- The text of the refusal.
+-- The text is that of the refusal.
 use Rattle.std.proofs.Common.{rules}
 use Rattle.road_format.proofs.refusal.Refusal.text.Goals as goal
 

@@ -1,4 +1,4 @@
--- The reply to a line is appended to those that wait, or the run stops at it.
+-- The reply to a line is appended to the replies that wait, or the run stops there.
 use Rattle.std.proofs.Common.{◌∙◌, ◌++◌, ◌∷◌, [], ℕ, List, ap, string_bytes}
 use Rattle.std.proofs.lemmas.Result.{err_from_is_err_and}
 use Rattle.std.specs.Prelude.{String}

@@ -1,4 +1,4 @@
--- All is answered at the end of the input, and written by the flush.
+-- Everything is answered at the end of the input, and written by the flush.
 use Rattle.std.proofs.Common.{refl, sym, subst}
 use Rattle.std.proofs.lemmas.Result.{err_from_is_err_and}
 use Rattle.road_serve.specs.Dialogue.{Dialogue, HasFinished}

@@ -27,7 +27,7 @@ returns-then-is_none-clause-answered g c lines bytes on few =
     c.in_ok-reply-2.ensures.text c.in_ok-reply-2.ensures.laboratory
     (none_of c.in_ok-reply-2.laboratory _ c.is_none.ensures c.if-is_none.true)
 
--- it is accepted
+-- the plan line is accepted
 pub returns-clause-answered : goal.returns-clause-answered
 returns-clause-answered g c lines bytes on few =
     let Family : Dialogue → Type 0 = λ d. GoesOn lines bytes d in

@@ -1,4 +1,4 @@
--- One more piece is taken and answered, and all is written by the flush.
+-- One more piece is taken and answered, and everything is written by the flush.
 use Rattle.std.proofs.Common.{◌≡◌, ◌∙◌, ◌++◌, ℕ, List, false, take, length, refl, ap, sym, subst, arith, length-drop}
 use Rattle.std.proofs.lemmas.List.{take_all}
 use Rattle.std.proofs.lemmas.Result.{err_from_is_err_and}

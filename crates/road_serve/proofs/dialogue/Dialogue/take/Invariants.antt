@@ -4,7 +4,7 @@ use Rattle.road_serve.specs.Dialogue.{HasAnswered}
 use Rattle.road_serve.specs.StreamViews.{SinkView, sink_view}
 use Rattle.road_serve.proofs.dialogue.Dialogue.take.Given as goal
 
--- the bytes that are done came to the dialogue
+-- the dialogue has taken the bytes before this place
 abbrev pub invariant-loop-done : goal.invariant-loop-done
 invariant-loop-done g l =
     (l.done ≤ length l.bytes)

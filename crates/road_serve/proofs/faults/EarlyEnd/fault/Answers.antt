@@ -1,4 +1,4 @@
--- A run that a limit ends early has that fault.
+-- A run that is over early ends with the fault of its cause.
 use Rattle.std.proofs.Common.{ap, sym}
 use Rattle.road_serve.specs.Faults.{early_fault}
 use Rattle.road_serve.proofs.faults.EarlyEnd.fault.Goals as goal

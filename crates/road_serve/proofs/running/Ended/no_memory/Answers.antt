@@ -1,4 +1,4 @@
--- The status and the line if there is no memory.
+-- The status and the line if memory ran out.
 use Rattle.std.proofs.Common.{refl}
 use Rattle.road_serve.proofs.running.Ended.no_memory.Goals as goal
 

@@ -1,4 +1,4 @@
--- A read that gives no byte has come to the end.
+-- A read that gives no byte is at the end of the input.
 use Rattle.std.proofs.Common.{rules}
 use Rattle.road_serve.proofs.std_streams.StdSourceSource.read.Goals as goal
 

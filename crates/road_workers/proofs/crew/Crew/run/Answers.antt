@@ -1,4 +1,4 @@
--- One step more is made and counted; then all are.
+-- Each turn makes and counts one more step, so all are made and counted at the end.
 use Rattle.std.proofs.Common.{◌≡◌, ◌+◌, ◌^◌, ◌<◌, ◌∙◌, ap, arith, rules, subst, sym}
 use Rattle.std.specs.List.{slice_index_or}
 use Rattle.road_ends.specs.Input.{input_next, input_speeds}

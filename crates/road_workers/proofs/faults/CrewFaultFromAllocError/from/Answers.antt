@@ -1,4 +1,4 @@
--- The fault that it is.
+-- A failed allocation is `OutOfMemory`.
 use Rattle.std.proofs.Common.{rules}
 use Rattle.road_workers.proofs.faults.CrewFaultFromAllocError.from.Goals as goal
 

@@ -1,4 +1,4 @@
--- One answer more gives the speeds up to the end of its piece.
+-- One more answer gives the speeds up to the end of its piece.
 use Rattle.std.proofs.Common.{rules, arith, ◌≡◌, ◌<◌, ◌+◌, length, slice_index_or, take, vec_len, sym, ap, subst, ◌∙◌, IfOk, IfSome, IsSome, ◌++◌, ◌∷◌, []}
 use Rattle.std.specs.declared.option.Option.TheVariants.{Some}
 use Rattle.std.specs.Vec.Iter.{into_iter_items}

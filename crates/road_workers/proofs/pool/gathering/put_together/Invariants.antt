@@ -1,4 +1,4 @@
--- The loop that puts the answers one behind the other.
+-- The loop that appends one answer after another.
 use Rattle.std.proofs.Common.{◌≡◌, ◌+◌, length, take, vec_len, IfOk}
 use Rattle.std.specs.Vec.Iter.{into_iter_items, into_iter_len}
 use Rattle.road_cells.specs.Cars.{cars_of}

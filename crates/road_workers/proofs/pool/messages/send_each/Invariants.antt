@@ -1,4 +1,4 @@
--- The loop that sends the jobs: those before were sent.
+-- The loop that sends the jobs: those so far were sent.
 use Rattle.std.proofs.Common.{ℕ, ◌<◌}
 use Rattle.std.specs.declared.result.Result.TheVariants.{Ok}
 use Rattle.road_workers.proofs.pool.messages.send_each.Given as goal

@@ -1,4 +1,4 @@
--- Where the caller has no stretch, nothing is run before the first; else it runs the first.
+-- If the caller has no stretch, nothing comes before the stretches of the workers; otherwise it runs the first stretch.
 use Rattle.std.proofs.Common.{◌≡◌, ◌+◌, ◌∙◌, IfOk, rules, arith, sym, subst}
 use Rattle.road_cells.specs.Cars.{cars_of}
 use Rattle.road_workers.specs.Private.Stretches.{IsJoined, IsRunOf, cut}

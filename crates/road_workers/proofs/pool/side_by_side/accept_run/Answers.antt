@@ -1,4 +1,4 @@
--- What a stretch comes to is put at the place of its worker.
+-- The result of a stretch is put at the place of its worker.
 use Rattle.std.proofs.Common.{rules, ◌≡◌, ◌+◌, ◌<◌, length, subst, IfOk, IsTrue}
 use Rattle.road_cells.specs.Cars.{cars_of}
 use Rattle.road_workers.specs.Private.Gathered.{IsRunAt}

@@ -1,4 +1,4 @@
--- The loop that counts the cars: no more than stand on the stretches before.
+-- The loop that counts the cars: no more than are on the stretches so far.
 use Rattle.std.proofs.Common.{◌≤◌, ◌+◌, length}
 use Rattle.road_cells.specs.Cars.{cars_of}
 use Rattle.road_workers.specs.Private.Gathered.{cars_on_first}

@@ -8,7 +8,7 @@ use Rattle.road_workers.specs.Private.Stretches.{IsRunOf}
 use Rattle.road_workers.proofs.StretchCars.{run-nearby}
 use Rattle.road_workers.proofs.pool.side_by_side.is_asked.Goals as goal
 
--- what follows for each result follows where there is one
+-- what follows for each result follows if there is one
 if_ok : {A E : Type 0} (P Q : A → Type 0) (answer : Result A E) → ((a : A) → P a → Q a) → IfOk answer P → IfOk answer Q
 if_ok P Q (Ok a) follows holds = follows a holds
 if_ok P Q (Err fault) follows holds = tt

@@ -1,4 +1,4 @@
--- One stretch more is the road up to its end.
+-- With one more stretch, the results are those of the road up to its end.
 use Rattle.std.proofs.Common.{rules, arith, ◌≡◌, ◌<◌, ◌+◌, length, slice_index_or, vec_len, ap, subst, ◌∙◌, IfOk, IfSome, IsSome, ◌++◌, ◌∷◌, []}
 use Rattle.std.specs.Vec.Iter.{into_iter_items}
 use Rattle.std.proofs.lemmas.List.{length-append}

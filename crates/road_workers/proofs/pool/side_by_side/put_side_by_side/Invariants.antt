@@ -1,4 +1,4 @@
--- The loop that puts what the stretches come to one behind the other.
+-- The loop that joins the results of the stretches, one after another.
 use Rattle.std.proofs.Common.{◌≡◌, ◌+◌, length, vec_len, IfOk}
 use Rattle.std.specs.Vec.Iter.{into_iter_items, into_iter_len}
 use Rattle.road_cells.specs.Cars.{cars_of}

@@ -1,4 +1,4 @@
--- What was given is what the job came to.
+-- What was sent is the result of the job.
 use Rattle.road_workers.proofs.pool.working.answer_job.Goals as goal
 
 pub returns-clause-taken : goal.returns-clause-taken

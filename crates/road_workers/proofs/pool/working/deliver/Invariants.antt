@@ -1,4 +1,4 @@
--- The loop that offers a reply.
+-- The loop that sends a reply until it is taken, or nobody takes replies.
 use Rattle.std.proofs.Common.{◌≡◌}
 use Rattle.road_workers.proofs.pool.working.deliver.Given as goal
 

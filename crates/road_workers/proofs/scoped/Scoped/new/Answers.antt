@@ -1,4 +1,4 @@
--- No worker has begun.
+-- A new crew has never answered `WorkersGone`.
 use Rattle.std.proofs.Common.{rules}
 use Rattle.road_workers.proofs.scoped.Scoped.new.Goals as goal
 

@@ -1,4 +1,4 @@
--- On the stretch the road is that after the span, and so are the counts.
+-- On the stretch, the road and the counts are those after the span.
 use Rattle.std.proofs.Common.{◌-◌, length, ap, subst, sym, if◌then◌else◌, ◌∙◌, arith}
 use Rattle.std.specs.List.{slice_index_or}
 use Rattle.road_ends.specs.Laws.{AgreeBetween}

@@ -5,7 +5,7 @@ use Rattle.road_detector.specs.Passes.{no_totals}
 use Rattle.road_workers.specs.Private.Stretches.{has_site}
 use Rattle.road_workers.proofs.stretch.cutting.forget_outside.Given as goal
 
--- those so far count on the stretch alone, and the others are as they were
+-- the detectors so far have counts only if they are on the stretch, and the others are as they were
 abbrev pub invariant-loop-detector : goal.invariant-loop-detector
 invariant-loop-detector l = record {
   many : length l.totals.items ≡ length l.fn.totals.items;

@@ -1,4 +1,4 @@
--- Two stretches side by side are one.
+-- Two stretches side by side are one stretch.
 use Rattle.std.proofs.Common.{◌++◌, length, ap, sym, subst, ◌∙◌, arith}
 use Rattle.road_workers.specs.Private.Stretches.{AreTotalsOn}
 use Rattle.road_workers.proofs.SideBySide.{cars_beside, beside_fit, both_totals}
