@@ -52,8 +52,8 @@ pub record MakesRows (old new : IntervalWords) : Type 0 where
   pub drawn : new.drawn ≡ old.drawn
   pub inlets : new.inlets.items ≡ old.inlets.items
 
--- there is room for this many cars to enter: behind the cars at their places if the words are drawn, else once the
--- cars are moved back to the first places
+-- there is room for this many cars to enter: if the words are drawn, behind the cars at their present places; else once
+-- the cars are moved back to the first places
 pub record HaveRoom (entries : ℕ) (cars : CarColumns) (words : IntervalWords) : Type 0 where
   pub rows_each : length words.rows.items ≡ 64 * (length cars.cells.items + 8)
   pub room : cars.tail - cars.head + entries + 9 ≤ length cars.cells.items

@@ -43,7 +43,7 @@ pub record AreTotalsOn (lo hi : ℕ) (span : Span) (k : ℕ) (a : Array) (totals
   pub each : length totals ≡ length span.plan.detectors
   pub counted : (d : ℕ) → d < length totals → slice_index_or totals d no_totals ≡ total_on lo hi span k a d
 
--- a stretch was run: it has the cars of the road after the span, and its detectors have counted the whole span
+-- a stretch was run: the cars on it are those of the road after the span, and its detectors have counted the whole span
 pub record IsRunOf (lo hi : ℕ) (span : Span) (a : Array) (ran : SpanResult) : Type 0 where
   pub cars : cars_between lo hi ran.road ≡ cars_between lo hi (span_road span a)
   pub totals : AreTotalsOn lo hi span span.steps a ran.totals.items
@@ -59,8 +59,8 @@ abbrev pub IsRunnableNear : ℕ → ℕ → Span → Array → Type 0
 IsRunnableNear lo hi span near = IsRunnable (lo - GREATEST_SPEED * span.steps)
     (min (hi + GREATEST_SPEED * span.steps) span.plan.cells) span.plan near
 
--- where stretch number w of n begins, on a road of this many cells: at the car that has w n-th parts of the cars behind
--- it; the first stretch begins at the start of the road, and the last one ends at its end
+-- where stretch number w of n begins, on a road of this many cells: at the car that has about the fraction w / n of all
+-- cars behind it; the first stretch begins at the start of the road, and the last one ends at its end
 abbrev pub cut : ℕ → List Car → ℕ → ℕ → ℕ
 cut cells cars n w =
     if nat_eq w 0 then 0
