@@ -74,7 +74,7 @@ impl Settings {
         self.have_sizes(plan) && self.are_allowed() && self.have_blocks(plan)
     }
 
-    // Return whether the lists for zones, inlets and detectors have one entry for each of the plan's.
+    // Return whether each list has one entry for each zone, inlet or detector of the plan; blocked cells are not counted.
     fn have_sizes(&self, plan: &Plan) -> bool
         ensures { IsTrue result ↔ (
             (length self.now.limits ≡ length plan.now.zones)
