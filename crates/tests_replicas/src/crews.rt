@@ -1,7 +1,6 @@
-//! Crews that fail, and the result: the replica is unchanged, and the same write then succeeds as if nothing had
-//! happened.
+//! Crews that fail. The replica stays unchanged, and the same write then succeeds as if nothing had happened.
 
-use crate::growing::outlives_all;
+use crate::growing::extension_survives;
 use crate::replicas::{Write, apply_write, replica_after};
 use road_ends::Meter;
 use road_replica::{Replica, ReplicaFault, Reply};
@@ -19,8 +18,8 @@ const BLOCKED: &[Edit] = &[edit!(BLOCK, 4, (1, 64), 1)];
 /// The edits before the crew fails: the limit is 1 from step 2 on.
 const SLOWED: &[Write] = &[Write::Edit(LIMIT, 2, 1), Write::Advance(6)];
 
-/// A write after others, its reply, how many steps it computes, and in how many runs. A run ends where an edit takes
-/// effect, or an interval of 64 steps ends.
+/// A write after other writes, its reply, the number of steps that it computes, and the number of runs. A run ends
+/// where an edit takes effect, or where an interval of 64 steps ends.
 struct Case(&'static [Write], Write, Reply, u64, u64);
 
 const CASES: &[Case] = &[
@@ -85,7 +84,7 @@ pub(crate) fn is_as(alloc: Global, sheet: &Sheet, portrait: &Portrait) -> Result
     Ok(draw(alloc, sheet)?.is_same(portrait))
 }
 
-// Return whether a write is refused for a fault of its crew, and leaves the replica as it was drawn.
+// Return whether a write is refused for a fault of its crew, and leaves the replica as it was drawn before.
 fn is_lost_from<C: Crew>(
     alloc: Global,
     replica: &mut Replica,
@@ -114,7 +113,7 @@ fn is_lost<C: Crew>(
     is_lost_from(alloc, replica, case, crew, meter, fault, &before)
 }
 
-// Return whether a write succeeds, and the replica then shows what it must.
+// Return whether a write succeeds, and the replica then shows what it should show.
 fn is_done<C: Crew>(
     alloc: Global,
     replica: &mut Replica,
@@ -129,8 +128,8 @@ fn is_done<C: Crew>(
     is_as(alloc, replica.sheet(), last)
 }
 
-// Return whether a replica survives a crew that fails after this many steps.
-fn outlives_leaving(
+// Return whether a replica survives a crew that fails after `calls` steps.
+fn survives_failing_step(
     alloc: Global,
     replica: &mut Replica,
     case: &Case,
@@ -148,14 +147,13 @@ fn outlives_leaving(
     is_done(alloc, replica, case, &mut crew, &mut meter, last)
 }
 
-// Return whether a crew has counted the steps of its runs, and has failed or not.
+// Return whether a crew has counted the steps of its runs, and has failed if it should.
 fn has_counted<C>(crew: &Running<C>, before: u64, ticks: u64, has_failed: bool) -> bool {
     ticks == crew.steps.saturating_sub(before) && crew.fault.is_none() == has_failed
 }
 
-// Return whether a replica survives a crew that fails at the run after this many runs, and counts the steps of its
-// runs.
-fn outlives_failing<C: Crew>(
+// Return whether a replica survives a crew that fails after this many runs, and counts the steps of its runs.
+fn survives_failing_run<C: Crew>(
     alloc: Global,
     replica: &mut Replica,
     case: &Case,
@@ -173,19 +171,19 @@ fn outlives_failing<C: Crew>(
     Ok(is_done && has_counted(crew, steps, meter.ticks(), fails))
 }
 
-// Return whether a new replica survives a crew that fails after this many steps.
-fn new_outlives_leaving(
+// Return whether a new replica survives a crew that fails after `calls` steps.
+fn new_survives_failing_step(
     alloc: Global,
     case: &Case,
     calls: u64,
     last: &Portrait,
 ) -> Result<bool, Fail> {
     let mut replica = replica_after(alloc, 0, case.0)?;
-    outlives_leaving(alloc, &mut replica, case, calls, last)
+    survives_failing_step(alloc, &mut replica, case, calls, last)
 }
 
-// Return whether a new replica survives a crew that fails at the run after this many runs.
-fn new_outlives_failing<C: Crew>(
+// Return whether a new replica survives a crew that fails after this many runs.
+fn new_survives_failing_run<C: Crew>(
     alloc: Global,
     case: &Case,
     crew: &mut Running<C>,
@@ -193,21 +191,21 @@ fn new_outlives_failing<C: Crew>(
     last: &Portrait,
 ) -> Result<bool, Fail> {
     let mut replica = replica_after(alloc, 0, case.0)?;
-    outlives_failing(alloc, &mut replica, case, crew, failing, last)
+    survives_failing_run(alloc, &mut replica, case, crew, failing, last)
 }
 
 // Return whether a write survives a crew that fails at any of its steps.
-fn outlives_any_step(alloc: Global, case: &Case, last: &Portrait) -> Result<bool, Fail> {
+fn survives_any_step(alloc: Global, case: &Case, last: &Portrait) -> Result<bool, Fail> {
     for calls in 0..case.3 {
-        if !new_outlives_leaving(alloc, case, calls, last)? {
+        if !new_survives_failing_step(alloc, case, calls, last)? {
             return Ok(false);
         }
     }
     Ok(true)
 }
 
-// Return whether a write survives a crew that fails with this fault at any of its runs, and no run comes after them.
-fn outlives_any_run<C: Crew>(
+// Return whether a write survives a crew that fails with this fault at any of its runs, and makes no further run.
+fn survives_any_run<C: Crew>(
     alloc: Global,
     case: &Case,
     crew: &mut Running<C>,
@@ -215,14 +213,14 @@ fn outlives_any_run<C: Crew>(
     last: &Portrait,
 ) -> Result<bool, Fail> {
     for runs in 0..=case.4 {
-        if !new_outlives_failing(alloc, case, crew, (runs, fault), last)? {
+        if !new_survives_failing_run(alloc, case, crew, (runs, fault), last)? {
             return Ok(false);
         }
     }
     Ok(true)
 }
 
-// Draw a replica once the writes of a case are made.
+// Make the last write of a case, and draw the replica.
 fn draw_after(alloc: Global, replica: &mut Replica, case: &Case) -> Result<Portrait, Fail> {
     apply_write(alloc, replica, case.1, &mut Alone, &mut Meter::new())?;
     draw(alloc, replica.sheet())
@@ -234,39 +232,40 @@ fn last_of(alloc: Global, case: &Case) -> Result<Portrait, Fail> {
     draw_after(alloc, &mut replica, case)
 }
 
-// Return whether a write survives all that.
-fn outlives<C: Crew>(
+// Return whether a write survives a crew that fails at any of its steps, and at any of its runs with either fault.
+fn survives<C: Crew>(
     alloc: Global,
     case: &Case,
     crew: &mut Running<C>,
     last: &Portrait,
 ) -> Result<bool, Fail> {
     Ok(
-        outlives_any_step(alloc, case, last)?
-            && outlives_any_run(alloc, case, crew, CrewFault::WorkersGone, last)?
-            && outlives_any_run(alloc, case, crew, CrewFault::OutOfMemory, last)?,
+        survives_any_step(alloc, case, last)?
+            && survives_any_run(alloc, case, crew, CrewFault::WorkersGone, last)?
+            && survives_any_run(alloc, case, crew, CrewFault::OutOfMemory, last)?,
     )
 }
 
-// Return whether a write survives all that, and shows what a single caller computes.
-fn case_outlives<C: Crew>(alloc: Global, case: &Case, crew: &mut Running<C>) -> Result<bool, Fail> {
+// Return whether the write of a case survives crews that fail, and the replica then shows what a single caller
+// computes.
+fn case_survives<C: Crew>(alloc: Global, case: &Case, crew: &mut Running<C>) -> Result<bool, Fail> {
     let last = last_of(alloc, case)?;
-    outlives(alloc, case, crew, &last)
+    survives(alloc, case, crew, &last)
 }
 
-// Check all writes, and a sheet that is extended.
-fn all_outlive<C: Crew>(rt: &impl Abort, alloc: Global, crew: &mut Running<C>) -> Result<(), Fail> {
+// Check the writes of all cases, and a sheet that is extended.
+fn check_all<C: Crew>(rt: &impl Abort, alloc: Global, crew: &mut Running<C>) -> Result<(), Fail> {
     for (number, case) in CASES.iter().enumerate() {
-        assert!(rt; case_outlives(alloc, case, crew)?, "write {number}");
+        assert!(rt; case_survives(alloc, case, crew)?, "write {number}");
     }
-    assert!(rt; outlives_all(alloc, crew)?);
+    assert!(rt; extension_survives(alloc, crew)?);
     Ok(())
 }
 
 #[test]
-fn a_replica_outlives_a_crew_that_fails_at_any_call(rt: HostRuntime) -> Result<(), Fail> {
+fn a_replica_survives_a_crew_that_fails_at_any_call(rt: HostRuntime) -> Result<(), Fail> {
     let mut running = Running::of(Pool::start(rt.clone()?, rt.alloc(), 1)?);
-    let done = all_outlive(&rt, rt.alloc(), &mut running);
+    let done = check_all(&rt, rt.alloc(), &mut running);
     let Running { crew, .. } = running;
     crew.finish();
     done

@@ -1,4 +1,4 @@
-//! Writes with their replies, and what the replica holds and shows then.
+//! Writes with their replies, and what the replica then holds and shows.
 
 use crate::replicas::{Write, apply_write, holds, open_on, shows};
 use road_ends::Meter;
@@ -16,7 +16,7 @@ use tests_plans::{
 /// A write to a replica, and its reply.
 type Answered = (Write, Result<Reply, ReplicaFault>);
 
-/// All writes to a new replica, the edits that it holds then, and rows that it shows.
+/// All writes to a new replica, the edits that it then holds, and rows that it shows.
 #[derive(Clone, Copy)]
 struct Example {
     parts: Parts,
@@ -26,7 +26,7 @@ struct Example {
     rows: &'static [Row],
 }
 
-/// The greatest count of a stamp.
+/// The maximum count of a stamp.
 const MOST: u64 = 281_474_976_710_656;
 
 const FREE_ROAD: Example = Example {
@@ -62,7 +62,7 @@ const WITHDRAWAL: Example = Example {
     ..FREE_ROAD
 };
 
-/// Standing cars never start, because of a late edit from step 3 on.
+/// Standing cars never start, because of a late edit that takes effect from step 3 on.
 const SLOW_TO_START: Example = Example {
     writes: pairs![
         Write::Edit(START, 0, 65_536) => Ok(Reply::Stamped(stamp!(1, 0))),
@@ -115,8 +115,8 @@ const QUICK_START_WITHDRAWN: Example = Example {
     ..QUICK_TO_START
 };
 
-/// A chance of all cars also applies to standing cars, from its step on, and however late it comes, unless these have
-/// their own.
+/// A slowing chance of all cars also applies to standing cars, from its step on and however late it comes, unless
+/// standing cars have their own chance.
 const SLOWED_LATE: Example = Example {
     writes: pairs![
         Write::Advance(6) => Ok(Reply::Horizon(6)),
@@ -154,7 +154,7 @@ const SLOWED_BELOW_A_START: Example = Example {
     ..FREE_ROAD
 };
 
-/// The last step of the longest run is edited, and a step far away from it.
+/// The last step of the longest run is edited, and then a step far away from it.
 const GREATEST_HORIZON: Example = Example {
     writes: pairs![
         Write::Edit(Object::Block(0), 0, 1) => Ok(Reply::Stamped(stamp!(1, 0))),
@@ -173,7 +173,7 @@ const GREATEST_HORIZON: Example = Example {
     ..FREE_ROAD
 };
 
-/// No count is left above the greatest.
+/// No count is left above the maximum count.
 const COUNTS_SPENT: Example = Example {
     writes: pairs![
         Write::Import(&[edit!(LIMIT, 0, (MOST, 64), 1)]) => Ok(Reply::Touched(Some(0))),
@@ -218,7 +218,7 @@ const REFUSED_IMPORTS: Example = Example {
     ..REFUSALS
 };
 
-/// Of equal stamps the greater number wins, whichever comes first.
+/// If two edits have equal stamps, the greater number wins, whichever comes first.
 const RISING_NUMBERS: Example = Example {
     writes: pairs![
         Write::Import(&[edit!(LIMIT, 0, (7, 64), 2)]) => Ok(Reply::Touched(Some(0))),
@@ -288,7 +288,7 @@ fn shows_rows(alloc: Global, replica: &Replica, example: &Example) -> Result<boo
     Ok(true)
 }
 
-// Return whether a replica does everything that an example says.
+// Return whether a replica answers, holds and shows what an example says.
 fn follow_example(alloc: Global, replica: &mut Replica, example: &Example) -> Result<bool, Fail> {
     Ok(
         answers(alloc, replica, example)
@@ -297,7 +297,7 @@ fn follow_example(alloc: Global, replica: &mut Replica, example: &Example) -> Re
     )
 }
 
-// Return whether a new replica does.
+// Return whether a new replica answers, holds and shows what an example says.
 fn open_and_follow_example(alloc: Global, example: &Example) -> Result<bool, Fail> {
     let mut replica = open_on(alloc, &example.parts, example.number)?;
     follow_example(alloc, &mut replica, example)
@@ -315,7 +315,7 @@ fn writes_are_answered(rt: HostRuntime) -> Result<(), Fail> {
 }
 
 #[test]
-fn writes_near_the_greatest_horizon_are_answered(rt: HostRuntime) -> Result<(), Fail> {
+fn writes_near_the_maximum_horizon_are_answered(rt: HostRuntime) -> Result<(), Fail> {
     assert!(&rt; open_and_follow_example(rt.alloc(), &GREATEST_HORIZON)?);
     Ok(())
 }

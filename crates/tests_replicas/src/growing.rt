@@ -19,13 +19,14 @@ use tests_portraits::Portrait;
 /// The late edit that closes cell 8 from step 4 on.
 const CLOSING: &[Edit] = &[edit!(BLOCK, 4, (1, 0), 1)];
 
-/// The runs of a sheet at step 70 that takes this edit, up to step 134: to step 4, and to the ends of three intervals.
+/// The number of runs of a sheet at step 70 that takes this edit and advances to step 134: to step 4, and to the ends
+/// of three intervals.
 const RUNS: u64 = 4;
 
 /// That step.
 const END: u32 = 134;
 
-// Return the sheet with a scenario, simulated up to a step by a crew, or why it failed.
+// Return the sheet with these edits, simulated up to a step by a crew, or why the crew failed.
 fn extend_by<C: Crew>(
     alloc: Global,
     sheet: &Sheet,
@@ -45,7 +46,7 @@ fn extend_by<C: Crew>(
     }
 }
 
-// Do so with some edits.
+// Extend a sheet by some edits, and return it or why the crew failed.
 fn extend<C: Crew>(
     alloc: Global,
     sheet: &Sheet,
@@ -60,8 +61,8 @@ fn extend<C: Crew>(
     extend_by(alloc, sheet, &scenario, to, crew, meter)
 }
 
-// Return whether a sheet fails with a crew that fails at the run after this many runs. The steps of these are
-// counted, and the sheet is unchanged.
+// Return whether a sheet is not extended if its crew fails after this many runs. The steps of these runs must be
+// counted, and the sheet must be unchanged.
 fn is_refused<C: Crew>(
     alloc: Global,
     sheet: &Sheet,
@@ -79,7 +80,7 @@ fn is_refused<C: Crew>(
     is_as(alloc, sheet, before)
 }
 
-// Draw the extended sheet of a crew.
+// Extend a sheet with a crew, and draw the result.
 fn draw_extended<C: Crew>(
     alloc: Global,
     sheet: &Sheet,
@@ -90,13 +91,14 @@ fn draw_extended<C: Crew>(
     draw(alloc, &made)
 }
 
-// Return whether a single caller computes this sheet step by step.
+// Return whether a single caller computes the same extended sheet step by step.
 fn is_made_alone(alloc: Global, sheet: &Sheet, portrait: &Portrait) -> Result<bool, Fail> {
     let mut alone = StepByStep { crew: Alone };
     Ok(draw_extended(alloc, sheet, &mut alone, &mut Meter::new())?.is_same(portrait))
 }
 
-// Return whether a crew computes the same sheet as a single caller step by step, and all its steps are counted.
+// Return whether a crew computes the same extended sheet as a single caller step by step, and all its steps are
+// counted.
 fn grows<C: Crew>(alloc: Global, sheet: &Sheet, crew: &mut Running<C>) -> Result<bool, Fail> {
     let (steps, mut meter) = (crew.steps, Meter::new());
     let made = draw_extended(alloc, sheet, crew, &mut meter)?;
@@ -105,8 +107,8 @@ fn grows<C: Crew>(alloc: Global, sheet: &Sheet, crew: &mut Running<C>) -> Result
     Ok(is_made? && counted == (u64::from(END), u64::from(END)))
 }
 
-// Return whether each run that fails in turn with a fault leaves the sheet unchanged, and no run comes after them.
-fn outlives_any_run<C: Crew>(
+// Return whether each run that fails in turn with a fault leaves the sheet unchanged, and there is no further run.
+fn survives_any_run<C: Crew>(
     alloc: Global,
     sheet: &Sheet,
     crew: &mut Running<C>,
@@ -122,23 +124,23 @@ fn outlives_any_run<C: Crew>(
     Ok(grows(alloc, sheet, crew)? && crew.fault.is_some())
 }
 
-// Return whether they do with either fault, compared with what was drawn of the sheet.
-fn outlives_beside<C: Crew>(
+// Return whether the sheet stays as it was drawn if any run fails with either fault.
+fn survives_either_fault<C: Crew>(
     alloc: Global,
     sheet: &Sheet,
     crew: &mut Running<C>,
     before: &Portrait,
 ) -> Result<bool, Fail> {
     Ok(
-        outlives_any_run(alloc, sheet, crew, CrewFault::WorkersGone, before)?
-            && outlives_any_run(alloc, sheet, crew, CrewFault::OutOfMemory, before)?,
+        survives_any_run(alloc, sheet, crew, CrewFault::WorkersGone, before)?
+            && survives_any_run(alloc, sheet, crew, CrewFault::OutOfMemory, before)?,
     )
 }
 
-// Return whether a sheet survives them.
-fn outlives<C: Crew>(alloc: Global, sheet: &Sheet, crew: &mut Running<C>) -> Result<bool, Fail> {
+// Draw a sheet, and return whether it survives runs that fail.
+fn survives<C: Crew>(alloc: Global, sheet: &Sheet, crew: &mut Running<C>) -> Result<bool, Fail> {
     let before = draw(alloc, sheet)?;
-    outlives_beside(alloc, sheet, crew, &before)
+    survives_either_fault(alloc, sheet, crew, &before)
 }
 
 // Return the sheet of the free road before any step.
@@ -154,7 +156,10 @@ fn sheet_at_70(alloc: Global) -> Result<Sheet, Fail> {
 }
 
 /// Return whether a sheet that is extended survives a crew that fails at any run, with either fault.
-pub(crate) fn outlives_all<C: Crew>(alloc: Global, crew: &mut Running<C>) -> Result<bool, Fail> {
+pub(crate) fn extension_survives<C: Crew>(
+    alloc: Global,
+    crew: &mut Running<C>,
+) -> Result<bool, Fail> {
     let sheet = sheet_at_70(alloc)?;
-    outlives(alloc, &sheet, crew)
+    survives(alloc, &sheet, crew)
 }

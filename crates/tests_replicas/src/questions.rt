@@ -17,7 +17,7 @@ const DIAGRAMS: &[(u32, u32, Result<usize, ReplicaFault>)] = &[
     (2, 1_025, Err(ReplicaFault::NotSimulated)),
 ];
 
-/// The rows from 4 to 6 with the cell 8 blocked from step 4 on.
+/// The rows from step 4 to step 6 with cell 8 blocked from step 4 on.
 const BLOCKED: &[&str] = &["0..2...2#...", ".1...2.0#...", "0..2..10#..."];
 
 // Return whether the rows of a diagram are these.
@@ -30,7 +30,7 @@ fn are_rows(rows: &[String], texts: &[&str]) -> bool {
     rows.len() == texts.len()
 }
 
-// Return whether the rows of a replica are refused as a table says, and the returned rows are the worked ones.
+// Return whether a replica refuses diagrams as a table says, and returns the worked rows otherwise.
 fn has_diagrams(alloc: Global, replica: &Replica) -> Result<bool, ReplicaFault> {
     for &(from, to, rows) in DIAGRAMS {
         if replica.rows(alloc, from, to).map(|rows| rows.len()) != rows {
@@ -48,7 +48,7 @@ fn a_diagram_has_at_most_1024_rows(rt: HostRuntime) -> Result<(), Fail> {
     Ok(())
 }
 
-// Return whether a cache answers one query after another as worked, with the cell 8 blocked from step 4 on.
+// Return whether a cache gives the worked answers to one query after another, with cell 8 blocked from step 4 on.
 fn answers_from_cache(alloc: Global, sheet: &Sheet) -> Result<bool, ReplicaFault> {
     let mut cache = QueryCache::new();
     let is_row = cache.row(alloc, sheet, 4)?.as_str() == "0..2...2#...";

@@ -1,4 +1,4 @@
-//! Queries of a replica of the free road, with each refusal: before any step, of its worked counts, and at the greatest
+//! Queries of a replica of the free road, with each refusal: before any step, for its worked counts, and at the maximum
 //! horizon.
 
 use crate::replicas::{Write, open, replica_after, shows};
@@ -10,7 +10,7 @@ use std::alloc::Global;
 use std::test::Fail;
 use tests_plans::pairs;
 
-// Return whether a replica refuses to show a step: its road, and its row.
+// Return whether a replica refuses to show a step, both its road and its row.
 fn is_refused_at(alloc: Global, replica: &Replica, step: u32, fault: ReplicaFault) -> bool {
     replica.state(alloc, step).err() == Some(fault)
         && replica.rows(alloc, step, step).err() == Some(fault)
@@ -38,7 +38,7 @@ fn advances(
 }
 
 #[test]
-fn a_replica_shows_step_zero_alone_before_it_advances(rt: HostRuntime) -> Result<(), Fail> {
+fn a_replica_shows_only_step_zero_before_it_advances(rt: HostRuntime) -> Result<(), Fail> {
     let alloc = rt.alloc();
     let mut replica = open(alloc, 0)?;
     assert!(&rt; is_empty_at(alloc, &replica, 0, "............")?);
@@ -49,8 +49,8 @@ fn a_replica_shows_step_zero_alone_before_it_advances(rt: HostRuntime) -> Result
     Ok(())
 }
 
-/// A detector and two steps, and the cars and speeds that it counts from the first step to before the second. The first
-/// car drives from cell 3 to 5 in step 2, the second in step 4.
+/// A detector and two steps, and what it counts from the first step to before the second: cars and the sum of their
+/// speeds. The first car drives from cell 3 to 5 in step 2, the second in step 4.
 type Count = ((u32, u32, u32), Result<(u32, u32), ReplicaFault>);
 
 const COUNTS: &[Count] = pairs![
@@ -74,7 +74,7 @@ fn counts(alloc: Global, replica: &Replica) -> bool {
 }
 
 #[test]
-fn a_replica_counts_or_says_why_not(rt: HostRuntime) -> Result<(), Fail> {
+fn a_count_is_answered_or_refused_as_worked_out(rt: HostRuntime) -> Result<(), Fail> {
     let replica = replica_after(rt.alloc(), 0, &[Write::Advance(6)])?;
     assert!(&rt; counts(rt.alloc(), &replica));
     Ok(())
@@ -87,7 +87,7 @@ const CLOSED: &[Write] = &[
 ];
 
 #[test]
-fn a_replica_shows_the_greatest_horizon_and_nothing_behind(rt: HostRuntime) -> Result<(), Fail> {
+fn a_replica_shows_the_maximum_horizon_and_nothing_after_it(rt: HostRuntime) -> Result<(), Fail> {
     let alloc = rt.alloc();
     let mut replica = replica_after(alloc, 0, CLOSED)?;
     let refused = Err(ReplicaFault::Horizon);

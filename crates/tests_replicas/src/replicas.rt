@@ -1,4 +1,4 @@
-//! Replicas, most of them of the free road, and writes to them as in tables.
+//! Replicas, most of them of the free road, and writes to them in the form that tables use.
 
 use road_ends::Meter;
 use road_plan::Object;
@@ -64,7 +64,7 @@ pub(crate) fn apply_write<C: Crew>(
     }
 }
 
-/// Make a replica of the free road after some writes that it accepts, with a crew of one.
+/// Make a replica of the free road, and let it accept some writes with the crew of one.
 pub(crate) fn replica_after(alloc: Global, number: u8, writes: &[Write]) -> Result<Replica, Fail> {
     let mut replica = open(alloc, number)?;
     for write in writes {

@@ -30,7 +30,7 @@ fn keeps(alloc: Global, cars: &[Car]) -> Result<bool, OutOfMemory>
 }
 
 #[test]
-fn keeps_and_copies_the_cars(rt: HostRuntime) -> Result<(), Fail> {
+fn a_road_stores_and_copies_its_cars(rt: HostRuntime) -> Result<(), Fail> {
     assert_row(&rt, 0, keeps(rt.alloc(), CARS)?);
     assert_row(&rt, 1, keeps(rt.alloc(), &[])?);
     Ok(())
@@ -42,7 +42,7 @@ fn an_empty_road_has_no_car(rt: HostRuntime) {
     assert_row(&rt, 0, road.cars().is_empty() && road.car_at(0).is_none());
 }
 
-/// A cell, the number of the car there, and the number of cars before the cell.
+/// A cell, the number of the car there, if there is one, and the number of cars before the cell.
 const FOUND: &[(u32, Option<u64>, usize)] = &[
     (0, Some(80), 0),
     (1, None, 1),
@@ -55,7 +55,7 @@ const FOUND: &[(u32, Option<u64>, usize)] = &[
     (4_294_967_295, None, 3),
 ];
 
-// Return whether that car is found at the cell, and this many cars before it.
+// Return whether the search finds this car at the cell, and this many cars before it.
 fn is_found(road: &Road, (cell, number, before): &(u32, Option<u64>, usize)) -> bool {
     let found = match road.car_at(*cell) {
         Some(car) => Some(car.number),
@@ -65,7 +65,7 @@ fn is_found(road: &Road, (cell, number, before): &(u32, Option<u64>, usize)) -> 
 }
 
 #[test]
-fn finds_the_car_of_a_cell(rt: HostRuntime) -> Result<(), Fail> {
+fn the_car_of_a_cell_is_found(rt: HostRuntime) -> Result<(), Fail> {
     let road = road_of(rt.alloc(), CARS)?;
     for (row, found) in FOUND.iter().enumerate() {
         assert_row(&rt, row, is_found(&road, found));
@@ -73,7 +73,8 @@ fn finds_the_car_of_a_cell(rt: HostRuntime) -> Result<(), Fail> {
     Ok(())
 }
 
-/// Two cells, and which cars are from the first to before the second: the first of them, and the one after the last.
+/// Two cells, and the places of the cars from the first cell to before the second: the first place, and the place after
+/// the last.
 const BETWEEN: &[((u32, u32), (usize, usize))] = &[
     ((0, 3), (0, 1)),
     ((3, 7), (1, 2)),
@@ -82,7 +83,7 @@ const BETWEEN: &[((u32, u32), (usize, usize))] = &[
 ];
 
 #[test]
-fn finds_the_cars_between_cells(rt: HostRuntime) -> Result<(), Fail> {
+fn the_cars_between_two_cells_are_found(rt: HostRuntime) -> Result<(), Fail> {
     let road = road_of(rt.alloc(), CARS)?;
     for (row, ((from, to), (first, end))) in BETWEEN.iter().enumerate() {
         let between = road.between(*from, *to);
@@ -94,11 +95,11 @@ fn finds_the_cars_between_cells(rt: HostRuntime) -> Result<(), Fail> {
 /// Blocked cells, and the free cells in front of the last car, which is at cell 7. The road has no end here.
 const TO_BLOCK: &[(&[u32], u8)] = &[
     (&[], GREATEST_SPEED),
-    // in the next, ninth and tenth cell
+    // a block in the next, the ninth and the tenth cell
     (&[8], 0),
     (&[16], 8),
     (&[17], 9),
-    // behind the car and under it, and the first of two
+    // blocks behind the car and under it, and the first of two blocks in front
     (&[0, 6, 7], 9),
     (&[3, 12, 15], 4),
 ];
@@ -106,7 +107,7 @@ const TO_BLOCK: &[(&[u32], u8)] = &[
 /// Blocked cells, and the free cells in front of the second car, which is at cell 3.
 const TO_CAR: &[(&[u32], u8)] = &[
     (&[], 3),
-    // before the next car, under it and past it
+    // a block in front of the next car, under it and past it
     (&[5], 1),
     (&[7], 3),
     (&[9], 3),
@@ -129,7 +130,7 @@ fn sees(road: &Road, place: usize, (blocks, gap): &(&[u32], u8)) -> bool {
 }
 
 #[test]
-fn sees_the_next_car_or_block(rt: HostRuntime) -> Result<(), Fail> {
+fn a_gap_ends_at_the_next_car_or_block(rt: HostRuntime) -> Result<(), Fail> {
     let road = road_of(rt.alloc(), CARS)?;
     for (row, said) in TO_BLOCK.iter().enumerate() {
         assert_row(&rt, row, sees(&road, 2, said));
@@ -140,14 +141,14 @@ fn sees_the_next_car_or_block(rt: HostRuntime) -> Result<(), Fail> {
     Ok(())
 }
 
-/// Cars with the next one in the next, ninth, tenth and eleventh cell.
+/// Cars whose next car is in the next, ninth, tenth and eleventh cell.
 const FAR: &[Car] = cars![(1, 5, 0), (2, 6, 0), (3, 15, 0), (4, 25, 0), (5, 36, 0)];
 
 /// The gap of each of them except the last.
 const GAPS: &[u8] = &[0, 8, 9, 9];
 
 #[test]
-fn sees_nine_cells_far(rt: HostRuntime) -> Result<(), Fail> {
+fn a_gap_is_at_most_nine_cells(rt: HostRuntime) -> Result<(), Fail> {
     let road = road_of(rt.alloc(), FAR)?;
     for (place, gap) in GAPS.iter().enumerate() {
         assert_row(&rt, place, sees(&road, place, &(&[], *gap)));
@@ -159,7 +160,7 @@ fn sees_nine_cells_far(rt: HostRuntime) -> Result<(), Fail> {
 const REACHED: &[(u32, usize)] = &[(2, 0), (3, 1), (11, 1), (12, 2), (14, 2), (15, 3), (20, 3)];
 
 #[test]
-fn counts_the_blocks_that_a_cell_has_reached(rt: HostRuntime) {
+fn blocks_that_a_cell_has_reached_are_counted(rt: HostRuntime) {
     let blocks = [3, 12, 15];
     for (row, (cell, count)) in REACHED.iter().enumerate() {
         let walked = reached_blocks_below(&blocks, *cell, 3);

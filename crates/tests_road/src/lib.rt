@@ -13,7 +13,7 @@ mod words;
 #[cfg(test)]
 use std::process::Abort;
 
-// Check the facts of a table's row.
+// Assert that a row of a table is right.
 #[cfg(test)]
 fn assert_row(rt: &impl Abort, row: usize, is_right: bool) {
     assert!(rt; is_right, "row {row}");

@@ -8,7 +8,7 @@ use std::process::Abort;
 use std::test::Fail;
 use tests_plans::{FREE, Parts, has_parts, pairs, plan_of};
 
-/// The greatest values of everything.
+/// The largest values of all parts.
 const GREATEST: Parts = Parts {
     road: (8_192, 64, 128),
     zones: &[(9, 65_536); 64],
@@ -17,14 +17,14 @@ const GREATEST: Parts = Parts {
     words: WordKind::Steady,
 };
 
-// Return whether a plan of these parts has them.
+// Return whether a plan that is made of these parts has them.
 fn is_read(alloc: Global, parts: &Parts) -> Result<bool, PlanFault> {
     let plan = plan_of(alloc, parts)?;
     Ok(has_parts(&plan, parts))
 }
 
 #[test]
-fn reads_the_parts(rt: HostRuntime) -> Result<(), Fail> {
+fn a_plan_has_the_parts_that_it_is_made_of(rt: HostRuntime) -> Result<(), Fail> {
     assert_row(&rt, 0, is_read(rt.alloc(), &FREE)?);
     assert_row(&rt, 1, is_read(rt.alloc(), &GREATEST)?);
     Ok(())
@@ -49,10 +49,10 @@ type Numbers = (
     &'static [u32],
 );
 
-/// The own settings of the plan of two zones.
+/// The own settings of the plan with two zones.
 const OWN: Numbers = (&[2, 1], &[10, 20], &[30], &[], 2, &[10, 20]);
 
-/// Settings, and whether they fit the plan of two zones.
+/// Settings, and whether they fit the plan with two zones.
 const FITTING: &[(Numbers, bool)] = pairs![
     OWN => true,
     (&[9, 0], &[65_536, 0], &[65_536], &[0, 5, 11], 2, &[0, 65_536]) => true,
@@ -99,7 +99,7 @@ fn settings_of(
     })
 }
 
-// Check that the settings of each row fit as it says.
+// Assert that the settings of each row fit the plan or not, as the row says.
 fn settings_fit(rt: &impl Abort, alloc: Global, plan: &Plan) -> Result<(), Fail> {
     for (row, (numbers, fits)) in FITTING.iter().enumerate() {
         assert_row(rt, row, settings_of(alloc, numbers)?.fits(plan) == *fits);
@@ -114,13 +114,13 @@ fn own_have(alloc: Global, plan: &Plan, numbers: &Numbers) -> Result<bool, OutOf
 }
 
 #[test]
-fn knows_the_settings_that_fit(rt: HostRuntime) -> Result<(), Fail> {
+fn settings_fit_a_plan_as_worked_out(rt: HostRuntime) -> Result<(), Fail> {
     let plan = plan_of(rt.alloc(), &TWO_ZONES)?;
     assert_row(&rt, 0, own_have(rt.alloc(), &plan, &OWN)?);
     settings_fit(&rt, rt.alloc(), &plan)
 }
 
-/// Objects in their order, each with its own number in the free road's plan, if it exists and has one, and the greatest
+/// Objects in their order. For each, its own number in the free road's plan, if the object exists, and the largest
 /// number that it allows.
 const OBJECTS: &[(Object, Option<u32>, u32)] = &[
     (Object::Limit(0), Some(2), 9),
@@ -138,7 +138,7 @@ const OBJECTS: &[(Object, Option<u32>, u32)] = &[
     (Object::Start(1), None, 65_536),
 ];
 
-// Return the own number of an object, if it is in the plan and has one.
+// Return the own number of an object, if the plan has the object and the object has a number.
 fn own_number(plan: &Plan, object: Object) -> Option<u32> {
     if object.in_plan(plan) && !object.is_start() {
         Some(object.default(plan))
@@ -147,28 +147,28 @@ fn own_number(plan: &Plan, object: Object) -> Option<u32> {
     }
 }
 
-// Return whether an object allows the numbers 0 and `greatest`, and not the next one.
-fn allows_up_to(object: Object, greatest: u32) -> bool {
-    object.allows(0) && object.allows(greatest) && !object.allows(greatest.saturating_add(1))
+// Return whether an object allows the numbers 0 and `largest`, and not the next number.
+fn allows_up_to(object: Object, largest: u32) -> bool {
+    object.allows(0) && object.allows(largest) && !object.allows(largest.saturating_add(1))
 }
 
-// Check that each object is as its row says, and after the one before it.
+// Assert that each object is as its row says, and after the object before it.
 fn objects_are_known(rt: &impl Abort, plan: &Plan) {
     let mut last = None;
-    for (row, (object, own, greatest)) in OBJECTS.iter().enumerate() {
+    for (row, (object, own, largest)) in OBJECTS.iter().enumerate() {
         let is_own = own_number(plan, *object) == *own;
         let is_behind = last < Some(*object);
         assert_row(
             rt,
             row,
-            is_own && is_behind && allows_up_to(*object, *greatest),
+            is_own && is_behind && allows_up_to(*object, *largest),
         );
         last = Some(*object);
     }
 }
 
 #[test]
-fn knows_the_objects_of_a_plan(rt: HostRuntime) -> Result<(), Fail> {
+fn objects_have_their_numbers_and_ranges(rt: HostRuntime) -> Result<(), Fail> {
     let plan = plan_of(rt.alloc(), &FREE)?;
     objects_are_known(&rt, &plan);
     Ok(())

@@ -29,13 +29,13 @@ const WANTED: &[(u8, u32, u8, u8)] = &[
 ];
 
 #[test]
-fn wants_the_least_of_three(rt: HostRuntime) {
+fn the_wanted_speed_is_the_least_of_three(rt: HostRuntime) {
     for (row, (speed, limit, gap, want)) in WANTED.iter().enumerate() {
         assert_row(&rt, row, wanted(*speed, *limit, *gap) == *want);
     }
 }
 
-/// Speed, greatest speed, distance to the next vehicle, and the speed after both rules.
+/// Speed, maximum speed, distance to the next vehicle, and the speed after both rules.
 const TWO_RULES: &[(u8, u8, u32, u8)] = &[
     (2, 5, 4, 3),
     (2, 5, 3, 2),
@@ -44,19 +44,19 @@ const TWO_RULES: &[(u8, u8, u32, u8)] = &[
     (3, 5, 1, 0),
     (4, 5, 6, 5),
     (5, 5, 10, 5),
-    // A speed above the greatest stays.
+    // A speed above the maximum stays.
     (5, 3, 10, 5),
 ];
 
 #[test]
-fn keeps_the_rules_of_1992(rt: HostRuntime) {
+fn the_two_rules_give_the_speeds_of_1992(rt: HostRuntime) {
     for (row, (speed, vmax, distance, want)) in TWO_RULES.iter().enumerate() {
         let keeps = *distance > 0 && two_rules(*speed, *vmax, *distance) == *want;
         assert_row(&rt, row, keeps);
     }
 }
 
-/// The least word whose upper bits are 30,011, and the greatest one.
+/// The smallest word whose upper bits are 30,011, and the largest.
 const LEAST: u32 = 1_966_800_896;
 
 const GREATEST: u32 = 1_966_866_431;
@@ -76,13 +76,13 @@ const SLOWED: &[(u8, u32, u32, u8)] = &[
 ];
 
 #[test]
-fn slows_below_the_chance(rt: HostRuntime) {
+fn a_car_is_slowed_if_its_word_is_below_the_chance(rt: HostRuntime) {
     for (row, (speed, word, chance, want)) in SLOWED.iter().enumerate() {
         assert_row(&rt, row, slowed(*speed, *word, *chance) == *want);
     }
 }
 
-// Return whether motion takes cars at these speeds to later places, and leaves the road unchanged.
+// Return whether these speeds move the cars to the later places, and leave the given road unchanged.
 fn moves(alloc: Global, cars: &[Car], speeds: &[u8], later: &[Car]) -> Result<bool, OutOfMemory>
     requires rise { AreRising cars.now }
     requires low { length (array_of cars.now) ≤ 65536 }
@@ -95,7 +95,7 @@ fn moves(alloc: Global, cars: &[Car], speeds: &[u8], later: &[Car]) -> Result<bo
 
 /// The first four motions of a road with limit 2, where a car enters at cell 0 whenever it is empty.
 #[test]
-fn moves_each_car_by_its_speed(rt: HostRuntime) -> Result<(), Fail> {
+fn each_car_moves_by_its_speed(rt: HostRuntime) -> Result<(), Fail> {
     let alloc = rt.alloc();
     let one = [car(0, 0, 0)];
     assert_row(&rt, 0, moves(alloc, &one, &[1], &[car(0, 1, 1)])?);
@@ -111,9 +111,9 @@ fn moves_each_car_by_its_speed(rt: HostRuntime) -> Result<(), Fail> {
     Ok(())
 }
 
-/// No car is lost at the greatest speed, nor after a car that stays, nor on an empty road.
+/// No car is lost at the maximum speed, nor behind a car that stays, nor on an empty road.
 #[test]
-fn moves_a_fast_car(rt: HostRuntime) -> Result<(), Fail> {
+fn no_car_is_lost_at_the_maximum_speed(rt: HostRuntime) -> Result<(), Fail> {
     let alloc = rt.alloc();
     let two = [car(2, 3, 4), car(1, 8, 9)];
     let later = [car(2, 7, 4), car(1, 17, 9)];

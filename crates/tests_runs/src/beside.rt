@@ -1,4 +1,4 @@
-//! A run under way, and the plain steps of the same road for comparison.
+//! A run under way, compared with plain steps of the same road.
 
 ghost use Rattle.std.specs.Prelude.{◌≡◌, IfOk};
 ghost use Rattle.std.specs.Arc.{arc_value};
@@ -18,7 +18,7 @@ use std::sync::Arc;
 use std::test::Fail;
 use tests_plans::{Parts, plan_of, row_of};
 
-/// A run under way, and the road of plain steps, with the counts of the detectors in them.
+/// A run under way, and the road of plain steps with the counts of the detectors in these steps.
 #[derive(Drop)]
 pub(crate) struct Beside {
     plan: Arc<Plan>,
@@ -57,14 +57,14 @@ impl Beside {
         })
     }
 
-    /// Begin both on the empty road of a plan, by its own settings.
+    /// Begin both on the empty road of a plan, with its own settings.
     pub(crate) fn of_plan(alloc: Global, plan: Plan) -> Result<Beside, Fail> {
         let plan = Arc::new(alloc, plan)?;
         let settings = Settings::of_plan(alloc, &plan)?;
         Beside::begin(alloc, plan, &settings)
     }
 
-    /// Begin both on the empty road of the plan of these parts, by its own settings.
+    /// Begin both on the empty road of the plan of these parts, with its own settings.
     pub(crate) fn of_parts(alloc: Global, parts: &Parts) -> Result<Beside, Fail> {
         let plan = plan_of(alloc, parts)?;
         Beside::of_plan(alloc, plan)
@@ -75,7 +75,8 @@ impl Beside {
         &self.plan
     }
 
-    /// Go on from a road at a step, the run under way with the cars of the road on a stretch. Fail if it cannot.
+    /// Continue both from a road at a step. The run under way has only the cars on a stretch of the road. Fail if it
+    /// cannot go on.
     pub(crate) fn restart_on(
         &mut self,
         alloc: Global,
@@ -91,7 +92,7 @@ impl Beside {
         Ok(self.begin_plainly(alloc, settings, step, road)?)
     }
 
-    // Let only the plain steps go on from a road at a step.
+    // Let only the plain steps continue from a road at a step.
     fn begin_plainly(
         &mut self,
         alloc: Global,
@@ -106,7 +107,7 @@ impl Beside {
         Ok(())
     }
 
-    /// Let only the run under way go on from a road at a step, if it can.
+    /// Let only the run under way continue from a road at a step. Return whether it can.
     pub(crate) fn try_restart(
         &mut self,
         alloc: Global,
@@ -122,7 +123,7 @@ impl Beside {
         Ok(self.run.restart_on(alloc, own, step, stretch, road)?)
     }
 
-    /// Take changed settings from the next step on.
+    /// Use changed settings from the next step on.
     pub(crate) fn change(&mut self, alloc: Global, settings: &Settings) -> Result<(), Fail> {
         let own = Arc::new(alloc, fitting(&self.plan, settings)?)?;
         self.run.change(alloc, own)?;
@@ -130,7 +131,7 @@ impl Beside {
         Ok(())
     }
 
-    /// Let no car enter in plain steps except on a stretch, and have these settings there.
+    /// Use these settings in plain steps, but let cars enter only on a stretch.
     pub(crate) fn close_outside(
         &mut self,
         settings: &Settings,
@@ -147,17 +148,17 @@ impl Beside {
         Ok(())
     }
 
-    /// Make one step of both. The caller announces only a few steps to the run under way, so that it needs memory again
+    /// Make one step of both. The caller announces only a few steps to the run under way, so that it allocates again
     /// and again.
     pub(crate) fn step(&mut self, alloc: Global) -> Result<(), Fail> {
         if self.run.next_step() >= GREATEST_HORIZON {
-            return Err(Fail::new("a step beyond the greatest horizon"));
+            return Err(Fail::new("a step beyond the maximum horizon"));
         }
         self.run.step(alloc, self.step % 4)?;
         self.step_plainly(alloc)
     }
 
-    // Make a plain step only.
+    // Make only a plain step.
     fn step_plainly(&mut self, alloc: Global) -> Result<(), Fail> {
         let settings = fitting(&self.plan, &self.settings)?;
         let mut meter = Meter::new();
@@ -203,7 +204,7 @@ impl Beside {
         Ok(row == plain)
     }
 
-    /// Return whether they have the same cars on a stretch, and have counted the same there.
+    /// Return whether both have the same cars on a stretch, and have counted the same cars there.
     pub(crate) fn are_same_on(&self, alloc: Global, stretch: Stretch) -> Result<bool, OutOfMemory> {
         let cars_are = self.have_same_cars_on(alloc, stretch)?;
         let totals = self.run.totals(alloc)?;
@@ -259,14 +260,14 @@ pub(crate) struct Place<'a> {
     pub(crate) done: u32,
 }
 
-/// Check a fact at a place.
-pub(crate) fn holds_at(rt: &impl Abort, holds: bool, place: Place<'_>) {
+/// Assert that a comparison at a place is right.
+pub(crate) fn assert_at(rt: &impl Abort, is_right: bool, place: Place<'_>) {
     let Place { name, number, done } = place;
-    assert!(rt; holds, "{name} {number}, after {done} steps");
+    assert!(rt; is_right, "{name} {number}, after {done} steps");
 }
 
-/// Make this many steps of both, and check that they are the same before the first and after each.
-pub(crate) fn are_same_throughout(
+/// Make this many steps of both. Assert that they are the same before the first step and after each step.
+pub(crate) fn assert_same_throughout(
     rt: &impl Abort,
     alloc: Global,
     beside: &mut Beside,
@@ -275,10 +276,10 @@ pub(crate) fn are_same_throughout(
     number: u32,
 ) -> Result<(), Fail> {
     for done in 0..steps {
-        holds_at(rt, beside.are_same(alloc)?, Place { name, number, done });
+        assert_at(rt, beside.are_same(alloc)?, Place { name, number, done });
         beside.step(alloc)?;
     }
     let done = steps;
-    holds_at(rt, beside.are_same(alloc)?, Place { name, number, done });
+    assert_at(rt, beside.are_same(alloc)?, Place { name, number, done });
     Ok(())
 }

@@ -1,6 +1,6 @@
 //! Counts that restart at zero.
 
-use crate::beside::{Beside, Place, holds_at};
+use crate::beside::{Beside, Place, assert_at};
 use road_detector::Totals;
 use road_ends::{OutOfMemory, Stretch};
 use road_plan::Settings;
@@ -9,7 +9,7 @@ use std::process::Abort;
 use std::test::Fail;
 use tests_plans::LONG;
 
-/// Steps before which counts restart: at a span's first step, in its middle, at its last.
+/// Steps before which counts restart: the first step of a span, a step in its middle, and its last step.
 const RESTARTS: &[u32] = &[0, 30, 63, 64, 100, 128];
 
 // Return whether nothing is counted.
@@ -25,8 +25,8 @@ fn counts_something(alloc: Global, beside: &Beside) -> Result<bool, OutOfMemory>
     Ok(!is_nothing(&totals))
 }
 
-// Restart all counts before a step. Return whether something was counted before (except before the first step), and
-// nothing is counted afterwards.
+// Restart all counts before a step. Return whether nothing is counted afterwards and, except before the first step,
+// something was counted before.
 fn check_restart(alloc: Global, beside: &mut Beside, step: u32) -> Result<bool, OutOfMemory> {
     let counted = counts_something(alloc, beside)?;
     beside.restart_counts(alloc)?;
@@ -41,13 +41,13 @@ fn check_each_restart(rt: &impl Abort, alloc: Global, beside: &mut Beside) -> Re
         beside.step(alloc)?;
         let are_same = beside.are_same(alloc)?;
         let done = 1;
-        holds_at(rt, restarts && are_same, Place { name, number, done });
+        assert_at(rt, restarts && are_same, Place { name, number, done });
     }
     Ok(())
 }
 
 #[test]
-fn counts_restart(rt: HostRuntime) -> Result<(), Fail> {
+fn counts_restart_at_zero(rt: HostRuntime) -> Result<(), Fail> {
     let mut beside = Beside::of_parts(rt.alloc(), &LONG)?;
     check_each_restart(&rt, rt.alloc(), &mut beside)
 }
@@ -60,7 +60,7 @@ fn go_on(alloc: Global, beside: &mut Beside, steps: u32) -> Result<(), Fail> {
     Ok(())
 }
 
-// Let both go on from their own road at a step.
+// Let both continue from their own road at a step.
 fn restart_own(alloc: Global, beside: &mut Beside, step: u32) -> Result<(), Fail> {
     let road = beside.road().copied()?;
     let settings = Settings::of_plan(alloc, beside.plan())?;
@@ -71,7 +71,7 @@ fn restart_own(alloc: Global, beside: &mut Beside, step: u32) -> Result<(), Fail
     beside.restart_on(alloc, &settings, step, stretch, &road)
 }
 
-// Return whether something is counted in a hundred steps, and nothing once both go on from the road.
+// Return whether something is counted in a hundred steps, and nothing once both continue from the road.
 fn check_restart_from_road(alloc: Global, beside: &mut Beside) -> Result<bool, Fail> {
     go_on(alloc, beside, 100)?;
     let counted = counts_something(alloc, beside)?;
@@ -80,7 +80,7 @@ fn check_restart_from_road(alloc: Global, beside: &mut Beside) -> Result<bool, F
 }
 
 #[test]
-fn counts_restart_if_a_run_goes_on_from_a_road(rt: HostRuntime) -> Result<(), Fail> {
+fn counts_restart_at_zero_if_a_run_goes_on_from_a_road(rt: HostRuntime) -> Result<(), Fail> {
     let mut beside = Beside::of_parts(rt.alloc(), &LONG)?;
     assert!(rt; check_restart_from_road(rt.alloc(), &mut beside)?);
     Ok(())

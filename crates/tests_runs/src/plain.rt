@@ -22,7 +22,7 @@ pub(crate) fn copy_of(settings: &Settings) -> Result<Settings, OutOfMemory> {
     })
 }
 
-/// List a count of nothing for each detector.
+/// List counts of zero for all detectors.
 pub(crate) fn nothing(alloc: Global, plan: &Plan) -> Result<Vec<Totals>, OutOfMemory> {
     vec![in alloc; Totals { cars: 0, speeds: 0 }; plan.detectors().len()]
 }
@@ -50,7 +50,7 @@ pub(crate) fn add(totals: &mut [Totals], counted: &[Totals]) {
     }
 }
 
-/// Return whether the totals of the detectors with sites on a stretch are the same.
+/// Return whether the totals of all detectors with sites on a stretch are the same.
 pub(crate) fn counts_agree(
     sites: &[u32],
     stretch: Stretch,

@@ -1,6 +1,6 @@
-//! Roads from which a run cannot go on.
+//! Roads that a run accepts or refuses to continue from.
 
-use crate::beside::{Beside, are_same_throughout};
+use crate::beside::{Beside, assert_same_throughout};
 use road_cells::Road;
 use road_ends::{OutOfMemory, Stretch};
 use std::alloc::Global;
@@ -11,8 +11,8 @@ use tests_plans::{LONG, car, random_settings, road_of};
 /// A car, a stretch, and whether a run goes on from them.
 type Row = ((u64, u32, u8), (u32, u32), bool);
 
-/// The number, cell and speed of a car, the first cell of a stretch and the cell after its last one, and whether a run
-/// of the longest road goes on from them. Its exit begins at cell 8,189.
+/// The number, cell and speed of a car; the first cell of a stretch and the cell after its last cell; and whether a run
+/// of the longest road goes on from them. The exit of that road begins at cell 8,189.
 const CARS: &[Row] = &[
     ((0, 0, 0), (0, 8_192), true),
     ((0, 8_188, 9), (0, 8_192), true),
@@ -49,7 +49,7 @@ fn road_with(
     road_of(alloc, &cars)
 }
 
-// Take both to the middle of a span, and return whether the run goes on from there with the road of a car on a stretch.
+// Run both to the middle of a span, and return whether the run goes on from there with the road of a car on a stretch.
 fn try_go_on(
     alloc: Global,
     beside: &mut Beside,
@@ -64,9 +64,9 @@ fn try_go_on(
     beside.try_restart(alloc, &settings, 5, stretch, &road)
 }
 
-// Check whether a run goes on from a row's road. Check that a refusal has changed nothing, neither the road nor the
-// later steps.
-fn holds(
+// Assert that a run goes on from a row's road, or refuses it, as expected. Assert that a refusal has changed nothing,
+// neither the road nor the later steps.
+fn check_row(
     rt: &impl Abort,
     alloc: Global,
     number: u32,
@@ -78,13 +78,13 @@ fn holds(
     if taken {
         return Ok(());
     }
-    are_same_throughout(rt, alloc, &mut beside, 50, "row", number)
+    assert_same_throughout(rt, alloc, &mut beside, 50, "row", number)
 }
 
 #[test]
-fn a_run_goes_on_from_a_road_just_where_it_can_have_each_car(rt: HostRuntime) -> Result<(), Fail> {
+fn a_run_goes_on_from_a_road_only_if_it_can_have_each_car(rt: HostRuntime) -> Result<(), Fail> {
     for (number, row) in CARS.iter().enumerate() {
-        holds(&rt, rt.alloc(), number as u32, *row)?;
+        check_row(&rt, rt.alloc(), number as u32, *row)?;
     }
     Ok(())
 }

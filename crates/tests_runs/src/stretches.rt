@@ -1,6 +1,6 @@
 //! Runs on stretches of a road, compared with the stretch alone and with the whole road.
 
-use crate::beside::{Beside, Place, holds_at};
+use crate::beside::{Beside, Place, assert_at};
 use crate::plain::{cars_on, count_on};
 use road_cells::{GREATEST_SPEED, Road};
 use road_ends::Stretch;
@@ -9,7 +9,7 @@ use std::process::Abort;
 use std::test::Fail;
 use tests_plans::{Dice, random_plan, random_road, random_settings};
 
-/// Where a run on a stretch begins: the seed of its settings, its first step, and for how many steps it goes on.
+/// How a run on a stretch begins: the seed of its settings, its first step, and the number of its steps.
 #[derive(Clone, Copy)]
 struct Course {
     seed: u32,
@@ -17,8 +17,8 @@ struct Course {
     steps: u32,
 }
 
-// Return the cells of a stretch that nothing beyond it can have reached after a step: 9 cells fewer at each end, except
-// at an end of the road.
+// Return the cells of a stretch that nothing outside it can have reached after a step: 9 cells fewer at each end,
+// except at an end of the road.
 fn narrow(stretch: Stretch, length: u32) -> Stretch {
     let far = u32::from(GREATEST_SPEED);
     let Stretch { mut first, mut end } = stretch;
@@ -41,7 +41,7 @@ fn widen(stretch: Stretch, length: u32) -> Stretch {
     }
 }
 
-// Go on from the cars of a road on a stretch.
+// Continue from the cars of a road on a stretch.
 fn restart_on(
     alloc: Global,
     beside: &mut Beside,
@@ -64,11 +64,11 @@ fn compare_on(
     if stretch.first >= stretch.end {
         return Ok(0);
     }
-    holds_at(rt, beside.are_same_on(alloc, stretch)?, place);
+    assert_at(rt, beside.are_same_on(alloc, stretch)?, place);
     Ok(count_on(beside.road(), stretch))
 }
 
-// Run a stretch, and compare after each step the cells that nothing beyond it can have reached. Return how many cars
+// Run a stretch, and compare after each step the cells that nothing outside it can have reached. Return how many cars
 // were compared.
 fn runs_as_the_whole_road(
     rt: &impl Abort,
@@ -93,7 +93,7 @@ fn runs_as_the_whole_road(
     Ok(compared)
 }
 
-// Run a stretch, and compare after each step the whole road with plain steps in which no car enters elsewhere.
+// Run a stretch, and compare the whole road after each step with plain steps in which no car enters elsewhere.
 fn runs_as_alone(
     rt: &impl Abort,
     alloc: Global,
@@ -111,7 +111,7 @@ fn runs_as_alone(
         beside.close_outside(&settings, stretch)?;
         beside.step(alloc)?;
         let name = "alone, the stretch from cell";
-        holds_at(rt, beside.are_same(alloc)?, Place { name, number, done });
+        assert_at(rt, beside.are_same(alloc)?, Place { name, number, done });
         stretch = widen(stretch, length);
     }
     Ok(())
@@ -158,7 +158,7 @@ fn cut_at(
     runs_stretches(rt, alloc, beside, course, cut, &road)
 }
 
-// Divide a road at every n-th cell.
+// Divide a road at every n-th cell. Return how many cars were compared.
 fn cut_everywhere(
     rt: &impl Abort,
     alloc: Global,
@@ -177,7 +177,7 @@ fn cut_everywhere(
     Ok(compared)
 }
 
-// Divide a random road of this many cells at every n-th of them.
+// Divide a random road of this many cells at every n-th cell.
 fn cut_road(
     rt: &impl Abort,
     alloc: Global,
@@ -191,7 +191,7 @@ fn cut_road(
 }
 
 #[test]
-fn a_stretch_of_a_small_road_is_run_as_alone_and_as_the_whole_road(
+fn a_stretch_of_a_small_road_runs_as_it_does_alone_and_in_the_whole_road(
     rt: HostRuntime,
 ) -> Result<(), Fail> {
     let mut dice = Dice::of(3);
@@ -205,7 +205,7 @@ fn a_stretch_of_a_small_road_is_run_as_alone_and_as_the_whole_road(
 }
 
 #[test]
-fn a_stretch_of_a_long_road_is_run_as_alone_and_as_the_whole_road(
+fn a_stretch_of_a_long_road_runs_as_it_does_alone_and_in_the_whole_road(
     rt: HostRuntime,
 ) -> Result<(), Fail> {
     let mut dice = Dice::of(4);

@@ -1,15 +1,16 @@
 //! Settings that leave nothing to chance alternate with others in the middle of spans.
 
-use crate::beside::{Beside, are_same_throughout};
+use crate::beside::{Beside, assert_same_throughout};
 use road_plan::{OutOfMemory, Plan, Settings};
 use std::alloc::Global;
 use std::process::Abort;
 use std::test::Fail;
 use tests_plans::{DENSE, LONG, Parts, RANDOM};
 
-/// For how many steps settings hold, and their slowing chance of moving cars, that of standing cars and the inflow
-/// chance. There is no chance up to the middle of the first span. Then comes each kind of chance, alone and with
-/// others, and back, within a span and over the end of one; certain chances; chances that are nearly certain.
+/// The number of steps for which settings are in force, and their chances: slowing chance of moving cars, slowing
+/// chance of standing cars, inflow chance. There is no chance up to the middle of the first span. Then each kind of
+/// chance begins and ends, alone and with others, within a span and over the end of a span. Then come certain chances,
+/// and chances that are nearly certain.
 const TURNS: &[(u32, (u32, u32, u32))] = &[
     (30, (0, 0, 65_536)),
     (10, (30_000, 30_000, 65_536)),
@@ -29,7 +30,7 @@ const TURNS: &[(u32, (u32, u32, u32))] = &[
     (25, (1, 65_535, 65_536)),
 ];
 
-// Make the plan's settings with these chances.
+// Make the plan's settings, but with these chances.
 fn settings_of(
     alloc: Global,
     plan: &Plan,
@@ -42,24 +43,24 @@ fn settings_of(
     Ok(settings)
 }
 
-// Take both through the turns, and compare them after each step.
+// Run both through the turns, and compare them after each step.
 fn compare_turns(rt: &impl Abort, alloc: Global, beside: &mut Beside) -> Result<(), Fail> {
     for (turn, (steps, chances)) in TURNS.iter().enumerate() {
         let settings = settings_of(alloc, beside.plan(), *chances)?;
         beside.change(alloc, &settings)?;
-        are_same_throughout(rt, alloc, beside, *steps, "turn", turn as u32)?;
+        assert_same_throughout(rt, alloc, beside, *steps, "turn", turn as u32)?;
     }
     Ok(())
 }
 
-// Take both through the turns on the empty road of these parts.
+// Run both through the turns on the empty road of these parts.
 fn compare_turns_on(rt: &impl Abort, alloc: Global, parts: &Parts) -> Result<(), Fail> {
     let mut beside = Beside::of_parts(alloc, parts)?;
     compare_turns(rt, alloc, &mut beside)
 }
 
 #[test]
-fn chances_begin_and_end_in_the_middle_of_spans(rt: HostRuntime) -> Result<(), Fail> {
+fn chances_may_begin_and_end_in_the_middle_of_spans(rt: HostRuntime) -> Result<(), Fail> {
     compare_turns_on(&rt, rt.alloc(), &LONG)?;
     compare_turns_on(&rt, rt.alloc(), &RANDOM)?;
     compare_turns_on(&rt, rt.alloc(), &DENSE)

@@ -12,10 +12,10 @@ use std::test::Fail;
 /// A register that holds the value with the latest stamp.
 type Register = Greatest<(u32, u32)>;
 
-/// A step, and what is set there.
+/// A step, and what is put there.
 type Entry = (u32, Register);
 
-/// For each step a register, and a horizon: the content of a replica.
+/// A register for each step, and a horizon: the content of a replica.
 type Replica = Both<LatMap<u32, Register>, Greatest<u32>>;
 
 const TWO: Register = Greatest::Of((7, 2));
@@ -24,7 +24,7 @@ const THREE: Register = Greatest::Of((7, 3));
 
 const EARLIER: Register = Greatest::Of((6, 9));
 
-/// Two registers, and their join: of two values with one stamp the greater one wins.
+/// Two registers, and their join. Of two values with the same stamp the greater value wins.
 const REGISTERS: &[(Register, Register, Register)] = &[
     (TWO, THREE, THREE),
     (THREE, TWO, THREE),
@@ -41,14 +41,14 @@ fn joins_to<L: Lattice>(first: &L, second: &L, both: &L) -> Result<bool, OutOfMe
 }
 
 #[test]
-fn equal_stamps_go_by_value(rt: HostRuntime) -> Result<(), Fail> {
+fn of_equal_stamps_the_greater_value_wins(rt: HostRuntime) -> Result<(), Fail> {
     for (row, (first, second, both)) in REGISTERS.iter().enumerate() {
         assert_row(&rt, row, joins_to(first, second, both)?);
     }
     Ok(())
 }
 
-/// The content of two replicas, and their content after a merge, by rising step.
+/// The content of two replicas, and their content after a merge, in the order of steps.
 const MERGES: &[(&[Entry], &[Entry], &[Entry])] = &[
     (&[], &[], &[]),
     (&[], &[(5, TWO)], &[(5, TWO)]),
@@ -59,7 +59,7 @@ const MERGES: &[(&[Entry], &[Entry], &[Entry])] = &[
         &[(5, THREE), (3, TWO)],
         &[(3, TWO), (5, THREE), (9, THREE)],
     ),
-    // no bottom is held
+    // the bottom is not stored
     (&[(4, Greatest::Nothing)], &[(8, TWO)], &[(8, TWO)]),
 ];
 
@@ -91,7 +91,7 @@ fn has_keys(map: &LatMap<u32, Register>, entries: &[Entry]) -> bool {
     keys.next().is_none()
 }
 
-// Return whether a map has exactly these entries, by rising keys, each also found by its key.
+// Return whether a map has exactly these entries in the order of their keys, and finds each by its key.
 fn has_entries(map: &LatMap<u32, Register>, entries: &[Entry]) -> bool {
     let mut left = entries.iter();
     for (step, register) in map.iter() {
@@ -106,7 +106,7 @@ fn has_entries(map: &LatMap<u32, Register>, entries: &[Entry]) -> bool {
     left.next().is_none() && has_keys(map, entries)
 }
 
-// Return whether two replicas merge to one with these entries, advanced to 6.
+// Return whether two replicas merge to a replica with these entries, advanced to 6.
 fn merge_to(first: &Replica, second: &Replica, entries: &[Entry]) -> Result<bool, OutOfMemory> {
     let both = first.joined(second)?;
     Ok(
@@ -116,7 +116,8 @@ fn merge_to(first: &Replica, second: &Replica, entries: &[Entry]) -> Result<bool
     )
 }
 
-// Return whether a replica and one with these puts and no horizon merge to that. A replica without puts is the least.
+// Return whether a replica merges with a replica of these puts and no horizon to the expected one. A replica without
+// puts is the least.
 fn merges_with(
     alloc: Global,
     first: &Replica,
@@ -127,7 +128,7 @@ fn merges_with(
     Ok(second.is_bottom() == theirs.is_empty() && merge_to(first, &second, entries)?)
 }
 
-// Return whether a replica with these puts, advanced to 6, does.
+// Return whether a replica of these puts, advanced to 6, merges as expected.
 fn merges(
     alloc: Global,
     ours: &[Entry],

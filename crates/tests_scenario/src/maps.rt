@@ -1,4 +1,4 @@
-//! Maps of up to a thousand keys, which lie in several pages, compared with the standard library's map.
+//! Maps of up to a thousand keys, which are stored in several pages, compared with the standard library's map.
 
 use crate::assert_row;
 use lattice_core::OutOfMemory;
@@ -14,7 +14,7 @@ use std::process::Abort;
 use std::test::Fail;
 use tests_plans::Dice;
 
-/// One more than the greatest key.
+/// One more than the largest key.
 const KEYS: u32 = 2_000;
 
 /// The order of the keys of a map.
@@ -27,7 +27,7 @@ enum Order {
 
 const ORDERS: &[Order] = &[Order::Rising, Order::Falling, Order::Mixed];
 
-/// The number of entries of a map that are put one by one, and of the map that it is joined with.
+/// The number of entries that are put into a map one by one, and into the map that it is joined with.
 const PUTS: &[(u32, u32)] = &[
     (0, 0),
     (1, 0),
@@ -77,7 +77,7 @@ fn put_many(
     Ok(map)
 }
 
-// Put a value if no greater one is held.
+// Put a value, unless a greater value is held.
 fn put(held: &mut Held, key: u32, value: u32) -> Result<(), OutOfMemory> {
     let greater = match held.get(&key) {
         Some(present) => value.max(*present),
@@ -116,7 +116,7 @@ impl Turns {
 
 const TURNS: &[Turns] = &[Turns::Front, Turns::Back, Turns::Both];
 
-// Return whether entries are those of a range: from the front, from the back, and alternately from both.
+// Return whether entries are those of a range. Take them from the front, from the back, or alternately from both.
 fn are_same(entries: Entries<'_, u32, Value>, held: Range<'_, u32, u32>, turns: Turns) -> bool {
     let (mut entries, mut held) = (entries, held);
     for place in 0..=KEYS {
@@ -176,7 +176,7 @@ fn gives_all(map: &Map, held: &Held) -> bool {
     has_keys(map, held) && map.is_bottom() == held.is_empty()
 }
 
-// Return whether a map has the expected entries: as a whole, at random keys and at the first ones.
+// Return whether a map has the expected entries: as a whole, at random keys, and at the first keys.
 fn gives(map: &Map, held: &Held, dice: &mut Dice) -> bool {
     for _ in 0..20 {
         if !gives_at(map, held, dice.below(KEYS + 2)) {
@@ -191,7 +191,7 @@ fn gives(map: &Map, held: &Held, dice: &mut Dice) -> bool {
     gives_all(map, held)
 }
 
-// Return whether the other entries have each key, with the same number or a greater one.
+// Return whether the other entries have each of these keys, with the same value or a greater one.
 fn is_within(held: &Held, other: &Held) -> bool {
     for (key, number) in held.iter() {
         let is_there = match other.get(key) {
@@ -224,7 +224,7 @@ fn put_all(held: &mut Held, more: &Held) -> Result<(), OutOfMemory> {
     Ok(())
 }
 
-// Return whether two maps join to one that has the expected entries, and stay unchanged.
+// Return whether two maps join to a map with the expected entries, and stay unchanged.
 fn join(
     one: (&Map, &Held),
     other: (&Map, &Held),
@@ -295,7 +295,7 @@ fn are_right(rt: &impl Abort, alloc: Global, order: Order) -> Result<(), Fail> {
 }
 
 #[test]
-fn maps_give_what_was_put_and_join_as_held(rt: HostRuntime) -> Result<(), Fail> {
+fn maps_give_what_was_put_and_join_as_expected(rt: HostRuntime) -> Result<(), Fail> {
     for order in ORDERS {
         are_right(&rt, rt.alloc(), *order)?;
     }

@@ -30,7 +30,7 @@ fn make_one_by_one(alloc: Global, edits: &[Edit]) -> Result<Scenario, OutOfMemor
     Ok(scenario)
 }
 
-// Make a scenario of edits in a way.
+// Make a scenario of edits in one of these ways.
 fn make(alloc: Global, way: Way, edits: &[Edit]) -> Result<Scenario, OutOfMemory> {
     match way {
         Way::OneByOne => make_one_by_one(alloc, edits),
@@ -38,7 +38,8 @@ fn make(alloc: Global, way: Way, edits: &[Edit]) -> Result<Scenario, OutOfMemory
     }
 }
 
-/// A check of a scenario. Only [`make_and_check`] owns a scenario, so that one function alone drops it on every exit path.
+/// A check of a scenario. Only [`make_and_check`] owns a scenario, so that only one function drops it on its exit
+/// paths.
 trait Check {
     /// Return whether a scenario passes.
     fn passes(&self, alloc: Global, made: &Scenario) -> Result<bool, OutOfMemory>;
@@ -55,17 +56,17 @@ fn make_and_check<C: Check>(
     check.passes(alloc, &made)
 }
 
-/// Two imports with one stamp: the greater number wins, whichever came first.
+/// Two imports with equal stamps: the greater number wins, whichever came first.
 const TWO: Edit = edit!(LIMIT, 0, (7, 64), 2);
 
 const THREE: Edit = edit!(LIMIT, 0, (7, 64), 3);
 
-/// An edit, and a later one for the same object and step.
+/// An edit, and another edit for the same object and step that wins.
 const ONE: Edit = edit!(LIMIT, 3, (1, 0), 1);
 
 const NEXT: Edit = edit!(LIMIT, 3, (2, 1), 2);
 
-/// A withdrawal stays, so that the edit that it withdrew is not taken again.
+/// A withdrawal stays, so that the withdrawn edit is not taken again.
 const BLOCKED: Edit = edit!(BLOCK, 4, (1, 0), 1);
 
 const FREED: Edit = edit!(BLOCK, 4, (2, 0), withdrawn);
@@ -94,8 +95,8 @@ const NO_START: Edit = edit!(START, 2, (4, 0), withdrawn);
 const NO_START_LATER: Edit = edit!(START, 4, (4, 0), withdrawn);
 
 /// Lists of edits, their object, and its number at the steps 2, 4, 5 and 1,048,575. If a later edit is withdrawn, the
-/// earlier one stays in force. The slowing chance of standing cars, if none is set for them, is that of all cars at
-/// that step, however late that is set.
+/// earlier one stays in force. If no slowing chance is set for standing cars, theirs is that of all cars at that step,
+/// however late that is set.
 const NUMBERS: &[((Object, &[Edit]), [u32; 4])] = pairs![
     (LIMIT, &[]) => [2, 2, 2, 2],
     (LIMIT, &[ONE]) => [2, 1, 1, 1],
@@ -125,7 +126,7 @@ fn setting_at(made: &Scenario, plan: &Plan, object: Object, step: u32) -> Option
     }
 }
 
-/// The numbers of an object at the steps of the table.
+/// The check of an object's numbers at the steps of the table.
 #[derive(Clone, Copy)]
 struct Numbers<'a> {
     plan: &'a Plan,
@@ -144,7 +145,7 @@ impl Check for Numbers<'_> {
     }
 }
 
-// Check that each list of edits gives its numbers.
+// Assert that each list of edits gives its numbers.
 fn numbers_are_given(rt: &impl Abort, alloc: Global, plan: &Plan) -> Result<(), Fail> {
     for (row, ((object, edits), numbers)) in NUMBERS.iter().enumerate() {
         let look = Numbers {
@@ -165,7 +166,7 @@ fn an_earlier_edit_stays_in_force_and_standing_cars_are_slowed_like_others(
     numbers_are_given(&rt, rt.alloc(), &plan)
 }
 
-/// One edit of each kind from step 2 on, a block that is withdrawn, and from step 3 on a changed limit and a changed
+/// One edit of each kind from step 2 on, a block that is withdrawn, and, from step 3 on, a changed limit and a changed
 /// chance of standing cars.
 const ALL_KINDS: &[Edit] = &[
     edit!(START, 3, (1, 0), 7),
@@ -214,7 +215,7 @@ fn gives(
     Ok(have(&settings, given) && settings.fits(plan))
 }
 
-/// The settings of the table.
+/// The check of the settings of the table.
 #[derive(Clone, Copy)]
 struct AllKinds<'a>(&'a Plan);
 
@@ -237,7 +238,7 @@ fn every_kind_of_edit_takes_effect(rt: HostRuntime) -> Result<(), Fail> {
     Ok(())
 }
 
-/// Edits, and the fault of the first faulty one by object and step, whichever came first.
+/// Edits, and the fault of the first faulty edit by object and step, whichever edit came first.
 const FIRST_FAULTS: &[(&[Edit], Option<EditFault>)] = pairs![
     &[] => None,
     &[edit!(LIMIT, 8, (3, 0), 1)] => None,
@@ -247,7 +248,7 @@ const FIRST_FAULTS: &[(&[Edit], Option<EditFault>)] = pairs![
     &[edit!(START, 0, (1, 64), 65_537), edit!(Object::Watch(0), 1_048_576, (1, 64), 9)] => Some(EditFault::Step),
 ];
 
-/// The first fault of a scenario.
+/// The check of the first fault of a scenario.
 #[derive(Clone, Copy)]
 struct FirstFault<'a> {
     plan: &'a Plan,
@@ -260,7 +261,7 @@ impl Check for FirstFault<'_> {
     }
 }
 
-// Check that the first fault of each row is as it says.
+// Assert that the first fault of each row is as it says.
 fn first_faults_are_named(rt: &impl Abort, alloc: Global, plan: &Plan) -> Result<(), Fail> {
     for (row, (edits, fault)) in FIRST_FAULTS.iter().enumerate() {
         let look = FirstFault {
@@ -278,13 +279,13 @@ fn the_first_faulty_edit_is_named(rt: HostRuntime) -> Result<(), Fail> {
     first_faults_are_named(&rt, rt.alloc(), &plan)
 }
 
-// Join a value and a copy of it, by the calls of the trait, and return whether that is the value.
+// Join a value and a copy of it through the trait, and return whether the result is the value.
 fn is_doubled<L: Lattice>(value: &L) -> Result<bool, OutOfMemory> {
     let both = value.copied()?.joined(value)?;
     Ok(both.at_most(value) && value.at_most(&both) && !both.is_bottom())
 }
 
-/// The scenario of the trait.
+/// The check of a scenario through the trait.
 #[derive(Clone, Copy)]
 struct Doubled;
 

@@ -1,4 +1,4 @@
-//! Tests of dialogues.
+//! Tests of serving.
 #![tactic(auto)]
 
 #[cfg(test)]

@@ -1,4 +1,5 @@
-//! Runs over memory that end at a limit or a fault, and runs over a writer of std. Their ends are worked out by hand.
+//! Runs over memory that end at a limit or with a fault, and runs over a writer of std. Their ends are worked out by
+//! hand.
 
 use road_plan::{OutOfMemory, Plan};
 use road_replica::{Crowd, Crowds};
@@ -19,13 +20,13 @@ const FREE_ROAD: &str =
     r#"{"detectors":[5],"exit":1,"inlets":[[0,65536]],"length":12,"replicas":["A","B","C"],"words":7,"zone":12,"zones":[[2,0]]}
 "#;
 
-/// Return a sink with room for this many bytes, so that none of its writes needs memory.
+/// Return a sink that has allocated room for this many bytes, so that none of its writes allocates.
 pub(crate) fn sink_for(alloc: Global, room: usize) -> Result<MemorySink, OutOfMemory> {
     let bytes = Vec::with_capacity(alloc, room)?;
     Ok(MemorySink::new(bytes, room, Failing::Never, Failing::Never))
 }
 
-/// A hasher with one hash for all names, so that each look-up compares.
+/// A hasher with one hash for all names, so that each look-up compares names.
 #[derive(Clone, Copy, Debug)]
 pub(crate) struct AllAlike;
 
@@ -51,7 +52,7 @@ impl Hasher for AllAlike {
     }
 }
 
-/// Fails to run any crowd: the thread of the first session cannot be started.
+/// A gatherer that fails to run any crowd: the thread of the first session cannot be started.
 pub(crate) struct Unmanned;
 
 impl Crowds for Unmanned {
@@ -84,9 +85,9 @@ enum End {
     Read,
 }
 
-// The most lines and bytes; how many bytes a read gives, and which reads fail; how many bytes the writer takes, and
-// which of its writes and flushes fail; how the run ends, and how many bytes of the replies it has written, if that is
-// known.
+// The limits of lines and bytes; how many bytes a read gives, and which reads fail; how many bytes the writer takes,
+// and which of its writes and flushes fail. Then how the run ends, and how many bytes of the replies it has written, if
+// that is known.
 type Run = (
     ((u32, u64), (usize, Failing), (usize, Failing, Failing)),
     (End, Option<usize>),
@@ -94,7 +95,7 @@ type Run = (
 
 const ALL: Failing = Failing::Never;
 
-// The plan line has 121 bytes, and the input 211.
+// The plan line has 121 bytes, and the whole input has 211.
 const RUNS: &[Run] = pairs![
     ((3, 1000), (7, ALL), (1000, ALL, ALL)) => (End::Whole, Some(53)),
     ((3, 211), (7, ALL), (1000, ALL, ALL)) => (End::Whole, Some(53)),
@@ -153,7 +154,7 @@ fn ends(alloc: Global, input: &str, run: &Run, step: usize) -> Result<bool, Fail
 }
 
 #[test]
-fn limits_and_faults(rt: HostRuntime) -> Result<(), Fail> {
+fn a_run_ends_at_a_limit_or_with_a_fault(rt: HostRuntime) -> Result<(), Fail> {
     let input = format!(in rt.alloc(); "{FREE_ROAD}{COMMANDS}")?;
     for (number, run) in RUNS.iter().enumerate() {
         assert!(rt; ends(rt.alloc(), &input, run, usize::MAX)?, "run {number}");
@@ -161,7 +162,7 @@ fn limits_and_faults(rt: HostRuntime) -> Result<(), Fail> {
     Ok(())
 }
 
-// A run, the most bytes that its sink takes in one call, and its end.
+// A run, the maximum number of bytes that its sink takes in one call, and its end.
 const SHORT_WRITES: &[(usize, Run)] = pairs![
     1 => (((3, 1000), (7, ALL), (1000, ALL, ALL)), (End::Whole, Some(53))),
     5 => (((3, 1000), (1000, ALL), (1000, ALL, ALL)), (End::Whole, Some(53))),
@@ -174,7 +175,7 @@ const SHORT_WRITES: &[(usize, Run)] = pairs![
 
 // After a short write, the rest is written.
 #[test]
-fn short_writes_go_on(rt: HostRuntime) -> Result<(), Fail> {
+fn a_short_write_is_continued(rt: HostRuntime) -> Result<(), Fail> {
     let input = format!(in rt.alloc(); "{FREE_ROAD}{COMMANDS}")?;
     for (number, (step, run)) in SHORT_WRITES.iter().enumerate() {
         assert!(rt; ends(rt.alloc(), &input, run, *step)?, "run {number}");
@@ -184,7 +185,7 @@ fn short_writes_go_on(rt: HostRuntime) -> Result<(), Fail> {
 
 // Nothing is read after a plan line that is refused, because that read would fail.
 #[test]
-fn a_refused_plan_is_the_end(rt: HostRuntime) -> Result<(), Fail> {
+fn a_refused_plan_ends_the_run(rt: HostRuntime) -> Result<(), Fail> {
     let mut writer = sink_for(rt.alloc(), 1000)?;
     let mut reader = MemorySource::new(b"{}\n", 3, Failing::From(1));
     let crew = &mut Alone;
@@ -200,7 +201,7 @@ fn a_refused_plan_is_the_end(rt: HostRuntime) -> Result<(), Fail> {
     Ok(())
 }
 
-// A crowd that is refused, one that is not, and an advance.
+// A crowd that is refused, a crowd that is not refused, and an advance.
 const CROWDS: &str = r#"{"crowd":{"form":2,"shares":[[["limit",0,0,1,3,1]]],"to":6}}
 {"crowd":{"form":2,"shares":[[["block",8,4,1,64,1]],[["block",8,4,2,64,null]]],"to":6}}
 {"advance":{"at":"A","to":1}}
@@ -209,7 +210,7 @@ const CROWDS: &str = r#"{"crowd":{"form":2,"shares":[[["limit",0,0,1,3,1]]],"to"
 // A crowd that cannot be run ends the run. The crew was not used, and has not failed. A refused crowd starts
 // nothing.
 #[test]
-fn a_crowd_without_threads(rt: HostRuntime) -> Result<(), Fail> {
+fn a_crowd_without_threads_ends_the_run(rt: HostRuntime) -> Result<(), Fail> {
     let input = format!(in rt.alloc(); "{FREE_ROAD}{CROWDS}")?;
     let mut writer = sink_for(rt.alloc(), 1000)?;
     let mut reader = MemorySource::new(input.as_bytes(), 1, ALL);
@@ -255,8 +256,8 @@ impl io::Write for Holding {
     }
 }
 
-// Return whether a run ends well over a writer, which then holds nothing back, or at the flush that fails, which is not
-// retried.
+// Return whether a run over a writer ends well and the writer then holds nothing back, or the run ends at the flush
+// that fails, which is not retried.
 fn flushes(alloc: Global, mut holding: Holding) -> bool {
     let mut writer = StdSink::new(&mut holding);
     let mut reader = MemorySource::new(FREE_ROAD.as_bytes(), usize::MAX, ALL);
@@ -276,9 +277,9 @@ fn flushes(alloc: Global, mut holding: Holding) -> bool {
     }
 }
 
-// Over a writer of std all replies of a run are passed on, or the flush that fails ends it.
+// Over a writer of std, all replies of a run are passed on, or the run ends at the flush that fails.
 #[test]
-fn writers_of_std(rt: HostRuntime) {
+fn a_writer_of_std_gets_all_replies_or_fails(rt: HostRuntime) {
     for fails_at in [u32::MAX, 0, 1] {
         let holding = Holding {
             held: 0,

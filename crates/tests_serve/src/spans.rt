@@ -1,4 +1,4 @@
-//! Crews that run spans: one that fails at a run, and lasting workers, counted by a gate.
+//! Crews that run spans: a crew that fails at a run, and lasting workers that a gate counts.
 
 ghost use Rattle.std.specs.Prelude.{◌<◌, ◌≤◌};
 
@@ -16,10 +16,10 @@ use tests_plans::{Counter, Running, StepByStep};
 /// withdrawal, and an advance of another replica.
 const FRONTS: &[usize] = &[11, 50, 117, 224];
 
-/// More runs than the stored run needs.
+/// A number that is larger than the number of runs of the stored run.
 const MANY: u64 = 24;
 
-// Return the status with which the stored run ends with a crew, and how many bytes of the answers are written.
+// Return the status with which the stored run ends with a crew, and how many bytes of the answers it writes.
 fn run_stored<C: Crew>(alloc: Global, crew: &mut C) -> Result<(u8, usize), Fail> {
     let mut writer = sink_for(alloc, 1000)?;
     let mut reader = MemorySource::new(STORED.as_bytes(), 1, Failing::Never);
@@ -32,7 +32,7 @@ fn run_stored<C: Crew>(alloc: Global, crew: &mut C) -> Result<(u8, usize), Fail>
 }
 
 // Return whether the stored run ends with a fault if each run in turn fails with the same crew. The answers to the
-// commands before are then written, and each command that uses the crew fails at least once.
+// commands before must be written, and each command that uses the crew must fail at least once.
 fn fails_at_each_run<C: Crew>(
     alloc: Global,
     crew: &mut Running<C>,
@@ -58,8 +58,8 @@ fn fails_at_each_run<C: Crew>(
     Ok(false)
 }
 
-// Return whether it does so with either fault.
-fn fails_by_either<C: Crew>(alloc: Global, crew: &mut Running<C>) -> Result<bool, Fail> {
+// Return whether the stored run ends with the right fault, for either fault of its crew.
+fn fails_with_either_fault<C: Crew>(alloc: Global, crew: &mut Running<C>) -> Result<bool, Fail> {
     Ok(
         fails_at_each_run(alloc, crew, CrewFault::WorkersGone, 7)?
             && fails_at_each_run(alloc, crew, CrewFault::OutOfMemory, 3)?,
@@ -67,10 +67,10 @@ fn fails_by_either<C: Crew>(alloc: Global, crew: &mut Running<C>) -> Result<bool
 }
 
 #[test]
-fn a_crew_fails_at_each_run(rt: HostRuntime) -> Result<(), Fail> {
+fn the_stored_run_ends_at_the_run_at_which_its_crew_fails(rt: HostRuntime) -> Result<(), Fail> {
     let alloc = rt.alloc();
     let mut running = Running::of(Pool::start(rt.clone()?, alloc, 1)?);
-    let fails = fails_by_either(alloc, &mut running);
+    let fails = fails_with_either_fault(alloc, &mut running);
     let Running { crew, .. } = running;
     crew.finish();
     assert!(rt; fails?);
@@ -99,7 +99,7 @@ fn answers_by<C: Crew>(alloc: Global, crew: &mut C, script: &str) -> Result<Vec<
     Ok(writer.bytes().to_vec(alloc)?)
 }
 
-// Return how often lasting workers, who have a processor each, get work in a script with these answers.
+// Return how often lasting workers, each with its own processor, get work in a script with these answers.
 fn count_requests<R: Threads + Wait + Clone + Drop + Send + 'static>(
     rt: &R,
     alloc: Global,
@@ -117,8 +117,7 @@ fn count_requests<R: Threads + Wait + Clone + Drop + Send + 'static>(
     Ok(gate.passed())
 }
 
-/// Three workers share the last two intervals. Their rows and counts are those of a single caller that computes step by
-/// step.
+/// Three workers share the last two intervals. Their rows and counts are those of a single caller, step by step.
 #[test]
 fn workers_share_the_long_road(rt: HostRuntime) -> Result<(), Fail> {
     let alloc = rt.alloc();
@@ -130,9 +129,9 @@ fn workers_share_the_long_road(rt: HostRuntime) -> Result<(), Fail> {
     Ok(())
 }
 
-/// The caller runs the stored run alone.
+/// The caller computes the stored run alone.
 #[test]
-fn nobody_is_asked_in_the_stored_run(rt: HostRuntime) -> Result<(), Fail> {
+fn no_worker_gets_work_in_the_stored_run(rt: HostRuntime) -> Result<(), Fail> {
     assert!(rt; count_requests(&rt, rt.alloc(), STORED, ANSWERS.as_bytes())? == 0);
     Ok(())
 }

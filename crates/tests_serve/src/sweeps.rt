@@ -24,7 +24,7 @@ pub(crate) const STORED: &str =
 {"scenario":{"at":"A"}}
 "##;
 
-/// The answers to it.
+/// The answers to the stored run.
 pub(crate) const ANSWERS: &str = r##"{"open":3}
 {"horizon":6}
 {"cells":"0..2...2...."}
@@ -83,7 +83,7 @@ fn ends_as_expected(alloc: Global, calls: u64) -> Result<bool, Fail> {
 }
 
 #[test]
-fn a_crew_fails_at_each_call(rt: HostRuntime) -> Result<(), Fail> {
+fn the_stored_run_ends_at_the_call_at_which_its_crew_fails(rt: HostRuntime) -> Result<(), Fail> {
     for calls in 0..=CALLS {
         assert!(rt; ends_as_expected(rt.alloc(), calls)?, "after {calls} calls");
     }

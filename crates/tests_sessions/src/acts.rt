@@ -14,12 +14,12 @@ use std::alloc::Global;
 use std::sync::{Arc, Wait};
 use tests_plans::Row;
 
-/// The act of a session, and the expected result.
+/// What a session does, and the expected result.
 #[derive(Clone, Copy)]
 pub(crate) enum Act {
     /// It writes.
     Write(Write, Answer),
-    /// It hears of the last write.
+    /// It is told of the last write.
     Hear,
     /// It looks, and is shown a horizon and some rows.
     Look(u32, &'static [Row]),
@@ -35,8 +35,9 @@ pub(crate) enum Act {
     Counts(&'static [Count]),
 }
 
-/// A store of a replica on the free road: the acts of its sessions; its closing; the acts if a session is missing
-/// first, by those that are handed back, and then by all together; the journal, and the rows of the last sheet.
+/// A store of a replica on the free road, and what happens to it: the acts of its sessions; how it is closed; if a
+/// session is missing at first, the acts of the sessions that are handed back, and then the acts of all sessions; the
+/// journal; and the rows of the last sheet.
 #[derive(Clone, Copy)]
 pub(crate) struct Script {
     pub(crate) number: u32,
@@ -50,7 +51,7 @@ pub(crate) struct Script {
     pub(crate) rows: &'static [Row],
 }
 
-/// The receipt and the sheet so far.
+/// The last receipt, and the last sheet that was kept.
 #[derive(Drop)]
 struct Memory<J: Naming> {
     told: Option<Receipt<J>>,
@@ -74,7 +75,7 @@ fn is_shown<J: Naming, R: Wait + Drop>(
     }
 }
 
-// Return whether a kept sheet shows a run.
+// Return whether the kept sheet shows a run.
 fn kept_shows(alloc: Global, kept: &Option<Arc<Sheet>>, run: Run) -> bool {
     match kept {
         Some(sheet) => shows_run(alloc, sheet, run),
@@ -82,7 +83,7 @@ fn kept_shows(alloc: Global, kept: &Option<Arc<Sheet>>, run: Run) -> bool {
     }
 }
 
-// Return whether a session hears of the last write.
+// Let a session hear of the last write. Return whether there was one.
 fn hear<J: Naming>(session: &mut Session<J>, told: Option<Receipt<J>>) -> bool {
     match told {
         Some(receipt) => {

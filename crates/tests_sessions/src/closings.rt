@@ -10,15 +10,15 @@ use std::sync::Wait;
 pub(crate) enum Closing {
     /// In their order.
     InOrder,
-    /// The last one first.
+    /// In reverse, the last one first.
     LastFirst,
-    /// First without the last one, then all.
+    /// First all but the last one, then all.
     WithoutLast,
-    /// First without the first one, then all, with the first one as the last.
+    /// First all but the first one, then all, with the first one at the end.
     WithoutFirst,
 }
 
-/// Return the result for a store whose sessions are all handed over.
+/// Close a store with all its sessions, and return the result, or None if it could not be closed.
 pub(crate) fn close_all<J: Naming, R: Wait + Drop>(
     shared: Shared<J, R>,
     sessions: Vec<Session<J>>,
@@ -29,8 +29,8 @@ pub(crate) fn close_all<J: Naming, R: Wait + Drop>(
     }
 }
 
-// Return the result if all sessions are handed over after one was missing. The sessions that were handed back go on as
-// before.
+// Close a store with all its sessions after one was missing, and return the result. Before, the sessions that were
+// handed back act again.
 fn close_late<J: Naming, R: Wait + Drop, W: Wait>(
     rt: &W,
     alloc: Global,
@@ -56,7 +56,7 @@ fn close_late<J: Naming, R: Wait + Drop, W: Wait>(
     close_all(shared, sessions)
 }
 
-/// Return the result of a store that is closed as its script says.
+/// Close a store as its script says, and return the result.
 pub(crate) fn close_as_scripted<J: Naming, R: Wait + Drop, W: Wait>(
     rt: &W,
     alloc: Global,

@@ -1,4 +1,4 @@
-//! Writes of a session with a crew that counts its calls: each is simulated only once, compared with the meter.
+//! Writes of a session with a crew that counts its calls: each write is simulated only once, as the meter also counts.
 
 ghost use Rattle.std.specs.Prelude.{◌≡◌};
 
@@ -14,10 +14,10 @@ use std::marker::Brand;
 use std::sync::Wait;
 use tests_plans::{BLOCK, Counting, LIMIT, edit};
 
-/// The limit is 1 from step 99 on, by a replica elsewhere.
+/// The limit is 1 from step 99 on. Another replica made this edit.
 const SLOW: Edit = edit!(LIMIT, 99, (9, 1), 1);
 
-/// A write of a session, the cause for which it is refused, if it is, and the steps that all writes up to it compute.
+/// A write of a session, why it is refused, if it is, and the number of steps that all writes up to it compute.
 type Counted = (Write, Option<WriteFault>, u64);
 
 const NO_OBJECT: Option<WriteFault> = Some(WriteFault::Replica(ReplicaFault::NoObject));
@@ -26,13 +26,13 @@ const OUT_OF_RANGE: Option<WriteFault> = Some(WriteFault::Replica(ReplicaFault::
 
 const HORIZON: Option<WriteFault> = Some(WriteFault::Replica(ReplicaFault::Horizon));
 
-/// An edit computes the steps from the multiple of 64 before it. The journal takes six writes.
+/// An edit computes the steps from the multiple of 64 before it on. The journal has room for six writes.
 const COUNTED: &[Counted] = &[
     (Write::Advance(100), None, 100),
     (Write::Edit(BLOCK, 70, 1), None, 136),
     (Write::Withdraw(BLOCK, 70), None, 172),
     (Write::Take(&[SLOW]), None, 208),
-    // Edits that are held already, and a horizon that is already reached.
+    // Edits that the replica already holds, and a horizon that it has already reached.
     (Write::Take(&[SLOW]), None, 208),
     (Write::Advance(90), None, 208),
     (
@@ -70,7 +70,7 @@ fn are_counted<J: Naming, R: Wait + Drop, W: Wait>(
     true
 }
 
-// Return whether those of the first session of a store are.
+// Return whether the writes of the first session of a store are simulated as the table says.
 fn counts<J: Naming, R: Wait + Drop, W: Wait>(
     rt: &W,
     alloc: Global,
@@ -91,7 +91,7 @@ fn counts<J: Naming, R: Wait + Drop, W: Wait>(
     }
 }
 
-// Open a store for it.
+// Open a store, and return whether its writes are simulated as the table says.
 fn runs<R: Wait + Drop + Copy>(rt: R, alloc: Global, writes: &[Counted]) -> bool {
     match prepare_free_road(rt, alloc, 0, 1, 6) {
         Ok(prepared) => counts::<Brand, R, R>(&rt, alloc, prepared, writes),

@@ -19,13 +19,13 @@ use std::test::Fail;
 use std::thread::{Threads, join, yield_now};
 use tests_plans::{BLOCK, BLOCKED_ROWS};
 
-/// What the engineer reports of the day: the last receipt, or why a write was refused.
+/// What the engineer reports: the last receipt, or why a write was refused.
 type News<J> = Result<Receipt<J>, WriteFault>;
 
-/// The place of the news until they are taken.
+/// Where the report lies until it is taken.
 type Letter<J> = Mutex<Option<News<J>>>;
 
-// Let the engineer simulate up to step 6, and block the cell 8 from step 4 on.
+// Let the engineer simulate up to step 6, and block cell 8 from step 4 on.
 fn write<J: Naming, R: Wait + Drop, W: Wait>(
     rt: &W,
     shared: &Shared<J, R>,
@@ -37,7 +37,7 @@ fn write<J: Naming, R: Wait + Drop, W: Wait>(
     Ok(wrote.receipt)
 }
 
-// Do so, and leave the news for the dashboards.
+// Let the engineer do this, and leave the report for the dashboards.
 fn write_and_leave_news<J: Naming, R: Wait + Drop, W: Wait>(
     rt: &W,
     shared: &Shared<J, R>,
@@ -48,11 +48,11 @@ fn write_and_leave_news<J: Naming, R: Wait + Drop, W: Wait>(
     *letter.lock(rt) = Some(news);
 }
 
-/// How often a dashboard checks whether the news have come. If no thread could be made for the engineer, it works after
-/// the dashboards, and they would wait forever.
+/// How often a dashboard checks whether the report is there. The number is limited: if no thread could be made for the
+/// engineer, the engineer works after the dashboards, and they would wait forever.
 const TURNS: u32 = 1_000_000;
 
-// Return the news once they are there, or nothing if they do not come.
+// Return the report once it is there, or None if it does not come.
 fn news<J: Naming, W: Wait>(rt: &W, letter: &Letter<J>) -> Option<News<J>> {
     for _ in 0..TURNS {
         let taken = letter.lock(rt).take();
@@ -64,7 +64,8 @@ fn news<J: Naming, W: Wait>(rt: &W, letter: &Letter<J>) -> Option<News<J>> {
     None
 }
 
-// Let the first dashboard wait for the news. From then on it is shown no less. It leaves the row of step 6.
+// Let the first dashboard wait for the report. After that, a look must show what is reported. The dashboard leaves the
+// row of step 6.
 fn is_told<J: Naming, R: Wait + Drop, W: Wait>(
     rt: &W,
     alloc: Global,
@@ -80,7 +81,8 @@ fn is_told<J: Naming, R: Wait + Drop, W: Wait>(
     Ok(shows(alloc, &sheet, BLOCKED_ROWS))
 }
 
-// Let the second dashboard look. It hears of no write, so it may be shown less, but never less than before.
+// Let the second dashboard look. It is told of no write, so a look may show less than the engineer wrote, but never
+// less than an earlier look.
 fn watch<J: Naming, R: Wait + Drop>(
     shared: &Shared<J, R>,
     session: &mut Session<J>,
@@ -119,7 +121,7 @@ fn all_work<J: Naming + Send + Sync, R: Wait + Drop + Send, W: Threads + Wait + 
     Ok(is_shown? && rises?)
 }
 
-// Do the same for the three sessions of a store.
+// Do this for the three sessions of a store.
 fn three_work<J: Naming + Send + Sync, R: Wait + Drop + Send, W: Threads + Wait + Sync>(
     rt: &W,
     alloc: Global,

@@ -1,10 +1,10 @@
-//! Journals, as in tables.
+//! Journals in the form that tables use.
 
 use road_scenario::{Edit, Scenario};
 use road_sessions::{Entry, SheetCommand};
 use std::alloc::Global;
 
-/// A session and its write: it took these edits, or simulated up to this step.
+/// A session and its write: it took these edits, or advanced to this step.
 #[derive(Clone, Copy)]
 pub(crate) enum Line {
     Took(u32, &'static [Edit]),
@@ -19,7 +19,7 @@ fn has_edits(alloc: Global, scenario: &Scenario, edits: &[Edit]) -> bool {
     }
 }
 
-// Return whether an entry of a journal is this.
+// Return whether an entry of a journal is this line.
 fn is_line(alloc: Global, entry: &Entry, line: Line) -> bool {
     match (line, &entry.command) {
         (Line::Took(session, edits), SheetCommand::Take(taken)) => {
@@ -32,7 +32,7 @@ fn is_line(alloc: Global, entry: &Entry, line: Line) -> bool {
     }
 }
 
-/// Return whether a journal has exactly these entries.
+/// Return whether a journal has exactly these lines.
 pub(crate) fn is_journal(alloc: Global, journal: &[Entry], lines: &[Line]) -> bool {
     let mut well = journal.len() == lines.len();
     for (entry, line) in journal.iter().zip(lines.iter()) {

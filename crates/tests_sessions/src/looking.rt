@@ -15,7 +15,7 @@ use std::sync::{Arc, Wait};
 use std::test::Fail;
 use std::thread::{Threads, join, yield_now};
 
-/// How often a thread checks a flag of the other one before it gives up.
+/// How often a thread checks a flag of the other thread before it gives up.
 const TURNS: u32 = 1_000_000;
 
 // Return whether a flag is set within `TURNS` checks.
@@ -29,8 +29,8 @@ fn is_set_soon(flag: &AtomicBool) -> bool {
     false
 }
 
-/// A crew that at its first call reports the call and waits until a session has looked. If none has, it returns
-/// `WorkersGone`. It computes all speeds itself.
+/// A crew that computes all speeds itself. At its first call it reports the call and waits until a session has looked.
+/// If no session has looked, it returns `WorkersGone`.
 #[derive(Drop)]
 struct Waiting<'a> {
     called: &'a AtomicBool,
@@ -55,7 +55,7 @@ impl Crew for Waiting<'_> {
     }
 }
 
-// Let a session advance to step 9, with a crew that waits.
+// Let a session advance to step 9, with a crew that waits for a look.
 fn advance<J: Naming, R: Wait + Drop, W: Wait>(
     rt: &W,
     shared: &Shared<J, R>,
@@ -88,7 +88,8 @@ fn horizon_seen<J: Naming, R: Wait + Drop>(
     Some(sheet.horizon())
 }
 
-// Let one session write and another look meanwhile. Return the reply to the write, and the horizon that the other sees.
+// Let one session write while another looks. Return the reply to the write, and the horizon that the other session
+// sees.
 fn write_and_look<J: Naming + Send + Sync, R: Wait + Drop + Send, W: Threads + Wait + Sync>(
     rt: &W,
     shared: &Shared<J, R>,
@@ -104,7 +105,7 @@ fn write_and_look<J: Naming + Send + Sync, R: Wait + Drop + Send, W: Threads + W
     )
 }
 
-// Let a session advance to step 6, as the first entry of the journal.
+// Let a session advance to step 6. This must be the first entry of the journal.
 fn begin<J: Naming, R: Wait + Drop, W: Wait>(
     rt: &W,
     shared: &Shared<J, R>,
@@ -117,8 +118,8 @@ fn begin<J: Naming, R: Wait + Drop, W: Wait>(
     Ok(())
 }
 
-// Let the first session write twice, and the second look during the second write. Return the reply to that write, and
-// the horizon that the second session sees.
+// Let the first session write twice, and let the second look during the second write. Return the reply to that write,
+// and the horizon that the second session sees.
 fn begin_then_look_during_a_write<
     J: Naming + Send + Sync,
     R: Wait + Drop + Send,
@@ -138,8 +139,8 @@ fn begin_then_look_during_a_write<
     Ok(write_and_look(rt, shared, writer, reader))
 }
 
-// Open a store. Return the reply to its second write, and the horizon that a session sees which has heard of no write,
-// while the second write holds the lock.
+// Open a store, and let another session look while the second write holds the lock. The other session was told of no
+// write. Return the reply to the second write, and the horizon that the other session sees.
 fn look_during_a_write<J: Naming + Send + Sync, R: Wait + Drop + Send, W: Threads + Wait + Sync>(
     rt: &W,
     prepared: Prepared<R>,

@@ -10,7 +10,8 @@ use std::alloc::Global;
 use std::sync::{Arc, Wait};
 use tests_plans::{FREE_ROWS, Row};
 
-/// A detector and two steps, and the cars and speeds that it counts from the first step to before the second.
+/// A detector and two steps, and what it counts from the first step to before the second: cars and the sum of their
+/// speeds.
 pub(crate) type Count = ((u32, u32, u32), Result<(u32, u32), LookFault>);
 
 /// A step, and the cars that are there.
@@ -23,15 +24,15 @@ fn row(alloc: Global, sheet: &Sheet, step: u32) -> Result<String, SheetFault> {
     Ok(row_of(alloc, sheet.plan(), sheet.scenario(), &state)?)
 }
 
-/// Rows of the free road from step 0 up to a step, with the limit 1 from another step on.
+/// A run of the free road from step 0 up to a step, with the limit 1 from another step on.
 #[derive(Clone, Copy)]
 pub(crate) struct Run {
     pub(crate) slow_from: u32,
     pub(crate) to: u32,
 }
 
-/// The rows after each number of steps from an even one, from which on the limit is 1. As on the free road, the last
-/// two alternate from then on.
+/// The rows after each number of steps, if the limit is 1 from an even step on. As on the free road, the last two rows
+/// alternate from then on.
 const SLOW_ROWS: &[Row] = &[
     (0, "0..2...2...."),
     (1, ".1..1...1..."),
@@ -46,7 +47,7 @@ const SLOW_ROWS: &[Row] = &[
     (10, "0.1.1.1.1.1."),
 ];
 
-// Return the row of this number. The last two alternate.
+// Return the row with this number. The last two rows alternate.
 fn by_turns(rows: &[Row], number: usize) -> &'static str {
     let behind = number.saturating_sub(rows.len());
     let last = rows.len().saturating_sub(2);
@@ -83,7 +84,7 @@ fn road_after(alloc: Global, plan: &Arc<Plan>, run: Run, step: u32, road: &Road)
     Some(done.ok()?.road)
 }
 
-// Return whether a sheet has the cars of a run from step zero, with their numbers.
+// Return whether a sheet has the same cars as a run from step zero, with the same numbers.
 fn has_cars_of_run(alloc: Global, sheet: &Sheet, run: Run) -> Option<bool> {
     let mut road = Road::empty(alloc);
     for step in 0..=run.to {
@@ -119,7 +120,7 @@ pub(crate) fn shows(alloc: Global, sheet: &Sheet, rows: &[Row]) -> bool {
     true
 }
 
-/// Return whether a session that looks is shown this horizon and these rows.
+/// Let a session look. Return whether it is shown this horizon and these rows.
 pub(crate) fn looks<J: Naming, R: Wait + Drop>(
     alloc: Global,
     shared: &Shared<J, R>,
@@ -133,7 +134,7 @@ pub(crate) fn looks<J: Naming, R: Wait + Drop>(
     }
 }
 
-/// Return whether a session that looks is shown a run.
+/// Let a session look. Return whether it is shown a run.
 pub(crate) fn looks_run<J: Naming, R: Wait + Drop>(
     alloc: Global,
     shared: &Shared<J, R>,
@@ -146,7 +147,7 @@ pub(crate) fn looks_run<J: Naming, R: Wait + Drop>(
     }
 }
 
-// Return whether a session that queries the cars of a step is shown these.
+// Return whether a session that queries the cars of a step gets these cars.
 fn has_cars<J: Naming, R: Wait + Drop>(
     alloc: Global,
     shared: &Shared<J, R>,

@@ -11,7 +11,7 @@ use road_sessions::{LookFault, WriteFault};
 use road_sheet::SheetFault;
 use tests_plans::{BLOCK, BLOCKED_ROWS, CARS_AT_SIX, FREE_ROWS, LIMIT, edit, pairs, stamp};
 
-/// The cell 8 is blocked from step 4 on; that is withdrawn; the limit is 1 from step 64 on.
+/// Cell 8 is blocked from step 4 on; this is withdrawn; the limit is 1 from step 64 on.
 pub(crate) const BLOCKED: Edit = edit!(BLOCK, 4, (1, 0), 1);
 
 const OPENED: Edit = edit!(BLOCK, 4, (2, 0), withdrawn);
@@ -27,7 +27,7 @@ const BLOCKS: Act = Act::Write(
 
 const FULL: Act = Act::Write(Write::Advance(7), Err(WriteFault::JournalFull));
 
-/// One session advances and blocks a cell, and tells the other one. The journal is then full.
+/// One session advances and blocks a cell, and tells the other session. The journal is then full.
 pub(crate) const TOLD: Script = Script {
     number: 0,
     sessions: 2,
@@ -49,7 +49,7 @@ pub(crate) const TOLD: Script = Script {
     rows: BLOCKED_ROWS,
 };
 
-/// The same store is closed in each way.
+/// The same script with each way of closing the store.
 pub(crate) const CLOSINGS: [Closing; 4] = [
     Closing::InOrder,
     Closing::LastFirst,
@@ -57,7 +57,8 @@ pub(crate) const CLOSINGS: [Closing; 4] = [
     Closing::WithoutFirst,
 ];
 
-/// The last session is missing at first. The others look and write on, and so does it once it is there.
+/// The last session is missing at first. The others look and write again, and so does the last session once it is
+/// there.
 pub(crate) const LAST_MISSING: Script = Script {
     sessions: 3,
     limit: 3,
@@ -96,7 +97,7 @@ pub(crate) const FIRST_MISSING: Script = Script {
     ..LAST_MISSING
 };
 
-/// The only session of a store.
+/// A store with only one session.
 pub(crate) const ALONE: Script = Script {
     sessions: 1,
     limit: 1,
@@ -158,7 +159,7 @@ pub(crate) const WITHDRAWN: Script = Script {
     ..TOLD
 };
 
-/// Three sessions of replica 3 write. Each entry has its session, and the stamps are the replica's.
+/// Three sessions of replica 3 write. Each entry names its session, and the stamps have the number of the replica.
 pub(crate) const THREE: Script = Script {
     number: 3,
     sessions: 3,
@@ -191,7 +192,7 @@ const SLOW_RUN: Run = Run {
     to: 130,
 };
 
-/// A session keeps a sheet, which stays unchanged while the other one changes its past.
+/// A session keeps a sheet, which stays unchanged while the other session changes its past.
 pub(crate) const KEPT: Script = Script {
     limit: 10,
     acts: pairs![
@@ -215,7 +216,7 @@ const OPENS: Act = Act::Look(0, &[(0, "............")]);
 
 const SEES_SIX: Act = Act::Look(6, FREE_ROWS);
 
-/// As many sessions as a store can have: each one looks before the last one writes, and after.
+/// As many sessions as a store can have. Each looks before the last session writes, and again after that.
 pub(crate) const EIGHT: Script = Script {
     sessions: 8,
     limit: 1,

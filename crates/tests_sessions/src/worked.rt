@@ -10,7 +10,7 @@ use std::marker::Brand;
 use std::sync::{Arc, Wait};
 use tests_plans::{FREE, plan_of};
 
-/// Make a replica of the free road, with this number, for `sessions` sessions and at most `limit` writes.
+/// Prepare a replica of the free road, with this number, for `sessions` sessions and at most `limit` writes.
 pub(crate) fn prepare_free_road<R: Wait + Drop>(
     rt: R,
     alloc: Global,
@@ -29,7 +29,7 @@ pub(crate) fn prepare_free_road<R: Wait + Drop>(
     prepare(rt, alloc, plan, number % 64, sessions, limit)
 }
 
-// Return whether a store does what its script says.
+// Return whether a new store does what its script says.
 fn open_and_run_script<R: Wait + Drop + Copy>(rt: R, alloc: Global, script: &Script) -> bool {
     match prepare_free_road(rt, alloc, script.number, script.sessions, script.limit) {
         Ok(prepared) => run_script::<Brand, R, R>(&rt, alloc, prepared, script),
@@ -38,7 +38,7 @@ fn open_and_run_script<R: Wait + Drop + Copy>(rt: R, alloc: Global, script: &Scr
 }
 
 #[test]
-fn a_receipt_is_heard(rt: HostRuntime) {
+fn a_session_sees_the_write_that_it_is_told_of(rt: HostRuntime) {
     for closing in CLOSINGS {
         let script = Script { closing, ..TOLD };
         assert!(rt; open_and_run_script(&rt, rt.alloc(), &script));
@@ -46,20 +46,20 @@ fn a_receipt_is_heard(rt: HostRuntime) {
 }
 
 #[test]
-fn worked_scripts(rt: HostRuntime) {
+fn scripts_have_their_worked_results(rt: HostRuntime) {
     for script in [ALONE, WITHDRAWN, THREE, EIGHT] {
         assert!(rt; open_and_run_script(&rt, rt.alloc(), &script));
     }
 }
 
 #[test]
-fn what_a_refused_closing_hands_back_goes_on(rt: HostRuntime) {
+fn sessions_that_a_refused_closing_hands_back_go_on(rt: HostRuntime) {
     for script in [LAST_MISSING, FIRST_MISSING] {
         assert!(rt; open_and_run_script(&rt, rt.alloc(), &script));
     }
 }
 
 #[test]
-fn a_kept_sheet_stays(rt: HostRuntime) {
+fn a_kept_sheet_stays_unchanged(rt: HostRuntime) {
     assert!(rt; open_and_run_script(&rt, rt.alloc(), &KEPT));
 }

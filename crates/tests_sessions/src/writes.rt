@@ -1,4 +1,4 @@
-//! Writes of sessions, as in tables.
+//! Writes of sessions in the form that tables use.
 
 use road_ends::Meter;
 use road_plan::Object;
@@ -21,7 +21,7 @@ pub(crate) enum Write {
 /// The answer to a write: its place in the journal and the reply.
 pub(crate) type Answer = Result<(u64, Reply), WriteFault>;
 
-// Take edits by a session.
+// Let a session take edits.
 fn take<J: Naming, R: Wait + Drop, W: Wait, C: Crew>(
     rt: &W,
     alloc: Global,
@@ -37,7 +37,7 @@ fn take<J: Naming, R: Wait + Drop, W: Wait, C: Crew>(
     }
 }
 
-/// Write by a session, with a crew and a meter.
+/// Let a session write, with a crew and a meter.
 pub(crate) fn write_by<J: Naming, R: Wait + Drop, W: Wait, C: Crew>(
     rt: &W,
     alloc: Global,
@@ -59,7 +59,7 @@ pub(crate) fn write_by<J: Naming, R: Wait + Drop, W: Wait, C: Crew>(
     }
 }
 
-/// Write by a session alone.
+/// Let a session write, with a single caller.
 pub(crate) fn write_alone<J: Naming, R: Wait + Drop, W: Wait>(
     rt: &W,
     alloc: Global,

@@ -1,5 +1,5 @@
 //! The number of steps that each extension of a sheet of the free road computes, and the first step that its edits
-//! touch. The program shows the rows, cars and counts (`tests/scripts/sheets_by_hand.jsonl`).
+//! touch. Rows, cars and counts are tested with the program (`tests/scripts/sheets_by_hand.jsonl`).
 
 use crate::sheets::{Trial, Way, extend, opening};
 use road_plan::Object;
@@ -9,10 +9,10 @@ use std::alloc::Global;
 use std::test::Fail;
 use tests_plans::{BLOCK, FREE, LIMIT, edit, pairs};
 
-/// Some edits and an advance: the step that they touch, and the number of steps computed.
+/// Some edits and an advance; the first step that the edits touch, and the number of steps computed.
 type Growth = ((&'static [Edit], u32), (Option<u32>, u64));
 
-/// Extensions one after another: a run, and edits at a step of it or at its horizon.
+/// Extensions, one after another: a run, and then edits at steps of the run or at its horizon.
 const GROWTHS: &[&[Growth]] = &[
     pairs![(&[], 6) => (None, 6), (&[], 3) => (None, 0)],
     pairs![(&[], 6) => (None, 6), (&[edit!(BLOCK, 4, (1, 0), 1)], 0) => (Some(4), 6)],
@@ -34,7 +34,7 @@ const CLOSED: &[Growth] = pairs![
     (&[edit!(Object::Block(0), 1_048_575, (1, 0), 0)], 0) => (Some(1_048_575), 64),
 ];
 
-// Return the sheet of a trial that touches this step, and takes this many steps by both counts.
+// Return the sheet of a trial. The trial must touch this step, and compute this many steps by both counts.
 fn checked_sheet(trial: Trial, (touched, steps): (Option<u32>, u64)) -> Result<Sheet, Fail> {
     if (trial.touched, trial.steps, trial.counted) == (touched, steps, steps) {
         Ok(trial.sheet)
@@ -67,12 +67,14 @@ fn extend_each(alloc: Global, way: Way) -> Result<(), Fail> {
 }
 
 #[test]
-fn late_edits_compute_from_their_interval_on(rt: HostRuntime) -> Result<(), Fail> {
+fn late_edits_compute_only_from_their_interval_on(rt: HostRuntime) -> Result<(), Fail> {
     extend_each(rt.alloc(), Way::StepByStep)?;
     extend_each(rt.alloc(), Way::ByRuns)
 }
 
 #[test]
-fn a_sheet_of_the_longest_run(rt: HostRuntime) -> Result<(), Fail> {
+fn an_edit_at_the_end_of_the_longest_run_computes_one_interval(
+    rt: HostRuntime,
+) -> Result<(), Fail> {
     extend_all(rt.alloc(), Way::StepByStep, CLOSED)
 }

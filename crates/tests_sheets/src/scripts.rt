@@ -1,7 +1,7 @@
 //! Scripts of edits and advances at steps around the ends of intervals, the first ones and the last ones. Each state
 //! and each total, from a cache and from the sheet, is compared with a sheet that is run from step zero with all edits
-//! at once. Every second script has steady words, and each of the others seeded words of its own. The program shows the
-//! same edits and advances, and each step from a cache that is kept, compared with a simulator
+//! at once. Every second script has steady words, and each of the others has its own seeded words. The same edits and
+//! advances, and each step from a cache that is kept, are compared with a simulator by scripts of the program
 //! (`tests/scripts/intervals_steady.jsonl` and similar scripts).
 
 ghost use Rattle.road_sheet.specs.QueryCaches.{IsCacheOf};
@@ -18,7 +18,7 @@ use tests_plans::{Parts, edit};
 /// The number of scripts that are run.
 const SCRIPTS: u64 = 20;
 
-/// Two zones, two inlets and two detectors, with chances between never and always. The words are another script's.
+/// Two zones, two inlets and two detectors, with chances that are neither 0 nor certain. Each script has its own words.
 const MIXED: Parts = Parts {
     road: (24, 2, 12),
     zones: &[(3, 9_000), (2, 20_000)],
@@ -27,7 +27,7 @@ const MIXED: Parts = Parts {
     words: WordKind::Seeded(11),
 };
 
-/// The same road where no car enters by the plan, so that a run from step zero to the last steps is short.
+/// The same road, but no car enters by the plan, so that a run from step zero to the last steps is short.
 const CLOSED: Parts = Parts {
     inlets: &[(0, 0), (7, 0)],
     ..MIXED
@@ -41,7 +41,7 @@ const STEPS: &[u32] = &[
     0, 1, 5, 62, 63, 64, 65, 66, 126, 127, 128, 129, 130, 191, 192, 193,
 ];
 
-/// Steps around the ends of the last intervals, up to the greatest horizon.
+/// Steps around the ends of the last intervals, up to the maximum horizon.
 const LATE_STEPS: &[u32] = &[
     1_048_384, 1_048_385, 1_048_389, 1_048_446, 1_048_447, 1_048_448, 1_048_449, 1_048_450,
     1_048_510, 1_048_511, 1_048_512, 1_048_513, 1_048_514, 1_048_574, 1_048_575, 1_048_576,
@@ -69,13 +69,13 @@ impl Dice {
         (self.seed >> 40) as u32 % most.max(1)
     }
 
-    // Return one of the steps.
+    // Return one of the steps of the script.
     fn step(&mut self) -> u32 {
         let place = self.below(16) as usize;
         self.steps.get(place).copied().unwrap_or(0)
     }
 
-    // Make an edit of any object of the plan, one in seven a withdrawal.
+    // Make an edit of any object of the plan. One in seven is a withdrawal.
     fn edit(&mut self, count: u64) -> Edit {
         let (object, number) = match self.below(6) {
             0 => (Object::Limit(self.below(2)), self.below(10)),
@@ -102,7 +102,8 @@ fn has_cars(alloc: Global, sheet: &Sheet, step: u32, cars: &[Car]) -> Result<boo
     Ok(sheet.state(alloc, step)?.cars() == cars)
 }
 
-// Return whether a cache of a sheet, the sheet, and the sheet that was run from step zero show the same road at a step.
+// Return whether three give the same road at a step: a cache of a sheet, the sheet, and the sheet that was run from
+// step zero.
 fn states_agree(
     alloc: Global,
     sheet: &Sheet,
@@ -117,7 +118,7 @@ fn states_agree(
     Ok(has_cars(alloc, sheet, step, road.cars())? && has_cars(alloc, straight, step, road.cars())?)
 }
 
-// Return whether they do at the steps of a script, with one cache for all.
+// Return whether the three give the same road at all steps of a script, with one cache.
 fn all_states_agree(
     alloc: Global,
     sheet: &Sheet,
@@ -136,7 +137,7 @@ fn all_states_agree(
     Ok(true)
 }
 
-// Return whether a cache that is asked twice and both sheets return the same count.
+// Return whether a cache that is queried twice and both sheets return the same count.
 fn totals_agree(
     alloc: Global,
     sheet: &Sheet,
@@ -155,7 +156,7 @@ fn totals_agree(
     Ok(cached == wanted && again == wanted && fresh == wanted)
 }
 
-// Return whether the states agree with a new cache. The owner of a cache or a sheet has one way out.
+// Return whether the states agree with a new cache. This function owns the cache, and has only one way out.
 fn states_agree_with_new_cache(
     alloc: Global,
     sheet: &Sheet,
@@ -207,7 +208,7 @@ fn agrees(
     sheets_agree(alloc, sheet, &straight.sheet, dice)
 }
 
-// Extend a sheet by none, one or two more edits, and to a random step.
+// Extend a sheet by up to two more edits, and to a random step.
 fn extend_at_random(
     alloc: Global,
     sheet: &mut Sheet,
@@ -222,7 +223,7 @@ fn extend_at_random(
     Ok(())
 }
 
-// Return whether a sheet agrees after each extension.
+// Return whether a sheet agrees with the run from step zero after each extension.
 fn all_agree(
     alloc: Global,
     opening: &Sheet,
@@ -239,7 +240,7 @@ fn all_agree(
     Ok(true)
 }
 
-// Return whether all sheets of a script agree, which begins with these edits and a run up to a step.
+// Return whether all sheets of a script agree. The script begins with these edits and a run up to a step.
 fn agree_from(
     alloc: Global,
     opening: &Sheet,

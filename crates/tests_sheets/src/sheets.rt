@@ -19,15 +19,15 @@ pub(crate) enum Way {
     ByRuns,
 }
 
-/// A sheet after an extension, and what that took.
+/// A sheet after an extension, and what the extension computed.
 #[derive(Drop)]
 pub(crate) struct Trial {
     pub(crate) sheet: Sheet,
-    /// The first step at which its edits set different numbers.
+    /// The first step at which the edits change a number that is set.
     pub(crate) touched: Option<u32>,
     /// The number of steps computed, by the meter.
     pub(crate) steps: u64,
-    /// The same number by the crew's own count.
+    /// The number of steps computed, by the crew.
     pub(crate) counted: u64,
 }
 
@@ -53,7 +53,7 @@ fn extend_with<C: Crew>(
     Ok(grown(alloc, sheet, &scenario, to, crew, meter)?)
 }
 
-// Return the trial of an extension.
+// Extend a sheet, and return the trial.
 fn trial_of(done: Grown, meter: &Meter, counted: u64) -> Trial {
     Trial {
         sheet: done.sheet,
@@ -63,7 +63,7 @@ fn trial_of(done: Grown, meter: &Meter, counted: u64) -> Trial {
     }
 }
 
-/// Return the sheet with some edits, simulated up to a step.
+/// Return the sheet of a plan with some edits, simulated up to a step.
 pub(crate) fn extend(
     alloc: Global,
     sheet: &Sheet,

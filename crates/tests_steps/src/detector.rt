@@ -1,4 +1,5 @@
-//! Counts at any speeds, and rows. The program shows the counts of the free road (`tests/scripts/counts.jsonl`).
+//! Counts at any speeds, and rows. The counts of the free road are tested with the program
+//! (`tests/scripts/counts.jsonl`).
 
 use crate::assert_row;
 use road_cells::{Car, Road};
@@ -17,7 +18,7 @@ fn input_of(alloc: Global, plan: &Arc<Plan>, road: &Road) -> Result<Arc<StepInpu
     enter(alloc, plan, settings, 1, road)
 }
 
-// Return the counts of a detector, if the plan has it and there is a speed for each car.
+// Return the counts of a detector, if the plan has the detector and there is a speed for each car.
 fn count_passing(input: &StepInput, speeds: &[u8], detector: u32) -> Option<Totals> {
     if speeds.len() == input.road().cars().len()
         && (detector as usize) < input.plan().detectors().len()
@@ -63,7 +64,7 @@ const PASSES: &[(&[u8], u32, u32, u32)] = &[
     (&[0, 0, 0, 0, 98, 0], 3, 0, 0),
 ];
 
-// Check that the detectors count as each row says.
+// Assert that the detectors count as each row says.
 fn passes_are_counted(rt: &impl Abort, input: &StepInput) {
     for (row, (speeds, detector, cars, sum)) in PASSES.iter().enumerate() {
         let wanted = Totals {
@@ -85,14 +86,14 @@ fn input_of_six_cars(alloc: Global, plan: &Arc<Plan>) -> Result<Arc<StepInput>, 
 }
 
 #[test]
-fn counts_by_any_speeds(rt: HostRuntime) -> Result<(), Fail> {
+fn detectors_count_at_any_speeds(rt: HostRuntime) -> Result<(), Fail> {
     let plan = Arc::new(rt.alloc(), plan_of(rt.alloc(), &LONG)?)?;
     let input = input_of_six_cars(rt.alloc(), &plan)?;
     passes_are_counted(&rt, &input);
     Ok(())
 }
 
-/// Cars on and past a row of 12 cells.
+/// Cars on a row of 12 cells, and cars past it.
 const DRAWN: &[Car] = cars![(1, 0, 9), (2, 3, 0), (3, 11, 1), (4, 12, 2)];
 
 /// Blocked cells, and how the cars are drawn with them.
@@ -103,7 +104,7 @@ const ROWS: &[(&[u32], &str)] = &[
     (&[4_294_967_295], "9..0.......1"),
 ];
 
-// Check that the cars of a road are drawn as each row says.
+// Assert that the cars of a road are drawn as each row says.
 fn rows_are_drawn(rt: &impl Abort, alloc: Global, road: &Road) -> Result<(), Fail> {
     for (row, (blocks, text)) in ROWS.iter().enumerate() {
         let drawn = row_of(alloc, road, blocks, 12)?;
@@ -113,7 +114,7 @@ fn rows_are_drawn(rt: &impl Abort, alloc: Global, road: &Road) -> Result<(), Fai
 }
 
 #[test]
-fn draws_blocks_in_any_order(rt: HostRuntime) -> Result<(), Fail> {
+fn blocks_are_drawn_in_any_order(rt: HostRuntime) -> Result<(), Fail> {
     let road = Road::of(DRAWN.to_vec(rt.alloc())?);
     rows_are_drawn(&rt, rt.alloc(), &road)
 }

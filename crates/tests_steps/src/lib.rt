@@ -11,7 +11,7 @@ mod steps;
 #[cfg(test)]
 use std::process::Abort;
 
-// Check the facts of a table's row or of a step.
+// Assert that a row of a table, or a step, is right.
 #[cfg(test)]
 fn assert_row(rt: &impl Abort, row: usize, is_right: bool) {
     assert!(rt; is_right, "row {row}");

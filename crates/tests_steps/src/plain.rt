@@ -1,5 +1,5 @@
 //! The plain program of the definitions. It visits the road cell by cell, searches for what is in front of each car,
-//! and draws every word. It is slow; worked runs are compared with it.
+//! and draws every word. It is slow. Worked runs are compared with it.
 
 ghost use Rattle.std.specs.Prelude.{◌≡◌, ◌≤◌, ◌<◌, length, nat_eq, IfOk};
 ghost use Rattle.std.specs.List.{position};
@@ -26,7 +26,7 @@ use road_rules::{moved, slowed, wanted};
 use road_words::{PlanWords, Words};
 use std::alloc::Global;
 
-/// The stream of the first inlet's words. The streams of the other inlets follow it.
+/// The stream of the words of the first inlet. The streams of the other inlets follow it.
 const FIRST_INLET_STREAM: u64 = 1 << 63;
 
 // Find the index of the inlet at a cell.
@@ -57,7 +57,7 @@ fn entry_at(plan: &Plan, settings: &Settings, step: u32, cell: u32) -> Option<Ca
     })
 }
 
-// Find the car at a cell, or else let a car enter there.
+// Find the car at a cell. If there is none, let a car enter there.
 fn car_or_entry_at(
     plan: &Plan,
     settings: &Settings,
@@ -142,7 +142,7 @@ fn speeds(
     Ok(new)
 }
 
-/// Compute the road after a step: entries, speeds, motion, deletion.
+/// Compute the road after a step: let cars enter, compute speeds, move the cars, delete those in the exit.
 pub(crate) fn road_after_step(
     alloc: Global,
     plan: &Plan,

@@ -1,4 +1,5 @@
-//! Runs worked out by hand or by a program of another author, computed by a single caller and by the plain program.
+//! Runs worked out by hand, or computed by a program of another author, compared with a single caller and with the
+//! plain program.
 
 ghost use Rattle.std.specs.Prelude.{IfOk};
 ghost use Rattle.road_plan.specs.Settings.{Fits};
@@ -18,7 +19,7 @@ use tests_plans::{
     SLOWED_ROWS, cars, pairs, parts, parts_of, plan_of, road_of, row_of,
 };
 
-/// A road and its rows at rising steps. From given steps on the only zone has another limit, a cell is blocked, and
+/// A road and its rows at rising steps. From given steps on, the only zone has another limit, a cell is blocked, or
 /// standing cars have other slowing chances, one for each zone.
 #[derive(Clone, Copy)]
 struct Example {
@@ -29,7 +30,7 @@ struct Example {
     rows: &'static [(u32, &'static str)],
 }
 
-/// A limit of 2, no slowing, and an inlet at the first of 12 cells that always lets in.
+/// A limit of 2, no slowing, and an inlet at the first of 12 cells that is always open.
 const FREE_ROAD: Example = Example {
     parts: FREE,
     lowered: &[],
@@ -45,7 +46,7 @@ const ALWAYS_SLOWED: Example = Example {
     ..FREE_ROAD
 };
 
-/// Slowing chance one half, by the steady words.
+/// Slowing chance one half, and steady words.
 const SLOWED: Example = Example {
     parts: HALF_SLOWED,
     rows: &[
@@ -79,14 +80,14 @@ const TWO_ZONES: Example = Example {
     ..FREE_ROAD
 };
 
-/// A run that shows random words.
+/// A road whose run shows random words.
 const RANDOM_ROAD: Example = Example {
     parts: RANDOM,
     rows: RANDOM_ROWS,
     ..FREE_ROAD
 };
 
-/// Nine inlets that always let in, slowing chance one half.
+/// Nine inlets that are always open, and slowing chance one half.
 const DENSE_ROAD: Example = Example {
     parts: DENSE,
     rows: &[
@@ -110,14 +111,14 @@ const BLOCKED_AHEAD: Example = Example {
     ..FREE_ROAD
 };
 
-/// Cell 7, where a car stands, is blocked from step 4 on.
+/// Cell 7, where a car is standing, is blocked from step 4 on.
 const BLOCKED_UNDER_CAR: Example = Example {
     blocked: &[(4, 7)],
     rows: BLOCKED_UNDER_ROWS,
     ..FREE_ROAD
 };
 
-/// The inlet's cell is blocked, to the greatest horizon.
+/// The cell of the inlet is blocked, up to the maximum horizon.
 const BLOCKED_INLET: Example = Example {
     blocked: &[(0, 0)],
     rows: &[
@@ -142,7 +143,8 @@ const QUICK_TO_START: Example = Example {
     ..ALWAYS_SLOWED
 };
 
-/// Chances between, with the steady words: at step 1 the sixth car (35,918) stays where a moving one would go.
+/// Chances that are neither 0 nor certain, with steady words: at step 1 the sixth car (35,918) stays where a moving car
+/// would drive.
 const DENSE_AND_SLOW: Example = Example {
     starts: &[(0, &[DENSE_START])],
     rows: &[
@@ -174,7 +176,7 @@ const RANDOM_STARTS: Example = Example {
     ..RANDOM_ROAD
 };
 
-// Find the number set at a step: the last one set from a step up to it.
+// Find the number set at a step: the last one that is set up to this step.
 fn latest(set: &[(u32, u32)], step: u32) -> Option<u32> {
     let mut last = None;
     for (from, number) in set {
@@ -185,7 +187,7 @@ fn latest(set: &[(u32, u32)], step: u32) -> Option<u32> {
     last
 }
 
-// Find the chances of standing cars set at a step: the last ones set from a step up to it.
+// Find the chances of standing cars set at a step: the last ones that are set up to this step.
 fn latest_starts(set: &[(u32, &'static [u32])], step: u32) -> Option<&'static [u32]> {
     let mut last = None;
     for (from, chances) in set {
@@ -216,7 +218,7 @@ fn settings_of(
     Ok(settings)
 }
 
-// Make them, if they fit the plan.
+// Make the settings of an example at a step, if they fit the plan.
 fn fitting(alloc: Global, plan: &Plan, example: &Example, step: u32) -> Result<Settings, Fail>
     ensures { IfOk result (λ settings. Fits plan.now settings) }
 {
@@ -228,7 +230,7 @@ fn fitting(alloc: Global, plan: &Plan, example: &Example, step: u32) -> Result<S
     }
 }
 
-// Take an example's road from one step to another, with a single caller.
+// Run an example's road from one step to another, with a single caller.
 fn step_on(
     alloc: Global,
     plan: &Arc<Plan>,
@@ -244,7 +246,7 @@ fn step_on(
     Ok(())
 }
 
-// Take it on with the plain program.
+// Run an example's road from one step to another, with the plain program.
 fn step_on_plainly(
     alloc: Global,
     plan: &Plan,
@@ -259,7 +261,7 @@ fn step_on_plainly(
     Ok(())
 }
 
-// Return whether an example's road is drawn like this at a step.
+// Return whether an example's road is drawn as its row of a step.
 fn is_drawn(
     alloc: Global,
     plan: &Plan,
@@ -344,7 +346,7 @@ fn runs_plainly(
 }
 
 impl Example {
-    // Return whether its settings are the plan's own at each step.
+    // Return whether the settings of an example are the plan's own at each step.
     fn is_unedited(&self) -> bool {
         self.lowered.is_empty() && self.blocked.is_empty() && self.starts.is_empty()
     }
@@ -380,7 +382,7 @@ const EXAMPLES: &[Example] = &[
 ];
 
 #[test]
-fn steps_the_examples_alone_and_plainly(rt: HostRuntime) -> Result<(), Fail> {
+fn the_examples_have_their_rows_alone_and_plainly(rt: HostRuntime) -> Result<(), Fail> {
     for example in EXAMPLES {
         steps(&rt, rt.alloc(), example)?;
     }
@@ -394,7 +396,7 @@ fn steps_alone(rt: &impl Abort, alloc: Global, example: &Example) -> Result<(), 
 }
 
 #[test]
-fn steps_to_the_greatest_horizon(rt: HostRuntime) -> Result<(), Fail> {
+fn a_road_can_be_run_to_the_maximum_horizon(rt: HostRuntime) -> Result<(), Fail> {
     steps_alone(&rt, rt.alloc(), &BLOCKED_INLET)
 }
 
@@ -413,7 +415,7 @@ fn are_numbered(alloc: Global, plan: &Arc<Plan>) -> Result<bool, Fail> {
 }
 
 #[test]
-fn numbers_cars_by_step_and_inlet(rt: HostRuntime) -> Result<(), Fail> {
+fn cars_are_numbered_by_step_and_inlet(rt: HostRuntime) -> Result<(), Fail> {
     let plan = Arc::new(rt.alloc(), plan_of(rt.alloc(), &FREE)?)?;
     assert_row(&rt, 6, are_numbered(rt.alloc(), &plan)?);
     Ok(())
@@ -456,20 +458,20 @@ fn steady_plan(
     Ok(Arc::new(alloc, Plan::new(parts)?)?)
 }
 
-// Return whether these cars are on the road after step 1.
+// Return whether these are the cars on the road after step 1.
 fn come(alloc: Global, plan: &Arc<Plan>, before: &[Car], after: &[Car]) -> Result<bool, Fail> {
     let input = input_of_step_one(alloc, plan, &road_of(alloc, before)?)?;
     Ok(cars_after(alloc, &input)?.as_slice() == after)
 }
 
-// Return whether a car enters by inlet 3 with this chance, or not.
+// Return whether a car enters at inlet 3 with this chance exactly if it should.
 fn enters(alloc: Global, (chance, after): &(u32, &[Car])) -> Result<bool, Fail> {
     let inlets = [(20, 0), (5, 0), (10, 0), (0, *chance)];
     let plan = steady_plan(alloc, &inlets, &[(2, 0)])?;
     come(alloc, &plan, &[], after)
 }
 
-// Return whether the driver is slowed with this chance, or not.
+// Return whether the driver is slowed with this chance exactly if it should be.
 fn is_slowed(alloc: Global, (chance, after): &(u32, &[Car])) -> Result<bool, Fail> {
     let plan = steady_plan(alloc, &[(0, 0)], &[(5, *chance)])?;
     come(alloc, &plan, DRIVER, after)
@@ -478,7 +480,7 @@ fn is_slowed(alloc: Global, (chance, after): &(u32, &[Car])) -> Result<bool, Fai
 /// The car that enters at inlet 3 in step 1.
 const ENTERED: &[Car] = cars![(19, 1, 1)];
 
-/// A car, and its place after step 1, once if it is not slowed and once if it is.
+/// A car, and the car after step 1, if it is not slowed and if it is slowed.
 const DRIVER: &[Car] = cars![(16, 7, 3)];
 
 const NOT_SLOWED: &[Car] = cars![(16, 11, 4)];
@@ -496,7 +498,7 @@ const SLOWINGS: &[(u32, &[Car])] =
     pairs![0 => NOT_SLOWED, 22_699 => NOT_SLOWED, 22_700 => ONCE_SLOWED, 65_536 => ONCE_SLOWED];
 
 #[test]
-fn goes_by_the_words_of_each_inlet_and_car(rt: HostRuntime) -> Result<(), Fail> {
+fn each_inlet_and_each_car_uses_its_own_word(rt: HostRuntime) -> Result<(), Fail> {
     for (row, entry) in ENTRIES.iter().enumerate() {
         assert_row(&rt, row, enters(rt.alloc(), entry)?);
     }

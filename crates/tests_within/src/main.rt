@@ -1,5 +1,5 @@
-//! Serves standard input within fewer lines than the program does, so that `tools/fail-in-turn` can try a run that ends
-//! at a limit with each of its allocations failing. It ends as the program does.
+//! Serves standard input with lower limits than the program, so that `tools/fail-in-turn` can try a run that ends at a
+//! limit, with each of its allocations failing in turn. It ends as the program does.
 #![tactic(auto)]
 
 use road_crowd::OnThreads;
@@ -8,10 +8,10 @@ use road_workers::Alone;
 use std::hash::RandomState;
 use std::process::ExitCode;
 
-/// The most lines after the plan line.
+/// The maximum number of lines after the plan line.
 const LINES: u32 = 9;
 
-/// The most bytes.
+/// The maximum number of bytes.
 const BYTES: u64 = 1_000_000;
 
 // Return the exit status of a run that failed.

@@ -16,7 +16,7 @@ const EVENTS: ([Event; 4], [Answer; 4]) = answered_events![
     advance(1, 6) => Ok(Reply::Horizon(6)),
 ];
 
-// Return the world of two replicas after the events, with a crew that fails once.
+// Play the events in a world of two replicas, with a crew that fails once, and return the result.
 fn play_events(alloc: Global, crew: &mut FailingCrew) -> Result<Played, Fail> {
     let plan = Arc::new(alloc, plan_of(alloc, &FREE)?)?;
     Ok(play(alloc, plan, 2, &EVENTS.0, crew, &mut Meter::new())?)

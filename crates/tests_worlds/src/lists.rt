@@ -29,11 +29,11 @@ const CLOSED_LATER: Edit = edit!(LIMIT, 5, (3, 0), 0);
 
 const BLOCKED: Edit = edit!(BLOCK, 4, (2, 0), 1);
 
-/// The heads of the second replica when it asks.
+/// The heads of the second replica when it asks for what it lacks.
 const HEADS: &[Head] = &[head!(LIMIT, 3, (3, 1)), head!(BLOCK, 4, (2, 0))];
 
-// Check that a message of a world has these heads.
-fn asks(rt: &impl Abort, world: &World, number: u64, heads: &[Head]) {
+// Assert that a message of a world has these heads.
+fn assert_heads(rt: &impl Abort, world: &World, number: u64, heads: &[Head]) {
     let Some(Message::Asked(asked)) = world.message(number) else {
         panic!(rt; "no heads");
     };
@@ -43,7 +43,7 @@ fn asks(rt: &impl Abort, world: &World, number: u64, heads: &[Head]) {
 #[test]
 fn a_replica_is_sent_what_it_lacks(rt: HostRuntime) -> Result<(), Fail> {
     let played = play_and_check(&rt, rt.alloc(), &ASKED.0, &ASKED.1)?;
-    asks(&rt, &played.world, 1, HEADS);
+    assert_heads(&rt, &played.world, 1, HEADS);
     check_all_edits(
         &rt,
         rt.alloc(),

@@ -22,7 +22,7 @@ const EVENTS: ([Event; 8], [Answer; 8]) = answered_events![
     take(0, 0) => Ok(Reply::Touched(None)),
 ];
 
-// Return the world of two replicas after the events.
+// Play the events in a world of two replicas, and return the result.
 fn play_events(alloc: Global, meter: &mut Meter) -> Result<Played, Fail> {
     let plan = Arc::new(alloc, plan_of(alloc, &FREE)?)?;
     Ok(play(alloc, plan, 2, &EVENTS.0, &mut Alone, meter)?)
@@ -33,7 +33,7 @@ fn refused_events_and_messages_compute_nothing(rt: HostRuntime) -> Result<(), Fa
     let mut meter = Meter::new();
     let played = play_events(rt.alloc(), &mut meter)?;
     check_answers(&rt, &played, &EVENTS.1);
-    // Six steps of the first advance, and six more once the block comes.
+    // Six steps for the first advance, and six more for the block.
     assert!(&rt; meter.ticks() == 12);
     Ok(())
 }
@@ -51,7 +51,7 @@ fn replicas_are_shown_by_their_numbers(rt: HostRuntime) -> Result<(), Fail> {
     let road = world.state(alloc, 1, 6)?;
     assert!(&rt; road.car_at(0).is_some());
     assert!(&rt; road.car_at(1).is_none());
-    // Cars arrive at cell 5 at steps 3 and 5, each by two cells.
+    // Cars arrive at cell 5 at steps 3 and 5, each with speed 2.
     let counted = world.totals(alloc, 1, 0, 0, 6)?;
     assert!(&rt; counted.cars == 2);
     assert!(&rt; counted.speeds == 4);

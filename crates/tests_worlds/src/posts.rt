@@ -1,4 +1,5 @@
-//! Messages that are already made: posted for their event, they are what the event would have made.
+//! Messages that the caller has already made. If such a message is posted for its event, it is the message that the
+//! event would have made.
 
 use crate::worlds::{Answer, check_edits};
 use road_ends::Meter;
@@ -13,7 +14,7 @@ use tests_plans::{BLOCK, FREE, edit, event, plan_of};
 
 const CLOSED: Edit = edit!(BLOCK, 4, (1, 0), 1);
 
-// Return the world of three replicas of the free road. Replica 0 has closed a cell, and 2 has run to step 6.
+// Return a world of three replicas of the free road. Replica 0 has closed a cell, and replica 2 has run to step 6.
 fn open_world(alloc: Global) -> Result<World, Fail> {
     let plan = Arc::new(alloc, plan_of(alloc, &FREE)?)?;
     let mut world = World::open(alloc, plan, 3)?;
@@ -33,7 +34,7 @@ fn post(alloc: Global, world: &mut World, at: u32, sending: Sending) -> Result<u
     Ok(world.post(&sending.event(at), message)?)
 }
 
-/// Replicas that take these messages, and the answers: the first messages are heads.
+/// Replicas, the messages that they take, and the answers. The first message has heads and no edits.
 const TAKEN: &[(u32, u64, Answer)] = &[
     (1, 0, Err(WorldFault::NoMessage)),
     (1, 1, Ok(Reply::Touched(Some(4)))),

@@ -9,7 +9,7 @@ use std::alloc::Global;
 use std::test::Fail;
 use tests_plans::{LIMIT, answered_events, edit, pairs};
 
-/// One event of each kind, at a replica that the world does not have.
+/// One event of each kind, at a replica that is not in the world.
 const NOWHERE: ([Event; 7], [Answer; 7]) = answered_events![
     edit(3, Object::Limit(1), 1_048_576, 10) => Err(WorldFault::NoReplica),
     withdraw(3, Object::Limit(1), 1_048_576) => Err(WorldFault::NoReplica),
@@ -21,7 +21,7 @@ const NOWHERE: ([Event; 7], [Answer; 7]) = answered_events![
 ];
 
 #[test]
-fn a_replica_that_is_not_there_is_asked_for_first(rt: HostRuntime) -> Result<(), Fail> {
+fn a_missing_replica_is_the_first_cause(rt: HostRuntime) -> Result<(), Fail> {
     let played = play_and_check(&rt, rt.alloc(), &NOWHERE.0, &NOWHERE.1)?;
     assert!(&rt; played.world.replica(2).is_some());
     assert!(&rt; played.world.replica(3).is_none());
@@ -41,7 +41,7 @@ const WRONG: ([Event; 8], [Answer; 8]) = answered_events![
 ];
 
 #[test]
-fn messages_are_of_the_kind_that_is_wanted(rt: HostRuntime) -> Result<(), Fail> {
+fn a_message_of_another_kind_is_refused(rt: HostRuntime) -> Result<(), Fail> {
     let played = play_and_check(&rt, rt.alloc(), &WRONG.0, &WRONG.1)?;
     assert!(&rt; matches!(played.world.message(0), Some(Message::Asked(_))));
     assert!(&rt; matches!(played.world.message(1), Some(Message::Whole(_))));
@@ -56,7 +56,7 @@ const THREE: Edit = edit!(LIMIT, 0, (7, 64), 3);
 
 const INSIDER: Edit = edit!(LIMIT, 0, (9, 63), 2);
 
-/// Replicas, the edits that reach them from outside, and the answers.
+/// Replicas, edits that they import, and the answers.
 const IMPORTS: &[((u32, &[Edit]), Answer)] = pairs![
     (0, &[TWO]) => Ok(Reply::Touched(Some(0))),
     (0, &[THREE]) => Ok(Reply::Touched(Some(0))),
@@ -77,7 +77,7 @@ fn imports(alloc: Global) -> Result<(Vec<Event>, Vec<Answer>), Fail> {
 }
 
 #[test]
-fn imports_come_in_any_order_and_all_or_none(rt: HostRuntime) -> Result<(), Fail> {
+fn imports_are_taken_in_any_order_and_whole_or_not_at_all(rt: HostRuntime) -> Result<(), Fail> {
     let (events, answers) = imports(rt.alloc())?;
     let played = play_and_check(&rt, rt.alloc(), &events, &answers)?;
     check_rows(&rt, rt.alloc(), &played.world, 2, &[(0, "............")])?;

@@ -1,4 +1,4 @@
-//! Edits in messages: one is withdrawn after its message, and the messages of two cross.
+//! Edits in messages: an edit that is withdrawn after its message was made, and two edits whose messages cross.
 
 use crate::worlds::{A1, A2, Answer, check_all_edits, check_all_rows, play_and_check};
 use road_replica::Reply;
@@ -9,7 +9,7 @@ use std::process::Abort;
 use std::test::Fail;
 use tests_plans::{BLOCK, LIMIT, answered_events, edit, stamp};
 
-/// The first replica blocks a cell, sends that, and withdraws it. Its own message then changes nothing.
+/// The first replica blocks a cell, sends that edit, and withdraws it. Its own message then changes nothing.
 const WITHDRAWN: ([Event; 5], [Answer; 5]) = answered_events![
     advance(0, 6) => Ok(Reply::Horizon(6)),
     edit(0, BLOCK, 4, 1) => Ok(Reply::Stamped(A1)),
@@ -18,11 +18,11 @@ const WITHDRAWN: ([Event; 5], [Answer; 5]) = answered_events![
     take(0, 0) => Ok(Reply::Touched(None)),
 ];
 
-/// Its last row, before it takes the message and after.
+/// The last row of the first replica, before it takes the message and after that.
 const FREE_AGAIN: &[(u32, &str)] = &[(6, "0..2...2....")];
 
-// Check that the first replica shows that row after these events.
-fn is_free_again(
+// Assert that the first replica shows that row after these events.
+fn assert_free_again(
     rt: &impl Abort,
     alloc: Global,
     events: &[Event],
@@ -35,11 +35,12 @@ fn is_free_again(
 #[test]
 fn a_withdrawn_edit_does_not_come_back_with_its_message(rt: HostRuntime) -> Result<(), Fail> {
     let (events, answers) = WITHDRAWN;
-    is_free_again(&rt, rt.alloc(), &events[..4], &answers[..4])?;
-    is_free_again(&rt, rt.alloc(), &events, &answers)
+    assert_free_again(&rt, rt.alloc(), &events[..4], &answers[..4])?;
+    assert_free_again(&rt, rt.alloc(), &events, &answers)
 }
 
-/// The second replica sets a limit on top of the first one's. The third takes both messages, the later one first.
+/// The second replica sets another limit over that of the first one. The third replica takes both messages, the later
+/// one first.
 const CROSSED: ([Event; 7], [Answer; 7]) = answered_events![
     edit(0, LIMIT, 3, 1) => Ok(Reply::Stamped(A1)),
     send(0) => Ok(Reply::Message(0)),

@@ -11,7 +11,7 @@ use std::sync::Arc;
 use std::test::Fail;
 use tests_plans::{FREE, plan_of, stamp};
 
-/// The answer to an event.
+/// The answer to an event: its reply, or why it is refused.
 pub(crate) type Answer = Result<Reply, WorldFault>;
 
 /// The stamps of a replica's edits.
@@ -31,12 +31,12 @@ pub(crate) fn play_events(alloc: Global, events: &[Event]) -> Result<Played, Fai
     Ok(play(alloc, plan, 3, events, &mut Alone, &mut Meter::new())?)
 }
 
-/// Check that some events have these answers.
+/// Assert that some events have these answers.
 pub(crate) fn check_answers(rt: &impl Abort, played: &Played, expected: &[Answer]) {
     assert!(rt; played.replies.as_slice() == expected);
 }
 
-/// Return that world, if the events have these answers.
+/// Return the world after some events. The events must have these answers.
 pub(crate) fn play_and_check(
     rt: &impl Abort,
     alloc: Global,
@@ -48,7 +48,7 @@ pub(crate) fn play_and_check(
     Ok(played)
 }
 
-/// Check that a replica of a world shows these rows at these steps.
+/// Assert that a replica of a world shows these rows at these steps.
 pub(crate) fn check_rows(
     rt: &impl Abort,
     alloc: Global,
@@ -63,7 +63,7 @@ pub(crate) fn check_rows(
     Ok(())
 }
 
-/// Check that the winning edits at a replica of a world are these.
+/// Assert that a replica of a world has exactly these winning edits.
 pub(crate) fn check_edits(
     rt: &impl Abort,
     alloc: Global,
@@ -81,7 +81,7 @@ pub(crate) fn check_edits(
 /// Steps, and the rows that a replica shows there.
 pub(crate) type Rows<'a> = &'a [(u32, &'a str)];
 
-/// Check that replicas of a world show these rows.
+/// Assert that replicas of a world show these rows.
 pub(crate) fn check_all_rows(
     rt: &impl Abort,
     alloc: Global,
@@ -94,7 +94,7 @@ pub(crate) fn check_all_rows(
     Ok(())
 }
 
-/// Check that the winning edits at replicas of a world are these.
+/// Assert that replicas of a world have exactly these winning edits.
 pub(crate) fn check_all_edits(
     rt: &impl Abort,
     alloc: Global,

@@ -10,7 +10,7 @@ use std::process::Abort;
 use std::test::Fail;
 use tests_plans::{FREE, LIMIT, edit, plan_of};
 
-/// Steps, and the limit that is set from each on.
+/// Steps, and the limit that is set from each step on.
 const PUTS: &[(u32, u32)] = &[
     (0, 5),
     (1_023, 1),
@@ -39,7 +39,7 @@ const LIMITS: &[Limit] = &[
     (1_048_575, 1, None),
 ];
 
-/// Past withdrawals a far earlier edit is in force, and the steps of withdrawals are dates too.
+/// If edits are withdrawn, a far earlier edit is in force. The steps of withdrawals are dates, too.
 const WITHDRAWN: &[u32] = &[1_024, 2_047, 2_048, 9_000];
 
 const WITHDRAWN_LIMITS: &[Limit] = &[
@@ -49,7 +49,7 @@ const WITHDRAWN_LIMITS: &[Limit] = &[
     (1_048_574, 1, Some(1_048_575)),
 ];
 
-// Make the edits of the table, by rising step.
+// Make the edits of the table, in the order of their steps.
 fn put_edits(alloc: Global) -> Result<Vec<Edit>, OutOfMemory> {
     let mut edits = Vec::new(alloc);
     for (step, limit) in PUTS {
@@ -66,7 +66,7 @@ fn withdraw(edits: &mut Vec<Edit>) -> Result<(), OutOfMemory> {
     Ok(())
 }
 
-/// The limits and dates of a scenario.
+/// The check of the limits and dates of a scenario.
 #[derive(Clone, Copy)]
 struct Limits<'a> {
     plan: &'a Plan,
@@ -86,7 +86,7 @@ impl Check for Limits<'_> {
     }
 }
 
-// Return whether edits act as expected: those of the table, made in either way, and with some of them withdrawn.
+// Return whether the edits of the table act as expected, made in either way, and also with some of them withdrawn.
 fn act(alloc: Global, plan: &Plan, edits: &mut Vec<Edit>) -> Result<bool, OutOfMemory> {
     let puts = Limits {
         plan,
@@ -110,7 +110,7 @@ fn each_edit_acts_from_its_own_step_on(rt: HostRuntime) -> Result<(), Fail> {
     Ok(())
 }
 
-/// The number of steps that have an edit, each two steps after the last one.
+/// The number of steps that have an edit. Each is two steps after the one before.
 const MANY: u32 = 1_200;
 
 // Return the limit that is set at an even step.
@@ -118,7 +118,7 @@ fn limit_put(step: u32) -> u32 {
     step / 2 % 6
 }
 
-// Make an edit of each even step, and then withdraw those from 1,000 to 1,400, both included.
+// Make an edit of each even step, and then withdraw the edits of steps 1,000 to 1,400, both included.
 fn many_edits(alloc: Global) -> Result<Vec<Edit>, OutOfMemory> {
     let mut edits = Vec::new(alloc);
     for place in 0..MANY {
@@ -130,7 +130,7 @@ fn many_edits(alloc: Global) -> Result<Vec<Edit>, OutOfMemory> {
     Ok(edits)
 }
 
-// Return the limit at a step: past withdrawn edits that of step 998.
+// Return the limit at a step. Where edits are withdrawn, it is that of step 998.
 fn limit_at(step: u32) -> u32 {
     match step {
         1_000..=1_401 => limit_put(998),
@@ -159,7 +159,7 @@ fn many_act(plan: &Plan, made: &Scenario) -> bool {
     made.greatest_count() == 2
 }
 
-/// A scenario of many edits, compared with another one, if there is one.
+/// The check of a scenario of many edits, also compared with another one if there is one.
 #[derive(Clone, Copy)]
 struct Many<'a> {
     plan: &'a Plan,
@@ -176,7 +176,7 @@ impl Check for Many<'_> {
     }
 }
 
-/// A scenario of many edits that is made one by one, compared with one that is made at once.
+/// The check that compares a scenario of many edits, made one by one, with one that is made at once.
 #[derive(Clone, Copy)]
 struct BothWays<'a> {
     plan: &'a Plan,

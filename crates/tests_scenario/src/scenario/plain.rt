@@ -1,4 +1,4 @@
-//! The definitions of settings and of touched steps as a plain, slow program over a list of edits, compared with
+//! The definitions of settings and of touched steps as a plain and slow program over a list of edits, compared with
 //! scenarios.
 
 use super::{
@@ -17,7 +17,7 @@ use tests_plans::{BLOCK, FREE, LIMIT, START, plan_of};
 /// The objects that are compared.
 const OBJECTS: &[Object] = &[LIMIT, Object::Slow(0), BLOCK, START];
 
-/// The greatest step that is compared.
+/// The last step that is compared.
 const LAST: u32 = 6;
 
 /// Lists of edits. Each is merged with each.
@@ -39,7 +39,7 @@ const LISTS: &[&[Edit]] = &[
     &[STARTED_LATER, NO_START, STARTED],
 ];
 
-// Return whether another edit of the same object and step exceeds an edit in stamp and value.
+// Return whether another edit of the same object and step has a greater stamp, or an equal stamp and a greater value.
 fn exceeds(edit: &Edit, other: &Edit) -> bool {
     edit.object == other.object
         && edit.step == other.step
@@ -67,7 +67,7 @@ fn put_at(edits: &[Edit], object: Object, step: u32) -> Option<u32> {
     None
 }
 
-// Return the number set at the latest step up to this one at which one is set.
+// Return the number set at the latest step, up to this one, at which a number is set.
 fn put_up_to(edits: &[Edit], object: Object, step: u32) -> Option<u32> {
     for earlier in (0..=step).rev() {
         if let Some(number) = put_at(edits, object, earlier) {
@@ -77,7 +77,7 @@ fn put_up_to(edits: &[Edit], object: Object, step: u32) -> Option<u32> {
     None
 }
 
-// Return that number, else the default; for standing cars the slowing chance of the zone.
+// Return that number, otherwise the default. For standing cars the default is the slowing chance of the zone.
 fn setting(plan: &Plan, edits: &[Edit], object: Object, step: u32) -> u32 {
     let own = match object {
         Object::Start(zone) => Object::Slow(zone),
@@ -94,7 +94,7 @@ fn setting(plan: &Plan, edits: &[Edit], object: Object, step: u32) -> u32 {
     }
 }
 
-// Return the least step at which the numbers set for some object differ.
+// Return the first step at which the numbers set for some object differ.
 fn touched(edits: &[Edit], others: &[Edit]) -> Option<u32> {
     for step in 0..=LAST {
         for object in OBJECTS {
@@ -106,7 +106,7 @@ fn touched(edits: &[Edit], others: &[Edit]) -> Option<u32> {
     None
 }
 
-// Return the greatest count of edits.
+// Return the largest count of edits.
 fn greatest_count(edits: &[Edit]) -> u64 {
     let mut greatest = 0;
     for edit in edits {
@@ -127,12 +127,12 @@ fn settings_are(plan: &Plan, edits: &[Edit], made: &Scenario) -> bool {
     true
 }
 
-/// A scenario that is merged into another one.
+/// The check that merges a scenario into another one.
 #[derive(Clone, Copy)]
 struct Come<'a> {
     plan: &'a Plan,
     before: &'a Scenario,
-    /// The edits of the other one, and those of both.
+    /// The edits of the other scenario, and the edits of both.
     held: &'a [Edit],
     all: &'a [Edit],
 }
@@ -157,7 +157,7 @@ impl Check for Come<'_> {
     }
 }
 
-/// A scenario of these edits, into which others are merged.
+/// The check that merges other scenarios into a scenario of these edits.
 #[derive(Clone, Copy)]
 struct Held<'a> {
     plan: &'a Plan,
@@ -179,7 +179,7 @@ impl Check for Held<'_> {
     }
 }
 
-// Merge a list with each, and compare the results with the plain program.
+// Merge a list with each list, and compare the results with the plain program.
 fn merge_with_each(
     rt: &impl Abort,
     alloc: Global,
@@ -194,7 +194,7 @@ fn merge_with_each(
     Ok(())
 }
 
-// Merge each list with each.
+// Merge each list with each list.
 fn merge_each(rt: &impl Abort, alloc: Global, plan: &Plan, lists: &[&[Edit]]) -> Result<(), Fail> {
     for held in lists {
         merge_with_each(rt, alloc, plan, held, lists)?;

@@ -1,4 +1,4 @@
--- A cache stays one of the sheet after it has dropped its run.
+-- A cache stays a cache of the sheet after its run is dropped.
 use Rattle.std.proofs.Common.{refl}
 use Rattle.tests_replicas.proofs.questions.answers_from_cache.Goals as goal
 

@@ -1,4 +1,4 @@
--- The cache is one of the sheet.
+-- The cache is a cache of the sheet.
 use Rattle.road_sheet.specs.QueryCaches.{IsCacheOf}
 use Rattle.tests_sheets.proofs.scripts.all_states_agree.Given as goal
 

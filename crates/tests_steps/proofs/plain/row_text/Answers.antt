@@ -5,7 +5,7 @@ use Rattle.road_cells.specs.Gap.{is_blocked}
 use Rattle.road_ends.specs.Row.{letter}
 use Rattle.tests_steps.proofs.plain.row_text.Goals as goal
 
--- one more cell is one more letter
+-- one more cell adds one more letter
 one_more : (f : ℕ → ℕ) (n a : ℕ) → map f (range_with_len a (suc n)) ≡ map f (range_with_len a n) ++ f (a + n) ∷ []
 one_more f zero a = let here : a ≡ a + 0 = omega arith in ap (λ k. f k ∷ []) here
 one_more f (suc n) a = let next : (a + 1) + n ≡ a + suc n = omega arith in ap (λ rest. f a ∷ rest) (one_more f n (a + 1) ∙ ap (λ k. map f (range_with_len (a + 1) n) ++ f k ∷ []) next)
