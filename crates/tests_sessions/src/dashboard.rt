@@ -81,7 +81,7 @@ fn is_told<J: Naming, R: Wait + Drop, W: Wait>(
     Ok(shows(alloc, &sheet, BLOCKED_ROWS))
 }
 
-// Let the second dashboard look. It is told of no write, so a look may show less than the engineer wrote, but never
+// Let the second dashboard look. It hears of no write, so a look may show less than the engineer wrote, but never
 // less than an earlier look.
 fn watch<J: Naming, R: Wait + Drop>(
     shared: &Shared<J, R>,
