@@ -52,7 +52,7 @@ use std::{env, io};
 
 // Read the plan from the first line of a text.
 fn plan_in(alloc: Global, text: &str) -> Result<Arc<Plan>> {
-    let line = text.lines().next().context("no plan line")?;
+    let line = text.lines().next().context("there is no plan line")?;
     let read = read_plan(alloc, line.as_bytes())?;
     Ok(Arc::new(alloc, read.plan)?)
 }
@@ -90,7 +90,7 @@ fn work<R: Threads + Wait + Clock + Input + Print + Clone + Drop + Send + Sync +
 fn numbers_of(alloc: Global, words: &[String]) -> Result<Vec<u32>> {
     let mut numbers = Vec::new(alloc);
     for word in words {
-        numbers.push(word.parse::<u32>().context("no number")?)?;
+        numbers.push(word.parse::<u32>().context("an argument is not a number")?)?;
     }
     Ok(numbers)
 }

@@ -90,7 +90,7 @@ fn time_left_right_alone<R: Threads + Wait + Clock + Print + Clone + Drop + Sync
 // Write a line for each result.
 fn print_all<R: Print>(rt: &R, all: &[Option<Done>]) -> Result<()> {
     for done in all {
-        let done = (*done).context("no clock")?;
+        let done = (*done).context("the clock cannot be read")?;
         println!(rt; "{} {}", done.times, done.nanoseconds)?;
     }
     Ok(())

@@ -6,7 +6,7 @@ use Rattle.road_serve.specs.StreamViews.{SourceView}
 abbrev source_with : Option (List ℕ) → Bool → ℕ → SourceView
 source_with remaining at_end failures = record { remaining = remaining; at_end = at_end; failures = failures }
 
--- a source of which nothing was read is determined by its remaining bytes
+-- a source from which nothing was read is determined by its remaining bytes
 pub source_is : (source : SourceView) (remaining : Option (List ℕ)) → source.remaining ≡ remaining → source.at_end ≡ false → source.failures ≡ 0
     → source ≡ record { remaining = remaining; at_end = false; failures = 0 }
 source_is source remaining left going well =

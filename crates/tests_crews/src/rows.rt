@@ -41,7 +41,7 @@ pub(crate) fn input_of(
 ) -> Result<Arc<StepInput>, Fail> {
     let settings = settings_of(alloc, plan, start)?;
     if !settings.fits(plan) {
-        return Err(Fail::new("settings that do not fit the plan"));
+        return Err(Fail::new("the settings must fit the plan"));
     }
     Ok(enter(alloc, plan, settings, step, road)?)
 }

@@ -44,7 +44,7 @@ fn settings_of(alloc: Global, plan: &Plan, kind: u32) -> Result<Settings, Fail>
         seed => settings = random_settings(alloc, plan, seed)?,
     }
     if !settings.fits(plan) {
-        return Err(Fail::new("settings that do not fit the plan"));
+        return Err(Fail::new("the settings must fit the plan"));
     }
     Ok(settings)
 }
@@ -58,7 +58,7 @@ pub(crate) fn span_of(
     steps: u32,
 ) -> Result<Span, Fail> {
     if step > 10_000 || steps > 64 {
-        return Err(Fail::new("a span that is too late or too long"));
+        return Err(Fail::new("a span must not be too late or too long"));
     }
     let settings = Arc::new(alloc, settings_of(alloc, plan, kind)?)?;
     Ok(Span::new(Arc::try_clone(plan)?, settings, step, steps))
@@ -212,7 +212,7 @@ fn compare_span<C: Crew>(
     wanted: &SpanResult,
 ) -> Result<RoadOrRun, Fail> {
     let Some(ran) = crew.run(alloc, span, road)? else {
-        return Err(Fail::new("a crew that does not run a span"));
+        return Err(Fail::new("the crew must run the span"));
     };
     assert_row(rt, span.steps() as usize, is_result(alloc, &ran, wanted)?);
     let SpanOutcome { road, .. } = ran;
@@ -286,7 +286,7 @@ fn is_run<R: Threads + Wait + Abort + Clone + Drop + Send + 'static>(
     courses: &[Course<'_>],
 ) -> Result<bool, Fail> {
     if workers == 0 || workers > 16 {
-        return Err(Fail::new("no such crew"));
+        return Err(Fail::new("a crew must have 1 to 16 workers"));
     }
     let asked = pool_runs(rt, alloc, workers, processors, plan, courses)?;
     Ok(asked == workers.saturating_mul(spans))

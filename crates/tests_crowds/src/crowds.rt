@@ -45,7 +45,7 @@ pub(crate) fn run_crowd<R: Threads + Wait, G: Gate + Sync>(
 ) -> Result<Crowd, Fail> {
     let plan = free_road(alloc)?;
     if !may_gather(&plan, shares, to) {
-        return Err(Fail::new("no crowd"));
+        return Err(Fail::new("the crowd must be accepted"));
     }
     Ok(crowd(rt, alloc, &plan, shares, to, gate)?)
 }

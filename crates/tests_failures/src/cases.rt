@@ -1,4 +1,4 @@
-//! The calls by their names.
+//! The calls, listed by their names.
 
 use crate::crews::{self, CrewCase};
 use crate::crowds::{self, CrowdCase};
@@ -44,9 +44,9 @@ pub(crate) enum Case {
     SheetOpening,
     /// A query of a sheet with some edits.
     SheetQuestion(&'static [Edit], sheets::Question),
-    /// A draft that keeps the run up to a step, and what it shows in the end.
+    /// A draft that keeps the run up to a step, and what its sheet shows in the end.
     Draft(u32, Shown),
-    /// The input of the step after this many steps, and its speeds.
+    /// The input of the step after this many steps, and the speeds of its cars.
     Input(u32, &'static [u8]),
     /// The step after this many steps, and the row after it.
     Push(u32, &'static str),
@@ -68,13 +68,13 @@ const BLOCKS: Write = Write::Edit(BLOCK, 4, 1);
 
 const OPENS: Write = Write::Withdraw(BLOCK, 4);
 
-/// Writes after which a replica holds edits that another one has in part.
+/// Writes, after which a replica holds edits that another replica has in part.
 const EXCHANGE: &[Write] = &[Write::Edit(LIMIT, 3, 1), BLOCKS, Write::Edit(LIMIT, 5, 0)];
 
-/// Imports that slow all cars, and that stop them.
+/// Imports that slow all cars, and imports that stop them.
 const IMPORTED: &[Edit] = &[edit!(LIMIT, 3, (1, 64), 1), edit!(LIMIT, 5, (2, 64), 0)];
 
-/// Rows of the free road: as at step 6, and with all cars slow in the end.
+/// Rows of the free road: the row at step 6, and the row if all cars are slow in the end.
 const LATE_ROW: &str = "0..2...2....";
 
 const SLOW_ROW: &str = "0.1.1.1.1.1.";
@@ -91,7 +91,7 @@ const BLOCKING: SessionCase = SessionCase(
     &[TO_SIX_FIRST, (1, Command::Take(&[BLOCKED]))],
 );
 
-/// It advances, withdraws what blocks a cell, and takes a message.
+/// The first session advances, withdraws what blocks a cell, and takes a message.
 const ADVANCING: SessionCase = SessionCase(
     &[],
     Act::Write(TO_HORIZON_SIX, 0, Reply::Horizon(6)),
@@ -120,7 +120,7 @@ const TAKING: SessionCase = SessionCase(
     &[TO_SIX_FIRST, (1, Command::Take(&[SLOW]))],
 );
 
-/// Imports that block a cell, and withdraw that with a greater stamp.
+/// An import that blocks a cell, and an import that withdraws that with a greater stamp.
 const BLOCK_IMPORTED: Edit = edit!(BLOCK, 4, (1, 64), 1);
 
 const OPENING_IMPORTED: Edit = edit!(BLOCK, 4, (2, 64), withdrawn);
@@ -171,13 +171,13 @@ const SHEETS: &[(&str, Case)] = pairs![
     "sheet-open" => Case::SheetOpening,
     "sheet-state" => Case::SheetQuestion(
         &[BLOCKED], sheets::Question::State(6, cars![(80, 0, 0), (48, 3, 2), (16, 6, 1), (0, 7, 0)])),
-    // It is recomputed from the first checkpoint.
+    // The sheet is recomputed from the first checkpoint.
     "sheet-earlier-state" => Case::SheetQuestion(&[], sheets::Question::State(3, cars![(16, 1, 1), (0, 5, 2)])),
     "sheet-totals" => Case::SheetQuestion(&[], sheets::Question::Totals(2, 5, Totals { cars: 2, speeds: 4 })),
     "sheet-kept-totals" => Case::SheetQuestion(&[], sheets::Question::Totals(0, 6, Totals { cars: 2, speeds: 4 })),
     "sheet-draft" => Case::Draft(4, WITH_BLOCK),
     "sheet-draft-resumed" => Case::Draft(6, TO_SIX),
-    // It begins at the second checkpoint.
+    // The draft begins at the second checkpoint.
     "sheet-draft-late" => Case::Draft(64, Shown(
         &[(64, LATE_ROW), (66, "0.1..1...1.."), (70, "0.1.1.1..1..")], &[edit!(LIMIT, 64, (1, 0), 1)])),
     "draft-input" => Case::Input(5, &[0, 2, 2, 2]),
@@ -185,7 +185,7 @@ const SHEETS: &[(&str, Case)] = pairs![
     "draft-push" => Case::Push(5, LATE_ROW),
     "draft-push-ends-interval" => Case::Push(63, LATE_ROW),
     "grown-block" => Case::Growth(GrowthCase(6, 6, Some(4), 6, WITH_BLOCK)),
-    // Edits at step 0, round the end of an interval, at the last step and at the horizon, in a run of 130 steps.
+    // Edits at step 0, around the end of an interval, at the last step and at the horizon, in a run of 130 steps.
     "grown-from-first" => Case::Growth(GrowthCase(130, 0, Some(0), 130, Shown(
         &[(4, "0.1.1......."), (130, SLOW_ROW)], &[edit!(LIMIT, 0, (1, 0), 1)]))),
     "grown-from-early" => Case::Growth(GrowthCase(130, 0, Some(63), 130, Shown(
@@ -209,7 +209,7 @@ const REPLICAS: &[(&str, Case)] = pairs![
         Case::Write(WriteCase(&[TO_HORIZON_SIX, BLOCKS], OPENS, Reply::Stamped(stamp!(2, 0)), WITHDRAWN)),
     "replica-take" =>
         Case::Write(WriteCase(&[TO_HORIZON_SIX], Write::Take(&[SLOW]), Reply::Touched(Some(3)), SLOWED)),
-    // A block that was withdrawn comes back with an older message, and nothing changes.
+    // A block that was withdrawn reaches the replica again with an older message, and nothing changes.
     "replica-take-old" => Case::Write(WriteCase(
         &[TO_HORIZON_SIX, BLOCKS, OPENS], Write::Take(&[BLOCKED]), Reply::Touched(None), WITHDRAWN)),
     "replica-import" => Case::Write(WriteCase(
@@ -234,7 +234,7 @@ const REPLICAS: &[(&str, Case)] = pairs![
         Case::Question(&[TO_HORIZON_SIX], Question::State(4, cars![(48, 0, 0), (16, 3, 2), (0, 7, 2)])),
     "replica-totals" =>
         Case::Question(&[TO_HORIZON_SIX], Question::Totals(0, 3, Totals { cars: 1, speeds: 2 })),
-    // The totals of a whole interval are stored.
+    // The totals of a whole interval are stored in the sheet.
     "replica-kept-totals" =>
         Case::Question(&[TO_HORIZON_SIX], Question::Totals(0, 6, Totals { cars: 2, speeds: 4 })),
     "replica-rows" => Case::Question(
@@ -271,7 +271,7 @@ const SESSIONS: &[(&str, Case)] = pairs![
     "session-edit" => Case::Session(BLOCKING, Closing::Judged),
     "session-withdraw" => Case::Session(WITHDRAWING, Closing::Judged),
     "session-take" => Case::Session(TAKING, Closing::Judged),
-    // The journal is checked as soon as they are refused.
+    // The journal is checked as soon as the write is refused.
     "session-advance-journal" => Case::Session(ADVANCING, Closing::Refused),
     "session-edit-journal" => Case::Session(BLOCKING, Closing::Refused),
     "session-withdraw-journal" => Case::Session(WITHDRAWING, Closing::Refused),
@@ -283,7 +283,7 @@ const SESSIONS: &[(&str, Case)] = pairs![
     "session-totals" => Case::Session(SessionCase(
         &[TO_HORIZON_SIX], Act::Totals(0, 3, Totals { cars: 1, speeds: 2 }), TO_SIX, TO_SIX, &[TO_SIX_FIRST]),
         Closing::Judged),
-    // One session that only advances; and two sessions.
+    // A crowd of one session that only advances, and a crowd of two sessions.
     "crowd-of-one" => Case::Crowd(CrowdCase(&[&[]], &[], 1, LATE_ROW)),
     "crowd-of-two" =>
         Case::Crowd(CrowdCase(&[&[BLOCK_IMPORTED], &[OPENING_IMPORTED]], &[OPENING_IMPORTED], 4, LATE_ROW)),
@@ -301,7 +301,7 @@ const LINES: &[(&str, Case)] = pairs![
 /// The number of layers of calls.
 pub(crate) const LAYERS: u32 = 7;
 
-/// Return the calls of a layer. The lowest layer is 0.
+/// Return the calls of a layer. Layer 0 is the lowest.
 pub(crate) fn cases_of(layer: u32) -> &'static [(&'static str, Case)] {
     match layer {
         0 => roads_cases(),

@@ -1,4 +1,4 @@
-//! Crews: the speeds of a step of the dense road, 64 steps of a long one, and the start of lasting workers.
+//! Crews: the speeds of a step of the dense road, 64 steps of the long road, and the start of lasting workers.
 
 use crate::roads::shared_plan;
 use crate::verdict::{Call, Refusal, Until, Verdict, Wrong, try_call, verdict_of};
@@ -12,7 +12,7 @@ use std::sync::{Arc, Wait};
 use std::thread::Threads;
 use tests_plans::{Counter, DENSE, LONG, queue};
 
-/// The new speeds of the dense road's first step.
+/// The speeds that the cars get in the dense road's first step.
 const SPEEDS: &[u8] = &[0, 1, 0, 1, 0, 0, 1, 0, 1];
 
 /// The number of cells of the long road that are taken: enough cars for two workers.
@@ -26,7 +26,7 @@ const WORKERS: u32 = 2;
 enum Task {
     /// The speeds of the dense road's first step.
     Speeds(Arc<StepInput>),
-    /// Steps of the long road, and the gate that its workers pass.
+    /// Steps of the long road, and the gate that the workers pass.
     Steps(Span, Road, Arc<Counter>),
 }
 
@@ -35,9 +35,9 @@ enum Task {
 pub(crate) enum CrewCase {
     /// A single caller computes.
     Alone,
-    /// Two threads are made for the call.
+    /// Two threads that are made for the call compute.
     Scoped,
-    /// Two lasting workers compute, each its piece.
+    /// Two lasting workers compute the speeds of a step, a piece each.
     Pool,
     /// Two lasting workers run steps of a long road, a stretch each.
     Run,
@@ -47,7 +47,7 @@ pub(crate) enum CrewCase {
     StartGated,
 }
 
-// Make the task to give the speeds of the dense road's first step.
+// Make the task of computing the speeds of the dense road's first step.
 fn first_speeds(alloc: Global) -> Option<Task> {
     let plan = shared_plan(alloc, &DENSE)?;
     let settings = Settings::of_plan(alloc, &plan).ok()?;
@@ -69,7 +69,7 @@ fn first_steps(alloc: Global, plan: Arc<Plan>) -> Option<Span> {
     Some(Span::new(plan, settings, 0, 64))
 }
 
-// Make the task to run the first steps of the long road, many of whose cells are taken, as a crew runs together.
+// Make the task of running the first steps of the long road. It has enough cars for the workers to share the run.
 fn long_run(alloc: Global) -> Option<Task> {
     let gate = Arc::new(alloc, Counter::new()).ok()?;
     let road = queue(alloc, TAKEN).ok()?;
@@ -77,8 +77,8 @@ fn long_run(alloc: Global) -> Option<Task> {
     Some(Task::Steps(span, road, gate))
 }
 
-// Return whether a crew runs a span, and each of its workers passes the gate for that: the contract of the run states
-// its road and totals.
+// Return whether a crew runs a span, and each of its workers passes the gate. The road and the totals need no check:
+// the contract of the run states them.
 fn runs<C: Crew>(
     alloc: Global,
     crew: &mut C,
@@ -179,7 +179,7 @@ fn try_pool<R: Threads + Wait + Clone + Drop + Send + 'static>(
     verdict
 }
 
-// Judge workers that were started: they must return the speeds. Return `None` if an allocation failed meanwhile.
+// Judge workers that were started: they must return the right speeds. Return `None` if an allocation failed meanwhile.
 fn judge_start<R: Threads + Wait + Clone + Drop + Send + 'static>(
     alloc: Global,
     mut pool: Pool<R>,

@@ -1,4 +1,4 @@
-//! Crowds on the free road. Each session writes on a thread of its own, and the allocations of these threads fail, too.
+//! Crowds on the free road. Each session writes on its own thread, and the allocations of these threads fail, too.
 
 ghost use Rattle.std.specs.Prelude.{◌≡◌, ◌<◌, ◌≤◌, None, length};
 ghost use Rattle.std.specs.Arc.{arc_value};

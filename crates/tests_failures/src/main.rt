@@ -33,7 +33,7 @@ use std::thread::Threads;
 use std::{env, io};
 
 // Print the verdict on a call, if it was judged.
-fn tell<R: Print>(rt: &R, verdict: Option<Verdict>) -> io::Result<()> {
+fn print_verdict<R: Print>(rt: &R, verdict: Option<Verdict>) -> io::Result<()> {
     match verdict {
         Some(Verdict::Stopped) => Ok(()),
         Some(Verdict::Right) => println!(rt; "right"),
@@ -46,7 +46,7 @@ fn tell<R: Print>(rt: &R, verdict: Option<Verdict>) -> io::Result<()> {
     }
 }
 
-// Return the case with a name.
+// Return the case with this name.
 fn case_named(name: &str) -> Option<Case> {
     for layer in 0..LAYERS {
         for (other, case) in cases_of(layer) {
@@ -58,7 +58,7 @@ fn case_named(name: &str) -> Option<Case> {
     None
 }
 
-// Return the stage up to which a call is tried, from its word.
+// Return the stage that a word names.
 fn until(word: &str) -> Until {
     match word {
         "prepared" => Until::Prepared,
@@ -67,7 +67,7 @@ fn until(word: &str) -> Until {
     }
 }
 
-// Try the call with a name up to a stage.
+// Try the call with this name up to a stage, and print the verdict.
 fn try_one<R: Print + Threads + Wait + Clone + Drop + Send + 'static>(
     rt: &R,
     alloc: Global,
@@ -75,7 +75,7 @@ fn try_one<R: Print + Threads + Wait + Clone + Drop + Send + 'static>(
     until: Until,
 ) -> io::Result<()> {
     match case_named(name) {
-        Some(case) => tell(rt, try_case(rt, alloc, until, case)),
+        Some(case) => print_verdict(rt, try_case(rt, alloc, until, case)),
         None => println!(rt; "wrong: there is no such call"),
     }
 }
@@ -100,15 +100,15 @@ fn try_all<R: Print + Threads + Wait + Clone + Drop + Send + 'static>(
             let verdict = try_case(rt, alloc, Until::Judged, *case);
             if verdict != Some(Verdict::Right) {
                 println!(rt; "{name}")?;
-                tell(rt, verdict)?;
+                print_verdict(rt, verdict)?;
             }
         }
     }
     println!(rt; "all calls are tried")
 }
 
-// Do what the program's arguments say. The first one is the program's name.
-fn obey<R: Print + Threads + Wait + Clone + Drop + Send + 'static>(
+// Do what the arguments request. The first argument is the program's name.
+fn run_command<R: Print + Threads + Wait + Clone + Drop + Send + 'static>(
     rt: &R,
     alloc: Global,
     words: &[String],
@@ -122,7 +122,7 @@ fn obey<R: Print + Threads + Wait + Clone + Drop + Send + 'static>(
     }
 }
 
-// Return the program's arguments.
+// Return the program's arguments, with its name.
 fn words_of(rt: &HostRuntime) -> io::Result<Vec<String>> {
     let mut words = Vec::new(rt.alloc());
     for word in env::args(rt)? {
@@ -133,5 +133,5 @@ fn words_of(rt: &HostRuntime) -> io::Result<Vec<String>> {
 
 fn main(rt: HostRuntime) -> io::Result<()> {
     let words = words_of(&rt)?;
-    obey(&rt, rt.alloc(), &words)
+    run_command(&rt, rt.alloc(), &words)
 }

@@ -9,7 +9,7 @@ use road_sheet::SheetFault;
 use road_workers::CrewFault;
 use road_world::{PlayFault, WorldFault};
 
-// Return the verdict `Again` if a refused call ran out of memory, else None.
+// Return the verdict `Again` if a refused call ran out of memory, otherwise None.
 fn again_if(is_out_of_memory: bool) -> Option<Verdict> {
     if is_out_of_memory {
         Some(Verdict::Again)

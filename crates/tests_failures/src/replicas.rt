@@ -25,7 +25,7 @@ pub(crate) enum Write {
 }
 
 impl Write {
-    // Return the edits that it takes or imports.
+    // Return the edits that a write takes or imports.
     fn edits(&self) -> &'static [Edit] {
         match self {
             Write::Import(edits) => edits,
@@ -34,13 +34,13 @@ impl Write {
         }
     }
 
-    /// Make the scenario of the edits that it takes or imports.
+    /// Make the scenario of the edits that a write takes or imports.
     pub(crate) fn scenario(&self, alloc: Global) -> Option<Scenario> {
         Scenario::of_edits(alloc, self.edits()).ok()
     }
 }
 
-/// A write that is judged: those before it, its answer, and what the replica shows after it.
+/// A case: the writes before a write, the write, its answer, and what the replica shows after it.
 #[derive(Clone, Copy)]
 pub(crate) struct WriteCase(
     pub(crate) &'static [Write],
@@ -79,7 +79,7 @@ fn accept(alloc: Global, replica: &mut Replica, write: &Write) -> Option<()> {
     Some(())
 }
 
-// Make writes that the replica must accept.
+// Make writes that the replica must accept, one after another.
 fn accept_all(alloc: Global, replica: &mut Replica, writes: &[Write]) -> Option<()> {
     for write in writes {
         accept(alloc, replica, write)?;
@@ -87,7 +87,7 @@ fn accept_all(alloc: Global, replica: &mut Replica, writes: &[Write]) -> Option<
     Some(())
 }
 
-// A write to a replica.
+// A write to a replica, as a call.
 #[derive(Drop)]
 struct Writing {
     replica: Replica,
@@ -148,14 +148,14 @@ pub(crate) enum Question {
     Copied(Shown),
     Message(&'static [Edit]),
     Heads(&'static [Head]),
-    /// What is beyond the heads of some edits.
+    /// The edits beyond the heads of some edits.
     Beyond(&'static [Edit], &'static [Edit]),
     State(u32, &'static [Car]),
     Totals(u32, u32, Totals),
     Rows(u32, u32, &'static [&'static str]),
 }
 
-// The answer to a query: a copy of the replica, edits, or whether it was the expected answer.
+// The answer to a query: a copy of the replica, edits, or whether the answer was the expected one.
 #[derive(Drop)]
 enum Told {
     Copy(Replica),
@@ -231,7 +231,7 @@ fn is_told(alloc: Global, question: &Question, told: &Told) -> Option<bool> {
     }
 }
 
-// A query of a replica, with the heads that it contains.
+// A query of a replica, with the heads that the query contains, as a call.
 #[derive(Drop)]
 struct Asking {
     replica: Replica,
@@ -257,7 +257,7 @@ impl Call for Asking {
     }
 }
 
-// Return the heads in a query.
+// Return the heads that a query contains.
 fn heads_with(alloc: Global, question: &Question) -> Option<Heads> {
     let held: &[Edit] = match question {
         Question::Beyond(held, _) => held,
@@ -287,7 +287,7 @@ pub(crate) fn try_question(
 
 // ---- openings
 
-// The opening of a replica.
+// The opening of a replica, as a call.
 #[derive(Drop)]
 struct Opening {
     plan: Arc<Plan>,

@@ -16,7 +16,7 @@ use std::alloc::Global;
 use std::sync::Arc;
 use tests_portraits::Portrait;
 
-/// What is made from the scenario of one replica, or from those of two.
+/// What is made from the scenario of one replica, or from the scenarios of two.
 #[derive(Clone, Copy)]
 pub(crate) enum Making {
     /// An edit is added to others, with this result.
@@ -33,7 +33,7 @@ pub(crate) enum Making {
     /// The settings at step 4, with cell 8 blocked.
     Settings,
     Heads,
-    /// The edits beyond the heads of the other one.
+    /// The edits beyond the heads of the other replica.
     Beyond,
 }
 
@@ -50,7 +50,7 @@ fn pair_of(alloc: Global, edits: &[Edit], horizon: u32) -> Option<Pair> {
     })
 }
 
-// Return whether a pair has these edits, and the greater horizon.
+// Return whether a pair of a scenario and a horizon has these edits, and the greater horizon.
 fn is_pair(alloc: Global, pair: &Pair, edits: &[Edit]) -> Option<bool> {
     Some(pair.second == Greatest::Of(6) && holds(alloc, &pair.first, edits)?)
 }
@@ -63,7 +63,7 @@ fn are_heads(heads: &[Head], edits: &[Edit]) -> bool {
         })
 }
 
-// What was made: a scenario, one with a horizon, or whether it is the expected answer.
+// What was made: a scenario, a scenario with a horizon, or whether the answer is the expected one.
 #[derive(Drop)]
 enum Made {
     Scenario(Scenario),
@@ -71,12 +71,12 @@ enum Made {
     Expected(bool),
 }
 
-// What is made of scenarios, and what it needs.
+// What is made of scenarios, and what is needed for it.
 #[derive(Drop)]
 struct Work {
     one: Pair,
     other: Pair,
-    // The heads of the other one.
+    // The heads of the other replica.
     heads: Heads,
     plan: Arc<Plan>,
     making: Making,
@@ -96,7 +96,7 @@ fn has_held(alloc: Global, scenario: &Scenario) -> Result<bool, OutOfMemory> {
     Ok(scenario.edits(alloc)?.as_slice() == HELD)
 }
 
-// Return whether a scenario has their heads.
+// Return whether a scenario has the heads of the edits of one replica.
 fn has_heads(alloc: Global, scenario: &Scenario) -> Result<bool, OutOfMemory> {
     Ok(are_heads(heads_of(alloc, scenario)?.list(), HELD))
 }
@@ -141,7 +141,7 @@ impl Call for Work {
     }
 }
 
-// Return the edits of what is made.
+// Return the edits that the result must have.
 fn edits_of(making: &Making) -> &'static [Edit] {
     match making {
         Making::WithEdit(_, _, made) => made,
@@ -166,7 +166,7 @@ fn heads_with(alloc: Global, edits: &[Edit]) -> Option<Heads> {
     heads_of(alloc, &scenario).ok()
 }
 
-/// Try what is made of scenarios.
+/// Try a case of scenarios.
 pub(crate) fn try_making(alloc: Global, until: Until, making: Making) -> Option<Verdict> {
     let held: &[Edit] = match &making {
         Making::WithEdit(edits, _, _) => edits,
@@ -188,15 +188,15 @@ pub(crate) fn try_making(alloc: Global, until: Until, making: Making) -> Option<
 
 // ---- maps of registers
 
-/// What is made of maps.
+/// What is made of maps of registers.
 #[derive(Clone, Copy, PartialEq, Eq)]
 pub(crate) enum MapCase {
     With,
-    /// The page that takes the key becomes two.
+    /// The page to which the key is added is split in two.
     WithSplit,
     Joined,
     Copied,
-    /// Both pages take keys, and the first becomes two.
+    /// Keys are added to both pages, and the first is split in two.
     PagesJoined,
 }
 
@@ -208,7 +208,7 @@ const TWO: Register = Greatest::Of((7, 2));
 
 const THREE: Register = Greatest::Of((7, 3));
 
-// Return whether a map has just these registers, in this order.
+// Return whether a map has exactly these registers, in this order.
 fn has_registers(map: &Registers, registers: &[(u32, Register)]) -> bool {
     let mut steps = map.keys();
     for (step, register) in registers {
@@ -228,7 +228,7 @@ fn map_of(alloc: Global, registers: &[(u32, Register)]) -> Option<Registers> {
     Some(map)
 }
 
-// Return the map of this many even steps from 0 on.
+// Return a map with this many even steps from 0 on.
 fn even_steps(alloc: Global, count: u32) -> Option<Registers> {
     let mut map = Registers::empty(alloc);
     for place in 0..count {
@@ -237,7 +237,8 @@ fn even_steps(alloc: Global, count: u32) -> Option<Registers> {
     Some(map)
 }
 
-// Return whether a map has exactly the value 2 at this many even steps from 0 on, but 3 at some of them.
+// Return whether a map has exactly this many even steps from 0 on, with the value 3 at some of them and 2 at all
+// others.
 fn has_even_and(map: &Registers, count: u32, three: &[u32]) -> bool {
     for place in 0..count {
         if map.get(place.saturating_mul(2)).is_none() {
@@ -258,7 +259,7 @@ fn has_even_and(map: &Registers, count: u32, three: &[u32]) -> bool {
     true
 }
 
-// What is made of maps.
+// What is made of maps, as a call.
 #[derive(Drop)]
 struct Mapping {
     one: Registers,
@@ -305,7 +306,7 @@ impl Call for Mapping {
     }
 }
 
-// Return whether this is the map that is made.
+// Return whether this is the map that must be made.
 fn is_map(map: &Registers, case: MapCase) -> bool {
     match case {
         MapCase::With => has_registers(map, &[(3, TWO), (5, TWO), (9, THREE)]),
@@ -333,7 +334,7 @@ fn second_map(alloc: Global, case: MapCase) -> Option<Registers> {
     }
 }
 
-/// Try what is made of maps.
+/// Try a case of maps.
 pub(crate) fn try_map(alloc: Global, until: Until, case: MapCase) -> Option<Verdict> {
     let one = first_map(alloc, case)?;
     let other = second_map(alloc, case)?;

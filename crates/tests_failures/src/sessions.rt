@@ -24,14 +24,14 @@ use tests_portraits::Portrait;
 /// What a session does, and the expected answer.
 #[derive(Clone, Copy)]
 pub(crate) enum Act {
-    /// It writes; its place in the journal, and the reply.
+    /// It writes. The expected answer is its place in the journal, and the reply.
     Write(Write, u64, Reply),
     Look,
     State(u32, &'static [Car]),
     Totals(u32, u32, Totals),
 }
 
-/// A command of the journal, as tables have it.
+/// A command of the journal, in the form that tables use.
 #[derive(Clone, Copy)]
 pub(crate) enum Command {
     Take(&'static [Edit]),
@@ -39,7 +39,7 @@ pub(crate) enum Command {
 }
 
 /// A call of the second of two sessions: the writes of the first session before it, the call, what is shown before and
-/// after it, and the journal afterwards, each entry by its session and its command.
+/// after it, and the journal afterwards. Each entry of the journal has its session and its command.
 #[derive(Clone, Copy)]
 pub(crate) struct SessionCase(
     pub(crate) &'static [Write],
@@ -54,7 +54,7 @@ pub(crate) struct SessionCase(
 pub(crate) enum Closing {
     /// Once the call is judged.
     Judged,
-    /// Once the call is judged, and the closing is the call to try.
+    /// Once the call is judged; the closing itself is the call to try.
     Tried,
     /// As soon as the call is refused.
     Refused,
@@ -124,9 +124,9 @@ fn draw_looks<J: Naming, S: Of<J>>(
 
 // ---- writes
 
-/// Something that sessions write to.
+/// What sessions write to.
 trait Writes<J: Naming>: Of<J> {
-    /// Write for a session.
+    /// Let a session write.
     fn write_for<W: Wait>(
         &self,
         rt: &W,
@@ -159,7 +159,7 @@ impl<J: Naming, R: Wait + Drop> Writes<J> for Shared<J, R> {
     }
 }
 
-// Write for the session of a number.
+// Let the session with this number write.
 fn write_by<J: Naming, S: Writes<J>, W: Wait>(
     store: &mut Store<J, S, W>,
     number: usize,
@@ -177,7 +177,7 @@ fn write_by<J: Naming, S: Writes<J>, W: Wait>(
     }
 }
 
-// Write for the first session, and tell the second one.
+// Let the first session write, and tell the second session.
 fn accept<J: Naming, S: Writes<J>, W: Wait>(
     alloc: Global,
     store: &mut Store<J, S, W>,
@@ -191,7 +191,7 @@ fn accept<J: Naming, S: Writes<J>, W: Wait>(
     Some(())
 }
 
-// Make all these writes in the same way.
+// Let the first session make all these writes, and tell the second session of each.
 fn accept_all<J: Naming, S: Writes<J>, W: Wait>(
     alloc: Global,
     store: &mut Store<J, S, W>,
@@ -203,7 +203,7 @@ fn accept_all<J: Naming, S: Writes<J>, W: Wait>(
     Some(())
 }
 
-// A write of the second session.
+// A write of the second session, as a call.
 #[derive(Drop)]
 struct Writing<J: Naming, S, W> {
     store: Store<J, S, W>,
@@ -299,21 +299,21 @@ fn try_write<J: Naming, S: Writes<J>, W: Wait>(
 
 // ---- questions
 
-// The answer to a session's query: a sheet, or whether it was the expected answer.
+// The answer to a query of a session: a sheet, or whether the answer was the expected one.
 #[derive(Drop)]
 enum Told {
     Sheet(Arc<Sheet>),
     Expected(bool),
 }
 
-// A query of the second session.
+// A query of the second session, as a call.
 #[derive(Drop)]
 struct Asking<J: Naming, S, W> {
     store: Store<J, S, W>,
     case: SessionCase,
 }
 
-// Ask for a session.
+// Let a session make its query.
 fn tell<J: Naming, S: Of<J>>(
     alloc: Global,
     shared: &S,
@@ -366,7 +366,7 @@ impl<J: Naming, S: Writes<J>, W: Wait> Call for Asking<J, S, W> {
     }
 }
 
-// Try a question.
+// Try a query.
 fn try_question<J: Naming, S: Writes<J>, W: Wait>(
     alloc: Global,
     until: Until,
@@ -378,7 +378,7 @@ fn try_question<J: Naming, S: Writes<J>, W: Wait>(
 
 // ---- the closed store
 
-// Return whether this is an entry of the journal.
+// Return whether this is the expected entry of the journal.
 fn is_entry(alloc: Global, entry: &Entry, (session, command): &(u32, Command)) -> Option<bool> {
     let is_command = match (&entry.command, command) {
         (SheetCommand::Take(scenario), Command::Take(edits)) => holds(alloc, scenario, edits)?,
@@ -388,7 +388,7 @@ fn is_entry(alloc: Global, entry: &Entry, (session, command): &(u32, Command)) -
     Some(is_command && entry.session == *session)
 }
 
-// Return whether a closed store has this journal, and shows this.
+// Return whether a closed store has the expected journal, and its sheet shows what it should.
 fn is_closed_with(
     alloc: Global,
     closed: &Closed,
@@ -403,7 +403,7 @@ fn is_closed_with(
 }
 
 // Judge the result of a store that was closed after a call with this verdict. If the call was refused and not made
-// again, the journal must not have its entry.
+// again, the journal must have no entry of it.
 fn judge_closed(
     alloc: Global,
     closed: &Closed,
@@ -419,7 +419,7 @@ fn judge_closed(
     Some(verdict_of(verdict, is_right))
 }
 
-// Close a store after a call with this verdict, and judge the result if that is required.
+// Close a store after a call with this verdict. Judge the result if the case requires it.
 fn close_after<J: Naming, R: Wait + Drop, W: Drop>(
     alloc: Global,
     until: Until,
@@ -442,8 +442,8 @@ fn close_after<J: Naming, R: Wait + Drop, W: Drop>(
     }
 }
 
-// Return the stage up to which a call is tried before its store is closed: to the end if the closing is the call to
-// try.
+// Return the stage up to which a call is tried before its store is closed. If the closing is the call to try, it is the
+// last stage.
 fn until_closing(until: Until, closing: Closing) -> Until {
     match closing {
         Closing::Tried => Until::Judged,
@@ -451,7 +451,7 @@ fn until_closing(until: Until, closing: Closing) -> Until {
     }
 }
 
-// Try the call of a store, and close it.
+// Try the call of a store, and then close the store.
 fn act_and_close<J: Naming, R: Wait + Drop, W: Wait + Drop>(
     alloc: Global,
     store: Store<J, Shared<J, R>, W>,
@@ -472,7 +472,7 @@ fn act_and_close<J: Naming, R: Wait + Drop, W: Wait + Drop>(
     }
 }
 
-// Open a prepared store, try the call or the closing after it, and judge the closed store.
+// Open a prepared store, try the call or the closing after the call, and judge the closed store.
 fn goes<J: Naming, R: Wait + Drop, W: Wait + Drop>(
     rt: W,
     alloc: Global,
@@ -524,8 +524,8 @@ fn try_in_store<R: Wait + Drop + Copy>(
     goes::<Brand, R, R>(rt, alloc, prepared, given, until, closing, case)
 }
 
-/// Try a call of a session, or the closing of the store after it, which needs no memory. If the store is closed as soon
-/// as the call is refused, make the call again in another store.
+/// Try a call of a session, or the closing of the store after it, which does not allocate. If the store is closed as
+/// soon as the call is refused, make the call again in another store.
 pub(crate) fn try_session_call<R: Wait + Drop + Copy>(
     rt: R,
     alloc: Global,
@@ -579,7 +579,7 @@ fn judge_opening<J: Naming, R: Wait + Drop>(
     Some(verdict_of(verdict, are_two && is_new))
 }
 
-// Prepare a store again and open it, after it was refused with this fault.
+// Prepare and open a store again, after opening it was refused with this fault.
 fn open_again<R: Wait + Drop + Copy>(rt: R, alloc: Global, fault: OpenFault) -> Option<Verdict> {
     let Some(verdict) = fault.verdict_after_retry() else {
         return Some(Verdict::Wrong(Wrong::Cause));
@@ -618,7 +618,7 @@ pub(crate) fn try_open<R: Wait + Drop + Copy>(
     open_or_retry(rt, alloc, prepared, until)
 }
 
-// Judge a prepared store, or prepare it again if an allocation failed: nothing else can fail.
+// Judge a prepared store. If an allocation failed, prepare it again: nothing else can fail.
 fn judge_prepared<R: Wait + Drop + Copy>(
     rt: R,
     alloc: Global,

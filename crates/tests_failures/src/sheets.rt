@@ -1,4 +1,4 @@
-//! Sheets: queries of them, their drafts, and their growth.
+//! Sheets: queries of them, drafts of them, and their growth.
 
 ghost use Rattle.std.specs.Prelude.{◌≡◌, ◌<◌, ◌≤◌};
 ghost use Rattle.road_plan.specs.declared.limits.TheConstants.{GREATEST_HORIZON};
@@ -23,7 +23,7 @@ use tests_portraits::Portrait;
 
 // ---- openings
 
-// The opening of a sheet.
+// The opening of a sheet, as a call.
 #[derive(Drop)]
 struct Opening {
     plan: Arc<Plan>,
@@ -51,8 +51,8 @@ pub(crate) fn try_opening(alloc: Global, until: Until) -> Option<Verdict> {
 
 // ---- growth
 
-/// A growth: the horizon before it, the step to which it extends, the step that it touches, the number of steps that it
-/// computes, and what is shown after it.
+/// A growth: the horizon before it, the step to which it extends the sheet, the first step that it touches, the number
+/// of steps that it computes, and what is shown after it.
 #[derive(Clone, Copy)]
 pub(crate) struct GrowthCase(
     pub(crate) u32,
@@ -62,7 +62,8 @@ pub(crate) struct GrowthCase(
     pub(crate) Shown,
 );
 
-// Return how many steps a growth may compute: those past the horizon, or those from 63 steps before the touched one.
+// Return how many steps a growth may compute: those past the horizon, or, if a simulated step is touched, those from 63
+// steps before the first such step on.
 fn most_steps(case: &GrowthCase) -> u64 {
     let GrowthCase(horizon, to, touched, _, _) = *case;
     let last = horizon.max(to);
@@ -73,7 +74,7 @@ fn most_steps(case: &GrowthCase) -> u64 {
     u64::from(steps)
 }
 
-// A growth of a sheet by some edits up to a step, and how many steps it has computed.
+// A growth of a sheet by some edits up to a step, as a call, and how many steps the call computed.
 #[derive(Drop)]
 struct Growing {
     sheet: Sheet,
@@ -90,7 +91,7 @@ impl Call for Growing {
 
     type Fault = GrownFault;
 
-    // Draw the sheet that grows, and whether too many steps were computed.
+    // Draw the sheet that grows, and by how many steps the call computed too many.
     fn draw(&mut self, alloc: Global, portrait: &mut Portrait) -> Option<()> {
         portrait.draw_number(self.steps.saturating_sub(most_steps(&self.case)))?;
         portrait.draw_sheet(alloc, &self.sheet)
@@ -131,7 +132,7 @@ fn growth_of(sheet: Sheet, scenario: Scenario, to: u32, case: GrowthCase) -> Opt
     })
 }
 
-// Return the sheet of the free road with some edits, simulated in one go up to a step.
+// Return the sheet of the free road with some edits, simulated up to a step without a break.
 fn run_of(alloc: Global, edits: &[Edit], to: u32) -> Option<Sheet> {
     let scenario = Scenario::of_edits(alloc, edits).ok()?;
     let opening = Sheet::opening(alloc, free_plan(alloc)?).ok()?;
@@ -140,7 +141,7 @@ fn run_of(alloc: Global, edits: &[Edit], to: u32) -> Option<Sheet> {
     sheet_of(growing.make(alloc))
 }
 
-// Return a sheet that has grown.
+// Return a sheet after a growth.
 fn sheet_of(grown: Result<Grown, GrownFault>) -> Option<Sheet> {
     match grown {
         Ok(grown) => Some(grown.sheet),
@@ -168,7 +169,7 @@ pub(crate) enum Question {
     Totals(u32, u32, Totals),
 }
 
-// A query of a sheet.
+// A query of a sheet, as a call.
 #[derive(Drop)]
 struct Asking {
     sheet: Sheet,
@@ -204,7 +205,7 @@ impl Call for Asking {
     }
 }
 
-/// Try a query of the sheet of some edits at step 6.
+/// Try a query of a sheet with some edits at step 6.
 pub(crate) fn try_question(
     alloc: Global,
     until: Until,
@@ -261,7 +262,8 @@ fn begin_draft(
     Ok(sheet.draft(alloc, scenario, keep)?)
 }
 
-// Beginning a draft of a sheet, which keeps the run up to a step and shows this in the end.
+// The beginning of a draft of a sheet, as a call. The draft keeps the run up to a step, and its sheet must show this in
+// the end.
 #[derive(Drop)]
 struct Drafting {
     sheet: Sheet,
@@ -317,7 +319,7 @@ fn draw_draft(portrait: &mut Portrait, draft: &Draft) -> Option<()> {
     portrait.draw_cars(draft.road())
 }
 
-// The input of a draft's next step.
+// The input of a draft's next step, as a call.
 #[derive(Drop)]
 struct Entering {
     draft: Draft,
@@ -347,7 +349,7 @@ impl Call for Entering {
     }
 }
 
-/// Try the input of the step after some steps. The speeds of its cars must be these.
+/// Try the input of the step after some steps. The cars must get these speeds.
 pub(crate) fn try_input(
     alloc: Global,
     until: Until,
@@ -358,14 +360,14 @@ pub(crate) fn try_input(
     try_call(alloc, until, &mut Entering { draft, speeds })
 }
 
-// Return whether a draft is as it was drawn.
+// Return whether a draft is as it was drawn before.
 fn is_drawn(alloc: Global, draft: &Draft, before: &Portrait) -> Option<bool> {
     let mut after = Portrait::new(alloc);
     draw_draft(&mut after, draft)?;
     Some(after.is_same(before))
 }
 
-// Add one more step to a draft, and retry if that is refused.
+// Add one more step to a draft, and try again if that is refused.
 fn push(
     alloc: Global,
     draft: &mut Draft,
@@ -383,7 +385,7 @@ fn push(
     }
 }
 
-// Add the step to a draft that has refused it once. The draft must be unchanged.
+// Add the step again to a draft that has refused it once. The draft must be unchanged.
 fn push_again(
     alloc: Global,
     draft: &mut Draft,
@@ -422,14 +424,14 @@ fn judge_push(alloc: Global, until: Until, draft: &mut Draft) -> Option<Verdict>
     push(alloc, draft, &input, &speeds, &before)
 }
 
-// Judge a draft after one more step. Its last row must be this.
+// Judge a draft after one more step. The last row must be this one.
 fn is_pushed(alloc: Global, draft: Draft, row: &str, verdict: Verdict) -> Option<Verdict> {
     let sheet = draft.sheet();
     let is_shown = shows_row(alloc, &sheet, sheet.horizon(), row)?;
     Some(verdict_of(verdict, is_shown))
 }
 
-/// Try to add one more step after some steps. The row after it must be this.
+/// Try to add one more step after some steps. The row after it must be this one.
 pub(crate) fn try_push(alloc: Global, until: Until, steps: u32, row: &str) -> Option<Verdict> {
     let mut draft = draft_at(alloc, steps)?;
     if draft.horizon() >= GREATEST_HORIZON {

@@ -1,5 +1,5 @@
-//! Runs by a single caller, step by step: copy and draw the road, let cars enter, compute their speeds, move them; and
-//! all of that again as one step.
+//! Runs by a single caller, step by step. The calls of a step are: copy and draw the road, let cars enter, compute
+//! their speeds, move them, and all of that together as one step.
 
 ghost use Rattle.std.specs.Arc.{arc_value};
 ghost use Rattle.road_scenario.specs.Faults.{AreInRange};
@@ -16,11 +16,11 @@ use std::sync::Arc;
 use tests_plans::{Parts, Row, row_of};
 use tests_portraits::Portrait;
 
-/// Rows of a run. The last one is the row after its last step.
+/// Rows of a run. The last row is the one after the last step.
 #[derive(Clone, Copy)]
 pub(crate) enum Rows {
     At(&'static [Row]),
-    /// The rows after each step, from the first on.
+    /// The row after each step, from the first step on.
     Each(&'static [&'static str]),
 }
 
@@ -55,7 +55,7 @@ pub(crate) struct RunCase(
     pub(crate) Rows,
 );
 
-// Its plan and the scenario of its edits.
+// The plan of a run, and the scenario of its edits.
 #[derive(Drop)]
 struct Run {
     plan: Arc<Plan>,
@@ -92,7 +92,7 @@ fn road_after(alloc: Global, input: &StepInput) -> Result<Road, OutOfMemory> {
     finish(alloc, input, &speeds)
 }
 
-// Compute a step.
+// Compute a step as a whole.
 fn compute_step(
     alloc: Global,
     run: &Run,
@@ -124,7 +124,7 @@ enum Part {
     Step,
 }
 
-/// All of them.
+/// All of these calls, as one step.
 const PARTS: [Part; 6] = [
     Part::Copy,
     Part::Draw,
@@ -134,7 +134,7 @@ const PARTS: [Part; 6] = [
     Part::Step,
 ];
 
-// A call in a step. It cannot change its arguments.
+// A call of a step. It cannot change its arguments.
 #[derive(Clone, Copy)]
 struct Stepping<'a> {
     run: &'a Run,
@@ -143,7 +143,7 @@ struct Stepping<'a> {
     part: Part,
 }
 
-// Return whether the copy of the road after a step is that road.
+// Return whether the copy of the road after a step equals that road.
 fn is_copied(step: &Step) -> Result<bool, OutOfMemory> {
     Ok(step.next.copied()?.cars() == step.next.cars())
 }
@@ -155,24 +155,24 @@ fn is_drawn(alloc: Global, run: &Run, rows: &Rows, step: &Step) -> Result<bool, 
     Ok(rows.agree(later, row.as_str()))
 }
 
-// Return whether a new input has the same cars as the one made before.
+// Return whether a new input has the same cars as the input that was made before.
 fn is_entered(alloc: Global, run: &Run, step: &Step) -> Result<bool, OutOfMemory> {
     let input = make_input(alloc, run, step.number, &step.road)?;
     Ok(input.step() == step.number && input.road().cars() == step.input.road().cars())
 }
 
-// Return whether the cars that have moved, and are not in the exit, are those after the step.
+// Return whether the cars that have moved, and are not in the exit, are the cars after the step.
 fn is_moved(alloc: Global, run: &Run, step: &Step) -> Result<bool, OutOfMemory> {
     let road = motion(alloc, &step.input)?;
     Ok(leave(&run.plan, road).cars() == step.next.cars())
 }
 
-// Return whether a step is finished with the same road.
+// Return whether finishing a step gives the same road.
 fn is_finished(alloc: Global, step: &Step) -> Result<bool, OutOfMemory> {
     Ok(road_after(alloc, &step.input)?.cars() == step.next.cars())
 }
 
-// Return whether computing the step as a whole has the same result, and is counted.
+// Return whether a step that is computed as a whole has the same result, and the meter counts it.
 fn is_stepped(alloc: Global, run: &Run, step: &Step) -> Result<bool, OutOfMemory> {
     let mut meter = Meter::new();
     let done = compute_step(alloc, run, step.number, &step.road, &mut meter)?;

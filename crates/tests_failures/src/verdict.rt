@@ -1,4 +1,4 @@
-//! The verdict on a call, whether an allocation fails in it or not.
+//! How a call is judged, whether an allocation fails in it or not.
 
 use std::alloc::Global;
 use tests_portraits::Portrait;
@@ -8,7 +8,7 @@ use tests_portraits::Portrait;
 pub(crate) enum Until {
     /// The state before the call is prepared.
     Prepared,
-    /// The call has answered.
+    /// The call has returned.
     Called,
     /// The answer is judged.
     Judged,
@@ -17,18 +17,18 @@ pub(crate) enum Until {
 /// The verdict on a call.
 #[derive(Clone, Copy, PartialEq, Eq)]
 pub(crate) enum Verdict {
-    /// The program ended at an earlier stage.
+    /// The program ended at an earlier stage, as requested.
     Stopped,
-    /// It gave the expected answer at once.
+    /// The call gave the expected answer at once.
     Right,
-    /// It was refused because memory ran out, and a retry gave the expected answer.
+    /// The call was refused because memory ran out, and a retry gave the expected answer.
     Again,
-    /// It was refused because a thread could not be started, and a retry gave the expected answer.
+    /// The call was refused because a thread could not be started, and a retry gave the expected answer.
     Restarted,
-    /// One event of a list was refused because memory ran out, and all else was as without it. A retry gave the expected
-    /// answer.
+    /// One event of a list was refused because memory ran out, and everything else was as without it. A retry gave the
+    /// expected answer.
     Skipped,
-    /// It was refused with a fault that a failed allocation may cause, and not retried.
+    /// The call was refused with a fault that a failed allocation may cause, and was not retried.
     Refused,
     Wrong(Wrong),
 }
@@ -36,13 +36,13 @@ pub(crate) enum Verdict {
 /// What is wrong.
 #[derive(Clone, Copy, PartialEq, Eq)]
 pub(crate) enum Wrong {
-    /// The answer, or the state after the call.
+    /// The answer, or the state after the call, is wrong.
     Answer,
-    /// It was refused for a cause that a failed allocation cannot have.
+    /// The call was refused for a cause that a failed allocation cannot have.
     Cause,
-    /// It was refused, and something has changed.
+    /// The call was refused, but something has changed.
     Changed,
-    /// It was refused again.
+    /// The call was refused twice.
     Again,
     /// A store was not closed.
     Open,
@@ -51,7 +51,7 @@ pub(crate) enum Wrong {
 }
 
 impl Wrong {
-    /// Return the verdict in words.
+    /// Return this verdict in words.
     pub(crate) fn text(self) -> &'static str {
         match self {
             Wrong::Answer => "the answer, or the state after it, is wrong",
@@ -77,12 +77,12 @@ pub(crate) trait Call {
 
     type Fault: Refusal + Copy;
 
-    /// Draw everything that the state shows. Here and below, the result is `None` if an allocation failed.
+    /// Draw everything that the state shows. This call and those below return `None` if an allocation failed.
     fn draw(&mut self, _alloc: Global, _portrait: &mut Portrait) -> Option<()> {
         Some(())
     }
 
-    /// Return whether it writes. If not, it must leave the state unchanged.
+    /// Return whether the call writes. If not, it must leave the state unchanged.
     fn writes(&self) -> bool {
         false
     }
@@ -103,7 +103,7 @@ pub(crate) fn verdict_of(verdict: Verdict, is_right: bool) -> Verdict {
     }
 }
 
-/// Return the verdict on two calls. At most one of them is refused.
+/// Return the verdict on two calls together. At most one of them may be refused.
 pub(crate) fn both(first: Verdict, second: Verdict) -> Verdict {
     match (first, second) {
         (Verdict::Wrong(_), _) | (_, Verdict::Right) => first,
@@ -135,7 +135,7 @@ fn judge_answer<C: Call>(
     Some(verdict_of(verdict, is_right && is_kept))
 }
 
-// Judge a call that was refused: the state must be unchanged. Then retry it.
+// Judge a call that was refused. The state must be unchanged. Then the call is made again.
 fn judge_refusal<C: Call>(
     alloc: Global,
     call: &mut C,
@@ -154,7 +154,7 @@ fn judge_refusal<C: Call>(
     }
 }
 
-/// Make a call, retry it if it is refused, and judge it.
+/// Make a call, make it again if it is refused, and judge it.
 pub(crate) fn judge<C: Call>(alloc: Global, call: &mut C, before: &Portrait) -> Option<Verdict> {
     match call.make(alloc) {
         Ok(answer) => judge_answer(alloc, call, before, Verdict::Right, answer),
@@ -162,7 +162,7 @@ pub(crate) fn judge<C: Call>(alloc: Global, call: &mut C, before: &Portrait) -> 
     }
 }
 
-// Make a call.
+// Make a call without judging it.
 fn make_call<C: Call>(alloc: Global, call: &mut C) -> Verdict {
     let _ = call.make(alloc);
     Verdict::Stopped

@@ -14,7 +14,7 @@ use std::sync::Arc;
 use tests_plans::{BLOCK, LIMIT, edit, stamp};
 use tests_portraits::Portrait;
 
-/// An event, as tables have it.
+/// An event, in the form that tables use.
 #[derive(Clone, Copy)]
 pub(crate) enum Act {
     Edit(Object, u32, u32),
@@ -28,7 +28,7 @@ pub(crate) enum Act {
 }
 
 /// An event of a list: the replica at which it happens, what happens, its reply, and the row at the replica's horizon
-/// after it.
+/// after the event.
 #[derive(Clone, Copy)]
 pub(crate) struct Told(
     pub(crate) u32,
@@ -38,7 +38,7 @@ pub(crate) struct Told(
 );
 
 impl Told {
-    // Return the event, or `None` if there was no memory for its edits.
+    // Make the event, or return `None` if an allocation for its edits failed.
     fn event(&self, alloc: Global) -> Option<Event> {
         let at = self.0;
         Some(match self.1 {
@@ -62,7 +62,8 @@ impl Told {
     }
 }
 
-/// Each kind of event: two replicas make edits, one asks the other for missing edits, the third takes the answer.
+/// Events of each kind: two replicas make edits, one of them asks the other for missing edits, and the third takes the
+/// answer.
 pub(crate) const EXCHANGE: &[Told] = &[
     Told(0, Act::Advance(6), Reply::Horizon(6), "0..2...2...."),
     Told(
@@ -114,7 +115,7 @@ pub(crate) const EXCHANGE: &[Told] = &[
 
 // ---- what a world shows
 
-// Draw heads, as edits that withdraw.
+// Draw heads, as if they were edits that withdraw.
 fn draw_heads(portrait: &mut Portrait, heads: &[Head]) -> Option<()> {
     for head in heads {
         let edit = Edit {
@@ -146,7 +147,7 @@ fn draw_message(alloc: Global, portrait: &mut Portrait, message: &Message) -> Op
     }
 }
 
-// Draw a world of three replicas, which has no more messages than the exchange has events.
+// Draw a world of three replicas. It has no more messages than the exchange has events.
 fn draw_world(alloc: Global, portrait: &mut Portrait, world: &World) -> Option<()> {
     for at in 0..3 {
         portrait.draw_sheet(alloc, world.replica(at)?.sheet())?;
@@ -181,7 +182,7 @@ fn messages_after(list: &[Told]) -> u64 {
     count
 }
 
-// Return whether a world shows what it must after the events of a list.
+// Return whether a world shows what it should after the events of a list.
 fn is_after(alloc: Global, world: &World, list: &[Told]) -> Option<bool> {
     let count = messages_after(list);
     let last = count
@@ -197,7 +198,7 @@ fn is_after(alloc: Global, world: &World, list: &[Told]) -> Option<bool> {
 
 // ---- openings
 
-// The opening of a world.
+// The opening of a world, as a call.
 #[derive(Drop)]
 struct Opening {
     plan: Arc<Plan>,
@@ -245,7 +246,7 @@ fn accept_all(alloc: Global, world: &mut World, list: &[Told]) -> Option<()> {
     Some(())
 }
 
-// The event of a world at this place in the exchange.
+// The event of a world at this place in the exchange, as a call.
 #[derive(Drop)]
 struct Applying {
     world: World,
@@ -282,7 +283,7 @@ fn new_world(alloc: Global) -> Option<World> {
     World::open(alloc, free_plan(alloc)?, 3).ok()
 }
 
-/// Try the event of this place in the exchange.
+/// Try the event at this place in the exchange.
 pub(crate) fn try_event(alloc: Global, until: Until, place: usize) -> Option<Verdict> {
     let event = EXCHANGE.get(place)?.event(alloc)?;
     let world = new_world(alloc)?;
@@ -297,8 +298,8 @@ pub(crate) fn try_event(alloc: Global, until: Until, place: usize) -> Option<Ver
 
 // ---- lists of events
 
-// Why a list is not played as expected: it was refused before its first event; or one event was refused, and all else
-// is as without that event; or the result is wrong.
+// Why a list is not played as expected: it was refused before its first event; or one event was refused, and everything
+// else is as without that event; or the result is wrong.
 #[derive(Clone, Copy)]
 enum ListFault {
     Play(PlayFault),
@@ -316,7 +317,7 @@ impl Refusal for ListFault {
     }
 }
 
-// A list of events that is played.
+// A list of events that is played, as a call.
 #[derive(Drop)]
 struct Playing {
     plan: Arc<Plan>,
@@ -342,7 +343,7 @@ fn is_same_reply(reply: &Result<Reply, WorldFault>, other: &Result<Reply, WorldF
     }
 }
 
-// Apply all events but the one at a place, and return whether each has this reply.
+// Apply all events except the one at a place, and return whether each has this reply.
 fn are_replies_without(
     alloc: Global,
     world: &mut World,
@@ -368,8 +369,8 @@ fn is_same_world(alloc: Global, world: &World, other: &World) -> Option<bool> {
     Some(first.is_same(&second))
 }
 
-// Return whether, if the event at a place was refused, the world and all other replies are the same as if the list did
-// not have that event.
+// Return whether the refused event at a place had no effect: the world and all other replies are the same as for the
+// list without that event.
 fn is_without(
     alloc: Global,
     world: &mut World,
@@ -381,7 +382,7 @@ fn is_without(
     Some(are_same && is_same_world(alloc, world, &played.world)?)
 }
 
-// Return what was played, if no event was refused.
+// Return the result of a list, if no event was refused.
 fn accept_list(alloc: Global, events: &[Event], played: Played) -> Result<Played, ListFault> {
     let Some((place, fault)) = first_refused(&played.replies) else {
         return Ok(played);

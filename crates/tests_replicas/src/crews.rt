@@ -75,7 +75,7 @@ pub(crate) fn draw(alloc: Global, sheet: &Sheet) -> Result<Portrait, Fail> {
     let mut portrait = Portrait::new(alloc);
     match portrait.draw_sheet(alloc, sheet) {
         Some(()) => Ok(portrait),
-        None => Err(Fail::new("no memory for a portrait")),
+        None => Err(Fail::new("no allocation of a portrait may fail")),
     }
 }
 

@@ -38,7 +38,7 @@ fn extend_by<C: Crew>(
     requires { to ≤ GREATEST_HORIZON }
 {
     if scenario.fits(sheet.plan()).is_some() {
-        return Err(Fail::new("edits that do not fit the plan"));
+        return Err(Fail::new("the edits must fit the plan"));
     }
     match grown(alloc, sheet, scenario, to, crew, meter) {
         Ok(done) => Ok(Ok(done.sheet)),

@@ -87,7 +87,7 @@ impl Beside {
     ) -> Result<(), Fail> {
         let near = cars_on(alloc, road, stretch)?;
         if !self.try_restart(alloc, settings, step, stretch, &near)? {
-            return Err(Fail::new("a road that a run cannot go on from"));
+            return Err(Fail::new("the run must go on from the road"));
         }
         Ok(self.begin_plainly(alloc, settings, step, road)?)
     }
@@ -118,7 +118,7 @@ impl Beside {
     ) -> Result<bool, Fail> {
         let own = Arc::new(alloc, fitting(&self.plan, settings)?)?;
         if step > GREATEST_HORIZON || stretch.end > self.plan.length() {
-            return Err(Fail::new("a step or a stretch beyond the end"));
+            return Err(Fail::new("the step and the stretch must not be beyond the end"));
         }
         Ok(self.run.restart_on(alloc, own, step, stretch, road)?)
     }
@@ -152,7 +152,7 @@ impl Beside {
     /// and again.
     pub(crate) fn step(&mut self, alloc: Global) -> Result<(), Fail> {
         if self.run.next_step() >= GREATEST_HORIZON {
-            return Err(Fail::new("a step beyond the maximum horizon"));
+            return Err(Fail::new("no step may be beyond the maximum horizon"));
         }
         self.run.step(alloc, self.step % 4)?;
         self.step_plainly(alloc)
@@ -244,7 +244,7 @@ fn fitting(plan: &Plan, settings: &Settings) -> Result<Settings, Fail>
 {
     let own = copy_of(settings)?;
     if !own.fits(plan) {
-        return Err(Fail::new("settings that do not fit the plan"));
+        return Err(Fail::new("the settings must fit the plan"));
     }
     Ok(own)
 }

@@ -26,7 +26,7 @@ fn run_stored<C: Crew>(alloc: Global, crew: &mut C) -> Result<(u8, usize), Fail>
     let ended = run_by(alloc, &mut reader, &mut writer, crew, &Unmanned, AllAlike);
     let written = writer.bytes().len();
     if ANSWERS.as_bytes().get(..written) != Some(writer.bytes()) {
-        return Err(Fail::new("another answer"));
+        return Err(Fail::new("the bytes written must be a prefix of the answers"));
     }
     Ok((ended.status, written))
 }
@@ -94,7 +94,7 @@ fn answers_by<C: Crew>(alloc: Global, crew: &mut C, script: &str) -> Result<Vec<
     let mut reader = MemorySource::new(script.as_bytes(), usize::MAX, Failing::Never);
     let ended = run_by(alloc, &mut reader, &mut writer, crew, &Unmanned, AllAlike);
     if ended.status != 0 {
-        return Err(Fail::new("a script that is not answered"));
+        return Err(Fail::new("the script must be answered"));
     }
     Ok(writer.bytes().to_vec(alloc)?)
 }
@@ -112,7 +112,7 @@ fn count_requests<R: Threads + Wait + Clone + Drop + Send + 'static>(
     let given = answers_by(alloc, &mut crew, script);
     crew.finish();
     if given?.as_slice() != answers {
-        return Err(Fail::new("a script that is answered otherwise"));
+        return Err(Fail::new("the script must have these answers"));
     }
     Ok(gate.passed())
 }

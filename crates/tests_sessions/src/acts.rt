@@ -19,7 +19,7 @@ use tests_plans::Row;
 pub(crate) enum Act {
     /// It writes.
     Write(Write, Answer),
-    /// It is told of the last write.
+    /// It hears of the last write, by its receipt.
     Hear,
     /// It looks, and is shown a horizon and some rows.
     Look(u32, &'static [Row]),

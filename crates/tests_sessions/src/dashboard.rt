@@ -20,17 +20,17 @@ use std::thread::{Threads, join, yield_now};
 use tests_plans::{BLOCK, BLOCKED_ROWS};
 
 /// What the engineer reports: the last receipt, or why a write was refused.
-type News<J> = Result<Receipt<J>, WriteFault>;
+type Report<J> = Result<Receipt<J>, WriteFault>;
 
 /// Where the report lies until it is taken.
-type Letter<J> = Mutex<Option<News<J>>>;
+type Letter<J> = Mutex<Option<Report<J>>>;
 
 // Let the engineer simulate up to step 6, and block cell 8 from step 4 on.
 fn write<J: Naming, R: Wait + Drop, W: Wait>(
     rt: &W,
     shared: &Shared<J, R>,
     session: &mut Session<J>,
-) -> News<J> {
+) -> Report<J> {
     let mut meter = Meter::new();
     session.advance(rt, shared, 6, &mut Alone, &mut meter)?;
     let wrote = session.edit(rt, shared, BLOCK, 4, 1, &mut Alone, &mut meter)?;
@@ -38,14 +38,14 @@ fn write<J: Naming, R: Wait + Drop, W: Wait>(
 }
 
 // Let the engineer do this, and leave the report for the dashboards.
-fn write_and_leave_news<J: Naming, R: Wait + Drop, W: Wait>(
+fn write_and_leave_report<J: Naming, R: Wait + Drop, W: Wait>(
     rt: &W,
     shared: &Shared<J, R>,
     session: &mut Session<J>,
     letter: &Letter<J>,
 ) {
-    let news = write(rt, shared, session);
-    *letter.lock(rt) = Some(news);
+    let report = write(rt, shared, session);
+    *letter.lock(rt) = Some(report);
 }
 
 /// How often a dashboard checks whether the report is there. The number is limited: if no thread could be made for the
@@ -53,7 +53,7 @@ fn write_and_leave_news<J: Naming, R: Wait + Drop, W: Wait>(
 const TURNS: u32 = 1_000_000;
 
 // Return the report once it is there, or None if it does not come.
-fn news<J: Naming, W: Wait>(rt: &W, letter: &Letter<J>) -> Option<News<J>> {
+fn wait_for_report<J: Naming, W: Wait>(rt: &W, letter: &Letter<J>) -> Option<Report<J>> {
     for _ in 0..TURNS {
         let taken = letter.lock(rt).take();
         if taken.is_some() {
@@ -66,22 +66,22 @@ fn news<J: Naming, W: Wait>(rt: &W, letter: &Letter<J>) -> Option<News<J>> {
 
 // Let the first dashboard wait for the report. After that, a look must show what is reported. The dashboard leaves the
 // row of step 6.
-fn is_told<J: Naming, R: Wait + Drop, W: Wait>(
+fn watch_after_report<J: Naming, R: Wait + Drop, W: Wait>(
     rt: &W,
     alloc: Global,
     shared: &Shared<J, R>,
     session: &mut Session<J>,
     letter: &Letter<J>,
 ) -> Result<bool, Fail> {
-    let Some(news) = news(rt, letter) else {
-        return Err(Fail::new("no news"));
+    let Some(report) = wait_for_report(rt, letter) else {
+        return Err(Fail::new("the report must come"));
     };
-    session.hear(news?);
+    session.hear(report?);
     let sheet = session.look(shared)?;
     Ok(shows(alloc, &sheet, BLOCKED_ROWS))
 }
 
-// Let the second dashboard look. It is told of no write, so a look may show less than the engineer wrote, but never
+// Let the second dashboard look. It hears of no write, so a look may show less than the engineer wrote, but never
 // less than an earlier look.
 fn watch<J: Naming, R: Wait + Drop>(
     shared: &Shared<J, R>,
@@ -103,18 +103,18 @@ fn all_work<J: Naming + Send + Sync, R: Wait + Drop + Send, W: Threads + Wait + 
     alloc: Global,
     shared: &Shared<J, R>,
     engineer: &mut Session<J>,
-    told: &mut Session<J>,
-    untold: &mut Session<J>,
+    first: &mut Session<J>,
+    second: &mut Session<J>,
 ) -> Result<bool, Fail> {
     let letter = Mutex::new(None);
     let (_, (is_shown, rises)) = join(
         rt,
-        || write_and_leave_news(rt, shared, engineer, &letter),
+        || write_and_leave_report(rt, shared, engineer, &letter),
         || {
             join(
                 rt,
-                || is_told(rt, alloc, shared, told, &letter),
-                || watch(shared, untold),
+                || watch_after_report(rt, alloc, shared, first, &letter),
+                || watch(shared, second),
             )
         },
     );
@@ -129,14 +129,14 @@ fn three_work<J: Naming + Send + Sync, R: Wait + Drop + Send, W: Threads + Wait 
     sessions: &mut [Session<J>],
 ) -> Result<bool, Fail> {
     let Some((engineer, dashboards)) = sessions.split_first_mut() else {
-        return Err(Fail::new("three sessions"));
+        return Err(Fail::new("there must be three sessions"));
     };
-    let Some((told, others)) = dashboards.split_first_mut() else {
-        return Err(Fail::new("three sessions"));
+    let Some((first, others)) = dashboards.split_first_mut() else {
+        return Err(Fail::new("there must be three sessions"));
     };
     match others.first_mut() {
-        Some(untold) => all_work(rt, alloc, shared, engineer, told, untold),
-        None => Err(Fail::new("three sessions")),
+        Some(second) => all_work(rt, alloc, shared, engineer, first, second),
+        None => Err(Fail::new("there must be three sessions")),
     }
 }
 
@@ -160,7 +160,9 @@ fn day<J: Naming + Send + Sync, R: Wait + Drop + Send, W: Threads + Wait + Sync>
 #[test]
 fn dashboards_look_while_an_engineer_writes(rt: HostRuntime) -> Result<(), Fail> {
     let prepared = prepare_free_road(&rt, rt.alloc(), 0, 3, 10)?;
-    let closed = day::<Brand, _, _>(&rt, rt.alloc(), prepared)?.ok_or("all went well")?;
+    let closed = day::<Brand, _, _>(&rt, rt.alloc(), prepared)?.ok_or(
+        "the dashboards must see what they should",
+    )?;
     let journal = [Line::Advanced(0, 6), Line::Took(0, &[BLOCKED])];
     assert!(rt; is_journal(rt.alloc(), &closed.journal, &journal));
     assert!(rt; shows(rt.alloc(), &closed.sheet, BLOCKED_ROWS));

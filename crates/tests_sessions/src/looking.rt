@@ -113,7 +113,7 @@ fn begin<J: Naming, R: Wait + Drop, W: Wait>(
 ) -> Result<(), Fail> {
     let wrote = session.advance(rt, shared, 6, &mut Alone, &mut Meter::new())?;
     if wrote.place != 0 {
-        return Err(Fail::new("the first write is not at place 0"));
+        return Err(Fail::new("the first write must be at place 0"));
     }
     Ok(())
 }
@@ -130,16 +130,16 @@ fn begin_then_look_during_a_write<
     sessions: &mut [Session<J>],
 ) -> Result<(Answer, Option<u32>), Fail> {
     let Some((writer, others)) = sessions.split_first_mut() else {
-        return Err(Fail::new("fewer than two sessions"));
+        return Err(Fail::new("there must be two sessions"));
     };
     let Some(reader) = others.first_mut() else {
-        return Err(Fail::new("fewer than two sessions"));
+        return Err(Fail::new("there must be two sessions"));
     };
     begin(rt, shared, writer)?;
     Ok(write_and_look(rt, shared, writer, reader))
 }
 
-// Open a store, and let another session look while the second write holds the lock. The other session was told of no
+// Open a store, and let another session look while the second write holds the lock. The other session has heard of no
 // write. Return the reply to the second write, and the horizon that the other session sees.
 fn look_during_a_write<J: Naming + Send + Sync, R: Wait + Drop + Send, W: Threads + Wait + Sync>(
     rt: &W,

@@ -39,7 +39,7 @@ fn checked_sheet(trial: Trial, (touched, steps): (Option<u32>, u64)) -> Result<S
     if (trial.touched, trial.steps, trial.counted) == (touched, steps, steps) {
         Ok(trial.sheet)
     } else {
-        Err(Fail::new("another step is touched, or other steps are counted"))
+        Err(Fail::new("the touched step and the counts of steps must be as listed"))
     }
 }
 

@@ -48,7 +48,7 @@ fn extend_with<C: Crew>(
 ) -> Result<Grown, Fail> {
     let scenario = Scenario::of_edits(alloc, edits)?;
     if to > 1_048_576 || scenario.fits(sheet.plan()).is_some() {
-        return Err(Fail::new("no such step, or no such edit"));
+        return Err(Fail::new("the step and the edits must be allowed"));
     }
     Ok(grown(alloc, sheet, &scenario, to, crew, meter)?)
 }

@@ -226,7 +226,7 @@ fn fitting(alloc: Global, plan: &Plan, example: &Example, step: u32) -> Result<S
     if settings.fits(plan) {
         Ok(settings)
     } else {
-        Err(Fail::new("settings that do not fit the plan"))
+        Err(Fail::new("the settings must fit the plan"))
     }
 }
 
@@ -492,8 +492,8 @@ const ONCE_SLOWED: &[Car] = cars![(16, 10, 3)];
 const ENTRIES: &[(u32, &[Car])] =
     pairs![0 => &[], 20_448 => &[], 20_449 => ENTERED, 65_536 => ENTERED];
 
-/// A slowing chance, and the cars after step 1 of a road with that car. Car 16 at step 1: (16 * 40,503 + 30,011) mod 65,536
-/// is 22,699; the limit 5 and a free road let it come to 4.
+/// A slowing chance, and the cars after step 1 of a road with that car. Car 16 at step 1: (16 * 40,503 + 30,011) mod
+/// 65,536 is 22,699; the limit 5 and a free road let it come to 4.
 const SLOWINGS: &[(u32, &[Car])] =
     pairs![0 => NOT_SLOWED, 22_699 => NOT_SLOWED, 22_700 => ONCE_SLOWED, 65_536 => ONCE_SLOWED];
 

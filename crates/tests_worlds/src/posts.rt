@@ -25,11 +25,11 @@ fn open_world(alloc: Global) -> Result<World, Fail> {
     Ok(world)
 }
 
-// Make a message of a replica, check whether it has edits, and post it. Return its number.
+// Make a message of a replica, check whether it has heads or edits, and post it. Return its number.
 fn post(alloc: Global, world: &mut World, at: u32, sending: Sending) -> Result<u64, Fail> {
     let message = world.message_by(alloc, at, sending)?;
     if matches!(sending, Sending::Asked) != matches!(&message, Message::Asked(_)) {
-        return Err(Fail::new("another message"));
+        return Err(Fail::new("a message of heads must be made exactly if heads are sent"));
     }
     Ok(world.post(&sending.event(at), message)?)
 }

@@ -107,12 +107,12 @@ fn touched(edits: &[Edit], others: &[Edit]) -> Option<u32> {
 }
 
 // Return the largest count of edits.
-fn greatest_count(edits: &[Edit]) -> u64 {
-    let mut greatest = 0;
+fn largest_count(edits: &[Edit]) -> u64 {
+    let mut largest = 0;
     for edit in edits {
-        greatest = edit.stamp.count.max(greatest);
+        largest = edit.stamp.count.max(largest);
     }
-    greatest
+    largest
 }
 
 // Return whether the settings of a scenario are those of these edits.
@@ -144,7 +144,7 @@ impl Come<'_> {
             && self.before.touched(after) == first
             && self.before.at_most(after)
             && come.at_most(after)
-            && after.greatest_count() == greatest_count(self.all)
+            && after.greatest_count() == largest_count(self.all)
             && settings_are(self.plan, self.all, after)
     }
 }
