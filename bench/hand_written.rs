@@ -1,23 +1,23 @@
-//! The road by hand, in plain Rust with nothing proved: what the program's times are held against
-//! (`bench/compare-hand-written`, which compiles it).
+//! A road in plain Rust, written by hand, with nothing proved: the program's times are compared with
+//! its times (`bench/compare-hand-written` compiles it).
 //!
 //!     hand_written cars < SCRIPT
 //!     hand_written columns < SCRIPT
 //!
-//! Answers a script of this folder as the program does, byte for byte, and then writes to standard
+//! Answers a script of this folder as the program does, byte for byte. Then it writes to standard
 //! error how many milliseconds its advances, edits and queries took, without start, reading and
 //! writing.
 //!
-//! Covered: one replica whose words have a seed; `advance`, `cells`, `count`; `edit` of limits,
-//! slowing chances, blocked cells, inflows and detectors, at any step. Not covered: slow-to-start,
+//! Supported: one replica whose words have a seed; `advance`, `cells`, `count`; `edit` of limits,
+//! slowing chances, blocked cells, inflows and detectors, at any step. Not supported: slow-to-start,
 //! withdrawals, steady words, other commands, refusals. A line that the scripts of this folder
 //! would not write ends the program, or is answered wrongly.
 //!
-//! The road has two forms. `cars` is a list of cars, each with the 16 words that were drawn for it
-//! last; words are drawn only for a car whose slowing is up to chance. `columns` stands in
-//! `hand_written_columns.rs`. Both run alike: a checkpoint and the detectors' totals every 64
-//! steps, to which late edits and queries go back; and in each step each object that was edited is
-//! asked whether an edit is dated then.
+//! The road has two forms. `cars` is a list of cars; each car has the last 16 words that were drawn
+//! for it, and words are drawn only for a car whose slowing depends on chance. `columns` is in
+//! `hand_written_columns.rs`. Both run in the same way: every 64 steps there is a checkpoint with
+//! the detectors' totals, from which late edits and queries start; and in each step, each object
+//! that has edits is checked for an edit dated at this step.
 
 mod hand_written_columns;
 
@@ -29,9 +29,9 @@ use std::time::Instant;
 
 /// The steps from one checkpoint to the next.
 const INTERVAL: u32 = 64;
-/// The chance of what always happens.
+/// The chance of an event that always happens.
 const ALWAYS: u32 = 65536;
-/// The cell ahead of a car that has nothing ahead.
+/// The cell ahead of a car that has nothing ahead of it.
 const FREE: u16 = u16::MAX;
 
 #[derive(Clone, Copy)]
@@ -42,7 +42,7 @@ struct Car {
     speed: u16,
 }
 
-/// The upper halves of 16 words of a stream by ChaCha with 8 rounds, from the step 16 * batch on.
+/// Return the upper halves of 16 words of a stream, from step 16 * batch on: ChaCha with 8 rounds.
 #[inline(never)]
 fn draw(seed: u64, stream: u64, batch: u32) -> [u16; 16] {
     let key = [(seed >> 32) as u32, seed as u32].map(u32::swap_bytes);
@@ -92,26 +92,26 @@ impl Batch {
     }
 }
 
-/// Whether a chance is met; draws no word where it always or never is.
+/// Return whether an event of this chance happens. Draws no word if it always or never happens.
 #[inline(always)]
 fn is_met(chance: u32, word: impl FnOnce() -> u32) -> bool {
     chance > 0 && (chance >= ALWAYS || word() < chance)
 }
 
-/// The numbers put for each object, that is kind and index, by step.
+/// The values that edits set, by step, for each object (kind and index).
 type Edits = BTreeMap<(String, usize), BTreeMap<u32, u32>>;
 
-/// A plan, and what is edited.
+/// A plan and its edits.
 struct Plan {
     length: u16,
-    /// The cells of a zone.
+    /// The number of cells of a zone.
     width: u16,
     /// The first cell of the deleted zone.
     end: u16,
     inlets: Vec<u16>,
     detectors: Vec<u16>,
     seed: u64,
-    /// The settings without edits.
+    /// Return the settings without edits.
     settings: Settings,
     edits: Edits,
 }
@@ -122,16 +122,16 @@ struct Settings {
     limits: [u16; 64],
     chances: [u32; 64],
     inflows: [u32; 16],
-    /// The blocked cells, rising.
+    /// The blocked cells, in ascending order.
     blocks: Vec<u16>,
     /// Whether each detector counts.
     watched: [bool; 64],
-    /// Whether some car's slowing is up to chance.
+    /// Whether the slowing of some car depends on chance.
     random: bool,
 }
 
 impl Settings {
-    /// The settings at a step: for each object the latest-dated number up to then.
+    /// Return the settings at a step: each object has the value of its latest edit up to this step.
     fn at(plan: &Plan, step: u32) -> Settings {
         let mut settings = plan.settings.clone();
         for ((kind, index), dated) in &plan.edits {
@@ -143,7 +143,7 @@ impl Settings {
         settings
     }
 
-    /// Puts a number in place of the plan's.
+    /// Set a value in place of the plan's.
     fn put(&mut self, kind: &str, index: usize, value: u32) {
         match kind {
             "limit" => self.limits[index] = value as u16,
@@ -156,24 +156,23 @@ impl Settings {
     }
 }
 
-/// The cars on the road, by rising cells. In one step at most one car passes a detector, and at
-/// most one reaches the deleted zone.
+/// The cars on the road, by ascending cells. In one step at most one car passes a detector, and at most one reaches the deleted zone.
 trait Form: Default {
-    /// Puts the cars of a checkpoint in place of those that are there.
+    /// Replace the cars with those of a checkpoint.
     fn put(&mut self, plan: &Plan, cars: &[Car]);
     fn cars(&self) -> Vec<Car>;
-    /// The place of the car at a cell, or else where one that enters there would stand.
+    /// Return the place of the car at a cell, or the place that a car entering there would get.
     fn find(&self, cell: u16) -> Result<usize, usize>;
     fn enter(&mut self, plan: &Plan, place: usize, car: Car);
-    /// Computes the new speed of each car, and moves it.
+    /// Compute the new speed of each car, and move the cars.
     fn drive(&mut self, plan: &Plan, settings: &Settings, step: u32);
-    /// The speed of the car that passed a detector in the motion. Each motion is asked once.
+    /// Return the speed of the car that passed a detector in the last motion. Called once for each motion.
     fn passed(&mut self, detector: usize, site: u16) -> Option<u16>;
-    /// Deletes the car at or past a cell.
+    /// Delete the car at or past a cell.
     fn delete_from(&mut self, end: u16);
 }
 
-/// A list of cars, and beside it the batches of their words.
+/// A list of cars, and a list of the batches of their words.
 #[derive(Default)]
 struct Cars {
     cars: Vec<Car>,
@@ -237,16 +236,16 @@ impl Form for Cars {
     }
 }
 
-/// For each detector how many cars passed it, and the sum of their speeds.
+/// For each detector, the number of cars that passed it, and the sum of their speeds.
 type Totals = [(u32, u32); 64];
 
-/// A road that stands at a step.
+/// A road at a step.
 struct Run<F> {
     form: F,
     step: u32,
     settings: Settings,
     inlets: [Batch; 16],
-    /// What was counted since the last checkpoint.
+    /// The counts since the last checkpoint.
     totals: Totals,
 }
 
@@ -259,7 +258,7 @@ impl<F: Form> Run<F> {
         run
     }
 
-    /// Goes back to a checkpoint, by its number.
+    /// Go back to the checkpoint with this number.
     fn restore(&mut self, plan: &Plan, number: u32, checkpoints: &[Vec<Car>]) {
         self.form.put(plan, &checkpoints[number as usize]);
         self.step = number * INTERVAL;
@@ -311,11 +310,11 @@ impl<F: Form> Run<F> {
 /// A run to the horizon with its checkpoints, and one for queries.
 struct Replica<F> {
     plan: Plan,
-    /// How many edits there were.
+    /// The number of edits so far.
     stamp: u64,
     run: Run<F>,
     aside: Run<F>,
-    /// The cars every 64 steps, and what was counted in each whole interval.
+    /// The cars at every checkpoint, and the counts of each whole interval.
     checkpoints: Vec<Vec<Car>>,
     totals: Vec<Totals>,
 }
@@ -341,7 +340,7 @@ impl<F: Form> Replica<F> {
         format!(r#"{{"horizon":{}}}"#, self.run.step)
     }
 
-    /// Puts a number, and computes the steps again that it touches.
+    /// Set a value, and compute again the steps that it changes.
     fn edit(&mut self, object: (String, usize), step: u32, value: u32) -> String {
         self.stamp += 1;
         let old = self.plan.edits.entry(object).or_default().insert(step, value);
@@ -356,7 +355,7 @@ impl<F: Form> Replica<F> {
         format!(r#"{{"stamp":[{},0]}}"#, self.stamp)
     }
 
-    /// Brings the run for queries to a step, from the checkpoint before it.
+    /// Bring the run for queries to a step, from the checkpoint before this step.
     fn go_aside(&mut self, step: u32, counting: bool) {
         self.aside.restore(&self.plan, step / INTERVAL, &self.checkpoints);
         self.aside.advance(&self.plan, step, counting);
@@ -390,7 +389,7 @@ impl<F: Form> Replica<F> {
         format!(r#"{{"cars":{cars},"speeds":{speeds}}}"#)
     }
 
-    /// What a detector counted in some steps of an interval.
+    /// Return the count of a detector in some steps of an interval.
     fn count_part(&mut self, detector: usize, from: u32, to: u32) -> (u32, u32) {
         self.go_aside(from, true);
         let before = self.aside.totals[detector];
@@ -400,13 +399,13 @@ impl<F: Form> Replica<F> {
     }
 }
 
-/// The text of a field's value, in a line without spaces.
+/// Return the text of a field's value in a line without spaces.
 fn value<'a>(line: &'a str, field: &str) -> &'a str {
     let (_, rest) = line.split_once(&format!("\"{field}\":")).expect(field);
     &rest[..rest.find(",\"").or(rest.find('}')).unwrap()]
 }
 
-/// The numbers of a field's value, without the lists in which they stand.
+/// Return the numbers of a field's value, without the structure of its lists.
 fn numbers(line: &str, field: &str) -> Vec<u64> {
     let words = value(line, field).split(|letter: char| !letter.is_ascii_digit());
     words.filter_map(|word| word.parse().ok()).collect()
@@ -442,13 +441,13 @@ fn read_plan(line: &str) -> Plan {
     }
 }
 
-/// The kind and the index of the object of an edit.
+/// Return the kind and the index of the object of an edit.
 fn object(line: &str) -> (String, usize) {
     let kind = value(line, "object").split('"').nth(1).unwrap();
     (kind.to_string(), number(line, "object") as usize)
 }
 
-/// Answers the lines of standard input, and tells the times.
+/// Answer the lines of standard input, and print the times.
 fn serve<F: Form>() {
     let (mut input, mut output) = (BufReader::new(stdin()), BufWriter::new(stdout()));
     let mut line = String::new();

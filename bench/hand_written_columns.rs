@@ -1,17 +1,17 @@
-//! The road of `hand_written.rs` in columns: cells, speeds and words in lists of their own, and all
-//! speeds computed in one loop without branches. Words are drawn for 16 steps at once.
+//! The road of `hand_written.rs` in columns: cells, speeds and words have a list each, and one loop
+//! without branches computes all speeds. Words are drawn for 16 steps at once.
 
 use super::{Car, FREE, Form, Plan, Settings, draw};
 
-/// The cells of the longest road.
+/// The number of cells of the longest road.
 const CELLS: usize = 8192;
-/// A row of words has places for the cars of a full road and those that enter within 16 steps; a
-/// power of two, so that a place is within bounds by its lower bits.
+/// The places in a row of words: enough for the cars of a full road and those that enter within 16 steps. A power of two, so
+/// that masking the lower bits keeps a place within bounds.
 const PLACES: usize = 16384;
-/// The length of a row: no power of two, so that the words of a car share the cache.
+/// The length of a row. Not a power of two, so that the words of one car do not compete for the same cache lines.
 const ROW: usize = PLACES + 32;
 
-/// A column for each part of a car, and a row of words for each of 16 steps.
+/// A column for each field of a car, and a row of words for each of 16 steps.
 #[derive(Default)]
 pub struct Columns {
     numbers: Vec<u32>,
@@ -19,21 +19,21 @@ pub struct Columns {
     speeds: Vec<u16>,
     /// The place of each car's words in the rows.
     places: Vec<u16>,
-    /// The nearest car or blocked cell ahead of each car, found again in each step.
+    /// The nearest car or blocked cell ahead of each car, computed again in each step.
     ahead: Vec<u16>,
     rows: Vec<[u16; ROW]>,
-    /// The places of a row that are taken.
+    /// The number of places that are in use in a row.
     taken: usize,
-    /// The batch that the rows have, if any.
+    /// The batch whose words the rows have, if any.
     drawn: Option<u32>,
-    /// For each detector the first car at or past its site.
+    /// For each detector, the first car at or past its cell.
     past: Vec<usize>,
     zone_of: Vec<u8>,
 }
 
 impl Columns {
-    /// Draws the words of all cars that can move within the batch: the first of a queue can in its
-    /// first step, the one behind it in the second, and so on.
+    /// Draw the words of all cars that can move within the batch: the first car of a queue can move in the first step, the car
+    /// behind it in the second step, and so on.
     fn draw_all(&mut self, seed: u64, batch: u32) {
         (self.drawn, self.taken) = (Some(batch), 0);
         for place in 0..self.cells.len() {
@@ -81,7 +81,7 @@ impl Form for Columns {
         self.cells.insert(place, car.cell);
         self.speeds.insert(place, car.speed);
         self.places.insert(place, self.taken as u16);
-        // In the first step of a batch its words are drawn with those of all cars.
+        // In the first step of a batch, its words are drawn together with those of all cars.
         let batch = car.number / 256;
         if self.drawn == Some(batch) {
             self.draw_one(plan.seed, car.number, batch);

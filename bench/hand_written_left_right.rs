@@ -1,18 +1,16 @@
-//! Looks of one reader beside an idle writer and beside one that publishes, in plain Rust, with
-//! nothing proved and nothing of this repository: what the figures of `bench/time-sessions` are
-//! held against.
+//! Looks of one reader beside an idle writer and beside one that publishes, in plain Rust, with nothing proved and without
+//! code of this repository: the figures of `bench/time-sessions` are compared with these.
 //!
 //!     mkdir -p bench/out
 //!     rustc -O bench/hand_written_left_right.rs -o bench/out/hand_written_left_right
 //!     bench/out/hand_written_left_right
 //!
-//! A look is one of three: it loads a word that the writer stores, the least that any look at what
-//! is published can do; it reads a number by left-right, with an epoch and two copies; or it takes
-//! a counted pointer by left-right, as a look of a session does. The writer publishes as fast as it
-//! can, or waits N nanoseconds each time.
+//! There are three kinds of looks. A look loads a word that the writer stores, which is the minimum for any look at something
+//! published; or it reads a number through left-right, with an epoch and two copies; or it takes a counted pointer through
+//! left-right, as a look of a session does. The writer publishes as fast as it can, or pauses for N nanoseconds each time.
 //!
-//! Prints a line for each look and pause: the looks in a second beside either writer, how often the
-//! writer published in one, and the ratio of the looks, medians of five turns and each of them.
+//! Prints a line for each kind of look and each pause: the looks per second beside each of the two writers, the publications per
+//! second, and the ratio of the looks: medians of five turns, and the ratio of each turn.
 
 use std::cell::UnsafeCell;
 use std::hint::{black_box, spin_loop};
@@ -24,11 +22,11 @@ const LOOKS: u64 = 5_000_000;
 const TURNS: usize = 5;
 const PAUSES: [u64; 6] = [0, 1_000, 5_000, 20_000, 40_000, 100_000];
 
-/// A value with two cache lines of its own.
+/// A value on two cache lines of its own.
 #[repr(align(128))]
 struct Padded<T>(T);
 
-/// Two copies of a value for one reader and one writer: the reader sees one of them, the writer puts into the other.
+/// Two copies of a value for one reader and one writer: the reader sees one copy, and the writer writes to the other one.
 struct LeftRight<T> {
     /// Odd while the reader reads.
     epoch: Padded<AtomicUsize>,
@@ -59,8 +57,8 @@ impl<T> LeftRight<T> {
         read
     }
 
-    /// Waits for a reader that still reads the copy that is not shown, puts the value there and shows it. `side` is the
-    /// copy that is shown, `seen` the epoch right after it was.
+    /// Wait for a reader that still reads the copy that is not shown; put the value there, and show it. `side` is the copy that is
+    /// shown, and `seen` is the epoch just after it was shown.
     #[inline(always)]
     fn publish(&self, side: &mut usize, seen: &mut usize, value: T) {
         let mut looks = 0u32;
@@ -78,7 +76,7 @@ impl<T> LeftRight<T> {
     }
 }
 
-/// Looks and publishings in a second, one thread each. A pause of none is an idle writer.
+/// Return the looks and the publications per second, with one thread each. If the pause is `None`, the writer is idle.
 fn rates<W: FnMut(u64) + Send + 'static>(pause: Option<u64>, mut look: impl FnMut(), mut publish: W) -> (f64, f64) {
     let (has_ended, both_ready) = (Arc::new(AtomicBool::new(false)), Arc::new(Barrier::new(2)));
     let (ended, ready) = (has_ended.clone(), both_ready.clone());

@@ -1,4 +1,4 @@
-"""The roads and scripts that are timed, and what the programs of this folder share."""
+"""The roads and scripts that are timed, and functions that the scripts of this folder share."""
 import argparse
 import json
 import os
@@ -9,12 +9,12 @@ import time
 HERE = os.path.dirname(os.path.abspath(__file__))
 CRATES = os.path.join(HERE, "..", "crates")
 
-# 12 cells, where a car enters whenever it can.
+# 12 cells; a car enters whenever the inlet is free.
 FREE_ROAD = {
     "detectors": [5], "exit": 1, "inlets": [[0, 65536]], "length": 12, "replicas": ["A"],
     "words": 7, "zone": 12, "zones": [[2, 0]],
 }
-# 8,192 cells with one inlet and random slowing; the same with 64 detectors; and with 16 inlets besides, which fills.
+# 8,192 cells with one inlet and random slowing; the same with 64 detectors; and also with 16 inlets, which fill the road.
 RANDOM_SLOWING = {
     "detectors": [], "exit": 64, "inlets": [[0, 32768]], "length": 8192, "replicas": ["A"],
     "words": 7, "zone": 128, "zones": [[5, 16384]] * 64,
@@ -44,7 +44,7 @@ def at_the_end(plan, step):
 
 
 def random_words():
-    """Random words of 64 bits, always the same ones: SplitMix64 (Steele, Lea and Flood, OOPSLA 2014) from 42."""
+    """Yield random words of 64 bits, always the same ones: SplitMix64 (Steele, Lea and Flood, OOPSLA 2014) with seed 42."""
     last, state = (1 << 64) - 1, 42
     while True:
         state = (state + 0x9E3779B97F4A7C15) & last
@@ -87,7 +87,7 @@ def random_queries(plan, horizon, count):
     return "".join(lines)
 
 
-# name, script, steps that it simulates, the sum (SHA-256) of its answers, computed by another program, or nothing
+# name, script, number of simulated steps, SHA-256 of the answers (computed by a different program) or None
 SCRIPTS = [
     ("12 cells, a car enters whenever it can, 65,536 steps", at_the_end(FREE_ROAD, 65536), 65536,
      "1eadcf01d772cafae252e445c8f5caf2c9adbcd7a067d1ce003fe4182c75bc33"),
@@ -108,32 +108,32 @@ SCRIPTS = [
 ]
 
 
-def arguments(description):
-    """Return a parser of arguments with the common option. Its help is the docstring of the program."""
+def make_parser(description):
+    """Return a parser of arguments with the common option --program. The description is a script's docstring."""
     parser = argparse.ArgumentParser(description=description, formatter_class=argparse.RawDescriptionHelpFormatter)
     parser.add_argument("--program", metavar="PATH")
     return parser
 
 
-def built(name):
-    """Builds the program of a crate, proved, and returns its path. One that reads lines gets those beside its source."""
+def build(name):
+    """Prove and build the program of a crate, and return its path. `rt run` also runs it, on the file stdin of the crate if there is one."""
     crate = os.path.join(CRATES, name)
     lines = os.path.join(crate, "stdin")
-    with open(lines if os.path.exists(lines) else os.devnull, "rb") as given:
-        subprocess.run(["rt", "run"], cwd=crate, stdin=given, stdout=subprocess.DEVNULL, check=True)
+    with open(lines if os.path.exists(lines) else os.devnull, "rb") as script:
+        subprocess.run(["rt", "run"], cwd=crate, stdin=script, stdout=subprocess.DEVNULL, check=True)
     return os.path.join(crate, "out", name)
 
 
-def hand_written():
-    """Compile the program by hand, and return its path."""
+def build_hand_written():
+    """Compile the hand-written program, and return its path."""
     path = os.path.join(HERE, "out", "hand_written")
     os.makedirs(os.path.dirname(path), exist_ok=True)
     subprocess.run(["rustc", "--edition", "2024", "-O", os.path.join(HERE, "hand_written.rs"), "-o", path], check=True)
     return path
 
 
-def timed(program, script):
-    """Return the seconds that a program takes for a script, its start, reading and writing included, and its answers."""
+def time_script(program, script):
+    """Return the seconds that a program takes for a script, including its start, reading and writing, and its answers."""
     begin = time.perf_counter()
     ended = subprocess.run([program], input=script.encode(), stdout=subprocess.PIPE)
     spent = time.perf_counter() - begin
@@ -142,8 +142,8 @@ def timed(program, script):
     return spent, ended.stdout
 
 
-def measured(program, script):
-    """Return the seconds that a program takes for a script, its answers, and its greatest memory in MiB."""
+def measure(program, script):
+    """Return the seconds that a program takes for a script, its answers, and its maximum memory in MiB."""
     begin = time.perf_counter()
     ended = subprocess.run(["/usr/bin/time", "-f", "%M", program], input=script.encode(), capture_output=True, check=True)
     return time.perf_counter() - begin, ended.stdout, int(ended.stderr.split()[-1]) / 1024

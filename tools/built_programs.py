@@ -1,7 +1,8 @@
-"""The programs that this repository builds: where each lies, and what text it was made from.
+"""The programs that this repository builds: where each of them is, and what source text it was made from.
 
-A program is the name of its crate. The proved one is crates/NAME/out/NAME, the unproved one NAME_unproved beside it.
-.ci/proved has one line for the kit that the gate ran with, and one line "NAME SUM" for each program that it proved.
+A program has the name of its crate. The proved one is crates/NAME/out/NAME, the unproved one is NAME_unproved in the same folder.
+.ci/proved has one line for the kit that the gate ran with, and one line "NAME SUM" for each program that it proved, where SUM is
+the checksum of the program's source text.
 """
 from __future__ import annotations
 
@@ -35,41 +36,42 @@ def unproved_path(name: str) -> Path:
 
 
 def text_of(name: str) -> str:
-    """Return the sum of the text that the crates have now."""
+    """Return the checksum of a program's present source text."""
     return programs.sum_text(name)
 
 
-def note(path: Path, text: str, proved: bool, checks: bool) -> None:
-    """Write beside a program what text it was made from."""
+def write_record(path: Path, text: str, proved: bool, checks: bool) -> None:
+    """Write a record next to a program: the checksum of the text that it was made from, and how it was made."""
     programs.write_record(path, text, proved, checks)
 
 
 def current_path(name: str, with_checks: bool = True) -> Path | None:
-    """Return a program that was made from the text that the crates have now, the proved one first; or None.
+    """Return a program that was made from the present source text, the proved one if there are two, or None if there is none.
 
-    A proved laboratory without a note was built by hand: it counts too. `with_checks` False asks for one without the compiler's checks.
+    A proved laboratory without a record was built by hand, and counts as present. If `with_checks` is False, a program with the
+    compiler's checks does not count.
     """
     text = text_of(name)
     for path in (proved_path(name), unproved_path(name)):
         made = programs.read_record(path) if os.access(path, os.X_OK) else None
         if made and made.text == text and (with_checks or not made.checks):
             return path
-    by_hand = name == LABORATORY and os.access(proved_path(name), os.X_OK) and not has_note(proved_path(name))
+    by_hand = name == LABORATORY and os.access(proved_path(name), os.X_OK) and not has_record(proved_path(name))
     return proved_path(name) if by_hand else None
 
 
-def has_note(path: Path) -> bool:
-    """Return whether the note beside a program describes this very program."""
+def has_record(path: Path) -> bool:
+    """Return whether the record next to a program describes exactly this program."""
     return programs.read_record(path) is not None
 
 
-def standing(path: Path) -> str | None:
-    """Return what a user should know of a laboratory, in one sentence; None if it is proved from the present text."""
+def describe_standing(path: Path) -> str | None:
+    """Return a sentence that warns users of an unproved or outdated laboratory, or None if it is proved from the present text."""
     return programs.describe_standing(path)
 
 
 def find_unwritable(folder: Path) -> str | None:
-    """Return why this user cannot write to a folder, or make it, in a sentence; None if that is possible."""
+    """Return a sentence that says why this user cannot write to a folder or create it, or None if that is possible."""
     nearest = folder.absolute()
     while not nearest.exists():
         nearest = nearest.parent
@@ -84,7 +86,7 @@ def kit_name() -> str:
 
 
 def is_proved_by_gate(name: str, kit: str) -> bool:
-    """Return whether .ci/proved says that the gate proved the present text of a program with this kit."""
+    """Return whether .ci/proved says that the gate has proved the present text of a program with this kit."""
     try:
         lines = PROVED_TEXTS.read_text(encoding="utf-8").splitlines()
     except OSError:
@@ -93,6 +95,6 @@ def is_proved_by_gate(name: str, kit: str) -> bool:
 
 
 def note_gate(texts: dict[str, str], kit: str) -> None:
-    """Write to .ci/proved which text of each program the gate proved."""
+    """Write .ci/proved: the kit, and the checksum of the text of each program that the gate has proved."""
     lines = [kit, *(f"{name} {text}" for name, text in texts.items())]
     PROVED_TEXTS.write_text("\n".join(lines) + "\n", encoding="utf-8")

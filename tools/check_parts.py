@@ -11,18 +11,18 @@ import packages
 from built_programs import (CALLS, LABORATORY, PROGRAMS, WITHIN, current_path, is_proved_by_gate, kit_name, proved_path,
                             unproved_path)
 
-FIRST, GATE = "pages", "proof"  # FIRST takes seconds: if it fails, nothing is proved for an hour
+FIRST, GATE = "pages", "proof"  # FIRST takes seconds: if it fails, the proof, which takes an hour, does not begin
 NO_KIT = "there is no `rt` on the PATH: add the bin folder of the Rattle kit"
-MOST = 64  # of processors: all that there are
+MOST = 64  # processors: more than a machine has, for a part that needs all of them
 MINUTES_OF_MUTANTS = 10
 
 
 @dataclass(frozen=True)
 class Part:
-    """A part: bash lines, run in turn at the top of the repository. They name programs as $road_lab and the like.
+    """A part: bash lines, which run in turn at the top of the repository. They name programs by variables such as $road_lab.
 
-    `before` are the parts that must have passed before it starts; `left_out` says why it cannot run, if it cannot. One
-    `without_checks` needs programs without the compiler's checks; what one that `is_shown` says is printed as it comes.
+    `before` are the parts that must have passed before this one starts. `left_out` says why the part cannot run, if it cannot.
+    `without_checks`: it needs programs without the compiler's checks. `is_shown`: its output is printed while it runs.
     """
 
     name: str
@@ -42,42 +42,42 @@ class Part:
 def all_parts() -> list[Part]:
     """Return the parts in the order in which they start: the quick check of pages, then those that take longest."""
     return [
-        Part(FIRST, "the pages: limits, links, definitions as in specs/, and plain English", ("tools/definitions --check", "tools/check-pages")),
+        Part(FIRST, "the pages: limits, links, the index of specs/, and plain English", ("tools/definitions --check", "tools/check-pages")),
         Part("live", "live, with real browsers, brokers and faults", ("ROAD_LAB=$road_lab live/test",), (LABORATORY,), 4),
-        Part("failures", "each external call, made to fail in turn",
+        Part("failures", "each call of the programs to the system, made to fail in turn",
              ("tools/fail-in-turn --program $road_lab --within $tests_within --calls $tests_failures --jobs $processors",),
              (LABORATORY, WITHIN, CALLS), 3, without_checks=True),
-        Part("unproved", "the program without a proof, with checks and without", ("tests/unproved",), processors=2, needs_kit=True),
-        Part("process", "the program in its process: words, streams, limits", ("tests/process --program $road_lab",), (LABORATORY,)),
+        Part("unproved", "the program without a proof, with and without checks", ("tests/unproved",), processors=2, needs_kit=True),
+        Part("process", "the program as a process: arguments, streams, limits", ("tests/process --program $road_lab",), (LABORATORY,)),
         Part("recipes", "the recipes, compared with results of other programs", ("ROAD_LAB=$road_lab recipes/test",), (LABORATORY,)),
         Part("types", "the types of the Python package, and of live's server and tests", ("recipes/python/types", "live/types")),
         Part("viewer", "the viewer, in a real browser", ("viewer/test",), processors=2),
-        Part("refused-uses", "what must not compile", (".ci/refused-uses",), needs_kit=True),
+        Part("refused-uses", "programs that must not compile", (".ci/refused-uses",), needs_kit=True),
         Part("lost-worker", "the loss of a worker is detected", (".ci/lost-worker",), needs_kit=True),
         Part("scripts", "the scripts of examples/ and tests/scripts", ("tests/run --program $road_lab",), (LABORATORY,)),
-        Part("node", "live's page: modules that need no browser, and the types of all",
+        Part("node", "live's page: modules that need no browser, and the types of all modules",
              ("node --test live/tests/*.test.mjs", "tsc -p live/page")),
-        Part("commands", "./start, ./check, due mutants, and the check of plain English",
+        Part("commands", "./start, ./check, the choice of due mutants, and the check of plain English",
              ("ROAD_LAB=$road_lab tests/commands", "tests/mutants", "tests/plain_english"), (LABORATORY,)),
         Part("mutants", "mutants that are due, for ten minutes (under --proof)",
              (f"tools/try-mutants --due --minutes {MINUTES_OF_MUTANTS}",), processors=MOST, only_proved=True),
     ]
 
 
-def chosen(names: Sequence[str], proof: bool) -> list[Part]:
-    """Return the parts of these names, or all; without a proof not those that need one, unless they are named."""
+def choose(names: Sequence[str], proof: bool) -> list[Part]:
+    """Return the parts with these names, or all parts if there are no names: without a proof, only those that need none."""
     return [part for part in all_parts() if part.name in names or not names and (proof or not part.only_proved)]
 
 
 def with_programs(parts: Iterable[Part], proof: bool) -> list[Part]:
-    """Return the parts behind what makes their programs: the proof, or a compilation of each program that is not there."""
-    lacking = [without_packages(part) for part in parts]
+    """Return the parts, after new ones that make their programs: the proof, or a compilation of each missing program."""
+    installed = [without_packages(part) for part in parts]
     if proof:
-        first = [part for part in lacking if part.name == FIRST]
+        first = [part for part in installed if part.name == FIRST]
         proved = {name: proved_path(name) for name in PROGRAMS}
-        return [*first, gate(tuple(part.name for part in first)), *(by_programs(part, proved, (GATE,)) for part in lacking if part not in first)]
+        return [*first, gate(tuple(part.name for part in first)), *(by_programs(part, proved, (GATE,)) for part in installed if part not in first)]
     kit = find_kit()
-    runnable = [without_kit(part, kit) for part in lacking]
+    runnable = [without_kit(part, kit) for part in installed]
     wanted = {name for part in runnable if not part.left_out for name in part.programs}
     found = {name: find_program(name, kit) for name in PROGRAMS if name in wanted}
     makers = [make(name, kit) for name, path in found.items() if path is None]
@@ -86,13 +86,13 @@ def with_programs(parts: Iterable[Part], proof: bool) -> list[Part]:
 
 
 def without_packages(part: Part) -> Part:
-    """Leave a part out if a package that it needs is missing; the recipes leave out some of theirs by themselves."""
+    """Leave a part out if a package that it needs is missing. (`recipes` itself leaves out the recipes whose packages are missing.)"""
     missing = packages.find_missing([part.name])
     return replace(part, left_out=f"not installed: {' '.join(missing)}") if missing and part.name != "recipes" else part
 
 
 def without_kit(part: Part, kit: str | None) -> Part:
-    """Leave a part out if it needs the kit, which is not there, or programs without checks, which cannot be made."""
+    """Leave a part out if it needs the kit and there is none, or if it needs programs without checks that cannot be made."""
     if part.left_out:
         return part
     if kit is None and part.needs_kit:
@@ -100,7 +100,7 @@ def without_kit(part: Part, kit: str | None) -> Part:
     for name in part.programs if part.without_checks else ():
         if current_path(name, with_checks=False) is None and not (kit and is_proved_by_gate(name, kit)):
             return replace(part, left_out=f"{name} is not proved, and .ci/proved does not name its present text: so it can only "
-                           "be made with checks, under which no call can be made to fail")
+                           "be made with the compiler's checks, and then no call can be made to fail")
     return part
 
 
@@ -113,7 +113,8 @@ def find_kit() -> str | None:
 
 
 def find_program(name: str, kit: str | None) -> Path | None:
-    """Return a program of the present text. None: one has to be made, also if the gate has proved the text meanwhile."""
+    """Return a program of the present text, or None if it has to be made. A program with checks is made again once the gate has
+    proved its text."""
     given = os.environ.get("ROAD_LAB") if name == LABORATORY else None
     if given:
         return Path(given).absolute()
@@ -121,7 +122,7 @@ def find_program(name: str, kit: str | None) -> Path | None:
 
 
 def gate(before: tuple[str, ...]) -> Part:
-    """Prove everything, and note which text that was."""
+    """Prove everything, and record which text was proved."""
     return Part(GATE, "", ("text=$(tools/prove-program --text)", "rt ci", "tools/prove-program --record $text"), processors=MOST,
                 before=before, is_shown=True)
 
@@ -136,7 +137,8 @@ def maker_name(program: str) -> str:
 
 
 def before(part: Part, makers: Sequence[Part]) -> tuple[str, ...]:
-    """Return what must have been made before a part starts: its programs. `unproved` looks at the laboratory's folder."""
+    """Return the makers of a part's programs, which must have passed before the part starts. `unproved` names no program, but looks
+    at the laboratory's folder."""
     names = (*part.programs, LABORATORY) if part.name == "unproved" else part.programs
     return tuple(maker.name for maker in makers if maker.name in map(maker_name, names))
 

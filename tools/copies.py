@@ -1,4 +1,4 @@
-"""A copy of the repository, for scripts that change files and then call rt."""
+"""Make a copy of the repository, for scripts that change files and then call rt."""
 import contextlib
 import os
 import shutil
@@ -8,11 +8,11 @@ TOP = os.path.realpath(os.path.join(os.path.dirname(os.path.abspath(__file__)), 
 
 
 @contextlib.contextmanager
-def copied(whole=(), with_libraries=True):
+def copy_repository(whole=(), with_libraries=True):
     """Make a copy of the repository, and remove it afterwards. Yield its folder.
 
-    Of the files that checks keep in out/, the copy has only the built libraries (with `with_libraries`), and all files of the crates
-    in `whole`."""
+    Of the folders out/, where checks keep files, the copy has all files for the crates in `whole`, and only the built libraries
+    for the other crates (none if `with_libraries` is False)."""
 
     def left_out(folder, names):
         if os.path.basename(folder) == "out" and os.path.basename(os.path.dirname(folder)) not in whole:
@@ -25,8 +25,8 @@ def copied(whole=(), with_libraries=True):
         yield copy
 
 
-def changed(path, change):
-    """Apply `change` to the text of a file. Return the text that it had."""
+def change_file(path, change):
+    """Apply `change` to the text of a file. Return the text that the file had before."""
     with open(path, encoding="utf-8") as file:
         text = file.read()
     with open(path, "w", encoding="utf-8") as file:

@@ -1,14 +1,14 @@
-/* Preloaded before a program: counts its calls to the outside, and makes one of them fail, once. It is asked by the environment:
-     FAIL_KIND    which calls are meant: memory, thread, open, read or write
+/* Preloaded with a program: count its calls to the system, and make one of them fail, once. The environment says which:
+     FAIL_KIND    the kind of calls: memory, thread, open, read or write
      FAIL_CALL    the number of the call that fails, from 1 on; 0 for none
-     FAIL_LASTING 1 where all later ones fail too
-     FAIL_WAY     the number of the error by which it fails; 0 for a write that takes no byte
-     FAIL_PIECE   the most bytes that each such read gives or write takes; 0 for as many as asked
-     FAIL_SCRIPT  the path of a script: its reads are counted as those of standard input, and its opening
+     FAIL_LASTING 1 if all later calls of this kind fail, too
+     FAIL_WAY     the number of the error with which the call fails; 0 for a write that writes no byte
+     FAIL_PIECE   the most bytes that each read or write of this kind transfers; 0 for no limit
+     FAIL_SCRIPT  the path of a script: its reads are counted like those of standard input, and its opening is counted
      FAIL_COUNTS  a file of zeros, as long as struct counts, where the counts are kept
-   Reads are those of standard input and of the script, writes those to standard output; others are let through.
-   A thread's start first allocates a block, which it hands to the new thread: the allocation is known by where in the program it is
-   called. The counts name these places, and that of the allocation that failed. */
+   Only reads of standard input and of the script, and writes to standard output, are counted; all others are passed on.
+   To start a thread, the program first allocates a block and hands it to the new thread. Such an allocation is known by the place in the
+   program that makes the call. The counts have these places, and the place of the allocation that failed. */
 #define _GNU_SOURCE
 #include <dlfcn.h>
 #include <errno.h>
@@ -30,18 +30,18 @@ enum { PLACES = 16 };
 struct counts {
     long calls[KINDS];
     long bytes[KINDS];
-    long failed;          /* how many calls were made to fail */
-    long starting;        /* 1 where the first that failed was made inside a thread's start */
-    long place;           /* from where in the program it was called, by its distance from the program's entry */
-    long starts[PLACES];  /* from where the blocks of threads are allocated; 0 behind the last */
+    long failed;          /* the number of calls that were made to fail */
+    long starting;        /* 1 if the first of them was made while a thread was started */
+    long place;           /* the place in the program that made this call: its distance from the program's entry */
+    long starts[PLACES];  /* the places that allocate the blocks of threads; 0 after the last */
 };
 
-/* The C library's own allocator, by names that this library does not take over. */
+/* The C library's own allocator, under names that this library does not replace. */
 extern void *__libc_malloc(size_t), *__libc_calloc(size_t, size_t), *__libc_realloc(void *, size_t), *__libc_memalign(size_t, size_t);
 
 static const char *const names[KINDS] = {"memory", "thread", "open", "read", "write"};
 static struct counts *counts;
-static int chosen = KINDS, way, script = -1;
+static int failing = KINDS, way, script = -1;   /* the kind that fails, its error, and the descriptor of the script */
 static long number, piece, lasting;
 static const char *script_path;
 static int (*real_create)(pthread_t *, const pthread_attr_t *, void *(*)(void *), void *);
@@ -50,14 +50,14 @@ static __thread void *last_block;
 static __thread long last_place;
 
 static long number_in(const char *name) {
-    const char *said = getenv(name);
-    return said ? atol(said) : 0;
+    const char *value = getenv(name);
+    return value ? atol(value) : 0;
 }
 
 __attribute__((constructor)) static void begin(void) {
     const char *kind = getenv("FAIL_KIND"), *path = getenv("FAIL_COUNTS");
     for (int i = 0; kind && i < KINDS; i++)
-        if (!strcmp(kind, names[i])) chosen = i;
+        if (!strcmp(kind, names[i])) failing = i;
     number = number_in("FAIL_CALL"), way = number_in("FAIL_WAY"), piece = number_in("FAIL_PIECE"), lasting = number_in("FAIL_LASTING");
     script_path = getenv("FAIL_SCRIPT");
     real_create = (int (*)(pthread_t *, const pthread_attr_t *, void *(*)(void *), void *))dlsym(RTLD_NEXT, "pthread_create");
@@ -68,14 +68,14 @@ __attribute__((constructor)) static void begin(void) {
     if (kept != MAP_FAILED) counts = kept;      /* from here on calls are counted */
 }
 
-/* Where in the program a call returns to. */
+/* Return the place in the program that a call returns to. */
 static long place_of(void *where) { return (long)where - (long)getauxval(AT_ENTRY); }
 
-/* Counts a call of a kind, and says whether it is to fail. */
+/* Count a call of a kind, and return whether it must fail. */
 static int fails(enum kind kind, long place) {
     if (!counts) return 0;
     long now = __atomic_add_fetch(&counts->calls[kind], 1, __ATOMIC_SEQ_CST);
-    if ((int)kind != chosen || number == 0 || now < number || (now > number && !lasting)) return 0;
+    if ((int)kind != failing || number == 0 || now < number || (now > number && !lasting)) return 0;
     __atomic_add_fetch(&counts->failed, 1, __ATOMIC_SEQ_CST);
     if (now == number) counts->starting = starting, counts->place = place;
     errno = way;
@@ -83,21 +83,21 @@ static int fails(enum kind kind, long place) {
 }
 
 static size_t at_most(enum kind kind, size_t asked) {
-    return (int)kind == chosen && piece > 0 && asked > (size_t)piece ? (size_t)piece : asked;
+    return (int)kind == failing && piece > 0 && asked > (size_t)piece ? (size_t)piece : asked;
 }
 
-static ssize_t moved(enum kind kind, ssize_t count) {
+static ssize_t count_bytes(enum kind kind, ssize_t count) {
     if (counts && count > 0) __atomic_add_fetch(&counts->bytes[kind], count, __ATOMIC_SEQ_CST);
     return count;
 }
 
-/* Notes that this thread allocated a block last, and from where. */
-static void *noted(void *block, long place) {
+/* Note the last block that this thread has allocated, and the place that did. Return the block. */
+static void *note_block(void *block, long place) {
     last_block = block, last_place = place;
     return block;
 }
 
-/* Notes that a thread is started with a block, where this thread allocated that last. */
+/* A thread is being started with a block. If it is the last block that this thread has allocated, note the place that allocated it. */
 static void note_start(void *block) {
     if (!counts || !block || block != last_block) return;
     for (int i = 0; i < PLACES; i++) {
@@ -108,20 +108,20 @@ static void note_start(void *block) {
 }
 
 #define PLACE place_of(__builtin_return_address(0))
-void *malloc(size_t size) { return fails(MEMORY, PLACE) ? NULL : noted(__libc_malloc(size), PLACE); }
-void *calloc(size_t items, size_t size) { return fails(MEMORY, PLACE) ? NULL : noted(__libc_calloc(items, size), PLACE); }
+void *malloc(size_t size) { return fails(MEMORY, PLACE) ? NULL : note_block(__libc_malloc(size), PLACE); }
+void *calloc(size_t items, size_t size) { return fails(MEMORY, PLACE) ? NULL : note_block(__libc_calloc(items, size), PLACE); }
 void *realloc(void *old, size_t size) { return fails(MEMORY, PLACE) ? NULL : __libc_realloc(old, size); }
-void *aligned_alloc(size_t unit, size_t size) { return fails(MEMORY, PLACE) ? NULL : noted(__libc_memalign(unit, size), PLACE); }
-void *memalign(size_t unit, size_t size) { return fails(MEMORY, PLACE) ? NULL : noted(__libc_memalign(unit, size), PLACE); }
+void *aligned_alloc(size_t unit, size_t size) { return fails(MEMORY, PLACE) ? NULL : note_block(__libc_memalign(unit, size), PLACE); }
+void *memalign(size_t unit, size_t size) { return fails(MEMORY, PLACE) ? NULL : note_block(__libc_memalign(unit, size), PLACE); }
 
 int posix_memalign(void **made, size_t unit, size_t size) {
     void *got = fails(MEMORY, PLACE) ? NULL : __libc_memalign(unit, size);
     if (!got) return ENOMEM;
-    *made = noted(got, PLACE);
+    *made = note_block(got, PLACE);
     return 0;
 }
 
-/* The program's own mappings; those that the C library makes for itself do not come here. */
+/* The program's own mappings. Mappings that the C library makes for itself do not call this function. */
 void *mmap(void *place, size_t size, int rights, int flags, int file, off_t from) {
     if (flags & MAP_ANONYMOUS && fails(MEMORY, PLACE)) return MAP_FAILED;
     return (void *)syscall(SYS_mmap, place, size, rights, flags, file, from);
@@ -153,14 +153,14 @@ int open64(const char *, int, ...) __attribute__((alias("open")));
 ssize_t read(int file, void *bytes, size_t size) {
     if (file != 0 && (file < 0 || file != script)) return syscall(SYS_read, file, bytes, size);
     if (fails(READ, PLACE)) return way ? -1 : 0;
-    return moved(READ, syscall(SYS_read, file, bytes, at_most(READ, size)));
+    return count_bytes(READ, syscall(SYS_read, file, bytes, at_most(READ, size)));
 }
 ssize_t __read(int, void *, size_t) __attribute__((alias("read")));
 
 ssize_t write(int file, const void *bytes, size_t size) {
     if (file != 1) return syscall(SYS_write, file, bytes, size);
     if (fails(WRITE, PLACE)) return way ? -1 : 0;
-    return moved(WRITE, syscall(SYS_write, file, bytes, at_most(WRITE, size)));
+    return count_bytes(WRITE, syscall(SYS_write, file, bytes, at_most(WRITE, size)));
 }
 ssize_t __write(int, const void *, size_t) __attribute__((alias("write")));
 
@@ -168,12 +168,12 @@ ssize_t readv(int file, const struct iovec *pieces, int count) {
     if (file != 0 && (file < 0 || file != script)) return syscall(SYS_readv, file, pieces, count);
     if (piece > 0 && count > 0) return read(file, pieces[0].iov_base, pieces[0].iov_len);
     if (fails(READ, PLACE)) return way ? -1 : 0;
-    return moved(READ, syscall(SYS_readv, file, pieces, count));
+    return count_bytes(READ, syscall(SYS_readv, file, pieces, count));
 }
 
 ssize_t writev(int file, const struct iovec *pieces, int count) {
     if (file != 1) return syscall(SYS_writev, file, pieces, count);
     if (piece > 0 && count > 0) return write(file, pieces[0].iov_base, pieces[0].iov_len);
     if (fails(WRITE, PLACE)) return way ? -1 : 0;
-    return moved(WRITE, syscall(SYS_writev, file, pieces, count));
+    return count_bytes(WRITE, syscall(SYS_writev, file, pieces, count));
 }

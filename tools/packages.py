@@ -13,13 +13,13 @@ import processes
 
 LIST = Path(__file__).resolve().with_name("packages.txt")
 DEBIAN_PYTHON = "/usr/bin/python3"
-START, BROKER = "start", "broker"  # ./start, and what it needs besides if it has a broker
+START, BROKER = "start", "broker"  # the users of packages for ./start, without and with a broker
 HEADERS = Path("/usr/include")
 
 
 @dataclass(frozen=True)
 class Package:
-    """A package, what shows that it is there, and who uses it."""
+    """A package, what shows that it is installed (the kind and name of a module, command or file), and who uses it."""
 
     name: str
     kind: str
@@ -35,15 +35,15 @@ class Package:
 
 
 def is_module(name: str) -> bool:
-    """Return whether this Python finds a module."""
+    """Return whether this Python can import a module."""
     try:
         return importlib.util.find_spec(name) is not None
-    except ModuleNotFoundError:  # the package that the module would lie in
+    except ModuleNotFoundError:  # the package of the module is missing
         return False
 
 
 def use_debian_python() -> None:
-    """Run this script again with Debian's Python, whose modules Debian's packages are, unless it is the one that runs."""
+    """Run this script again with Debian's Python, which has the modules of Debian's packages, unless it is already running."""
     if sys.prefix != "/usr" and os.path.exists(DEBIAN_PYTHON):
         os.execv(DEBIAN_PYTHON, [DEBIAN_PYTHON, *sys.argv])
 
@@ -55,12 +55,12 @@ def read_list() -> list[Package]:
 
 
 def find_missing(users: Collection[str]) -> list[str]:
-    """Return the packages that one of these users needs, and that are not installed."""
+    """Return the packages that at least one of these users needs and that are not installed."""
     return [package.name for package in read_list() if package.users.intersection(users) and not package.is_installed()]
 
 
 def command_line(missing: Iterable[str]) -> str:
-    """Return the line that a user types to install packages."""
+    """Return the command that a user types to install packages."""
     return f"sudo apt-get install --no-install-recommends {' '.join(missing)}"
 
 
@@ -70,7 +70,7 @@ def may_install() -> bool:
 
 
 def install(missing: list[str]) -> None:
-    """Install packages, and say so. Raises processes.Failed, with what apt-get said, if that fails."""
+    """Install packages, with a line on standard error. Raises processes.Failed, with the output of apt-get, if that fails."""
     quiet = {**os.environ, "DEBIAN_FRONTEND": "noninteractive"}
     with processes.Step(f"installing {' '.join(missing)}") as step:
         for words in (["update", "-q"], ["install", "-q", "-y", "--no-install-recommends", *missing]):
@@ -79,7 +79,7 @@ def install(missing: list[str]) -> None:
 
 
 def provide(users: Collection[str]) -> list[str]:
-    """Install what these users need, if this user may. Return what is still missing."""
+    """Install the packages that these users need, if this user may do so. Return the packages that are still missing."""
     missing = find_missing(users)
     if missing and may_install():
         try:

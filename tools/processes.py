@@ -1,4 +1,4 @@
-"""Commands that ./start and ./check run: each ends when its caller ends, and a line on standard error tells how long it takes."""
+"""Run the commands of ./start and ./check: each of them ends when its caller ends. A line on standard error shows how long it takes."""
 from __future__ import annotations
 
 import contextlib
@@ -12,19 +12,19 @@ import time
 from types import FrameType
 from typing import Any, Sequence
 
-PATIENCE = 10.0  # seconds in which a command may end by itself once it is told to
-LOOK = 0.1
-SHOWN = 2_000  # characters of what a failed command said
+PATIENCE = 10.0  # seconds that a command has to end after a signal, before it is killed
+LOOK = 0.1  # seconds between two looks at a command
+SHOWN = 2_000  # characters of a failed command's output
 DIES_WITH_PARENT = 1  # PR_SET_PDEATHSIG
 LIBRARY = ctypes.CDLL(None)
 
 
 class Failed(Exception):
-    """A command that ended with another status than 0."""
+    """A command ended with a status that is not 0."""
 
 
 class Step:
-    """A line on standard error: what is being done, and for how long. On a terminal the seconds count."""
+    """A line on standard error: what is being done, and for how long. On a terminal, the seconds are updated."""
 
     def __init__(self, doing: str) -> None:
         self.doing, self.begin, self.counts = doing, time.monotonic(), sys.stderr.isatty()
@@ -43,43 +43,43 @@ class Step:
 
 
 def end_with_parent() -> None:
-    """Let this process be told to end when the one that started it is gone, however that ended; and let it hear that it is to end,
-    also if we are in the background, where shells have SIGINT ignored."""
+    """Let this process get SIGTERM when its parent has ended for any reason. Let it receive SIGINT even if it runs in the background,
+    where shells ignore SIGINT."""
     LIBRARY.prctl(DIES_WITH_PARENT, signal.SIGTERM)
     signal.signal(signal.SIGINT, signal.SIG_DFL)
 
 
 def start(words: Sequence[Any], **how: Any) -> subprocess.Popen[bytes]:
-    """Start a command in a group of its own, so that Ctrl-C reaches it through us alone."""
+    """Start a command in a process group of its own, so that only this process gets a Ctrl-C and passes it on."""
     return subprocess.Popen(list(map(str, words)), start_new_session=True, preexec_fn=end_with_parent, **how)
 
 
-def end(process: subprocess.Popen[Any], sign: int = signal.SIGTERM) -> None:
-    """Tell a command to end, wait for that, and end what is left of its group."""
+def end(process: subprocess.Popen[Any], number: int = signal.SIGTERM) -> None:
+    """Send a command the signal to end, wait until it has ended, and kill what is left of its group."""
     if process.poll() is None:
-        tell(process, sign)
+        send_signal(process, number)
     wait_for_end(process)
 
 
 def wait_for_end(process: subprocess.Popen[Any]) -> None:
-    """Wait for a command that was told to end, and end what is left of its group."""
+    """Wait for a command that got a signal to end, and kill what is left of its group."""
     try:
         process.wait(PATIENCE)
     except subprocess.TimeoutExpired:
         pass
-    finally:  # also at a second Ctrl-C
-        tell(process, signal.SIGKILL)
+    finally:  # even after a second Ctrl-C
+        send_signal(process, signal.SIGKILL)
         process.wait()
 
 
-def tell(process: subprocess.Popen[Any], sign: int) -> None:
-    """Send a signal to a command's group; nothing is left of it if it has ended."""
+def send_signal(process: subprocess.Popen[Any], number: int) -> None:
+    """Send a signal to a command's process group, if the group still exists."""
     with contextlib.suppress(ProcessLookupError):
-        os.killpg(process.pid, sign)
+        os.killpg(process.pid, number)
 
 
 def run(words: Sequence[Any], **how: Any) -> int:
-    """Run a command to its end, and return its status. It ends before an exception leaves."""
+    """Run a command to its end, and return its status. If an exception is raised here, the command ends first."""
     process = start(words, **how)
     try:
         return process.wait()
@@ -88,40 +88,40 @@ def run(words: Sequence[Any], **how: Any) -> int:
 
 
 def capture(words: Sequence[Any], step: Step, **how: Any) -> tuple[int, str]:
-    """Run a command to its end, and return its status and what it said."""
-    with tempfile.TemporaryFile() as said:
-        process = start(words, stdin=subprocess.DEVNULL, stdout=said, stderr=said, **how)
+    """Run a command to its end, and return its status and its output."""
+    with tempfile.TemporaryFile() as output:
+        process = start(words, stdin=subprocess.DEVNULL, stdout=output, stderr=output, **how)
         try:
             while process.poll() is None:
                 time.sleep(LOOK)
                 step.show()
         finally:
             end(process)
-        said.seek(0)
-        return process.returncode, said.read().decode(errors="replace")
+        output.seek(0)
+        return process.returncode, output.read().decode(errors="replace")
 
 
 def run_quietly(words: Sequence[Any], step: Step, **how: Any) -> None:
-    """Run a command to its end. Raises Failed, with the end of what it said, if its status is not 0."""
-    status, said = capture(words, step, **how)
+    """Run a command to its end. Raises Failed, with the end of its output, if its status is not 0."""
+    status, output = capture(words, step, **how)
     if status:
-        raise Failed(f"{step.doing} ended with status {status}: {said[-SHOWN:].strip()}")
+        raise Failed(f"{step.doing} ended with status {status}: {output[-SHOWN:].strip()}")
 
 
 def end_on_signals() -> None:
-    """Let Ctrl-C, SIGTERM and SIGHUP raise SystemExit, so that whatever this process has started ends first, without a traceback."""
+    """Let Ctrl-C, SIGTERM and SIGHUP raise SystemExit, so that all commands of this process end first, and no traceback is printed."""
     for number in (signal.SIGINT, signal.SIGTERM, signal.SIGHUP):
-        if signal.getsignal(number) is not signal.SIG_IGN:  # as shells and `nohup` ask for in the background
+        if signal.getsignal(number) is not signal.SIG_IGN:  # shells and `nohup` set this for commands in the background
             signal.signal(number, leave)
 
 
 def leave(number: int, _: FrameType | None) -> None:
-    """End with the status that shells give to a signal."""
+    """End this process with the status that shells report for a signal."""
     sys.exit(128 + number)
 
 
 def find_processors() -> int:
-    """Return how many processors this process may use; a container may have a part of them."""
+    """Return how many processors this process may use; a container may have only some of the machine's processors."""
     found = len(os.sched_getaffinity(0))
     with contextlib.suppress(OSError, ValueError), open("/sys/fs/cgroup/cpu.max", encoding="ascii") as limit:
         quota, period = map(int, limit.read().split())

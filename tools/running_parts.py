@@ -1,4 +1,4 @@
-"""Runs the parts of ./check side by side, and tells what came of each."""
+"""Run the parts of ./check at the same time, and report the outcome of each part."""
 from __future__ import annotations
 
 import os
@@ -16,15 +16,15 @@ import processes
 from built_programs import TOP
 from check_parts import Part
 
-LOOK = 0.2  # seconds
-LONGEST = 3_600  # seconds of a part that shows nothing
+LOOK = 0.2  # seconds between two looks at the parts that run
+LONGEST = 3_600  # seconds that a part may run whose output is not shown while it runs
 PASSED, FAILED, LEFT_OUT = "ok", "FAILED", "left out"
-SAYS_LEFT_OUT = "left out: "  # how a test's own line begins if it leaves something out
+SAYS_LEFT_OUT = "left out: "  # a test begins a line with this if the test itself leaves something out
 
 
 @dataclass
 class Run:
-    """A part that runs."""
+    """A part that is running."""
 
     part: Part
     log: Path
@@ -40,7 +40,7 @@ class Run:
         return not self.part.is_shown and self.seconds() > LONGEST
 
     def show_new_lines(self) -> None:
-        """Print what the log has got since the last call."""
+        """Print what was added to the log since the last call."""
         with open(self.log, "rb") as log:
             log.seek(self.shown)
             new = log.read()
@@ -50,7 +50,7 @@ class Run:
 
 
 class Report:
-    """Prints one line for each part, and counts. If it is strict, a part that is left out has not passed."""
+    """Prints one line for each part, and counts the outcomes. If it is strict, a part that is left out counts as failed."""
 
     def __init__(self, folder: Path, is_strict: bool) -> None:
         self.folder, self.is_strict, self.outcomes = folder, is_strict, dict[str, str]()
@@ -59,14 +59,14 @@ class Report:
         self._width, self._counts = 0, sys.stdout.isatty()
 
     def add(self, part: Part, outcome: str, seconds: float = 0.0, why: str = "") -> None:
-        """Note how a part ended, and print its line."""
+        """Record the outcome of a part, and print its line."""
         self.clear()
         self.outcomes[part.name] = outcome
-        time_of_it = f"{seconds:5.0f} s" if outcome != LEFT_OUT else ""
-        print(f"{part.name:<20} {outcome:<9}{time_of_it}{why and ' ' + why}", flush=True)
+        time_taken = f"{seconds:5.0f} s" if outcome != LEFT_OUT else ""
+        print(f"{part.name:<20} {outcome:<9}{time_taken}{why and ' ' + why}", flush=True)
 
     def show_running(self, runs: Sequence[Run]) -> None:
-        """Print on a terminal, in a line that the next one replaces, what runs."""
+        """Print on a terminal which parts are running, in a line that the next line replaces."""
         if self._counts and runs:
             text = "running: " + ", ".join(f"{run.part.name} {run.seconds():.0f} s" for run in runs)
             text = text[:shutil.get_terminal_size().columns - 1]
@@ -91,7 +91,7 @@ class Report:
 
 
 def run_all(parts: Sequence[Part], processors: int, report: Report) -> None:
-    """Run parts, as many at a time as processors allow, and report each. All end before an exception leaves."""
+    """Run parts, as many at a time as `processors` allows, and report each. If an exception is raised here, all parts end first."""
     waiting, running = list(parts), list[Run]()
     try:
         while waiting or running:
@@ -110,7 +110,7 @@ def run_all(parts: Sequence[Part], processors: int, report: Report) -> None:
 
 
 def settle(part: Part, running: list[Run], processors: int, report: Report) -> bool:
-    """Start a part if it may start now, or leave it out if it never can. Return whether one of these was done."""
+    """Start a part if it can start now, or leave it out if it can never start. Return whether the part was started or left out."""
     if part.left_out:
         report.add(part, LEFT_OUT, why=part.left_out)
         return True
@@ -130,14 +130,14 @@ def begin(part: Part, processors: int, folder: Path) -> Run:
     """Start a part."""
     log = folder / f"{part.name.replace(' ', '-')}.log"
     variables = {**os.environ, **dict(part.environment), "processors": str(processors)}
-    with open(log, "wb") as said:
+    with open(log, "wb") as output:
         process = processes.start(["bash", "-euc", "\n".join(part.lines)], cwd=TOP, env=variables, stdin=subprocess.DEVNULL,
-                                  stdout=said, stderr=said)
+                                  stdout=output, stderr=output)
     return Run(part, log, process, processors)
 
 
 def finish(run: Run, report: Report) -> None:
-    """Report a part that has ended, or that takes too long."""
+    """Report a part that has ended. End and report a part that takes too long."""
     is_too_long = run.process.poll() is None
     processes.end(run.process)
     if run.part.is_shown:
@@ -145,18 +145,18 @@ def finish(run: Run, report: Report) -> None:
     passed = not is_too_long and run.process.returncode == 0
     why = "" if passed else f"longer than {LONGEST} s" if is_too_long else f"status {run.process.returncode}"
     report.add(run.part, PASSED if passed else FAILED, run.seconds(), why)
-    said = run.log.read_text(encoding="utf-8", errors="replace")
+    output = run.log.read_text(encoding="utf-8", errors="replace")
     if not passed and not run.part.is_shown:
-        print(f"{said.rstrip()}\n({run.log})", flush=True)
+        print(f"{output.rstrip()}\n({run.log})", flush=True)
     elif passed:
-        for line in said.splitlines():
+        for line in output.splitlines():
             if line.startswith(SAYS_LEFT_OUT):
                 print(f"{'':<20} {line}", flush=True)
 
 
 def end_all(running: Sequence[Run]) -> None:
-    """Tell all parts to end, then wait for each."""
+    """Send all parts the signal to end, then wait for each of them."""
     for run in running:
-        processes.tell(run.process, signal.SIGINT)
+        processes.send_signal(run.process, signal.SIGINT)
     for run in running:
         processes.wait_for_end(run.process)
