@@ -167,7 +167,7 @@ class Ends(unittest.TestCase):
         with fake() as lab:
             lab.ask(echo("one", what="twice"))
             time.sleep(0.1)
-            self.refuses_all(lab, "the program wrote something unasked: b'{\"echo\": \"one\"}")
+            self.refuses_all(lab, "the program wrote something without a request: b'{\"echo\": \"one\"}")
 
     def test_what_is_no_reply(self) -> None:
         with fake() as lab:

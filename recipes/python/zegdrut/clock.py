@@ -17,7 +17,7 @@ from zoneinfo import ZoneInfo
 
 DAY = 86_400
 TIME = re.compile(r"(\d{1,2}):(\d{2})(?::(\d{2}))?([+-]\d{2}:\d{2})?")
-ACCEPTED = '"7:00", "07:00", "07:00:30", or a number of minutes after the begin'
+ACCEPTED = '"7:00", "07:00", "07:00:30", or a number of minutes after the beginning'
 
 
 class InvalidTime(ValueError):

@@ -161,7 +161,7 @@ class Conversation:
             if not self._unasked:
                 raise self._break(self._describe_end(process))
         if self._unasked:
-            raise self._break(LabBroken(f"the program wrote something unasked: {self._unasked[:80]!r}"))
+            raise self._break(LabBroken(f"the program wrote something without a request: {self._unasked[:80]!r}"))
 
     @staticmethod
     def _write(process: subprocess.Popen[bytes], data: bytes) -> None:

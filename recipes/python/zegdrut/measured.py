@@ -71,7 +71,7 @@ def make_rates(series: Series, interval: int) -> Rates:
     """Convert a series to a demand over time in steps and cars per hour. Fault: all intervals are missing."""
     known = [(place, cars) for place, cars in enumerate(series.cars) if cars is not None]
     if not known:
-        raise Fault(f"station {series.station.name} has no count in the window, so its demand is unknown: check its times and the begin of the road")
+        raise Fault(f"station {series.station.name} has no count in the window, so its demand is unknown: check its times and begin of the road")
     found: Rates = []
     for place in range(len(series.cars)):
         before = max((one for one in known if one[0] <= place), default=known[0])

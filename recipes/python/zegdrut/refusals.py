@@ -290,4 +290,4 @@ def format_count(what: str, count: int) -> str:
 
 
 def explain_counts_spent(verb: str, given: CommandFields) -> str:
-    return f"an import brought the greatest count, {GREATEST_COUNT}, so no greater one is left"
+    return f"an import brought the largest count, {GREATEST_COUNT}, so a new edit cannot have a larger one"

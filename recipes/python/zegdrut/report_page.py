@@ -170,7 +170,8 @@ def format_page(contents: Contents) -> str:
         f"<h2>Figures, {times}</h2>{make_table_html(contents.sides, contents.rows, days)}",
         contents.more, "<h2>What the model does not have</h2>" + make_list_html(MISSING),
         f'<p class="note">Seeds {seeds}; program {escape(describe_program())}. Delay is the time that the cars of both roads spend on the road '
-        "in this window, after minus before; lost demand is demand minus admitted cars, and scatters by about two roots of the demand.</p>"]
+        "in this window, after minus before; lost demand is demand minus admitted cars, and varies by chance by "
+        "about twice the square root of the demand.</p>"]
     return (f'<!DOCTYPE html>\n<html lang="en"><head><meta charset="utf-8"><title>{escape(contents.title)}</title><style>{STYLE}</style></head>'
             f'<body>{"".join(parts)}</body></html>\n')
 
@@ -179,7 +180,7 @@ def describe_window(contents: Contents) -> str:
     """Return the date, the window and the number of days, and whether the road was empty at its begin."""
     clock, (first, last), days = contents.clock, contents.window, len(contents.days)
     date = f"{clock.to_datetime(first).date()}, " if clock.date else ""
-    begin = (f"The road is empty at {clock.to_text(0)}: the figures contain its filling" if first == 0 else
+    begin = (f"The road is empty at {clock.to_text(0)}: the figures include the time in which it fills" if first == 0 else
              f"The run begins at {clock.to_text(0)} with an empty road, before these figures")
     return f"{date}{clock.to_text(first)} to {clock.to_text(last)}, {count_things(days, 'simulated day')}. {begin}."
 

@@ -3,9 +3,9 @@
     python3 -m zegdrut freeway [FILE] [--then FILE2] [--out FOLDER]
     python3 -m zegdrut freeway --plan FILE
 
-Without FILE it simulates the example below: 3 km with an on-ramp and a work zone of ten minutes. FILE is a JSON object with
-different figures. The command first prints which figures it had to round. Then it prints three tables and writes them into the
-folder, by default out/ or, for a file NAME.json, out/NAME:
+Without FILE it simulates the example below: 3 km with an on-ramp and a work zone of ten minutes. FILE is a JSON object with the
+figures that differ from the example. The command first prints which figures it had to round. Then it prints three tables and writes
+them into the folder, by default out/ or, for a file NAME.json, out/NAME:
 
     demand.csv     demand, admitted cars and lost demand of each inlet and hour
     counts.csv     flow and speed at each detector, minute by minute
@@ -14,14 +14,14 @@ folder, by default out/ or, for a file NAME.json, out/NAME:
 The folder also has the script (script.jsonl), its replies, and units.json with the lengths of a cell and a step. If the road has
 sections or stalled cars, without.jsonl is the same road and seed without them.
 
---then FILE2 has the sections and stalled cars as they turned out. The run is then changed by edits in the past (then.jsonl), which
-the command lists, and their tables are then_demand.csv and so on.
---plan runs nothing. It prints for live/serve the plan, the shapes of the demand over time, of sections and of stalled cars, and the
-demand of each inlet in cars per hour.
+FILE2 of --then has the sections and stalled cars as they turned out. The command then changes the past of the run by edits
+(then.jsonl) and lists them. The tables of the changed run are then_demand.csv and so on.
+With --plan the command runs no freeway. It prints, for live/serve, the plan, the shapes of the demand over time, of sections and of
+stalled cars, and the demand of each inlet in cars per hour.
 
-The stretch is measured by Edie's definitions over its rows, which are those that the steps of the period lead to. With N the number
-of cars on its cells in all rows and V the sum of their speeds, density is N and flow is V, both per cell and step, and the
-space-mean speed is V / N.
+The stretch is measured by Edie's definitions over the rows after each step of the period. If N is the number of cars on its cells in
+all these rows and V is the sum of their speeds, then density is N and flow is V, both divided by the number of cells and of rows, and
+the space-mean speed is V / N.
 """
 from __future__ import annotations
 

@@ -3,10 +3,11 @@
     python3 -m zegdrut report ROAD.json [--against OTHER.json] [--days N] [--counts CSV [--stations TABLE.csv]] [--out FILE.html]
 
 ROAD.json is a freeway as `zegdrut freeway` reads it. It is compared with OTHER.json, a file of the same road. By default it is
-compared with itself without its sections and stalled cars, if it has any. Each day is a seed: both roads of a day have the same
-drivers. Each run begins some minutes before the window, so that its road is full: twice the free travel time, unless --warm-up says
-otherwise. With --counts the report also compares ROAD.json with measured counts, by the options of `zegdrut measured`.
-It writes report-NAME-0630-0930.html, and beside it the table, the series and the demand as CSV with units.
+compared with the same road without its sections and stalled cars, if it has any. Each day is a seed: both roads of a day have the same
+drivers. Each run begins some minutes before the window, so that the road is not empty when the window begins: earlier by twice the
+free travel time, unless --warm-up says otherwise. With --counts the report also compares ROAD.json with measured counts. It then
+takes the options of `zegdrut measured`. It writes report-NAME-0630-0930.html, and into the same folder the table, the series and the
+demand as CSV with units.
 """
 from __future__ import annotations
 
@@ -55,7 +56,7 @@ def read_arguments(words: Sequence[str] | None) -> argparse.Namespace:
     add_count_options(parser)
     add_demand_argument(parser)
     parser.add_argument("--warm-up", type=float, metavar="MINUTES", help="minutes of the run before the window (default: twice the free "
-                        "travel time, rounded up to five minutes; 0: the road is empty at the begin)")
+                        "travel time, rounded up to five minutes; 0: the road is empty when the window begins)")
     parser.add_argument("--title", help="title of the report (default: the names of the files)")
     parser.add_argument("--out", type=Path, metavar="FILE.html", help="file of the report")
     return parser.parse_args(words)
@@ -138,7 +139,7 @@ def describe_works(figures: Figures) -> list[str]:
         what += [f"slowing {one.slowing:.0%}"] if one.slowing is not None else []
         what += [f"slow-to-start {one.start:.0%}"] if one.start is not None else []
         found.append(f"km {one.first:g} to {one.last:g}, {clock.to_text(round(one.begin * 60))} to {clock.to_text(round(one.end * 60))}: "
-                     + (", ".join(what) or "as the road"))
+                     + (", ".join(what) or "like the rest of the road"))
     found += [f"km {one.at:g}, {clock.to_text(round(one.begin * 60))} to {clock.to_text(round(one.end * 60))}: a stalled car closes the lane"
               for one in figures.stalled]
     return found
