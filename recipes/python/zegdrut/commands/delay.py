@@ -168,14 +168,14 @@ def compare_over_days(given: argparse.Namespace) -> None:
 
 
 def read_units(given: argparse.Namespace) -> Units:
-    """Return the lengths of a cell and of a step: those of the options, or of units.json beside the first script."""
+    """Return the lengths of a cell and of a step: those of the options, or of units.json in the folder of the first script."""
     path = Path(given.scripts[0]).with_name("units.json")
     try:
         found = json.loads(path.read_text(encoding="utf-8")) if path.exists() else {}
-        beside = Units(*(None if found.get(name) is None else float(found[name]) for name in ("metres", "seconds")))
+        of_file = Units(*(None if found.get(name) is None else float(found[name]) for name in ("metres", "seconds")))
     except (ValueError, TypeError, AttributeError):
         raise Fault(f'{path} must be an object such as {{"metres": 7.5, "seconds": 1}}') from None
-    units = Units(given.metres or beside.metres, given.seconds or beside.seconds or 1.0)
+    units = Units(given.metres or of_file.metres, given.seconds or of_file.seconds or 1.0)
     if not all(0 < length < float("inf") for length in units if length is not None):
         raise Fault("--metres and --seconds (or those of units.json) must be above 0")
     return units

@@ -85,7 +85,7 @@ def measure_chances_aloud(road: Road) -> Chances:
 def format_demands(road: Road, found: Chances, start: Script) -> Lines:
     """Return the table of demand, admitted cars and lost demand (demand minus admitted) of each inlet and hour.
 
-    ± is the scatter of the admitted cars of a free road."""
+    ± is how far the number of cars that a free road admits may vary by chance."""
     report_progress("measuring the inflow in the long run and in this run")
     trips = follow_run(road, start)
     times = "from,to" if road.clock else "from minute,to minute"
@@ -102,7 +102,7 @@ def format_demands(road: Road, found: Chances, start: Script) -> Lines:
 
 
 def note_full_inlets(road: Road, found: Chances) -> None:
-    """Add a note for each inlet that admits less than its demand in the long run, at the time of the greatest total demand."""
+    """Add a note for each inlet that admits less than its demand in the long run, at the time of the highest total demand."""
     dates = sorted({step for _, demand in road.inlets for step, _ in demand})
     step = max(dates, key=lambda date: sum(find_rate(demand, date) for _, demand in road.inlets))
     now = [(cell, int(find_rate(changes, step))) for (cell, _), changes in zip(road.inlets, found)]
@@ -183,20 +183,20 @@ def format_detectors(figures: Figures, road: Road, counted: list[CountReply]) ->
 def format_stretch(figures: Figures, road: Road, counted: list[CountReply], rows: list[str]) -> Lines:
     """Return the table of the stretch, with the detector nearest to its middle if the periods are whole minutes.
 
-    A period has the rows that its steps lead to, as all figures of windows (`trips`)."""
+    A period has the rows after each of its steps, like all figures of windows (`trips`)."""
     middle, every = sum(figures.stretch) / 2, to_steps(figures.piece)
-    beside = min(range(len(figures.detectors)), key=lambda one: abs(figures.detectors[one] - middle), default=None)
+    nearest = min(range(len(figures.detectors)), key=lambda one: abs(figures.detectors[one] - middle), default=None)
     lines = [f"{'time' if road.clock else 'minute'},cars an hour,cars a km,space-mean km/h"]
-    if beside is not None and every % 60:
-        beside = None
-    if beside is not None:
-        lines[0] += f",detector at km {format_km(road.detectors[beside])}: cars an hour,time-mean km/h"
+    if nearest is not None and every % 60:
+        nearest = None
+    if nearest is not None:
+        lines[0] += f",detector at km {format_km(road.detectors[nearest])}: cars an hour,time-mean km/h"
     a_detector = len(counted) // max(len(figures.detectors), 1)
     for first in range(0, road.steps, every):
         last = min(first + every, road.steps)
         words: tuple[str, ...] = ()
-        if beside is not None:
-            of_piece = counted[beside * a_detector:][first // 60:-(-last // 60)]
+        if nearest is not None:
+            of_piece = counted[nearest * a_detector:][first // 60:-(-last // 60)]
             words = format_rate(sum(one["cars"] for one in of_piece), sum(one["speeds"] for one in of_piece), last - first)
         lines.append(",".join([format_time(road, first), *format_traffic(rows[first + 1:last + 1], figures.stretch), *words]))
     return lines
