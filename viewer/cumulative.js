@@ -104,7 +104,7 @@ function spentSentence() {
   const both = `first ${one} ${name}, second ${other} ${name}, ${apart}.`;
   const shared = changesShared(1);
   const planned = shared
-    ? ` The first road is not without edits: it has ${shared} of them.` : "";
+    ? ` The first road has edits, too: the first ${shared} of the second road.` : "";
   return `Time on the road in the ${stepsText(from, to)}: ${both} ${enteredSentence(from, to)} ` +
     leftSentence(to) + planned;
 }
@@ -122,7 +122,7 @@ function enteredSentence(from, to) {
   const unseen = counts.filter((one) => !seen.includes(one)).map(({cell}) => cellOrKm(cell));
   return `Entered: first ${sums[0]} cars, second ${sums[1]}` +
     (apart.length ? `, ${apart.join(", ")}. Lost demand at an inlet costs no time here.`
-      : ", as many at each inlet.") +
+      : ", the same number at each inlet.") +
     (unseen.length ? ` Not counted: the inlet at ${unseen.join(", ")}, next to the end.` : "");
 }
 

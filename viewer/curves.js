@@ -65,7 +65,8 @@ function tellCounts(lists) {
   page.countNote.textContent = !lists.flat().length
     ? "There are no counts and no complete rows here."
     : "First picture: dots with solid lines. Second: squares with dashed lines." +
-      (!byRows() && leftOut ? ` Counts over other intervals are left out: ${leftOut}.` : "") +
+      (!byRows() && leftOut
+        ? ` Counts over intervals of a different length are left out: ${leftOut}.` : "") +
       (byRows() ? " The speed is the space-mean speed." : "");
 }
 

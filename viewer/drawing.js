@@ -59,7 +59,7 @@ const FASTEST_COLOUR = 5;
 const scaleEnd = (seen, unit) =>
   (unit.given && Math.abs(unit.speed - 27) < 0.01 ? FASTEST_COLOUR : Math.max(1, seen));
 
-/** Return vehicle hours as text, here and on live's page: with one decimal. */
+/** Return vehicle hours as text, with one decimal, as on live's page. */
 const hoursText = (hours) =>
   hours.toLocaleString("en", {minimumFractionDigits: 1, maximumFractionDigits: 1});
 

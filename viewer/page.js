@@ -12,7 +12,9 @@ function sayer() {
   return (sentence) => {
     said++;
     if (said <= MOST_SENTENCES) page.messages.append(withText("li", sentence));
-    else if (said <= 1000) more.textContent = `${said - MOST_SENTENCES} or more similar messages.`;
+    else if (said <= 1000) {
+      more.textContent = `${said - MOST_SENTENCES} or more messages are not shown.`;
+    }
     if (said === MOST_SENTENCES + 1) page.messages.append(more);
   };
 }
@@ -71,7 +73,7 @@ function takeUnits() {
   setScale();
   for (const name of ["stretchFrom", "stretchTo", "span"]) page[name].value = "";
   shown.pointed = null;
-  page.readout.textContent = "Point at a cell to read it.";
+  page.readout.textContent = "Point at a cell to see what is in it.";
   setStep(shown.step);
   tellAll();
 }

@@ -184,7 +184,7 @@ function layPanes() {
 
 function namePanes() {
   const names = picked().map((offer) => offer && `${offer.transcript.name}: ${labelOf(offer)}`);
-  names.push("The second picture beside the first: where its cars are slower or faster");
+  names.push("The second picture compared with the first: where its cars are slower or faster");
   names.forEach((text, which) => {
     const {caption, diagram} = panes[which];
     caption.textContent = caption.title = text ?? "";
@@ -284,7 +284,7 @@ function editLines(which) {
   const texts = joined(lasting(oneByOne(offer.run.made.slice(shared, offer.run.changes))))
     .map((edit) => editText(edit, offer.transcript.plan));
   const more = texts.length - MOST_EDITS;
-  const same = texts.length ? "Like the first picture, and:" : "Like the first picture.";
+  const same = `The edits of the first picture${texts.length ? ", and:" : "."}`;
   const head = shared ? [same] : [];
   const none = !shared && !texts.length ? ["No edits: the road is that of the plan."] : [];
   const rest = more > 0 ? [`and ${more} more`] : [];

@@ -258,7 +258,9 @@ class Transcript {
   }
 
   faultOfRows(rows, {from, to}) {
-    if (!Array.isArray(rows) || !rows.length) return "no rows; are these this script's replies?";
+    if (!Array.isArray(rows) || !rows.length) {
+      return "no rows: are these the replies to this script?";
+    }
     if (!isStep(from)) return "rows of a step that does not exist.";
     if (rows.length !== to - from + 1) return `${rows.length} rows for the steps ${from} to ${to}.`;
     if (!rows.every((row) => typeof row === "string" && /^[0-9.#]+$/.test(row))) {
@@ -271,7 +273,7 @@ class Transcript {
 
   takeCount(asked, told, reply) {
     if (!Number.isInteger(told.cars) || !Number.isInteger(told.speeds)) {
-      this.tell(reply, "this is not a count: are these this script's replies?");
+      this.tell(reply, "this is not a count: are these the replies to this script?");
       return;
     }
     const {counts} = this.runOf(asked.at);

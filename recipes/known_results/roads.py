@@ -1,13 +1,14 @@
-"""Run the roads of known_results: each function returns a count for a seed. Chances are in 1/65,536."""
+"""Run the roads of known_results. Each model returns a count for a seed. Chances are in 1/65,536."""
 from __future__ import annotations
 
 from zegdrut import Fault, Plan, RoadLab
 from zegdrut.rows import count_cars
 
 ALWAYS = 65_536
-SOON = 1 << 20
-LENGTH, WARM = 512, 20_000
-"""For roads whose flow is known: their cells, and the steps that are left out."""
+AT_ONCE = 1 << 20
+"""The number of steps that `advance` simulates at a time: more than any of these roads runs for."""
+LENGTH, WARM_UP = 512, 20_000
+"""For roads whose flow is known: their length in cells, and the steps before cars are counted."""
 JAM, FRONT = 2_400, 2_000
 """The cells of a jam, and the steps in which its front moves back."""
 CARS = 400
@@ -24,11 +25,11 @@ def flow(limit: int, slowing: int, steps: int, seed: int) -> Counted:
     """Return the cars that pass the middle of a road in `steps` steps."""
     plan = Plan(length=LENGTH, inlets=[(0, ALWAYS)], zones=[(limit, slowing)], detectors=[LENGTH // 2], words=seed)
     with RoadLab(plan) as lab:
-        lab.advance("A", WARM + steps, SOON)
-        return {"counted": lab.count("A", 0, WARM, WARM + steps).cars}
+        lab.advance("A", WARM_UP + steps, AT_ONCE)
+        return {"counted": lab.count("A", 0, WARM_UP, WARM_UP + steps).cars}
 
 
-def jam(limit: int, slowing: int, start: int, cells: int, after: int, seed: int) -> tuple[RoadLab, int]:
+def open_jam(limit: int, slowing: int, start: int, cells: int, after: int, seed: int) -> tuple[RoadLab, int]:
     """Return a lab with a jam before a cell that opens at some step, and this step.
 
     Nobody is slowed until then, so a car enters in every other step, and they stop without gaps. Fault: the jam has gaps.
@@ -44,7 +45,7 @@ def jam(limit: int, slowing: int, start: int, cells: int, after: int, seed: int)
     for zone in range(zones):
         lab.edit("A", ("slow", zone), opened, slowing)
         lab.edit("A", ("start", zone), opened, start)
-    lab.advance("A", opened, SOON)
+    lab.advance("A", opened, AT_ONCE)
     if lab.cells("A", opened)[:cells].strip("0"):
         lab.close()
         raise Fault("the jam has gaps")
@@ -53,20 +54,20 @@ def jam(limit: int, slowing: int, start: int, cells: int, after: int, seed: int)
 
 def front(limit: int, slowing: int, start: int, seed: int) -> Counted:
     """Return the number of cells that the front of a jam has moved back, which is the number of its cars that have started."""
-    lab, opened = jam(limit, slowing, start, JAM, 10, seed)
+    lab, opened = open_jam(limit, slowing, start, JAM, 10, seed)
     with lab:
-        lab.advance("A", opened + FRONT, SOON)
+        lab.advance("A", opened + FRONT, AT_ONCE)
         before = {car.number: car.cell for car in lab.cars("A", opened)}
         stands = sum(before.get(car.number) == car.cell for car in lab.cars("A", opened + FRONT))
     return {"counted": JAM - stands}
 
 
 def time(slowing: int, seed: int) -> Counted:
-    """Return the steps until CARS cars have left a jam, at limit 1."""
-    lab, opened = jam(1, slowing, slowing, CARS + 100, 100, seed)
+    """Return the number of steps in which CARS cars leave a jam, at limit 1."""
+    lab, opened = open_jam(1, slowing, slowing, CARS + 100, 100, seed)
     with lab:
         first, last = 0, 20 * CARS
-        lab.advance("A", opened + last, SOON)
+        lab.advance("A", opened + last, AT_ONCE)
         while last - first > 1:
             middle = (first + last) // 2
             is_done = lab.count("A", 0, opened, opened + middle).cars >= CARS
@@ -76,10 +77,10 @@ def time(slowing: int, seed: int) -> Counted:
 
 def outflow(limit: int, start: int, seed: int) -> Counted:
     """Return the cars that leave a jam whose cars are slow to start but are not slowed otherwise."""
-    lab, opened = jam(limit, 0, start, JAM, DOWNSTREAM, seed)
+    lab, opened = open_jam(limit, 0, start, JAM, DOWNSTREAM, seed)
     with lab:
         begin = opened + 2 * DOWNSTREAM
-        lab.advance("A", begin + OUTFLOW, SOON)
+        lab.advance("A", begin + OUTFLOW, AT_ONCE)
         if count_cars(lab.cells("A", begin + OUTFLOW)[:100]) < 90:
             raise Fault("the jam has gone")
         return {"counted": lab.count("A", 1, begin, begin + OUTFLOW).cars}
@@ -98,7 +99,7 @@ def wide_jam(start: int, seed: int) -> Counted:
         lab.edit("A", ("block", cell), opened, 0)
         for zone in range(1, 36):
             lab.edit("A", ("start", zone), opened, start)
-        lab.advance("A", opened + WIDE, SOON)
+        lab.advance("A", opened + WIDE, AT_ONCE)
         rows = [lab.cells("A", step)[100:] for step in (opened, opened + WIDE)]
     for row in rows:
         if row.strip(".123456789").strip("0#"):

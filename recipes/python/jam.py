@@ -1,4 +1,4 @@
-"""A jam in numbers: a diagram as a numpy array, with the place of its standing cars step by step.
+"""Print a jam in numbers: read a diagram into a numpy array, and list where cars stand in every fourth step.
 
     recipes/python/jam.py
 """
@@ -25,7 +25,7 @@ def main() -> None:
     print(f"{road.shape[0]} steps of {road.shape[1]} cells, {(road >= 0).sum()} cars in all")
     print("step  density  mean speed  standing cars, from cell to cell")
     for step, row in zip(range(24, 41, 4), road[::4]):
-        # The car that waits at the inlet is no part of the jam.
+        # The car that waits at the inlet does not belong to the jam.
         jam = cells[(row == 0) & (cells > 0)]
         place = f"{jam.size:2}: {jam.min()} to {jam.max()}" if jam.size else " 0"
         print(f"{step:4}  {(row >= 0).mean():7.3f}  {row[row >= 0].mean():10.3f}  {place}")

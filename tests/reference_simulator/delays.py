@@ -148,8 +148,8 @@ def main():
 
     fewer = len(come) - len(other)
     if fewer:
-        print(f"{abs(fewer)} {'fewer' if fewer > 0 else 'more'} cars entered. They are not in the delay; --demand shows whether "
-              "demand was lost.")
+        print(f"{abs(fewer)} {'fewer' if fewer > 0 else 'more'} cars entered in the second run. The delay does not include them; "
+              "--demand shows whether demand was lost.")
 
 
 if __name__ == "__main__":

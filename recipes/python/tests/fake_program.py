@@ -1,12 +1,12 @@
 #!/usr/bin/env python3
-"""Reply to lines as a test tells it to: late, in pieces, with signals between them, twice, or not at all.
+"""Reply to lines as a test requests: late, in pieces, with signals between them, twice, or not at all.
 
 The first line is the plan; each later one is {"echo": {"text": .., ..}} with some of these fields:
 
-    cut     so many bytes of the reply are written, then the parent gets SIGINT, then the rest follows
+    cut     the number of bytes of the reply that are written before the parent gets a SIGINT; the remaining bytes follow
     steps   the reply is written byte by byte
     late    seconds before the reply
-    what    "twice": a second reply; "noise": what is no reply; "exit": ends with status 3; "session": replies its session
+    what    "twice": a second reply; "noise": a line that is not a reply; "exit": end with status 3; "session": reply with the process session
 """
 import json
 import os
@@ -22,7 +22,7 @@ def write(data: bytes) -> None:
         data = data[os.write(1, data):]
 
 
-def line_of(signals: int) -> bytes:
+def read_line(signals: int) -> bytes:
     """Read a line in pieces, and send the parent a SIGINT after each of the first N pieces."""
     found = b""
     while not found.endswith(b"\n"):
@@ -62,10 +62,10 @@ def reply(text: object, asked: dict) -> None:
 
 def main() -> None:
     signals = 0
-    line_of(0)
+    read_line(0)
     write(b'{"open":1}\n')
     while True:
-        asked = json.loads(line_of(signals))["echo"]
+        asked = json.loads(read_line(signals))["echo"]
         signals = asked.get("then_signals", 0)
         reply(asked["text"] if len(str(asked["text"])) < 100 else len(asked["text"]), asked)
 

@@ -1,4 +1,4 @@
-"""Wrong arguments are refused by the name of their field, and right ones of numpy are taken."""
+"""Test that wrong arguments are refused with the name of their field, and that numbers of numpy are accepted."""
 from __future__ import annotations
 
 import math
@@ -14,7 +14,7 @@ NAN = math.nan
 
 
 class Whole:
-    """A whole number of another type, as numpy has them."""
+    """A whole number that is not an `int`, like those of numpy."""
 
     def __init__(self, number: int) -> None:
         self.number = number
@@ -24,30 +24,30 @@ class Whole:
 
 
 class Plans(unittest.TestCase):
-    def refused(self, kind: type[Exception], said: str, **wrong: Any) -> None:
+    def check_refused(self, kind: type[Exception], said: str, **wrong: Any) -> None:
         with self.subTest(said), self.assertRaises(kind) as raised:
             Plan(**{**RIGHT, **wrong})
         self.assertEqual(str(raised.exception), said)
 
     def test_wrong_fields(self) -> None:
-        self.refused(ValueError, "zones: a road has 1 to 64 zones, not 0: give at least one (limit, slowing chance)", zones=[])
-        self.refused(ValueError, "length: NaN is not a number", length=NAN)
-        self.refused(ValueError, "zones[1].slow: NaN is not a number", zones=[(3, 0), (3, NAN)])
-        self.refused(ValueError, "inlets[0].cell: -1 is negative: it must be 0 or more", inlets=[(-1, 5)])
-        self.refused(TypeError, "length: 40.0 must be a whole number", length=40.0)
-        self.refused(TypeError, "length: '40' must be a whole number", length="40")
-        self.refused(TypeError, "length: True must be a whole number", length=True)
-        self.refused(TypeError, "exit: None must be a whole number", exit=None)
-        self.refused(TypeError, "zone: 1.5 must be a whole number", zone=1.5)
-        self.refused(TypeError, "zones: 5 must be a list of zones", zones=5)
-        self.refused(TypeError, "zones[0]: 5 must be (limit, slow)", zones=[5])
-        self.refused(TypeError, "zones[0]: (5, 0, 0) must be (limit, slow)", zones=[(5, 0, 0)])
-        self.refused(TypeError, "inlets: 'here' must be a list of inlets", inlets="here")
-        self.refused(TypeError, "inlets[0].inflow: 0.5 must be a whole number", inlets=[(0, 0.5)])
-        self.refused(TypeError, "detectors[1]: 7.5 must be a whole number", detectors=[7, 7.5])
-        self.refused(TypeError, "words: 'random' must be a whole number", words="random")
-        self.refused(TypeError, "replicas: 'A' must be a list of names", replicas="A")
-        self.refused(TypeError, "replicas[0]: 1 must be a string", replicas=[1])
+        self.check_refused(ValueError, "zones: a road has 1 to 64 zones, not 0: give at least one (limit, slowing chance)", zones=[])
+        self.check_refused(ValueError, "length: NaN is not a number", length=NAN)
+        self.check_refused(ValueError, "zones[1].slow: NaN is not a number", zones=[(3, 0), (3, NAN)])
+        self.check_refused(ValueError, "inlets[0].cell: -1 is negative: it must be 0 or more", inlets=[(-1, 5)])
+        self.check_refused(TypeError, "length: 40.0 must be a whole number", length=40.0)
+        self.check_refused(TypeError, "length: '40' must be a whole number", length="40")
+        self.check_refused(TypeError, "length: True must be a whole number", length=True)
+        self.check_refused(TypeError, "exit: None must be a whole number", exit=None)
+        self.check_refused(TypeError, "zone: 1.5 must be a whole number", zone=1.5)
+        self.check_refused(TypeError, "zones: 5 must be a list of zones", zones=5)
+        self.check_refused(TypeError, "zones[0]: 5 must be (limit, slow)", zones=[5])
+        self.check_refused(TypeError, "zones[0]: (5, 0, 0) must be (limit, slow)", zones=[(5, 0, 0)])
+        self.check_refused(TypeError, "inlets: 'here' must be a list of inlets", inlets="here")
+        self.check_refused(TypeError, "inlets[0].inflow: 0.5 must be a whole number", inlets=[(0, 0.5)])
+        self.check_refused(TypeError, "detectors[1]: 7.5 must be a whole number", detectors=[7, 7.5])
+        self.check_refused(TypeError, "words: 'random' must be a whole number", words="random")
+        self.check_refused(TypeError, "replicas: 'A' must be a list of names", replicas="A")
+        self.check_refused(TypeError, "replicas[0]: 1 must be a string", replicas=[1])
 
     def test_right_fields(self) -> None:
         plan = Plan(length=Whole(40), inlets=[[Whole(0), 9]], zones=([3, Whole(0)], (5, 1)), detectors=range(3, 5))  # type: ignore
@@ -81,7 +81,7 @@ class Commands(unittest.TestCase):
             self.assertEqual(lab.edit("A", ("limit", Whole(0)), Whole(3), Whole(2)), (1, 0))  # type: ignore
             self.assertEqual(lab.advance("A", 5), 5)
 
-    def test_a_line_is_written_as_it_is(self) -> None:
+    def test_a_line_keeps_its_characters(self) -> None:
         self.assertEqual(encode_line({"a": [Whole(3), 2 ** 63, "ü\n", None]}), '{"a":[3,9223372036854775808,"ü\\n",null]}'.encode())
         with self.assertRaisesRegex(ValueError, "half of a surrogate pair"):
             encode_line({"a": "\ud800"})

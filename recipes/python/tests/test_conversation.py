@@ -1,4 +1,4 @@
-"""No call gets the reply to another: interrupts at each byte of a reply, timeouts, threads, and programs that end."""
+"""Test that no call gets the reply to another call: interrupts at each byte of a reply, timeouts, threads, and programs that end."""
 from __future__ import annotations
 
 import gc
@@ -20,7 +20,7 @@ from zegdrut import Ended, LabBroken, LabError, LabTimeout, NoProgram, Plan, Ref
 FAKE = Path(__file__).with_name("fake_program.py")
 PLAN: dict[str, Any] = {"length": 8}
 ROAD = Plan(length=40, inlets=[(0, 65_536)], zones=[(3, 0)], detectors=[28], words="steady")
-LONG = 180.0  # seconds, also beside much other work
+LONG = 180.0  # seconds: enough even on a busy machine
 
 
 def fake(timeout: float | None = LONG) -> RoadLab:
@@ -46,13 +46,13 @@ class Interrupts(unittest.TestCase):
                         time.sleep(LONG)  # (the reply may come before the signal)
                     self.assertEqual(lab.ask(echo(f"next {cut}", steps=True)), {"echo": f"next {cut}"})
 
-    def test_interrupts_one_behind_the_other(self) -> None:
-        """Calls are given up, many in turn, and the next one gets its own reply."""
+    def test_many_interrupts_in_a_row(self) -> None:
+        """Interrupt several calls in a row: the next call gets its own reply."""
         with fake() as lab:
             for turn in range(40):
                 for cut in range(turn % 7):
                     with self.assertRaises(KeyboardInterrupt):
-                        lab.ask(echo(f"given up {turn}", cut=cut))
+                        lab.ask(echo(f"interrupted {turn}", cut=cut))
                         time.sleep(LONG)
                 self.assertEqual(lab.ask(echo(turn)), {"echo": turn})
 
@@ -114,7 +114,7 @@ class Interrupts(unittest.TestCase):
             self.assertEqual(lab.diagram("A", 0, 400), rows)
 
     def test_an_interrupted_message_is_explained(self) -> None:
-        """Remember in explanations what an abandoned call has done."""
+        """Explain a refusal that is due to an abandoned call."""
         with RoadLab(ROAD, timeout=LONG) as lab:
             lab.timeout = 0.0
             with self.assertRaises(LabTimeout):
@@ -127,15 +127,15 @@ class Interrupts(unittest.TestCase):
         with fake() as lab:
             self.assertNotEqual(lab.ask(echo("", what="session")), {"echo": os.getsid(0)})
 
-    def test_an_advance_goes_on_where_it_was_interrupted(self) -> None:
+    def test_an_interrupted_advance_continues(self) -> None:
         with RoadLab(ROAD, timeout=LONG) as lab:
             with self.assertRaises(KeyboardInterrupt):
                 lab.advance("A", 1_000, 100, lambda done, whole: signal.raise_signal(signal.SIGINT))
             self.assertEqual(lab.advance("A", 1_000), 1_000)
 
 
-class Ends(unittest.TestCase):
-    def refuses_all(self, lab: RoadLab, said: str) -> None:
+class Endings(unittest.TestCase):
+    def check_refuses_all(self, lab: RoadLab, said: str) -> None:
         for _ in range(3):
             with self.assertRaisesRegex(LabBroken, f"{re.escape(said)}.*: start a new one$"):
                 lab.ask(echo("anything"))
@@ -153,7 +153,7 @@ class Ends(unittest.TestCase):
             with self.assertRaisesRegex(Ended, "status 3: out of memory") as raised:
                 lab.ask(echo("", what="exit"))
             self.assertEqual((raised.exception.status, raised.exception.said), (3, "no more"))
-            self.refuses_all(lab, "the program ended with status 3")
+            self.check_refuses_all(lab, "the program ended with status 3")
 
     def test_a_program_that_is_killed(self) -> None:
         with fake() as lab:
@@ -161,19 +161,19 @@ class Ends(unittest.TestCase):
             threading.Timer(0.05, os.kill, (pid, signal.SIGKILL)).start()
             with self.assertRaisesRegex(Ended, "status -9"):
                 lab.ask(echo("", late=LONG))
-            self.refuses_all(lab, "the program ended with status -9")
+            self.check_refuses_all(lab, "the program ended with status -9")
 
-    def test_a_reply_that_nobody_asked_for(self) -> None:
+    def test_output_without_a_request(self) -> None:
         with fake() as lab:
             lab.ask(echo("one", what="twice"))
             time.sleep(0.1)
-            self.refuses_all(lab, "the program wrote something unasked: b'{\"echo\": \"one\"}")
+            self.check_refuses_all(lab, "the program wrote something without a request: b'{\"echo\": \"one\"}")
 
-    def test_what_is_no_reply(self) -> None:
+    def test_output_that_is_not_a_reply(self) -> None:
         with fake() as lab:
             with self.assertRaisesRegex(LabBroken, "wrote something that is not a reply: b'Segmentation fault'"):
                 lab.ask(echo("", what="noise"))
-            self.refuses_all(lab, "something that is not a reply")
+            self.check_refuses_all(lab, "something that is not a reply")
 
     def test_a_closed_lab(self) -> None:
         before = {*threading.enumerate()}
@@ -181,10 +181,10 @@ class Ends(unittest.TestCase):
         with lab:
             pass
         lab.close()
-        self.refuses_all(lab, "this lab was closed")
-        self.assertEqual({*threading.enumerate()} - before, set())  # one of an earlier test may end meanwhile
+        self.check_refuses_all(lab, "this lab was closed")
+        self.assertEqual({*threading.enumerate()} - before, set())  # (a thread of an earlier test may end meanwhile)
 
-    def test_a_lab_that_is_closed_in_the_middle_of_a_call(self) -> None:
+    def test_a_lab_that_is_closed_during_a_call(self) -> None:
         lab = fake()
         threading.Timer(0.05, lab.close).start()
         begin = time.monotonic()
@@ -192,7 +192,7 @@ class Ends(unittest.TestCase):
             lab.ask(echo("", late=LONG))
         self.assertLess(time.monotonic() - begin, LONG / 2)
 
-    def test_a_lab_that_nobody_holds(self) -> None:
+    def test_a_lab_without_references(self) -> None:
         lab = fake()
         pid = lab.ask(echo("", what="session"))["echo"]
         del lab
@@ -210,22 +210,22 @@ class Ends(unittest.TestCase):
         before = {*threading.enumerate()}
         with self.assertRaisesRegex(Refused, "^Length: a road must have 8 to 8,192 cells"):
             RoadLab(Plan(length=4, inlets=[(0, 1)], zones=[(5, 0)]))
-        self.assertEqual({*threading.enumerate()} - before, set())  # one of an earlier test may end meanwhile
+        self.assertEqual({*threading.enumerate()} - before, set())  # (a thread of an earlier test may end meanwhile)
 
-    def test_errors_go_through_a_pool(self) -> None:
+    def test_errors_can_be_pickled(self) -> None:
         for fault in (Refused("Step", "too late", "{}"), Ended(3, "no"), LabBroken("closed"), NoProgram("/x")):
             again = pickle.loads(pickle.dumps(fault))
             self.assertEqual((type(again), str(again)), (type(fault), str(fault)))
             self.assertIsInstance(again, LabError)
 
-    def test_a_lab_is_not_pickled(self) -> None:
+    def test_a_lab_cannot_be_pickled(self) -> None:
         with fake() as lab, self.assertRaisesRegex(TypeError, "send the plan"):
             pickle.dumps(lab)
 
 
 class Sharing(unittest.TestCase):
     def test_threads(self) -> None:
-        """Eight threads ask one lab, and each gets its own replies."""
+        """Ask one lab from eight threads: each gets its own replies."""
         with RoadLab(ROAD, timeout=LONG) as lab:
             lab.advance("A", 400)
             rows, wrong = lab.diagram("A", 0, 400), list[int]()
@@ -239,8 +239,8 @@ class Sharing(unittest.TestCase):
                 thread.join()
             self.assertEqual(wrong, [])
 
-    def test_another_process(self) -> None:
-        """Refuse the lab in a forked process, which cannot end it either."""
+    def test_a_forked_process(self) -> None:
+        """Use a lab in a forked process: it is refused, and closing it there does not end the program."""
         with fake() as lab:
             child = os.fork()
             if not child:
@@ -254,7 +254,7 @@ class Sharing(unittest.TestCase):
             self.assertEqual(lab.ask(echo("parent")), {"echo": "parent"})
 
     def test_a_process_that_dies_leaves_no_program(self) -> None:
-        """Python is killed with a lab open."""
+        """Kill Python while a lab is open: its program ends, too."""
         code = ("import os, signal, sys; from zegdrut import RoadLab\n"
                 f"lab = RoadLab({PLAN!r}, {str(FAKE)!r})\n"
                 "print(lab.ask({'echo': {'text': '', 'what': 'session'}})['echo'], flush=True)\n"

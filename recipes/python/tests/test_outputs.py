@@ -1,4 +1,4 @@
-"""Outputs that cannot be written and inputs that cannot be read are refused by one sentence, before anything is simulated."""
+"""Test that outputs that cannot be written and inputs that cannot be read are refused by one sentence, before anything is simulated."""
 from __future__ import annotations
 
 import contextlib
@@ -60,14 +60,14 @@ class Outputs(unittest.TestCase):
         self.assertEqual(self.run_command("measured", self.road, self.counts, "--write-road", taken / "road.json"),
                          (1, f"{taken} is a file, not a folder: give another place by --write-road FILE\n"))
 
-    def test_a_file_where_a_folder_must_be(self) -> None:
+    def test_a_file_instead_of_a_folder(self) -> None:
         for command in ("freeway", "measured", "calibrate", "metering", "delay"):
             with self.subTest(command):
                 self.assertEqual(self.run_command(command, *self.commands[command], "--out", self.road),
                                  (1, f"{self.road} is a file, not a folder: give another place by --out FOLDER\n"))
         self.assertEqual(json.loads(self.road.read_text(encoding="utf-8")), ROAD)
 
-    def test_a_folder_where_a_file_must_be(self) -> None:
+    def test_a_folder_instead_of_a_file(self) -> None:
         for command, option in (("report", "FILE.html"), ("sweep", "FILE")):
             with self.subTest(command):
                 self.assertEqual(self.run_command(command, *self.commands[command], "--out", self.folder)[1],

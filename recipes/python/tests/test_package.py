@@ -1,4 +1,4 @@
-"""The package is installed by pip without a network, is typed, and runs by Debian's python3."""
+"""Test that the package is installed by pip without a network, has types, and runs with Debian's python3."""
 from __future__ import annotations
 
 import os
@@ -24,7 +24,7 @@ class Package(unittest.TestCase):
         return subprocess.run([python, *words], capture_output=True, text=True, check=False, cwd=self.folder,
                               env={**os.environ, "PYTHONPATH": str(path), "ROAD_LAB": str(program_path().resolve())})
 
-    def works_there(self, python: str, path: Path) -> None:
+    def check_package(self, python: str, path: Path) -> None:
         """Check that the package at a path runs a road and has its commands."""
         code = ("import zegdrut; lab = zegdrut.RoadLab(zegdrut.Plan(length=12, inlets=[(0, 65_536)], zones=[(2, 0)]))\n"
                 "lab.advance('A', 6); print(lab.cells('A', 6)); print(zegdrut.__file__)")
@@ -38,7 +38,7 @@ class Package(unittest.TestCase):
 
     def test_by_the_path_alone(self) -> None:
         for python in {sys.executable, shutil.which("python3", path="/usr/bin") or sys.executable}:
-            self.works_there(python, TOP)
+            self.check_package(python, TOP)
 
     def test_installed_by_pip(self) -> None:
         """Install with Debian's setuptools, without a network."""
@@ -54,7 +54,7 @@ class Package(unittest.TestCase):
         self.assertEqual(names, ["zegdrut"])
         for name in ("py.typed", "commands/differences.gnuplot"):
             self.assertTrue((self.folder / "site" / "zegdrut" / name).exists(), name)
-        self.works_there(python, self.folder / "site")
+        self.check_package(python, self.folder / "site")
 
     def test_types(self) -> None:
         mypy = shutil.which("mypy")

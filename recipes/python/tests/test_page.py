@@ -1,4 +1,4 @@
-"""The examples of the page, as a reader would run them: each prints what stands below it."""
+"""Run the examples of the page as a reader would: each prints the output that the page shows below it."""
 from __future__ import annotations
 
 import os
@@ -13,8 +13,8 @@ TOP = Path(__file__).resolve().parents[1]
 EXAMPLE = re.compile(r"^\*\*(\d+)\.|^```python\n(.*?)^```\n^```\n(.*?)^```\n", re.S | re.M)
 
 
-def python_with(package: str) -> str | None:
-    """Return a Python that has a package, Debian's among them."""
+def find_python(package: str) -> str | None:
+    """Return a Python that has a package: this one, or Debian's."""
     pythons = (sys.executable, "/usr/bin/python3")
     return next((one for one in pythons if not subprocess.run([one, "-c", f"import {package}"], stderr=subprocess.DEVNULL,
                                                               check=False).returncode), None)
@@ -32,7 +32,7 @@ class Page(unittest.TestCase):
         for number, code, printed in found:
             with self.subTest(example=number), tempfile.TemporaryDirectory() as folder:
                 needs = next((one for one in ("pandas", "numpy", "to_array") if one in code), "sys").replace("to_array", "numpy")
-                python = python_with(needs)
+                python = find_python(needs)
                 if python is None:
                     print(f"left out: example {number} of recipes/python/README.md ({needs} not installed)", flush=True)
                     continue

@@ -1,4 +1,4 @@
-"""Charts and space-time diagrams are readable, and progress reaches a log."""
+"""Test that charts and space-time diagrams are readable, and that progress reaches a log."""
 from __future__ import annotations
 
 import contextlib
@@ -16,8 +16,8 @@ from zegdrut.units import format_fixed
 HOUR = 3_600
 
 
-def places_of(svg: str) -> dict[str, float]:
-    """Return the y of each text by what it says."""
+def find_places(svg: str) -> dict[str, float]:
+    """Return the y coordinate of each text."""
     return {re.sub("<[^>]*>", "", text): float(y) for y, text in re.findall(r'<text x="[^"]*" y="([^"]*)"[^>]*>(.*?)</text>', svg)}
 
 
@@ -28,11 +28,11 @@ class Charts(unittest.TestCase):
             chart.add(Line(name, [(0, 1.0), (HOUR, 2.0)], "#000", [0.0, 1.0] if has_band else None, [2.0, 3.0] if has_band else None))
         return chart.draw(width, 175)
 
-    def test_a_long_legend_has_a_line_of_its_own(self) -> None:
+    def test_a_long_legend_has_its_own_line(self) -> None:
         for title, names, width, lines in (
                 ("Flow", ["a", "b"], 640, 1), ("Time-mean speed, km 2.7975", ["without works", "with works"], 470, 2),
                 ("Flow", ["a", "b"], 470, 2), ("Time-mean speed, station 402, km 2.7975", ["simulated with much more", "measured, too"], 640, 2)):
-            places = places_of(self.chart(title, names, width=width))
+            places = find_places(self.chart(title, names, width=width))
             legend = next(y for text, y in places.items() if names[0] in text and text != title)
             self.assertEqual(len({places[title], legend}), lines)
 
@@ -40,7 +40,7 @@ class Charts(unittest.TestCase):
         for has_band in (False, True):
             self.assertEqual("95 % interval of the mean" in self.chart("Flow", ["a"], has_band), has_band)
 
-    def test_a_short_closure_is_seen(self) -> None:
+    def test_a_short_closure_is_visible(self) -> None:
         """Draw a cell of a road of 6 km, which is a fifth of a pixel high, for six minutes of three hours, which are 28 wide."""
         svg = draw_field([[90.0]], "Speed", Clock(), 0, 3 * HOUR, 6.0, width=900, height=210, closed=[(HOUR, HOUR + 360, 4.2, 4.2075)])
         found = re.search('class="closure" x="([^"]*)" y="([^"]*)" width="([^"]*)" height="([^"]*)"', svg)
@@ -53,7 +53,7 @@ class Charts(unittest.TestCase):
 
 
 class Numbers(unittest.TestCase):
-    def test_nothing_is_minus_zero(self) -> None:
+    def test_no_number_is_minus_zero(self) -> None:
         for value, digits, wanted in ((-0.04, 1, "0.0"), (-0.4, 0, "0"), (-0.06, 1, "-0.1"), (-1_234.56, 1, "-1234.6"), (0.0, 2, "0.00")):
             self.assertEqual(format_fixed(value, digits), wanted)
             self.assertEqual(format_number(value, digits), wanted.replace("-1234", "-1,234"))

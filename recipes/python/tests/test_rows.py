@@ -1,4 +1,4 @@
-"""Density, flow, speeds and arrays of rows, worked out by hand."""
+"""Test density, flow, speeds and arrays of rows, with values that were worked out by hand."""
 from __future__ import annotations
 
 import subprocess

@@ -1,4 +1,4 @@
-"""Sweeps: means, failures, interrupts, crashes, files cut at each byte, parts, and GNU parallel."""
+"""Test sweeps: means, failures, interrupts, crashes, files cut at each byte, parts, and GNU parallel."""
 from __future__ import annotations
 
 import csv
@@ -29,7 +29,7 @@ from zegdrut import Plan
 LOG = Path(os.environ.get("LOG", os.devnull))
 
 def slow(a, b, seed):
-    """Leave a note of each run that is begun and done."""
+    """Write each run to the log when it begins."""
     with open(LOG, "a") as log:
         log.write(f"{a} {b} {seed}\\n")
     time.sleep(float(os.environ.get("TAKES", "0.02")))
@@ -85,12 +85,12 @@ class Folder(unittest.TestCase):
         return subprocess.run(self.command(*words, **more), capture_output=True, text=True, check=False, cwd=self.folder,
                               env=self.environment)
 
-    def begun(self) -> list[tuple[int, ...]]:
+    def list_begun(self) -> list[tuple[int, ...]]:
         text = self.log.read_text(encoding="utf-8") if self.log.exists() else ""
         return [tuple(map(int, line.split())) for line in text.splitlines()]
 
-    def whole(self) -> bytes:
-        """Return the file of a sweep that nothing interrupts."""
+    def run_whole(self) -> bytes:
+        """Run a sweep without interrupts. Return its file."""
         ran = self.run_command("model.py:slow", *GRID, TAKES="0")
         self.assertEqual((ran.returncode, ran.stdout), (0, ""), ran.stderr)
         data = self.out.read_bytes()
@@ -100,7 +100,7 @@ class Folder(unittest.TestCase):
 
 
 class Values(unittest.TestCase):
-    def test_words(self) -> None:
+    def test_values_of_arguments(self) -> None:
         self.assertEqual(read_values("1,2.5,fast,-3"), [1, 2.5, "fast", -3])
         self.assertEqual(read_values("0:1:0.1"), [0, 0.1, 0.2, 0.3, 0.4, 0.5, 0.6, 0.7, 0.8, 0.9, 1])
         self.assertEqual(read_values("6144:20000:4096"), [6_144, 10_240, 14_336, 18_432])
@@ -110,7 +110,7 @@ class Values(unittest.TestCase):
                 read_values(text)
         self.assertEqual([format_duration(one) for one in (7.4, 200, 3_900)], ["7 s", "3 min 20 s", "1 h 05 min"])
 
-    def test_nothing_is_lost(self) -> None:
+    def test_cells_keep_their_values(self) -> None:
         for value in (0.1 + 0.2, 1e-300, -5, 2 ** 70, None, "a,\"b\"", "1_0", "--", float("inf")):
             self.assertEqual(parse_cell(format_cell(value)), value)
         for wrong in (True, [1], "a\nb"):
@@ -153,7 +153,7 @@ class Sweeps(Folder):
         self.assertEqual([row["x"] for row in found.means()], [9])
 
     def test_a_plan_is_measured(self) -> None:
-        """Beside a lab that is asked by hand."""
+        """Compare the figures with those of a lab that runs the same road."""
         plan = lambda inflow: Plan(length=60, inlets=[(0, inflow)], zones=[(4, 9_000)], detectors=[20, 40])
         row, = sweep(plan, [{"inflow": 30_000}], [5], measure=Flows(500, 1_500, (10, 50))).rows
         with RoadLab(Plan(length=60, inlets=[(0, 30_000)], zones=[(4, 9_000)], detectors=[20, 40], words=5)) as lab:
@@ -167,7 +167,7 @@ class Sweeps(Folder):
         wrong = sweep(plan, [{"inflow": 1}]).failures + sweep(plain_model, [{"x": 1}], measure=Flows(0, 5)).failures
         self.assertIn("plain_model() missing 1 required positional argument: 'seed'", wrong[1].error)
 
-    def test_what_is_no_sweep(self) -> None:
+    def test_wrong_arguments(self) -> None:
         for said, call in (("there are no points: give at least one value of each parameter", lambda: sweep(plain_model, [])),
                            ("there are no points: give at least one value of each parameter", lambda: sweep(plain_model, {"x": []})),
                            ("there are no seeds: give at least one", lambda: sweep(plain_model, {"x": [1]}, [])),
@@ -180,13 +180,13 @@ class Sweeps(Folder):
                 call()
         self.assertEqual(make_grid({"a": [1, 2], "b": "xy"}), [{"a": a, "b": b} for a in (1, 2) for b in "xy"])
 
-    def test_what_cannot_be_sent(self) -> None:
+    def test_results_that_cannot_be_sent(self) -> None:
         (done,) = run_in_parallel(lambda _: lambda: 0, [0])
         self.assertIn("the result cannot be sent to the parent process: ", done.error or "")
         self.assertEqual([done.value for done in run_in_parallel(len, ["ab", "c"], 9)].count(2), 1)
         self.assertEqual(list(run_in_parallel(len, [])), [])
 
-    def test_side_by_side(self) -> None:
+    def test_jobs_run_in_parallel(self) -> None:
         """Check that all processes work, each yields its own results, and they end with the caller."""
         def work(job: int) -> tuple[int, int]:
             time.sleep(0.05)
@@ -199,7 +199,7 @@ class Sweeps(Folder):
         running.close()
         self.assertTrue(all(not Path(f"/proc/{pid}").exists() for pid in pids))
 
-    def test_another_file(self) -> None:
+    def test_files_of_different_sweeps(self) -> None:
         sweep(plain_model, {"x": [1]}, out=self.out)
         other = lambda x, seed: {"y": x}
         with self.assertRaisesRegex(Fault, "has results of plain_model-[0-9a-f]{8}, but the model is now <lambda>-"):
@@ -217,18 +217,18 @@ class Sweeps(Folder):
         self.assertEqual([row["x"] for row in read_rows(self.out)], [2, 2, 3, 3, 1, 1])
 
 
-class Goes(Folder):
+class Resuming(Folder):
     """Resume sweeps: the final file is the same, and no run in it is repeated."""
 
     def test_interrupts(self) -> None:
         """Interrupt by Ctrl-C, terminate, and crash, one after the other."""
-        whole = self.whole()
+        whole = self.run_whole()
         for number in (signal.SIGINT, signal.SIGTERM, signal.SIGKILL):
-            before = len(self.begun())
+            before = len(self.list_begun())
             process = subprocess.Popen(self.command("model.py:slow", *GRID, "--jobs", "3", TAKES="0.3"), cwd=self.folder,
                                        env=self.environment, stderr=subprocess.PIPE, text=True)
             until = time.monotonic() + 180
-            while len(self.begun()) < before + 8 and time.monotonic() < until:
+            while len(self.list_begun()) < before + 8 and time.monotonic() < until:
                 time.sleep(0.005)
             process.send_signal(number)
             _, said = process.communicate()
@@ -236,18 +236,18 @@ class Goes(Folder):
             if number != signal.SIGKILL:
                 self.assertIn("the finished runs are in out.csv: the same command continues from there", said)
                 self.assertNotIn("Traceback", said)
-            self.begun_once(before)
-        time.sleep(1)  # (what the killed process has begun ends by itself)
-        before = len(self.begun())
+            self.check_begun_once(before)
+        time.sleep(1)  # (runs that the killed process had begun end by themselves)
+        before = len(self.list_begun())
         self.assertEqual(self.run_command("model.py:slow", *GRID).returncode, 0)
-        self.begun_once(before, 60)
+        self.check_begun_once(before, 60)
         self.assertEqual(self.out.read_bytes(), whole)
         self.assertGreater(before, 3 * 8 - 1)
 
-    def begun_once(self, before: int, at_most: int = 60) -> None:
-        """Check that no run of the file was started again, and that the file has whole rows."""
+    def check_begun_once(self, before: int, at_most: int = 60) -> None:
+        """Check that no run that was in the file was begun again, and that the file has only whole rows."""
         had = getattr(self, "had", set())
-        self.assertFalse(had.intersection(self.begun()[before:]), "a run that was in the file was begun again")
+        self.assertFalse(had.intersection(self.list_begun()[before:]), "a run that was in the file was begun again")
         self.had = {(row["a"], row["b"], row["seed"]) for row in read_rows(self.out)}
         self.assertLessEqual(len(self.had), at_most)
 
@@ -271,7 +271,7 @@ class Goes(Folder):
             self.assertEqual(len(self.log.read_text(encoding="utf-8").splitlines()), 2 - rows, f"cut at byte {size}")
 
     def test_a_reader_sees_whole_rows(self) -> None:
-        """While it is written, the file is a table."""
+        """Read the file while it is written: it is always a table."""
         stop, wrong = threading.Event(), list[bytes]()
 
         def read() -> None:
@@ -289,7 +289,7 @@ class Goes(Folder):
         with open(self.out, newline="", encoding="utf-8") as file:
             self.assertEqual([int(row["x"]) for row in csv.DictReader(file)], [x for x in range(300) for _ in (1, 2)])
 
-    def test_two_at_a_time(self) -> None:
+    def test_two_sweeps_with_one_file(self) -> None:
         results = Results(self.out, ["a", "b", "seed", "model"])
         ran = self.run_command("model.py:slow", *GRID)
         self.assertEqual((ran.returncode, ran.stderr.splitlines()[-1:]),
@@ -309,11 +309,11 @@ class Goes(Folder):
         (self.folder / "mended").touch()
         self.log.unlink()
         ran = self.run_command(*words)
-        self.assertEqual((ran.returncode, sorted(self.begun())), (0, [(2, 1, seed) for seed in range(1, 5)]))
+        self.assertEqual((ran.returncode, sorted(self.list_begun())), (0, [(2, 1, seed) for seed in range(1, 5)]))
         self.assertEqual(len(ran.stdout.splitlines()), 1 + 15)
         self.assertFalse((self.folder / "out.csv.failed").exists())
 
-    def test_wrong_words(self) -> None:
+    def test_wrong_arguments_of_the_command(self) -> None:
         for words, said in (
                 (["nowhere.py:slow", *GRID], "there is no file nowhere.py"), (["model.py", *GRID], "model.py: write FILE.py:FUNCTION"),
                 (["model.py:fast", *GRID], "model.py has no function fast"), (["no_such_module:f", *GRID], "No module named"),
@@ -334,14 +334,14 @@ class Goes(Folder):
         self.assertGreater(read_rows(self.out)[1]["flow 1"], 0.3)
 
     def test_parts(self) -> None:
-        whole = self.whole()
+        whole = self.run_whole()
         for part in (1, 2, 3):
             subprocess.run([*self.command("model.py:slow", *GRID, "--part", f"{part}/3", TAKES="0")[:-1], f"part-{part}.csv"],
                            check=True, cwd=self.folder, env=self.environment, stderr=subprocess.DEVNULL)
-        self.assertEqual(sorted(self.begun()), KEYS)
+        self.assertEqual(sorted(self.list_begun()), KEYS)
         self.log.unlink()
         ran = self.run_command("model.py:slow", *GRID, "--take", "part-1.csv", "part-2.csv", "part-3.csv")
-        self.assertEqual((ran.returncode, self.begun()), (0, []), ran.stderr)
+        self.assertEqual((ran.returncode, self.list_begun()), (0, []), ran.stderr)
         self.assertEqual(self.out.read_bytes(), whole)
 
     def test_gnu_parallel(self) -> None:
@@ -354,12 +354,12 @@ class Goes(Folder):
         self.environment["PYTHONPATH"] = str(TOP)
         first = subprocess.run(run, cwd=self.folder, env=self.environment, capture_output=True, text=True, check=False)
         self.assertGreater(first.returncode, 0)
-        self.assertEqual(len(self.begun()), 56)
+        self.assertEqual(len(self.list_begun()), 56)
         (self.folder / "mended").touch()
         self.log.unlink()
         second = subprocess.run(run, cwd=self.folder, env=self.environment, capture_output=True, text=True, check=False)
         self.assertEqual(second.returncode, 0, second.stderr)
-        self.assertEqual(sorted(self.begun()), [(2, 1, seed) for seed in range(1, 5)])
+        self.assertEqual(sorted(self.list_begun()), [(2, 1, seed) for seed in range(1, 5)])
         ran = self.run_command(*words, "--take", *(f"part-{part}.csv" for part in range(1, 6)))
         self.assertEqual(ran.returncode, 0, ran.stderr)
         self.assertEqual([(row["a"], row["b"], row["seed"]) for row in read_rows(self.out)], KEYS)

@@ -3,12 +3,12 @@
     found = calibrate("I-10", figures, measured, Bounds(), Search())
     found.best.slowing, found.best.start, found.best.factor
 
-The total of the cars is proportional to the demand factor. After each round the factor is corrected by the ratio of measured to
-simulated totals of the best points. The two chances are found by the cross-entropy method (Rubinstein, Methodol. Comput. Appl.
-Probab. 1 (1999) 127). Each round tries a set of points. The points with the smallest errors (the elite) give a mean and a spread, and
-the next round is drawn from a normal distribution with these. The first round fills the bounds evenly (Halton's sequence). Each round
-has new seeds, so that no point wins by a lucky seed. The result is the minimum of a quadratic, fitted by least squares to all points
-of the later rounds. If it has no minimum within the bounds, the result is the mean of the elites of the last two rounds.
+The total number of cars is proportional to the demand factor. After each round the factor is corrected by the ratio of measured to
+simulated totals of the best points. The two chances are found by the cross-entropy method (Rubinstein, Methodol. Comput. Appl. Probab. 1
+(1999) 127). Each round tries a set of points. The points with the smallest errors (the elite) give a mean and a spread, and the next
+round is drawn from a normal distribution with these. The first round fills the bounds evenly (Halton's sequence). Each round has new
+seeds, so that no point wins by a lucky seed. The result is the minimum of a quadratic, fitted by least squares to all points of the later
+rounds. If it has no minimum within the bounds, the result is the mean of the elites of the last two rounds.
 
 The error of a point is a sum of squares. Each is the deviation of a quantity that one of the three parameters determines, in units
 of its uncertainty:
@@ -16,8 +16,8 @@ of its uncertainty:
 - totals, for the demand factor: the cars of each station in the whole window, to 0.5 %, averaged over the stations;
 - free speed, for the slowing chance: the mean difference of speeds if both are free (at most 10 km/h below the station's highest
   measured speed), to 0.3 km/h;
-- delay, for slow-to-start: cars times seconds per km above the free travel time, summed over stations and intervals. It grows fast
-  with slow-to-start and scatters widely from day to day, so its logarithm is compared, to 0.5;
+- delay, for slow-to-start: cars times seconds per km above the free travel time, summed over stations and intervals. It grows fast with
+  slow-to-start and varies widely from day to day, so its logarithm is compared, to 0.5;
 - half the mean of (simulated - measured)^2 over stations and intervals: for flows divided by the measured cars, for speeds divided
   by (1 + 0.5 d)^2 in km/h, where d is how far the lower of the two is below the free speed.
 
@@ -73,7 +73,8 @@ class Bounds(NamedTuple):
 
 @dataclass(frozen=True)
 class Search:
-    """The size of a search: points and days of the first round and of each later round, the number of rounds, and the size of the elite."""
+    """The size of a search: points per round and days per point, in the first round and in each later round, the number of rounds, and
+    the size of the elite."""
 
     first_points: int = 32
     first_days: int = 2
@@ -118,7 +119,7 @@ class Calibration:
 # The error
 
 def apply_point(figures: Figures, point: Point) -> Figures:
-    """Return the figures of a road with the drivers of a point. Its entry is the same for all points."""
+    """Return the figures of a road with the drivers of a point. The entry of the road is the same for all points."""
     return dataclasses.replace(figures, slowing=point.slowing, start=point.start, entry=ENTRY if figures.entry is None else figures.entry)
 
 

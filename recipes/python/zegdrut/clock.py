@@ -2,10 +2,10 @@
 
     clock = Clock.read("06:30", date="2026-03-02", timezone="Europe/Berlin")
     clock.to_step("07:00"), clock.to_text(1_800)   # 1,800 steps of a second; "07:00"
-    clock.to_step(12.5)                            # a number is minutes after the begin: 750
+    clock.to_step(12.5)                            # a number is minutes after the beginning: 750
 
-A step is a second. Without a begin the clock starts at 0:00. A clock time before the begin belongs to the next day: a run that
-begins at 22:00 contains 00:30. With a date and a time zone, an hour that a clock change skips does not exist. If an hour comes
+A step is a second. If `begin` is not given, the clock starts at 0:00. A clock time before the beginning belongs to the next day: a run
+that begins at 22:00 contains 00:30. With a date and a time zone, an hour that a clock change skips does not exist. If an hour comes
 twice, a clock time means the first one; "02:30+01:00" means the one with that offset from UTC.
 """
 from __future__ import annotations
@@ -17,7 +17,7 @@ from zoneinfo import ZoneInfo
 
 DAY = 86_400
 TIME = re.compile(r"(\d{1,2}):(\d{2})(?::(\d{2}))?([+-]\d{2}:\d{2})?")
-ACCEPTED = '"7:00", "07:00", "07:00:30", or a number of minutes after the begin'
+ACCEPTED = '"7:00", "07:00", "07:00:30", or a number of minutes after the beginning'
 
 
 class InvalidTime(ValueError):
@@ -43,7 +43,7 @@ class Clock:
     date: datetime.date | None = None
     zone: ZoneInfo | None = None
     fold: int = 0
-    """1 if step 0 is in an hour that comes twice, and is the second one."""
+    """1 if step 0 is in the second one of an hour that comes twice."""
 
     @classmethod
     def read(cls, begin: object = None, date: object = None, timezone: object = None) -> Clock:
@@ -64,7 +64,7 @@ class Clock:
     # Steps
 
     def to_step(self, value: object, field: str = "time") -> int:
-        """Return the step of a clock time, or of minutes after the begin. InvalidTime: it is neither, or that hour does not exist."""
+        """Return the step of a clock time, or of minutes after the beginning. InvalidTime: it is neither, or that hour does not exist."""
         if isinstance(value, (int, float)) and not isinstance(value, bool):
             return round(value * 60)
         if not isinstance(value, str) or TIME.fullmatch(value.strip()) is None:
@@ -80,7 +80,7 @@ class Clock:
         return round((found - self._start()).total_seconds())
 
     def find_step(self, moment: datetime.datetime) -> int:
-        """Return the step of a date and time; it is negative before the begin. If the clock has no date, the date is ignored."""
+        """Return the step of a date and time; it is negative before the beginning. If the clock has no date, the date is ignored."""
         if self.zone is not None and moment.tzinfo is not None:
             return round((moment - self._start()).total_seconds())
         if self.date is None:
@@ -92,7 +92,7 @@ class Clock:
         return round((moment.replace(tzinfo=None) - begin).total_seconds())
 
     def find_moment(self, time: datetime.time) -> datetime.datetime:
-        """Return the date and time of a clock time: on the day of the begin, or on the next day if it is before the begin."""
+        """Return the date and time of a clock time: on the first day, or on the next day if the time is before the beginning."""
         seconds = time.hour * 3_600 + time.minute * 60 + time.second
         return datetime.datetime.combine(self._day(0 if seconds >= self.begin else 1), time)
 

@@ -27,7 +27,7 @@ from .units import HOUR, KMH, count_things, to_km
 from .wire import Record
 
 MOST_AT_INLET = 1_780.0
-"""The greatest demand in cars per hour and lane. Cars above it enter in the following minutes."""
+"""The largest demand of an inlet in cars per hour and lane. The cars above it enter in the following minutes."""
 NOT_WHOLE, NO_COUNT = "no whole hour", "no count"
 """Reasons for which a station hour is left out."""
 GOOD = 5.0
@@ -49,7 +49,8 @@ Day = list[list[Passed]]
 
 @dataclass(frozen=True)
 class Model:
-    """A road with measured demand. Its run begins some minutes before the measured window, so that the road is full in time."""
+    """A road with measured demand. Its run begins some minutes before the measured window, so that the road is not empty when the window
+    begins."""
 
     name: str
     measured: Measured
@@ -68,7 +69,8 @@ class Model:
 
     @property
     def gates(self) -> list[tuple[int, int]]:
-        """Return the detectors after (1) and at (-1) each inlet, by index. The difference of their counts has entered."""
+        """Return the sign and the index of the detectors after (1) and at (-1) each inlet. The sum of their signed counts is the number
+        of cars that entered."""
         first = len(self.detectors)
         return [(1, first), *((sign, first + place) for place in range(1, 2 * len(self.road.inlets) - 1)
                               for sign in ((-1,) if place % 2 else (1,)))]

@@ -67,7 +67,7 @@ class Conversation:
         self._process: subprocess.Popen[bytes] | None = None
         self._complaints: IO[bytes] | None = None
         self._broken: LabBroken | None = None
-        self._unasked = b""
+        self._surplus = b""
         self._reasons = Reasons()
         self._thread = threading.Thread(target=self._serve, name="zegdrut", daemon=True)
         self._thread.start()
@@ -156,12 +156,12 @@ class Conversation:
         assert process.stdout is not None
         waiting = select.poll()
         waiting.register(process.stdout, select.POLLIN)
-        if not self._unasked and waiting.poll(0):
-            self._unasked = os.read(process.stdout.fileno(), PIECE)
-            if not self._unasked:
+        if not self._surplus and waiting.poll(0):
+            self._surplus = os.read(process.stdout.fileno(), PIECE)
+            if not self._surplus:
                 raise self._break(self._describe_end(process))
-        if self._unasked:
-            raise self._break(LabBroken(f"the program wrote something unasked: {self._unasked[:80]!r}"))
+        if self._surplus:
+            raise self._break(LabBroken(f"the program wrote something without a request: {self._surplus[:80]!r}"))
 
     @staticmethod
     def _write(process: subprocess.Popen[bytes], data: bytes) -> None:
@@ -180,7 +180,7 @@ class Conversation:
             if not piece:
                 raise self._break(self._describe_end(process))
             pieces.append(piece)
-        line, _, self._unasked = b"".join(pieces).partition(b"\n")
+        line, _, self._surplus = b"".join(pieces).partition(b"\n")
         return line
 
     def _describe_end(self, process: subprocess.Popen[bytes]) -> LabBroken:

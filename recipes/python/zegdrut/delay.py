@@ -11,8 +11,8 @@
     cost = compare_delays(before, after)
     print(cost.through.mean, "steps per car,", to_vehicle_hours(cost.total), "vehicle hours")
 
-A car's number is its step of entry times 16, plus its inlet, and its random words depend on its number. So cars with the same
-number are the same car in both runs. Its travel time is the number of rows in which it stands. A car that enters in step 5 and
+A car's number is its step of entry times 16, plus its inlet, and its random words depend on its number. So cars with the same number are
+the same car in both runs. The travel time of a car is the number of rows in which it is on the road. A car that enters in step 5 and
 leaves in step 105 is in the rows of the steps 6 to 105, so its travel time is 100 steps.
 """
 from __future__ import annotations
@@ -30,7 +30,7 @@ def to_vehicle_hours(steps: int, seconds: float = 1.0) -> float:
 
 
 def travel_steps(trips: Trips, number: int) -> int:
-    """Return in how many rows of a run a car stands; 0 if the run has no such car."""
+    """Return the number of rows of a run in which a car is on the road; 0 if the run has no such car."""
     if number not in trips.left:
         return 0
     left = trips.left[number]
@@ -43,7 +43,7 @@ def is_through(trips: Trips, number: int) -> bool:
 
 
 class Group(NamedTuple):
-    """Some cars: the sums of their travel times before and after, and the greatest delay of one car, all in steps."""
+    """Some cars: the sums of their travel times before and after, and the largest delay of one car, all in steps."""
 
     cars: int
     before: int

@@ -10,8 +10,8 @@
 Definitions
 - *Demand* is what the user requests: cars per hour at an inlet, over time. Nobody waits before an inlet.
 - *Admitted* cars are those that enter.
-- *Lost demand* is the demand of a window in cars, minus the cars admitted in it. It depends on nothing else. Arrivals are random, so
-  even a free road has a small lost demand of either sign: `scatter` is how large it may be by chance.
+- *Lost demand* is the demand of a window in cars, minus the cars admitted in it. It depends on nothing else. Arrivals are random, so even
+  a free road has a small lost demand of either sign: `scatter` says how large it may be by chance.
 - *Capacity* of an inlet is the flow that it admits at chance 1, with the passing flow, on a road that is free downstream.
 
 How the conversion works. The program itself simulates the inlets on a road that is free downstream, for several chances and seeds.
@@ -41,12 +41,12 @@ WARM_UP = 1_000
 DOWNSTREAM = 50
 """The cells after an inlet where its cars are counted, or fewer if there is another inlet before that."""
 SHORT_ROAD, LONG_ROAD = 100, 250
-"""The cells of free road after the last inlet. A slow road has less capacity than its inlet, and needs the long one."""
+"""The cells of free road after the last inlet. A slow road has less capacity than its inlet, and needs the long road."""
 FIRST_SEED = 1_000
 FIRST_CHANCES = (0.125, 0.25, 0.4, 0.55, 0.7, 0.85, 1.0)
 FINE_CHANCES = (0.06, 0.19, 0.32, 0.475, 0.625)
 SMALL_CHANCES = (0.0, 0.06)
-"""Simulated only with a passing flow."""
+"""Chances that are simulated only if there is a passing flow."""
 SMALL = 0.1
 TOLERANCE = 0.003
 """The share by which an interpolated flow may differ from a simulated one."""
@@ -396,7 +396,7 @@ def _admissions(cells: Sequence[int], cell: int, wanted: dict[tuple[float, ...],
 
 def measure_by_flow(cells: Sequence[int], cell: int, states: Sequence[tuple[float, ...]], drivers: Drivers, effort: Effort = Effort(),
                     demands: Iterable[float] = ()) -> AdmissionByFlow:
-    """Measure an inlet between the states with the least and the greatest flow of the inlets before it.
+    """Measure an inlet between the states with the lowest and the highest flow of the inlets before it.
 
     A state has the cars per hour of each of those inlets, which are at `cells`. Without `demands` all chances are measured."""
     least, most = min(states, key=sum), max(states, key=sum)

@@ -114,8 +114,8 @@ def warm_up_minutes(figures: Figures) -> int:
 
 
 def with_warm_up(figures: Figures, minutes: float) -> Figures:
-    """Return the figures of a run that begins some minutes earlier, with the first demand, so that the road is full at the begin. What
-    lasts from the begin on begins earlier, too."""
+    """Return the figures of a run that begins some minutes earlier, with the first demand, so that the road is not empty at the former
+    beginning. Works that are there from the beginning on also begin earlier."""
     if not minutes:
         return figures
     sections = [one._replace(begin=one.begin + minutes if one.begin > 0 else 0, end=one.end + minutes) for one in figures.sections]
@@ -185,7 +185,7 @@ def find_entry(notes: list[str], km: float, road: Road) -> int:
 
 
 def note_if_rounded(notes: list[str], what: str, asked: float, unit: str, taken: int, size: Callable[[int], float]) -> int:
-    """Return the number of cells or steps that is used, and add a note if it is not exactly what was asked."""
+    """Return the number of cells or steps that is used, and add a note if it is not exactly the requested size."""
     if abs(size(taken) - asked) > 1e-9:
         notes.append(f"{what} {asked:g} {unit}: rounded to {size(taken):.6g} {unit}")
     return taken
@@ -206,7 +206,7 @@ def note_rounded_times(notes: list[str], what: str, *minutes: float) -> None:
 
 
 def find_limit(notes: list[str], what: str, kmh: float) -> int:
-    """Return the limit nearest to one in km/h, in cells per step. Fault: it is too great."""
+    """Return the limit nearest to one in km/h, in cells per step. Fault: it is out of range."""
     taken = to_limit(kmh)
     if taken > FASTEST:
         raise Fault(f"{what} of {kmh:g} km/h is out of range: 0 to {FASTEST * KMH:g} km/h")

@@ -283,7 +283,7 @@ def write_road(path: Path, source: Path, figures: Figures) -> None:
 
 
 def write_time(clock: Clock, step: int) -> Json:
-    """Return the time of a step for a file: a clock time, or minutes after the begin if the clock has that time twice."""
+    """Return the time of a step for a file: a clock time, or minutes after the beginning if the clock has that time twice."""
     text = clock.to_text(step)
     try:
         is_unique = clock.to_step(text) == step

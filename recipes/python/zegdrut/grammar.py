@@ -206,7 +206,7 @@ def put(value: object) -> Faults:
     return iter(()) if value is None else chance(value)
 
 
-def taken_back(value: object) -> Faults:
+def edit_value(value: object) -> Faults:
     """Yield the faults of a value in an edit."""
     if value is None:
         return iter(["null is not a value: use `withdraw` to withdraw an edit"])
@@ -215,7 +215,7 @@ def taken_back(value: object) -> Faults:
 
 EDIT = row_of(("kind", kind), ("index", whole), ("step", whole), ("count", long_whole),
               ("number", lambda value: whole(value, GREATEST_NUMBER)), ("value", put))
-THING = row_of(("kind", kind), ("index", whole))
+OBJECT = row_of(("kind", kind), ("index", whole))
 PLAN: dict[str, Part] = {
     "length": whole, "exit": whole, "zone": whole,
     "zones": list_of(row_of(("limit", whole), ("slow", chance)), "zone"),
@@ -224,8 +224,8 @@ PLAN: dict[str, Part] = {
     "replicas": list_of(text, "replica"),
 }
 COMMANDS: dict[str, dict[str, Part]] = {
-    "edit": {"at": name, "object": THING, "step": whole, "value": taken_back},
-    "withdraw": {"at": name, "object": THING, "step": whole},
+    "edit": {"at": name, "object": OBJECT, "step": whole, "value": edit_value},
+    "withdraw": {"at": name, "object": OBJECT, "step": whole},
     "advance": {"at": name, "to": whole},
     "cells": {"at": name, "step": whole},
     "cars": {"at": name, "step": whole},

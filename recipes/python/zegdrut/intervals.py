@@ -15,7 +15,7 @@ from typing import NamedTuple, Sequence
 
 LEVEL = 0.95
 FEW_DAYS = 5
-"""With fewer days an interval is wide because little is known about the scatter of the days."""
+"""With fewer days an interval is wide because little is known about how much days differ."""
 
 
 class Estimate(NamedTuple):
@@ -85,7 +85,7 @@ def average_known(values: Sequence[float | None]) -> float | None:
 
 
 def may_be_chance(difference: Estimate) -> bool:
-    """Return whether the interval of a difference contains 0. Values that do not differ on any day have no chance."""
+    """Return whether the interval of a difference contains 0. False if the values do not differ on any day."""
     return difference.half > 0 and abs(difference.mean) <= difference.half
 
 
@@ -98,7 +98,7 @@ def describe_chance(difference: Estimate) -> str:
 
 
 def warn_few_days(days: int) -> list[str]:
-    """Return a warning if an interval of so few days is wide for want of days."""
+    """Return a warning if there are so few days that their intervals are wide."""
     if not 2 <= days < FEW_DAYS:
         return []
     return [f"{days} days are few: ± is then {find_quantile(days - 1):.1f} standard errors of the mean (2.0 for many days). "
@@ -111,7 +111,7 @@ def estimate_paired(before: Sequence[float], after: Sequence[float]) -> Estimate
 
 
 def estimate_unpaired(before: Sequence[float], after: Sequence[float]) -> Estimate:
-    """Return the same mean with the interval for independent days, from their pooled variance."""
+    """Return the mean of `after` minus `before` with the interval for independent days, from their pooled variance."""
     days = len(before)
     variance = (sum_squared_deviations(before) + sum_squared_deviations(after)) / (2 * days - 2)
     return Estimate(estimate_paired(before, after).mean, find_quantile(2 * days - 2) * math.sqrt(2 * variance / days))

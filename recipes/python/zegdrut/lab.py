@@ -118,9 +118,9 @@ class RoadLab:
     def advance(self, at: str, to: int, piece: int = 10_000, progress: Callable[[int, int], None] | None = None) -> int:
         """Simulate up to step `to`, `piece` steps at a time. Return the step that the replica has then reached.
 
-        After each piece `progress` is called with the number of steps done and of all steps. By default a bar is drawn if
+        After each piece `progress` is called with the number of finished steps and the number of all steps. By default a bar is drawn if
         standard error is a terminal. After an interrupt the replica is at the end of a piece, and the same call continues.
-        """
+"""
         to, piece = check_whole("to", to), max(check_whole("piece", piece), 1)
         horizon = self._advance(at, to if to > LAST_HORIZON else 0)
         first, bar = horizon, Bar()
@@ -170,7 +170,7 @@ class RoadLab:
             fields = {"from": start, "to": min(to, start + MOST_ROWS - 1)}
             yield cast(RowsReply, self.command("diagram", at, **fields))["rows"]
 
-    # Beside the replicas
+    # Apart from the replicas
 
     def crowd(self, shares: Iterable[Iterable[Edit]], to: int) -> Crowd:
         """Let one session per share edit a road of the plan and advance to a step, all at the same time."""

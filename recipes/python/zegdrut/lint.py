@@ -17,7 +17,7 @@ from .wire import CommandFields, Fields, PlanLine, ReplyFields
 
 HOUR = 3_600
 MOST_CARS = 3_600
-"""The greatest inflow that looks like cars per hour and not like a chance."""
+"""The largest inflow that looks like cars per hour and not like a chance."""
 FASTEST = 180
 """A limit above this many km/h is probably a mistake."""
 
@@ -26,12 +26,12 @@ Key = tuple[str, int, int]
 
 
 class Linter:
-    """Finds accepted lines that are probably mistakes, given the lines before."""
+    """Finds accepted lines that are probably mistakes. It takes the lines of a script in their order."""
 
     def __init__(self, units: Units = Units()) -> None:
         self._units = units
         self._line = 0
-        self._put: dict[str, set[Key]] = {}
+        self._keys: dict[str, set[Key]] = {}
         self._sent: dict[str, frozenset[Key]] = {}
         self._horizons: dict[str, int] = {}
         self._dated: list[tuple[int, str, int]] = []
@@ -45,11 +45,11 @@ class Linter:
         said = [f"`{name}` appears twice: the last one counts" for name in find_duplicates(line)]
         value = value_of(line)
         if self._line == 1:
-            said += self._of_plan(cast(PlanLine, value))
+            said += self._check_plan(cast(PlanLine, value))
         else:
             (verb, given), = cast("dict[str, CommandFields]", value).items()
-            for doubt in (self._of_values, self._of_withdrawal, self._of_crowd, self._of_advance):
-                said += doubt(verb, given)
+            for check in (self._check_values, self._check_withdrawal, self._check_crowd, self._check_advance):
+                said += check(verb, given)
             self._note(verb, given, reply)
         return join_faults(said) if said else None
 
@@ -59,7 +59,7 @@ class Linter:
         horizon = max(self._horizons.values(), default=0)
         for line, kind, step in self._dated:
             if horizon and is_past(kind, step, horizon):
-                said.setdefault(line, self._past(step, horizon))
+                said.setdefault(line, self._describe_late(step, horizon))
         for cell, dates in self._blocks.items():
             step = max(dates, default=0)
             line, value = dates.get(step, (0, 0))
@@ -70,28 +70,28 @@ class Linter:
 
     # Warnings about one line
 
-    def _past(self, step: int, last: int) -> str:
+    def _describe_late(self, step: int, last: int) -> str:
         minutes = self._units.minutes
         return (f"it applies from step {step}{minutes(step)} on, but the road is simulated only to step {last}{minutes(last)}, "
                 "so no row shows it")
 
-    def _of_plan(self, plan: PlanLine) -> Iterator[str]:
+    def _check_plan(self, plan: PlanLine) -> Iterator[str]:
         for index, (limit, slow) in enumerate(plan["zones"]):
-            yield from (f"zone {index}: {said}" for said in (*self._of_limit("limit", limit), *self._of_chance("slow", slow)))
+            yield from (f"zone {index}: {said}" for said in (*self._check_limit("limit", limit), *self._check_chance("slow", slow)))
         for index, (_, inflow) in enumerate(plan["inlets"]):
-            yield from (f"inlet {index}: {said}" for said in self._of_chance("inflow", inflow))
+            yield from (f"inlet {index}: {said}" for said in self._check_chance("inflow", inflow))
 
-    def _of_values(self, verb: str, given: CommandFields) -> Iterator[str]:
+    def _check_values(self, verb: str, given: CommandFields) -> Iterator[str]:
         for called, (kind, *_, value) in list_edits(verb, given):
             if value is not None:
-                yield from (called + said for said in (*self._of_limit(kind, value), *self._of_chance(kind, value)))
+                yield from (called + said for said in (*self._check_limit(kind, value), *self._check_chance(kind, value)))
 
-    def _of_limit(self, kind: str, value: int) -> Iterator[str]:
-        """Yield a warning if a limit is too great for a road."""
+    def _check_limit(self, kind: str, value: int) -> Iterator[str]:
+        """Yield a warning if a limit is too high for a road."""
         if kind == "limit" and value * self._units.pace() > FASTEST:
             yield f"`limit` {value} is {self._units.kmh(value)}"
 
-    def _of_chance(self, kind: str, value: int) -> Iterator[str]:
+    def _check_chance(self, kind: str, value: int) -> Iterator[str]:
         """Yield a warning if a chance looks like a share of 1, a percentage or a flow."""
         if KINDS[kind] != CHANCE or not value:
             return
@@ -106,23 +106,23 @@ class Linter:
             yield (f"{is_chance}, about {part / (1 + part * part) * HOUR / seconds:.0f} cars per hour at {seconds:g} s a step; "
                    f"for {value} per hour see recipes/freeway/inflow")
 
-    def _of_withdrawal(self, verb: str, given: CommandFields) -> Iterator[str]:
+    def _check_withdrawal(self, verb: str, given: CommandFields) -> Iterator[str]:
         if verb != "withdraw":
             return
         (kind, index), step = given["object"], given["step"]
-        there = self._put.get(given["at"], set())
+        there = self._keys.get(given["at"], set())
         if (kind, index, step) not in there:
             others = sorted(date for one, at, date in there if (one, at) == (kind, index))
             elsewhere = f", but at {', '.join(f'{date}{self._units.minutes(date)}' for date in others[:3])}" if others else ""
             yield f"nothing was set for {shown([kind, index])} at step {step}{self._units.minutes(step)}{elsewhere}"
 
-    def _of_crowd(self, verb: str, given: CommandFields) -> Iterator[str]:
+    def _check_crowd(self, verb: str, given: CommandFields) -> Iterator[str]:
         if verb == "crowd":
             for called, (kind, _, step, *_) in list_edits(verb, given):
                 if is_past(kind, step, given["to"]):
-                    yield called + self._past(step, given["to"])
+                    yield called + self._describe_late(step, given["to"])
 
-    def _of_advance(self, verb: str, given: CommandFields) -> Iterator[str]:
+    def _check_advance(self, verb: str, given: CommandFields) -> Iterator[str]:
         if verb == "advance" and given["to"] < self._horizons.get(given["at"], 0):
             here, to, minutes = self._horizons[given["at"]], given["to"], self._units.minutes
             yield f"{shown(given['at'])} is already at step {here}{minutes(here)}: `advance` to {to}{minutes(to)} does nothing"
@@ -132,7 +132,7 @@ class Linter:
     def _note(self, verb: str, given: CommandFields, reply: Fields) -> None:
         if verb in ("edit", "import"):
             edits = [edit for _, edit in list_edits(verb, given)]
-            self._of(given["at"]).update((kind, index, step) for kind, index, step, *_, value in edits if value is not None)
+            self._keys_of(given["at"]).update((kind, index, step) for kind, index, step, *_, value in edits if value is not None)
             self._dated += [(self._line, kind, step) for kind, _, step, *_ in edits]
             for kind, index, step, *_, value in edits:
                 self._note_block(kind, index, step, value)
@@ -142,11 +142,11 @@ class Linter:
         elif verb == "advance":
             self._horizons[given["at"]] = cast(ReplyFields, reply)["horizon"]
         elif verb == "send":
-            self._sent[given["name"]] = frozenset(self._of(given["at"]))
+            self._sent[given["name"]] = frozenset(self._keys_of(given["at"]))
         elif verb == "beyond":
             self._sent[given["name"]] = frozenset((kind, index, step) for kind, index, step, *_ in cast(ReplyFields, reply)["edits"])
         elif verb == "take":
-            self._of(given["at"]).update(self._sent.get(given["message"], ()))
+            self._keys_of(given["at"]).update(self._sent.get(given["message"], ()))
 
     def _note_block(self, kind: str, cell: int, step: int, value: int | None) -> None:
         """Note the last value of a cell at each step, in any replica."""
@@ -157,8 +157,8 @@ class Linter:
             else:
                 dates[step] = self._line, value
 
-    def _of(self, at: str) -> set[Key]:
-        return self._put.setdefault(at, set())
+    def _keys_of(self, at: str) -> set[Key]:
+        return self._keys.setdefault(at, set())
 
 
 def is_past(kind: str, step: int, horizon: int) -> bool:

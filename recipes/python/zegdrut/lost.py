@@ -4,10 +4,10 @@
     rates = compute_demands(lab.plan, edits, last=3_600)
     [supply.lost for supply in compute_supplies(rates, count_admitted_cars(trips, window), window)]
 
-A script has inflow chances, not cars per hour. The demand of an inlet is what its chance admits with the limit and the drivers of
-the plan, with the flow of the inlets before it, on a road that is free downstream. Edits of inflows change the demand. Edits of
-limits and drivers and closures do not: the cars that they hold back are lost demand. Where the demand that a chance stands for is
-known, it is given as `asked`, and nothing is simulated.
+A script has inflow chances, not cars per hour. The demand of an inlet is what its chance admits with the limit and the drivers of the
+plan, with the flow of the inlets before it, on a road that is free downstream. Edits of inflows change the demand. Edits of limits and
+drivers and closures do not: the cars that they hold back are lost demand. If the demand that a chance stands for is known, it is given as
+`asked`, and nothing is simulated.
 """
 from __future__ import annotations
 
@@ -52,7 +52,7 @@ def compute_demands(plan: PlanLine, edits: Sequence[Edit], last: int, effort: Ef
                     asked: Sequence[AskedRates] = ()) -> list[Rates]:
     """Return the demand of each inlet over time in cars per hour, up to step `last`, in the order of the plan.
 
-    `asked` has the demands that are known, for each inlet. Where one is unknown, the inlet is simulated for some seconds."""
+    `asked` has the demands that are known, for each inlet. If a demand is unknown, the inlet is simulated, which takes some seconds."""
     order = sorted(range(len(plan["inlets"])), key=lambda inlet: int(plan["inlets"][inlet][0]))
     chances = [list_chances(plan, edits, inlet, last) for inlet in range(len(plan["inlets"]))]
     found: list[Rates] = [[] for _ in order]

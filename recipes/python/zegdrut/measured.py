@@ -15,13 +15,13 @@ from typing import Iterable, NamedTuple
 from .clock import Clock
 from .demand import Rates
 from .errors import Fault
-from .stations import MOST_TOLD, Counts, Row, Station, note_lines
+from .stations import MOST_LISTED, Counts, Row, Station, note_lines
 from .units import HOUR, count_things
 
 SUSPICIOUS = 10
 """A zero between two intervals with at least this many cars per lane is a fault of the detector."""
 MOST_FLOW = 3_000.0
-"""The greatest flow in cars per hour and lane that is believed."""
+"""The highest plausible flow in cars per hour and lane. Higher flows count as missing."""
 COUNTING_ERROR = 0.05
 """The share of the flow that counting errors may lose between two stations."""
 
@@ -42,8 +42,8 @@ class Series:
 
 @dataclass(frozen=True)
 class Measured:
-    """The series of the main line, in the order of the road, and of the on-ramps. Intervals last `interval` seconds, from the begin of the
-    clock on."""
+    """The series of the main line, in the order of the road, and of the on-ramps. Intervals last `interval` seconds. The first one begins
+    with the clock."""
 
     clock: Clock
     interval: int
@@ -71,7 +71,7 @@ def make_rates(series: Series, interval: int) -> Rates:
     """Convert a series to a demand over time in steps and cars per hour. Fault: all intervals are missing."""
     known = [(place, cars) for place, cars in enumerate(series.cars) if cars is not None]
     if not known:
-        raise Fault(f"station {series.station.name} has no count in the window, so its demand is unknown: check its times and the begin of the road")
+        raise Fault(f"station {series.station.name} has no count in the window, so its demand is unknown: check its times and begin of the road")
     found: Rates = []
     for place in range(len(series.cars)):
         before = max((one for one in known if one[0] <= place), default=known[0])
@@ -103,7 +103,7 @@ def find_interval(counts: Counts, clock: Clock) -> int:
 
 
 def find_step(clock: Clock, row: Row) -> int:
-    """Return the step of the time of a row. It is negative before the begin."""
+    """Return the step of the time of a row. It is negative before the beginning of the run."""
     return clock.find_step(find_moment(clock, row))
 
 
@@ -115,11 +115,10 @@ def check_one_day(counts: Counts, clock: Clock) -> None:
 
 
 def put_on_road(counts: Counts, clock: Clock, seconds: int, origin: float | None = None, is_reversed: bool = False) -> Measured:
-    """Place counts on a road whose run begins at the begin of the clock and lasts `seconds`.
+    """Place counts on a road whose run begins when the clock does, and lasts `seconds`.
 
     origin: the km of the station table that is km 0 of the road. The default is 0, or the first main-line station if the table has miles
-    or is reversed.
-    is_reversed: km fall in the direction of travel.
+    or is reversed. is_reversed: km decrease in the direction of travel.
 
     Fault: the counts do not fit the run, or nothing is left to compare."""
     check_one_day(counts, clock)
@@ -176,7 +175,7 @@ def note_interpolated(series: Series, clock: Clock, interval: int, notes: list[s
         return
     missing = [place for place in range(known[0], known[-1]) if series.cars[place] is None]
     if missing:
-        times = ", ".join(clock.to_text(place * interval) for place in missing[:MOST_TOLD]) + (", .." if len(missing) > MOST_TOLD else "")
+        times = ", ".join(clock.to_text(place * interval) for place in missing[:MOST_LISTED]) + (", .." if len(missing) > MOST_LISTED else "")
         notes.append(f"the demand of station {series.station.name} is interpolated in {count_things(len(missing), 'interval')} without a "
                      f"count, at {times}")
     for number, first, which in ((known[0], 0, "first"), (len(series.cars) - 1 - known[-1], known[-1] + 1, "last")):
@@ -202,7 +201,8 @@ def place_rows(counts: Counts, clock: Clock, notes: list[str]) -> list[PlacedRow
 
 
 def find_moment(clock: Clock, row: Row) -> datetime.datetime:
-    """Return the date and time of a row. A clock time belongs to the day of the run, or to the next day before the begin."""
+    """Return the date and time of a row. A clock time belongs to the first day of the run, or to the next day if it is before the
+    beginning."""
     if isinstance(row.time, datetime.datetime):
         return row.time
     return clock.find_moment(row.time)
@@ -221,7 +221,7 @@ def make_series(counts: Counts, station: Station, rows: list[PlacedRow], lanes: 
     cars: list[float | None] = [None] * number
     speeds: list[float | None] = [None] * number
     lines = [0] * number
-    odd, high, told = [], [], set[int]()
+    odd, high, noted = [], [], set[int]()
     for row, step in rows:
         if not 0 <= step < seconds:
             continue
@@ -232,7 +232,7 @@ def make_series(counts: Counts, station: Station, rows: list[PlacedRow], lanes: 
         lines[place] = row.line
         count = None if row.cars is None else row.cars * (interval / HOUR if counts.are_per_hour else 1)
         if count is None or count > MOST_FLOW * station.lanes * interval / HOUR:
-            told.add(place)
+            noted.add(place)
             if count is not None:
                 high.append(row.line)
             continue
@@ -251,7 +251,7 @@ def make_series(counts: Counts, station: Station, rows: list[PlacedRow], lanes: 
                                                           (f"row of station {station.name} has", f"rows of station {station.name} have")))
     for place in faulty:
         cars[place] = speeds[place] = None
-    missing = [place for place, count in enumerate(cars) if count is None and place not in faulty and place not in told]
+    missing = [place for place, count in enumerate(cars) if count is None and place not in faulty and place not in noted]
     if missing:
         times = ", ".join(clock.to_text(place * interval) for place in missing[:5]) + (", .." if len(missing) > 5 else "")
         after = max((line for place, line in enumerate(lines) if line and place < missing[0]), default=0)
@@ -264,8 +264,8 @@ def make_series(counts: Counts, station: Station, rows: list[PlacedRow], lanes: 
 
 def is_suspicious(cars: list[float | None], place: int) -> bool:
     """Return whether a zero is between two intervals with many cars."""
-    beside = [next((one for one in part if one), 0) for part in (cars[place::-1][1:], cars[place + 1:])]
-    return min(beside) >= SUSPICIOUS
+    neighbours = [next((one for one in part if one), 0) for part in (cars[place::-1][1:], cars[place + 1:])]
+    return min(neighbours) >= SUSPICIOUS
 
 
 def check_clock_changes(counts: Counts, clock: Clock, seconds: int, notes: list[str]) -> None:

@@ -28,9 +28,9 @@ BAND = "95 % interval of the mean"
 LETTER = 7.5
 """The width of a letter of a title or legend, at the most."""
 NARROW = 500
-"""The width below which a chart has its legend below its title, so that charts beside each other look alike."""
+"""The width below which a chart has its legend below its title, so that charts next to each other look alike."""
 LEAST_CLOSURE = 6.0
-"""The least height and width of a closure in a space-time diagram, so that it is seen."""
+"""The smallest height and width at which a closure is drawn in a space-time diagram, so that it is visible."""
 NO_CAR = (245, 245, 245)
 NO_DATA = math.nan
 """The value of a piece of a measured space-time diagram for which there are no data. It is hatched."""
@@ -107,7 +107,7 @@ class Chart:
     lines: list[Line] = field(default_factory=list)
     top: float | None = None
     offset: int = 0
-    """Steps of the run at the clock's begin."""
+    """The step of the run at which the clock begins."""
 
     def add(self, line: Line) -> None:
         """Add a line."""

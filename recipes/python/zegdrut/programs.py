@@ -3,7 +3,7 @@
     path = program_path()                  prints a note once on standard error if there is one
     note = describe_standing(path)         the note; None for a proved program of the present source text
 
-The file PATH.made beside a program records its source text. `tools/prove-program` and `tools/try-program` write it.
+The file PATH.made next to a program records its source text. `tools/prove-program` and `tools/try-program` write it.
 """
 from __future__ import annotations
 
@@ -91,7 +91,7 @@ def sum_file(path: Path) -> str:
 
 
 def write_record(path: Path, text: str, proved: bool, checks: bool) -> None:
-    """Write the record beside a program: the SHA-256 of its source text, and whether it is proved and has checks."""
+    """Write the record next to a program: the SHA-256 of its source text, and whether it is proved and has checks."""
     made = Made(text, sum_file(path), proved, checks)
     path.with_name(path.name + ".made").write_text(json.dumps(asdict(made)) + "\n", encoding="utf-8")
 
@@ -125,7 +125,7 @@ def describe_standing(path: Path | str) -> str | None:
 
 
 def is_repository() -> bool:
-    """Return whether this package lies in the repository, beside the crates."""
+    """Return whether this package is in the repository, which has the crates."""
     return (ROOT / "crates.txt").exists()
 
 
@@ -179,8 +179,8 @@ def is_stale(path: Path, _: int) -> bool:
 @functools.cache
 def print_standing_once(path: Path) -> None:
     """Print the note about a program on standard error, once for this process and its children."""
-    if os.environ.get("ROAD_LAB_TOLD") != str(path):
-        os.environ["ROAD_LAB_TOLD"] = str(path)
+    if os.environ.get("ROAD_LAB_NOTED") != str(path):
+        os.environ["ROAD_LAB_NOTED"] = str(path)
         said = describe_standing(path)
         if said:
             print(said, file=sys.stderr, flush=True)

@@ -13,7 +13,7 @@ from .grammar import (CHANCE, COMMANDS, GREATEST_COUNT, KINDS, LAST_HORIZON, LAS
 from .units import Units
 from .wire import AnyEdit, CommandFields, Fields, PlanLine, ReplyFields
 
-TOLD = 3
+MOST_SHOWN = 3
 """The number of faults of a line that are shown."""
 
 
@@ -121,8 +121,8 @@ def list_edits(verb: str, given: CommandFields) -> list[tuple[str, AnyEdit]]:
 
 def join_faults(faults: list[str]) -> str:
     """Join the first faults in one sentence."""
-    more = f"; and {len(faults) - TOLD} more" if len(faults) > TOLD else ""
-    return "; ".join(faults[:TOLD]) + more
+    more = f"; and {len(faults) - MOST_SHOWN} more" if len(faults) > MOST_SHOWN else ""
+    return "; ".join(faults[:MOST_SHOWN]) + more
 
 
 class Reasons:
@@ -290,4 +290,4 @@ def format_count(what: str, count: int) -> str:
 
 
 def explain_counts_spent(verb: str, given: CommandFields) -> str:
-    return f"an import brought the greatest count, {GREATEST_COUNT}, so no greater one is left"
+    return f"an import brought the largest count, {GREATEST_COUNT}, so a new edit cannot have a larger one"

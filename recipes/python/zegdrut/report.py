@@ -155,7 +155,7 @@ def make_records(sides: Sequence[Side], rows: Sequence[Row]) -> list[Record]:
 # Series
 
 def make_flow_series(days: Sequence[SideDay], detector: int, window: Window) -> list[tuple[float, float | None, float | None]]:
-    """Return for each period its middle, the mean flow in cars per hour (None where the detector is off), and the half of its interval."""
+    """Return for each period its middle, the mean flow in cars per hour (None if the detector is off), and half its interval."""
     found = []
     for place, part in enumerate(split_window(window)):
         mean, half = estimate_side([day.passed[detector][place].flow for day in days])

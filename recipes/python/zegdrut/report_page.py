@@ -1,4 +1,4 @@
-"""The page of a report: one HTML file that stands by itself and prints on A4.
+"""Write the page of a report: one self-contained HTML file that prints on A4.
 
     html = format_page(Contents(title="..", facts=[..], works=[..], sides=sides, days=days, rows=rows, ..))
 """
@@ -43,7 +43,7 @@ svg { max-width: 100%; height: auto; display: block; break-inside: avoid }
 
 @dataclass(frozen=True)
 class Contents:
-    """Hold what a report says: `days` has for each day those of each side."""
+    """The contents of a report. `days` has for each day the runs of both sides."""
 
     title: str
     facts: Sequence[str]
@@ -54,7 +54,7 @@ class Contents:
     clock: Clock
     window: Window
     length: int
-    """Of the road, in cells."""
+    """The length of the road in cells."""
     detectors: Sequence[int]
     sides: Sequence[Side]
     days: Sequence[Sequence[SideDay]]
@@ -63,7 +63,7 @@ class Contents:
     closed: Sequence[Sequence[tuple[int, int, float, float]]] = field(default_factory=list)
     """For each side its closures, as (from step, to step, from km, to km)."""
     more: str = ""
-    """Further HTML behind the charts."""
+    """HTML that follows the charts."""
     demand: str = ""
     """A chart of the demand over time as SVG."""
 
@@ -170,16 +170,17 @@ def format_page(contents: Contents) -> str:
         f"<h2>Figures, {times}</h2>{make_table_html(contents.sides, contents.rows, days)}",
         contents.more, "<h2>What the model does not have</h2>" + make_list_html(MISSING),
         f'<p class="note">Seeds {seeds}; program {escape(describe_program())}. Delay is the time that the cars of both roads spend on the road '
-        "in this window, after minus before; lost demand is demand minus admitted cars, and scatters by about two roots of the demand.</p>"]
+        "in this window, after minus before; lost demand is demand minus admitted cars, and varies by chance by "
+        "about twice the square root of the demand.</p>"]
     return (f'<!DOCTYPE html>\n<html lang="en"><head><meta charset="utf-8"><title>{escape(contents.title)}</title><style>{STYLE}</style></head>'
             f'<body>{"".join(parts)}</body></html>\n')
 
 
 def describe_window(contents: Contents) -> str:
-    """Return the date, the window and the number of days, and whether the road was empty at its begin."""
+    """Return the date, the window and the number of days, and when the run began with an empty road."""
     clock, (first, last), days = contents.clock, contents.window, len(contents.days)
     date = f"{clock.to_datetime(first).date()}, " if clock.date else ""
-    begin = (f"The road is empty at {clock.to_text(0)}: the figures contain its filling" if first == 0 else
+    begin = (f"The road is empty at {clock.to_text(0)}: the figures include the time in which it fills" if first == 0 else
              f"The run begins at {clock.to_text(0)} with an empty road, before these figures")
     return f"{date}{clock.to_text(first)} to {clock.to_text(last)}, {count_things(days, 'simulated day')}. {begin}."
 

@@ -8,9 +8,9 @@ A header has `time` (when the interval begins), `km` or `station`, and `count` (
 per interval if the title says so: `flow veh/5min`). It may have `speed`, `lanes` and `type` (ML main line, OR on-ramp). The title of
 a column may contain its unit: `speed mph`, `speed_kmh`, `flow veh/h`, `miles`.
 
-Five-minute station data without a header has the columns: begin of the interval, station, district, freeway, direction, lane type,
-length, samples, percent observed, total flow (cars in the five minutes), occupancy, speed in mph, and then lanes. Its station table
-has a header with station, km or miles (postmiles), lanes, and perhaps type.
+Five-minute station data without a header has the columns: beginning of the interval, station, district, freeway, direction, lane type,
+length, samples, percent observed, total flow (cars in the five minutes), occupancy, speed in mph, and then lanes. Its station table has a
+header with station, km or miles (postmiles), lanes, and perhaps type.
 """
 from __future__ import annotations
 
@@ -33,10 +33,10 @@ MAIN_LINE = ("ML", "MAIN", "MAINLINE", "")
 FIVE_MINUTES = ("time", "station", "district", "freeway", "direction", "type", "length", "samples", "percent observed", "count",
                 "occupancy", "speed mph")
 """The first columns of station data without a header."""
-MOST_TOLD = 5
+MOST_LISTED = 5
 """The number of lines of one kind that a note names."""
 MOST_SPEED = 250.0
-"""The greatest mean speed in km/h that is believed."""
+"""The highest plausible mean speed in km/h. Higher speeds count as missing."""
 HEADERS = {
     "time": ("time", "timestamp", "datetime", "begin", "start", "interval"),
     "km": ("km", "kilometre", "kilometer", "position"),
@@ -63,7 +63,8 @@ class Station(NamedTuple):
 
 
 class Row(NamedTuple):
-    """The count of a station in an interval: cars on all lanes, and their mean speed in km/h. `time` is its begin. None is missing."""
+    """The count of a station in an interval: cars on all lanes, and their mean speed in km/h. `time` is the beginning of the interval.
+    None is a missing value."""
 
     line: int
     station: str
@@ -377,5 +378,5 @@ def check_rows(counts: Counts) -> Counts:
 def note_lines(counts: Counts, lines: list[int], one: str, many: str) -> None:
     """Add a note that names some lines: `one` is said of a single row, `many` of several."""
     if lines:
-        shown = ", ".join(map(str, lines[:MOST_TOLD])) + (", .." if len(lines) > MOST_TOLD else "")
+        shown = ", ".join(map(str, lines[:MOST_LISTED])) + (", .." if len(lines) > MOST_LISTED else "")
         counts.notes.append(f"{counts.path}, line{'s' if len(lines) > 1 else ''} {shown}: {len(lines)} {many if len(lines) > 1 else one}")

@@ -76,12 +76,12 @@ class Sweep:
                 for point, rows in groups.items() if point not in failed]
 
 
-def compute_means(rows: Sequence[Row], besides: set[str]) -> Row:
-    """Return the means of all columns except those in `besides`, with half their intervals."""
+def compute_means(rows: Sequence[Row], excluded: set[str]) -> Row:
+    """Return the means of all columns except those in `excluded`, with half their intervals."""
     found: Row = {}
     for name in rows[0]:
         values = [row[name] for row in rows]
-        if name in besides or any(isinstance(value, str) for value in values):
+        if name in excluded or any(isinstance(value, str) for value in values):
             continue
         mean, half = None, None
         if None not in values:
@@ -145,12 +145,11 @@ def sweep(model: Model, points: Points, seeds: Iterable[int] = (1,), *, measure:
     other runs continue.
 
     out: a CSV file that gets a row for each run as it ends. Runs that it already has are not repeated, so after Ctrl-C or a crash the
-    same call continues. Failed runs are tried again, and are listed in the file OUT.failed beside it.
-    part: (k, n): run only the k-th of n parts, to share a sweep among machines.
-    take: files of other parts, whose rows are copied first.
+    same call continues. Failed runs are tried again, and are listed in the file OUT.failed in the same folder. part: (k, n): run only the
+    k-th of n parts, to share a sweep among machines. take: files of other parts, whose rows are copied first.
 
     Fault: there are no points or seeds, or a file has different columns.
-    """
+"""
     listed, drawn = list_points(points), [int(seed) for seed in seeds]
     if not drawn or not 1 <= part[0] <= part[1]:
         raise Fault("there are no seeds: give at least one" if not drawn else f"part {part[0]} of {part[1]} does not exist")

@@ -81,8 +81,8 @@ class Trips:
     sites: cells, such as those of detectors.
     first: the first row that is read. With a later row than 0, cars that left before are unknown.
 
-    A car is known once it stands in a row. One that enters in the last cell before the deleted zone may leave in the same step;
-    it stays unknown."""
+    A car is known once a row shows it. A car that enters in the last cell before the deleted zone may leave in the same step; it stays
+    unknown."""
 
     plan: PlanLine
     sites: Sequence[int] = ()
@@ -158,7 +158,7 @@ class Trips:
         while len(self._checkpoints) > 1 and self._checkpoints[-1].row > step:
             self._checkpoints.pop()
         mark = self._checkpoints[-1]
-        # Dictionaries keep the order of insertion, so what came after the checkpoint stands at the end.
+        # Dictionaries keep the order of insertion, so what came after the checkpoint is at the end.
         while len(self.left) > mark.entered:
             self.left.popitem()
         for steps, known in zip(self.passed, mark.passed):

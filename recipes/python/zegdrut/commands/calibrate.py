@@ -3,13 +3,13 @@
     python3 -m zegdrut calibrate ROAD.json COUNTS.csv [--stations TABLE.csv] [--bounds FILE] [--points N] [--out FOLDER]
 
 ROAD.json and COUNTS.csv are as `zegdrut measured` reads them. The bounds are {"slowing": [0, 0.4], "start": [0, 0.7], "factor":
-[0.9, 1.1]}, or those of a JSON file. Several rounds of points are simulated in parallel on all processors, each over some days. On a
-terminal it shows the progress and the best point; in a log, a line every ten seconds.
+[0.9, 1.1]}, or those of a JSON file. Several rounds of points are simulated in parallel on all processors, each point over some days.
+On a terminal it shows the progress and the best point; to a log it writes a line every ten seconds.
 
 It prints the result and the ten best points. It writes calibrated-NAME.json (ROAD.json with the fitted drivers, and the measured demand
 of the main road and of the ramps times the fitted factor), tried-NAME.csv (all points with their errors) and surface-NAME.svg (a picture
-of the errors). zegdrut/calibration.py defines the error. An error of about 2 is as good as chance allows. The command warns if the least
-error is above 5, and if a result is within 5 % of the bounds of its range.
+of the errors). zegdrut/calibration.py defines the error. An error of about 2 is as good as chance allows. The command warns if the
+smallest error is above 5, and if a result is within 5 % of the bounds of its range.
 """
 from __future__ import annotations
 
@@ -35,12 +35,12 @@ from ..programs import program_path
 from .measured import add_data_arguments, report_progress, read_data, print_lines
 
 
-NO_CONGESTION = ("no station is congested (more than 10 km/h below its greatest speed): these counts cannot determine the slow-to-start "
+NO_CONGESTION = ("no station is congested (more than 10 km/h below its highest speed): these counts cannot determine the slow-to-start "
                  "chance, and its value is arbitrary. Use counts of a day with a jam")
-NO_MINIMUM = ("the errors show no minimum, so the result is the mean of the best points: the slow-to-start chance may be off by 0.2, whatever its "
-              "spread. Try more points or days")
-SHORT_SEARCH = (f"fewer than {Search.points} points or {Search.days} days: the result may be off by more than its spread, which is that of the "
-                "best points (recipes/measured/README.md has examples)")
+NO_MINIMUM = ("the errors show no minimum, so the result is the mean of the best points: the slow-to-start chance may be off by 0.2, "
+              "whatever its spread. Try more points or days")
+SHORT_SEARCH = (f"fewer than {Search.points} points or {Search.days} days: the result may be off by more than its spread, which is only that "
+                "of the best points (recipes/measured/README.md has examples)")
 
 
 CHANCE_ERROR, MOST_ERROR = 2, 5.0
@@ -55,14 +55,14 @@ def list_warnings(found: Calibration, bounds: Bounds) -> list[str]:
     warnings = []
     least = min(one.error for one in found.best_ten())
     if least > MOST_ERROR:
-        warnings.append(f"the least error is {least:.1f}, and about {CHANCE_ERROR} is as good as chance allows: the calibrated road does not fit "
-                        f"these counts. Compare it with them before you use it, and check the counts and the road")
+        warnings.append(f"the smallest error is {least:.1f}, but about {CHANCE_ERROR} is as good as chance allows: the calibrated road does "
+                        f"not fit these counts. Compare it with them before you use it, and check the counts and the road")
     for quantity, name, value, (low, high) in zip(QUANTITIES, NAMES, found.best, bounds):
         bound = low if value - low < high - value else high
         if low < high and abs(value - bound) <= NEAR_BOUND * (high - low):
             can_widen = bound > 0 if name == "factor" else 0 < bound < 1
             warnings.append(f"the {quantity} of {value:.3f} is at or near the bound {bound:g} of its range, {low:g} to {high:g}: "
-                            + (f'a value outside may fit better. Widen "{name}" by --bounds FILE' if can_widen else "no value beyond is possible"))
+                            + (f'a value outside may fit better. Widen "{name}" by --bounds FILE' if can_widen else "no value beyond it is possible"))
     return warnings
 
 
@@ -71,8 +71,8 @@ def read_arguments(words: Sequence[str] | None) -> argparse.Namespace:
     parser = argparse.ArgumentParser("zegdrut calibrate", description=__doc__, formatter_class=argparse.RawDescriptionHelpFormatter)
     add_data_arguments(parser)
     parser.add_argument("--bounds", type=Path, metavar="FILE", help="a JSON file with the bounds of slowing, start and factor")
-    parser.add_argument("--points", type=int, default=Search.points, metavar="N", help="points of a round, 10 or more (default: %(default)s)")
-    parser.add_argument("--days", type=int, default=Search.days, metavar="N", help="days of a point (default: %(default)s)")
+    parser.add_argument("--points", type=int, default=Search.points, metavar="N", help="points per round, 10 or more (default: %(default)s)")
+    parser.add_argument("--days", type=int, default=Search.days, metavar="N", help="simulated days per point (default: %(default)s)")
     return parser.parse_args(words)
 
 

@@ -1,16 +1,16 @@
 """Measure what a change costs, from two scripts of one plan, such as those of recipes/freeway.
 
-    python3 -m zegdrut delay [OPTIONS] BEFORE AFTER    two scripts: the road as it was, and as it is changed
+    python3 -m zegdrut delay [OPTIONS] BEFORE AFTER    two scripts: the road as it was, and the changed road
 
     --days N       compare over N days, 2 to 1,000: the seed of the plan and the N - 1 after it
     --at NAME      the replica; by default the first one of each plan
     --metres M     the length of a cell: places are then shown in km, not as cells
     --seconds S    the length of a step (default: 1)
-    --demand       show demand, admitted cars and lost demand of each inlet, too (demand.csv); this takes some seconds
+    --demand       also show demand, admitted cars and lost demand of each inlet (demand.csv); this takes some seconds
     --minutes N    the period of entry in minutes (default: 1)
     --out FOLDER   the folder of the tables (default: out/)
 
-If a file units.json lies beside BEFORE, such as recipes/freeway writes it, its "metres" and "seconds" are the defaults.
+If the folder of BEFORE has a file units.json, such as recipes/freeway writes, its "metres" and "seconds" are the defaults.
 
 For one day it prints three tables, and writes them into the folder: the delay by period of entry (delay.csv), the cars that
 entered at each inlet (inlets.csv), and the sums in vehicle hours with a check (sums.csv).
@@ -119,7 +119,8 @@ def print_notes(cost: Delay, seconds: float) -> None:
     lost = sum(inlet.lost - inlet.gained for inlet in cost.inlets.values())
     if lost:
         more = "fewer" if lost > 0 else "more"
-        print(f"{count_things(abs(lost), f'{more} car')} entered. They are not in the delay; --demand shows whether demand was lost.")
+        print(f"{count_things(abs(lost), f'{more} car')} entered in the second run. The delay does not include them; --demand shows whether "
+              "demand was lost.")
     if cost.inside.delay:
         print(f"The run ends too early: the cars still on the road are {format_hours(cost.inside.delay, seconds)} veh·h "
               "late, and their delay may still grow.")
@@ -167,14 +168,14 @@ def compare_over_days(given: argparse.Namespace) -> None:
 
 
 def read_units(given: argparse.Namespace) -> Units:
-    """Return the lengths of a cell and of a step: those of the options, or of units.json beside the first script."""
+    """Return the lengths of a cell and of a step: those of the options, or of units.json in the folder of the first script."""
     path = Path(given.scripts[0]).with_name("units.json")
     try:
         found = json.loads(path.read_text(encoding="utf-8")) if path.exists() else {}
-        beside = Units(*(None if found.get(name) is None else float(found[name]) for name in ("metres", "seconds")))
+        of_file = Units(*(None if found.get(name) is None else float(found[name]) for name in ("metres", "seconds")))
     except (ValueError, TypeError, AttributeError):
         raise Fault(f'{path} must be an object such as {{"metres": 7.5, "seconds": 1}}') from None
-    units = Units(given.metres or beside.metres, given.seconds or beside.seconds or 1.0)
+    units = Units(given.metres or of_file.metres, given.seconds or of_file.seconds or 1.0)
     if not all(0 < length < float("inf") for length in units if length is not None):
         raise Fault("--metres and --seconds (or those of units.json) must be above 0")
     return units

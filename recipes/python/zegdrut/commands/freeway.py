@@ -3,9 +3,9 @@
     python3 -m zegdrut freeway [FILE] [--then FILE2] [--out FOLDER]
     python3 -m zegdrut freeway --plan FILE
 
-Without FILE it simulates the example below: 3 km with an on-ramp and a work zone of ten minutes. FILE is a JSON object with
-different figures. The command first prints which figures it had to round. Then it prints three tables and writes them into the
-folder, by default out/ or, for a file NAME.json, out/NAME:
+Without FILE it simulates the example below: 3 km with an on-ramp and a work zone of ten minutes. FILE is a JSON object with the
+figures that differ from the example. The command first prints which figures it had to round. Then it prints three tables and writes
+them into the folder, by default out/ or, for a file NAME.json, out/NAME:
 
     demand.csv     demand, admitted cars and lost demand of each inlet and hour
     counts.csv     flow and speed at each detector, minute by minute
@@ -14,14 +14,14 @@ folder, by default out/ or, for a file NAME.json, out/NAME:
 The folder also has the script (script.jsonl), its replies, and units.json with the lengths of a cell and a step. If the road has
 sections or stalled cars, without.jsonl is the same road and seed without them.
 
---then FILE2 has the sections and stalled cars as they turned out. The run is then changed by edits in the past (then.jsonl), which
-the command lists, and their tables are then_demand.csv and so on.
---plan runs nothing. It prints for live/serve the plan, the shapes of the demand over time, of sections and of stalled cars, and the
-demand of each inlet in cars per hour.
+FILE2 of --then has the sections and stalled cars as they turned out. The command then changes the past of the run by edits
+(then.jsonl) and lists them. The tables of the changed run are then_demand.csv and so on.
+With --plan the command runs no freeway. It prints, for live/serve, the plan, the shapes of the demand over time, of sections and of
+stalled cars, and the demand of each inlet in cars per hour.
 
-The stretch is measured by Edie's definitions over its rows, which are those that the steps of the period lead to. With N the number
-of cars on its cells in all rows and V the sum of their speeds, density is N and flow is V, both per cell and step, and the
-space-mean speed is V / N.
+The stretch is measured by Edie's definitions over the rows after each step of the period. If N is the number of cars on its cells in
+all these rows and V is the sum of their speeds, then density is N and flow is V, both divided by the number of cells and of rows, and
+the space-mean speed is V / N.
 """
 from __future__ import annotations
 
@@ -85,7 +85,7 @@ def measure_chances_aloud(road: Road) -> Chances:
 def format_demands(road: Road, found: Chances, start: Script) -> Lines:
     """Return the table of demand, admitted cars and lost demand (demand minus admitted) of each inlet and hour.
 
-    ± is the scatter of the admitted cars of a free road."""
+    ± is how far the number of cars that a free road admits may vary by chance."""
     report_progress("measuring the inflow in the long run and in this run")
     trips = follow_run(road, start)
     times = "from,to" if road.clock else "from minute,to minute"
@@ -102,7 +102,7 @@ def format_demands(road: Road, found: Chances, start: Script) -> Lines:
 
 
 def note_full_inlets(road: Road, found: Chances) -> None:
-    """Add a note for each inlet that admits less than its demand in the long run, at the time of the greatest total demand."""
+    """Add a note for each inlet that admits less than its demand in the long run, at the time of the highest total demand."""
     dates = sorted({step for _, demand in road.inlets for step, _ in demand})
     step = max(dates, key=lambda date: sum(find_rate(demand, date) for _, demand in road.inlets))
     now = [(cell, int(find_rate(changes, step))) for (cell, _), changes in zip(road.inlets, found)]
@@ -183,20 +183,20 @@ def format_detectors(figures: Figures, road: Road, counted: list[CountReply]) ->
 def format_stretch(figures: Figures, road: Road, counted: list[CountReply], rows: list[str]) -> Lines:
     """Return the table of the stretch, with the detector nearest to its middle if the periods are whole minutes.
 
-    A period has the rows that its steps lead to, as all figures of windows (`trips`)."""
+    A period has the rows after each of its steps, like all figures of windows (`trips`)."""
     middle, every = sum(figures.stretch) / 2, to_steps(figures.piece)
-    beside = min(range(len(figures.detectors)), key=lambda one: abs(figures.detectors[one] - middle), default=None)
+    nearest = min(range(len(figures.detectors)), key=lambda one: abs(figures.detectors[one] - middle), default=None)
     lines = [f"{'time' if road.clock else 'minute'},cars an hour,cars a km,space-mean km/h"]
-    if beside is not None and every % 60:
-        beside = None
-    if beside is not None:
-        lines[0] += f",detector at km {format_km(road.detectors[beside])}: cars an hour,time-mean km/h"
+    if nearest is not None and every % 60:
+        nearest = None
+    if nearest is not None:
+        lines[0] += f",detector at km {format_km(road.detectors[nearest])}: cars an hour,time-mean km/h"
     a_detector = len(counted) // max(len(figures.detectors), 1)
     for first in range(0, road.steps, every):
         last = min(first + every, road.steps)
         words: tuple[str, ...] = ()
-        if beside is not None:
-            of_piece = counted[beside * a_detector:][first // 60:-(-last // 60)]
+        if nearest is not None:
+            of_piece = counted[nearest * a_detector:][first // 60:-(-last // 60)]
             words = format_rate(sum(one["cars"] for one in of_piece), sum(one["speeds"] for one in of_piece), last - first)
         lines.append(",".join([format_time(road, first), *format_traffic(rows[first + 1:last + 1], figures.stretch), *words]))
     return lines

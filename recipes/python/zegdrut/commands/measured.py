@@ -7,10 +7,10 @@ first main-line station upstream gives the demand at km 0, on-ramp stations give
 compared. The model has one lane, so all figures are per lane. The run begins some minutes before the window, to fill the road.
 
 COUNTS.csv has a header with time, km or station, count or flow, and perhaps speed. It may also be five-minute station data without a
-header; then --stations TABLE.csv has station, km or miles, and lanes. Missing and doubtful data are reported with line numbers.
+header, which need --stations TABLE.csv with station, km or miles, and lanes. Missing and doubtful data are reported with line numbers.
 
-With --write-road FILE it writes the road with the measured demand instead, which freeway, metering and report take. With --demand road it
-simulates the demand of ROAD.json, such as that of a calibrated road.
+With --write-road FILE it only writes the road with the measured demand to a file, which freeway, metering and report can read. With
+--demand road it simulates the demand of ROAD.json, such as that of a calibrated road.
 
 It writes the tables hours-, speeds- and intervals-NAME-0630-0930.csv, and the pictures comparison- and space-time-NAME-0630-0930.svg.
 """
@@ -65,15 +65,15 @@ def add_data_arguments(parser: argparse.ArgumentParser) -> None:
 
 def add_demand_argument(parser: argparse.ArgumentParser) -> None:
     """Add the option that chooses the demand of the road."""
-    parser.add_argument("--demand", choices=("counts", "road"), default="counts", help="the demand of the road: the measured one, or that of "
-                        "ROAD.json, such as a calibrated one (default: %(default)s)")
+    parser.add_argument("--demand", choices=("counts", "road"), default="counts", help="simulate the demand of the counts, or that of "
+                        "ROAD.json, such as of a calibrated road (default: %(default)s)")
 
 
 def add_count_options(parser: argparse.ArgumentParser) -> None:
     """Add the options that say how to read measured counts."""
     parser.add_argument("--stations", type=Path, metavar="TABLE.csv", help="table with station, km or miles, and lanes")
     parser.add_argument("--origin", type=float, metavar="KM", help="km of the table that is km 0 of the road (default: 0, or the first station if the table has miles)")
-    parser.add_argument("--reverse", action="store_true", help="the km of the table fall in the direction of travel")
+    parser.add_argument("--reverse", action="store_true", help="the km of the table decrease in the direction of travel")
     parser.add_argument("--column", action="append", default=[], metavar="QUANTITY=COLUMN", help="title of the column of a quantity, such as speed=v_mean")
     parser.add_argument("--unit", action="append", default=[], metavar="speed=UNIT", help="unit of the speeds: km/h, mph or m/s")
 

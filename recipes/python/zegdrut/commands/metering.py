@@ -8,11 +8,11 @@ ROAD.json is a freeway with a ramp, as `zegdrut freeway` reads it. CONTROL.json 
 
 ramp and detector are the km of the ramp and of a detector downstream of it. setpoint is in per cent of occupancy (the share of steps in
 which a car is in the cell of the detector). gain is in cars per hour and per cent. least and most are the bounds of the rate in cars per
-hour. begin is the time when metering starts. Only the first three are required.
+hour. begin is the time when metering starts. Only ramp, detector and setpoint are required.
 
-Cars wait before the ramp in a vertical queue (arrivals minus admitted cars), metered or not. Its waiting time is the sum of the queue
-over all seconds, in vehicle hours, listed next to the hours on the road. With --as-if-from TIME the first day is simulated without
-control, and then again as if metering had started at TIME, by edits in the past. The two are compared.
+Cars wait before the ramp in a vertical queue (arrivals minus admitted cars), whether the ramp is metered or not. The waiting time is
+the sum of the queue over all seconds, in vehicle hours, listed next to the hours on the road. With --as-if-from TIME the first day is
+simulated without control, and then again as if metering had started at TIME, by edits in the past. Both runs are compared.
 The command prints a table of means and 95 % intervals (Student's t, paired by day), and writes it to metering-NAME-0630-0930.csv, with
 the window in the name. It writes the first day to minutes-NAME-0630-0930.csv. With --as-if-from it writes as-if-NAME-0630-0930.csv and
 as-if-minutes-NAME-0630-0930.csv.
@@ -94,14 +94,14 @@ class Site:
 
 
 MOST_RATE = 1_800.0
-"""The cars per hour that an inlet admits at the most: one in two seconds."""
+"""The largest flow that an inlet admits, in cars per hour: one car in two seconds."""
 TINY = 1e-9
 ACCEPTED = {"ramp": ("a number of km", 0.0, math.inf), "detector": ("a number of km", 0.0, math.inf),
             "setpoint": ("an occupancy from 0 to 100 per cent", 0.0, 100.0),
             "gain": ("a number above 0, in cars per hour and per cent of occupancy", TINY, math.inf),
             **{name: (f"a number above 0 and up to {MOST_RATE:,.0f} cars per hour, which is the most that an inlet admits", TINY, MOST_RATE)
                for name in ("least", "most")}}
-"""What is accepted for each field of a control, with the least and the greatest number."""
+"""What is accepted for each field of a control, with the lowest and the highest value."""
 
 
 def read_control(path: Path, figures: Figures) -> Control:

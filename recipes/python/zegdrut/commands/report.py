@@ -3,10 +3,11 @@
     python3 -m zegdrut report ROAD.json [--against OTHER.json] [--days N] [--counts CSV [--stations TABLE.csv]] [--out FILE.html]
 
 ROAD.json is a freeway as `zegdrut freeway` reads it. It is compared with OTHER.json, a file of the same road. By default it is
-compared with itself without its sections and stalled cars, if it has any. Each day is a seed: both roads of a day have the same
-drivers. Each run begins some minutes before the window, so that its road is full: twice the free travel time, unless --warm-up says
-otherwise. With --counts the report also compares ROAD.json with measured counts, by the options of `zegdrut measured`.
-It writes report-NAME-0630-0930.html, and beside it the table, the series and the demand as CSV with units.
+compared with the same road without its sections and stalled cars, if it has any. Each day is a seed: both roads of a day have the same
+drivers. Each run begins some minutes before the window, so that the road is not empty when the window begins: earlier by twice the
+free travel time, unless --warm-up says otherwise. With --counts the report also compares ROAD.json with measured counts. It then
+takes the options of `zegdrut measured`. It writes report-NAME-0630-0930.html, and into the same folder the table, the series and the
+demand as CSV with units.
 """
 from __future__ import annotations
 
@@ -40,7 +41,7 @@ from .measured import (add_count_options, add_demand_argument, check_days, choos
                        make_comparison_charts, make_title, read_data)
 
 DAYS = 5
-MOST_TOLD = 12
+MOST_LISTED = 12
 """The number of values of a demand that the report lists in a sentence."""
 MOST_WARM_UP = 1_440
 
@@ -55,7 +56,7 @@ def read_arguments(words: Sequence[str] | None) -> argparse.Namespace:
     add_count_options(parser)
     add_demand_argument(parser)
     parser.add_argument("--warm-up", type=float, metavar="MINUTES", help="minutes of the run before the window (default: twice the free "
-                        "travel time, rounded up to five minutes; 0: the road is empty at the begin)")
+                        "travel time, rounded up to five minutes; 0: the road is empty when the window begins)")
     parser.add_argument("--title", help="title of the report (default: the names of the files)")
     parser.add_argument("--out", type=Path, metavar="FILE.html", help="file of the report")
     return parser.parse_args(words)
@@ -65,8 +66,8 @@ def read_arguments(words: Sequence[str] | None) -> argparse.Namespace:
 
 @dataclass(frozen=True)
 class Request:
-    """Hold what was read: the road, the road before it with both names, the minutes before the window, the measured counts and the usual
-    title."""
+    """What was read: the road, the road before (if there is one), the names of both, the minutes before the window, the measured counts,
+    and the default title."""
 
     figures: Figures
     other: Figures | None
@@ -138,7 +139,7 @@ def describe_works(figures: Figures) -> list[str]:
         what += [f"slowing {one.slowing:.0%}"] if one.slowing is not None else []
         what += [f"slow-to-start {one.start:.0%}"] if one.start is not None else []
         found.append(f"km {one.first:g} to {one.last:g}, {clock.to_text(round(one.begin * 60))} to {clock.to_text(round(one.end * 60))}: "
-                     + (", ".join(what) or "as the road"))
+                     + (", ".join(what) or "like the rest of the road"))
     found += [f"km {one.at:g}, {clock.to_text(round(one.begin * 60))} to {clock.to_text(round(one.end * 60))}: a stalled car closes the lane"
               for one in figures.stalled]
     return found
@@ -156,9 +157,9 @@ def describe_demand(figures: Figures) -> list[str]:
     for name, demand in name_inlets(figures):
         if not isinstance(demand, list):
             found.append(f"{name}: {demand:,.0f} cars/h")
-        elif len(demand) <= MOST_TOLD:
-            told = ", ".join(f"{cars:,.0f} from {clock.to_text(to_steps(minute))}" for minute, cars in demand)
-            found.append(f"{name}: {told} cars/h")
+        elif len(demand) <= MOST_LISTED:
+            steps = ", ".join(f"{cars:,.0f} from {clock.to_text(to_steps(minute))}" for minute, cars in demand)
+            found.append(f"{name}: {steps} cars/h")
         else:
             peak, most = max(demand, key=lambda pair: pair[1])
             found.append(f"{name}: {min(cars for _, cars in demand):,.0f} to {most:,.0f} cars/h, with the peak from {clock.to_text(to_steps(peak))} on")
@@ -206,12 +207,12 @@ def make_counts_html(given: argparse.Namespace, model: Model) -> str:
     """Return the part that compares the road with measured counts, as HTML."""
     measured, days = model.measured, simulate_days(model, given.days)
     hours = compare_hours(measured, days)
-    told = make_list_html(measured.notes) if measured.notes else ""
+    notes = make_list_html(measured.notes) if measured.notes else ""
     whose = "the measured demand" if given.demand == "counts" else f"the demand of {given.road.name}"
     only = f" Only {given.road.name} is compared with the counts, with its works." if given.against or model.figures.sections else ""
     shares = "; ".join(format_shares(measured, hours)) + "."
     return (f"<h2>Comparison with measured counts</h2><p>{escape(make_title(model))}, mean of {count_things(given.days, 'day')} with {escape(whose)}."
-            f"{escape(only)} {escape(shares)}</p>" + told + make_lines_html(format_hours(model, hours))
+            f"{escape(only)} {escape(shares)}</p>" + notes + make_lines_html(format_hours(model, hours))
             + make_lines_html(format_speeds(model, days))
             + f'<div class="pairs">{"".join(f"<div>{one.draw(470, 175)}</div>" for one in make_comparison_charts(model, days))}</div>')
 

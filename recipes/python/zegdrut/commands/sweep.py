@@ -7,7 +7,7 @@
     --points FILE        a point per line, with the names of the parameters in the first line
     --seeds SEEDS        1-4 or 1,5,9 (default: 1)
     --measure FROM:TO    the function returns a Plan: measure flow, density and both mean speeds over these steps
-    --measure FILE:NAME  the same, measured by a function of a lab
+    --measure FILE:NAME  the function returns a Plan: this function gets its lab, and returns the figures
     --out FILE           the results, a row for each run as it ends (default: sweep.csv)
     --means FILE         means over the seeds with their 95 % intervals, a row for each point
     --jobs N             the number of processes (default: one per processor)
