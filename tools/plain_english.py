@@ -47,8 +47,6 @@ class Lists:
     """Prescribed sentences."""
     unchecked: list[str]
     """Paths of files that are not checked."""
-    not_yet: dict[str, int]
-    """The number of faults that a folder may have."""
 
 
 def read_lists(path: Path = LISTS) -> Lists:
@@ -59,7 +57,7 @@ def read_lists(path: Path = LISTS) -> Lists:
         words[entry["of"]].update(dict.fromkeys(entry["words"], entry["reason"]))
     phrases = [Phrase(re.compile(entry["pattern"], re.I), entry["reason"], entry["refuses"], entry["allows"]) for entry in given["phrase"]]
     vocabulary = given["vocabulary"]
-    return Lists(phrases, words["functions"], words["all"], vocabulary["fixed"], vocabulary["unchecked"], given["not_yet"])
+    return Lists(phrases, words["functions"], words["all"], vocabulary["fixed"], vocabulary["unchecked"])
 
 
 # The prose of a file
