@@ -61,7 +61,7 @@ const TWO: Edit = edit!(LIMIT, 0, (7, 64), 2);
 
 const THREE: Edit = edit!(LIMIT, 0, (7, 64), 3);
 
-/// An edit, and another edit for the same object and step that wins.
+/// Two edits for the same object and step. The second one wins.
 const ONE: Edit = edit!(LIMIT, 3, (1, 0), 1);
 
 const NEXT: Edit = edit!(LIMIT, 3, (2, 1), 2);
