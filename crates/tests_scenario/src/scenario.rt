@@ -181,7 +181,8 @@ const ALL_KINDS: &[Edit] = &[
     edit!(LIMIT, 3, (1, 0), 9),
 ];
 
-/// A limit, a slowing chance, an inflow, the blocked cells, whether the detector is on, and the chance of standing cars.
+/// A limit, a slowing chance, an inflow, the blocked cells, whether the detector is on, and the chance of standing
+/// cars.
 type Given = (u32, u32, u32, &'static [u32], bool, u32);
 
 /// Steps, and the settings of the free road that these edits give.
