@@ -473,7 +473,7 @@ fn act_and_close<J: Naming, R: Wait + Drop, W: Wait + Drop>(
 }
 
 // Open a prepared store, try the call or the closing after the call, and judge the closed store.
-fn goes<J: Naming, R: Wait + Drop, W: Wait + Drop>(
+fn open_and_try<J: Naming, R: Wait + Drop, W: Wait + Drop>(
     rt: W,
     alloc: Global,
     prepared: Prepared<R>,
@@ -521,7 +521,7 @@ fn try_in_store<R: Wait + Drop + Copy>(
 ) -> Option<Verdict> {
     let given = scenario_of(alloc, case)?;
     let prepared = prepare_for_two(rt, alloc)?;
-    goes::<Brand, R, R>(rt, alloc, prepared, given, until, closing, case)
+    open_and_try::<Brand, R, R>(rt, alloc, prepared, given, until, closing, case)
 }
 
 /// Try a call of a session, or the closing of the store after it, which does not allocate. If the store is closed as
