@@ -1,7 +1,7 @@
 //! Try one call and judge it: prepare the state, make the call, and compare the answer and the state afterwards with
-//! worked results. If the call is refused because memory ran out, the state must be unchanged, and the same call must then
-//! answer as if it had not been refused. `tools/fail-in-turn` runs this with each allocation failing in turn, and no
-//! run may find something wrong.
+//! worked results. If the call is refused because memory ran out, the state must be unchanged, and the same call must
+//! then answer as if it had not been refused. `tools/fail-in-turn` runs this with each allocation failing in turn, and
+//! no run may find something wrong.
 //!
 //! `tests_failures NAME` tries the call with this name. It prints `right` if the call answered at once, `right again`
 //! if it was refused first, `right with new threads` if it was refused because a thread could not be started, `right

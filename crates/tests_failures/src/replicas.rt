@@ -157,7 +157,7 @@ pub(crate) enum Question {
 
 // The answer to a query: a copy of the replica, edits, or whether the answer was the expected one.
 #[derive(Drop)]
-enum Told {
+enum QueryAnswer {
     Copy(Replica),
     Edits(Scenario),
     Expected(bool),
@@ -178,9 +178,9 @@ fn has_cars(
     replica: &Replica,
     step: u32,
     cars: &[Car],
-) -> Result<Told, ReplicaFault> {
+) -> Result<QueryAnswer, ReplicaFault> {
     let road = replica.state(alloc, step)?;
-    Ok(Told::Expected(road.cars() == cars))
+    Ok(QueryAnswer::Expected(road.cars() == cars))
 }
 
 // Ask a replica for rows.
@@ -189,44 +189,48 @@ fn has_rows(
     replica: &Replica,
     steps: (u32, u32),
     rows: &[&str],
-) -> Result<Told, ReplicaFault> {
-    let told = replica.rows(alloc, steps.0, steps.1)?;
-    Ok(Told::Expected(are_rows(&told, rows)))
+) -> Result<QueryAnswer, ReplicaFault> {
+    let answer = replica.rows(alloc, steps.0, steps.1)?;
+    Ok(QueryAnswer::Expected(are_rows(&answer, rows)))
 }
 
 // Ask a replica for its heads.
-fn has_heads(alloc: Global, replica: &Replica, heads: &[Head]) -> Result<Told, ReplicaFault> {
-    let told = replica.heads(alloc)?;
-    Ok(Told::Expected(told.list() == heads))
+fn has_heads(
+    alloc: Global,
+    replica: &Replica,
+    heads: &[Head],
+) -> Result<QueryAnswer, ReplicaFault> {
+    let answer = replica.heads(alloc)?;
+    Ok(QueryAnswer::Expected(answer.list() == heads))
 }
 
 // Query a replica.
-fn tell(
+fn query(
     alloc: Global,
     replica: &Replica,
     question: &Question,
     heads: &Heads,
-) -> Result<Told, ReplicaFault> {
+) -> Result<QueryAnswer, ReplicaFault> {
     match *question {
-        Question::Copied(_) => Ok(Told::Copy(replica.copied()?)),
-        Question::Message(_) => Ok(Told::Edits(replica.message()?)),
-        Question::Beyond(_, _) => Ok(Told::Edits(replica.beyond(alloc, heads)?)),
+        Question::Copied(_) => Ok(QueryAnswer::Copy(replica.copied()?)),
+        Question::Message(_) => Ok(QueryAnswer::Edits(replica.message()?)),
+        Question::Beyond(_, _) => Ok(QueryAnswer::Edits(replica.beyond(alloc, heads)?)),
         Question::Heads(heads) => has_heads(alloc, replica, heads),
         Question::State(step, cars) => has_cars(alloc, replica, step, cars),
         Question::Rows(from, to, rows) => has_rows(alloc, replica, (from, to), rows),
         Question::Totals(from, to, totals) => {
-            Ok(Told::Expected(replica.totals(alloc, 0, from, to)? == totals))
+            Ok(QueryAnswer::Expected(replica.totals(alloc, 0, from, to)? == totals))
         }
     }
 }
 
 // Return whether a replica gave the answer that a query expects.
-fn is_told(alloc: Global, question: &Question, told: &Told) -> Option<bool> {
-    match (told, question) {
-        (Told::Expected(is_expected), _) => Some(*is_expected),
-        (Told::Copy(copy), Question::Copied(shown)) => is_replica(alloc, copy, shown),
-        (Told::Edits(held), Question::Message(edits)) => holds(alloc, held, edits),
-        (Told::Edits(held), Question::Beyond(_, edits)) => holds(alloc, held, edits),
+fn is_answered(alloc: Global, question: &Question, answer: &QueryAnswer) -> Option<bool> {
+    match (answer, question) {
+        (QueryAnswer::Expected(is_expected), _) => Some(*is_expected),
+        (QueryAnswer::Copy(copy), Question::Copied(shown)) => is_replica(alloc, copy, shown),
+        (QueryAnswer::Edits(held), Question::Message(edits)) => holds(alloc, held, edits),
+        (QueryAnswer::Edits(held), Question::Beyond(_, edits)) => holds(alloc, held, edits),
         _ => Some(false),
     }
 }
@@ -240,7 +244,7 @@ struct Asking {
 }
 
 impl Call for Asking {
-    type Answer = Told;
+    type Answer = QueryAnswer;
 
     type Fault = ReplicaFault;
 
@@ -248,12 +252,12 @@ impl Call for Asking {
         portrait.draw_sheet(alloc, self.replica.sheet())
     }
 
-    fn make(&mut self, alloc: Global) -> Result<Told, ReplicaFault> {
-        tell(alloc, &self.replica, &self.question, &self.heads)
+    fn make(&mut self, alloc: Global) -> Result<QueryAnswer, ReplicaFault> {
+        query(alloc, &self.replica, &self.question, &self.heads)
     }
 
-    fn is_right(&mut self, alloc: Global, told: Told) -> Option<bool> {
-        is_told(alloc, &self.question, &told)
+    fn is_right(&mut self, alloc: Global, answer: QueryAnswer) -> Option<bool> {
+        is_answered(alloc, &self.question, &answer)
     }
 }
 

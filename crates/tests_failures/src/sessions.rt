@@ -237,7 +237,7 @@ impl<J: Naming, S: Writes<J>, W: Wait> Call for Writing<J, S, W> {
         Ok((wrote.place, wrote.reply))
     }
 
-    fn is_right(&mut self, alloc: Global, told: (u64, Reply)) -> Option<bool> {
+    fn is_right(&mut self, alloc: Global, answer: (u64, Reply)) -> Option<bool> {
         let Act::Write(_, place, reply) = self.case.1 else {
             return Some(false);
         };
@@ -247,7 +247,7 @@ impl<J: Naming, S: Writes<J>, W: Wait> Call for Writing<J, S, W> {
             ..
         } = &mut self.store;
         let are_shown = are_shown(alloc, shared, sessions.as_mut_slice(), &self.case.3)?;
-        Some(are_shown && told == (place, reply))
+        Some(are_shown && answer == (place, reply))
     }
 }
 
@@ -255,10 +255,10 @@ impl<J: Naming, S: Writes<J>, W: Wait> Call for Writing<J, S, W> {
 fn judge_once<J: Naming, S: Writes<J>, W: Wait>(
     alloc: Global,
     writing: &mut Writing<J, S, W>,
-    told: Result<(u64, Reply), WriteFault>,
+    answer: Result<(u64, Reply), WriteFault>,
 ) -> Option<Verdict> {
-    match told {
-        Ok(told) => Some(verdict_of(Verdict::Right, writing.is_right(alloc, told)?)),
+    match answer {
+        Ok(answer) => Some(verdict_of(Verdict::Right, writing.is_right(alloc, answer)?)),
         Err(fault) => match fault.verdict_after_retry() {
             Some(_) => Some(Verdict::Refused),
             None => Some(Verdict::Wrong(Wrong::Cause)),
@@ -275,11 +275,11 @@ fn try_once<J: Naming, S: Writes<J>, W: Wait>(
     if until == Until::Prepared {
         return Some(Verdict::Stopped);
     }
-    let told = writing.make(alloc);
+    let answer = writing.make(alloc);
     if until == Until::Called {
         return Some(Verdict::Stopped);
     }
-    judge_once(alloc, writing, told)
+    judge_once(alloc, writing, answer)
 }
 
 // Try a write. It is not made again if the store is to be closed as soon as it is refused.
@@ -301,7 +301,7 @@ fn try_write<J: Naming, S: Writes<J>, W: Wait>(
 
 // The answer to a query of a session: a sheet, or whether the answer was the expected one.
 #[derive(Drop)]
-enum Told {
+enum QueryAnswer {
     Sheet(Arc<Sheet>),
     Expected(bool),
 }
@@ -314,26 +314,26 @@ struct Asking<J: Naming, S, W> {
 }
 
 // Let a session make its query.
-fn tell<J: Naming, S: Of<J>>(
+fn query<J: Naming, S: Of<J>>(
     alloc: Global,
     shared: &S,
     session: &mut Session<J>,
     act: &Act,
-) -> Result<Told, LookFault> {
+) -> Result<QueryAnswer, LookFault> {
     match *act {
-        Act::Look => Ok(Told::Sheet(session.look(shared)?)),
-        Act::State(step, cars) => Ok(Told::Expected(
+        Act::Look => Ok(QueryAnswer::Sheet(session.look(shared)?)),
+        Act::State(step, cars) => Ok(QueryAnswer::Expected(
             session.state(alloc, shared, step)?.cars() == cars,
         )),
-        Act::Totals(from, to, totals) => Ok(Told::Expected(
+        Act::Totals(from, to, totals) => Ok(QueryAnswer::Expected(
             session.totals(alloc, shared, 0, from, to)? == totals,
         )),
-        Act::Write(_, _, _) => Ok(Told::Expected(false)),
+        Act::Write(_, _, _) => Ok(QueryAnswer::Expected(false)),
     }
 }
 
 impl<J: Naming, S: Writes<J>, W: Wait> Call for Asking<J, S, W> {
-    type Answer = Told;
+    type Answer = QueryAnswer;
 
     type Fault = LookFault;
 
@@ -346,22 +346,22 @@ impl<J: Naming, S: Writes<J>, W: Wait> Call for Asking<J, S, W> {
         draw_looks(alloc, portrait, shared, sessions.as_mut_slice())
     }
 
-    fn make(&mut self, alloc: Global) -> Result<Told, LookFault> {
+    fn make(&mut self, alloc: Global) -> Result<QueryAnswer, LookFault> {
         let Store {
             shared,
             sessions,
             ..
         } = &mut self.store;
         match sessions.get_mut(1) {
-            Some(session) => tell(alloc, shared, session, &self.case.1),
-            None => Ok(Told::Expected(false)),
+            Some(session) => query(alloc, shared, session, &self.case.1),
+            None => Ok(QueryAnswer::Expected(false)),
         }
     }
 
-    fn is_right(&mut self, alloc: Global, told: Told) -> Option<bool> {
-        match told {
-            Told::Sheet(sheet) => shows(alloc, &sheet, &self.case.3),
-            Told::Expected(is_expected) => Some(is_expected),
+    fn is_right(&mut self, alloc: Global, answer: QueryAnswer) -> Option<bool> {
+        match answer {
+            QueryAnswer::Sheet(sheet) => shows(alloc, &sheet, &self.case.3),
+            QueryAnswer::Expected(is_expected) => Some(is_expected),
         }
     }
 }
@@ -473,7 +473,7 @@ fn act_and_close<J: Naming, R: Wait + Drop, W: Wait + Drop>(
 }
 
 // Open a prepared store, try the call or the closing after the call, and judge the closed store.
-fn goes<J: Naming, R: Wait + Drop, W: Wait + Drop>(
+fn open_and_try<J: Naming, R: Wait + Drop, W: Wait + Drop>(
     rt: W,
     alloc: Global,
     prepared: Prepared<R>,
@@ -521,7 +521,7 @@ fn try_in_store<R: Wait + Drop + Copy>(
 ) -> Option<Verdict> {
     let given = scenario_of(alloc, case)?;
     let prepared = prepare_for_two(rt, alloc)?;
-    goes::<Brand, R, R>(rt, alloc, prepared, given, until, closing, case)
+    open_and_try::<Brand, R, R>(rt, alloc, prepared, given, until, closing, case)
 }
 
 /// Try a call of a session, or the closing of the store after it, which does not allocate. If the store is closed as

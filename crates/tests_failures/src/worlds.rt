@@ -30,14 +30,14 @@ pub(crate) enum Act {
 /// An event of a list: the replica at which it happens, what happens, its reply, and the row at the replica's horizon
 /// after the event.
 #[derive(Clone, Copy)]
-pub(crate) struct Told(
+pub(crate) struct ListEvent(
     pub(crate) u32,
     pub(crate) Act,
     pub(crate) Reply,
     pub(crate) &'static str,
 );
 
-impl Told {
+impl ListEvent {
     // Make the event, or return `None` if an allocation for its edits failed.
     fn event(&self, alloc: Global) -> Option<Event> {
         let at = self.0;
@@ -64,48 +64,48 @@ impl Told {
 
 /// Events of each kind: two replicas make edits, one of them asks the other for missing edits, and the third takes the
 /// answer.
-pub(crate) const EXCHANGE: &[Told] = &[
-    Told(0, Act::Advance(6), Reply::Horizon(6), "0..2...2...."),
-    Told(
+pub(crate) const EXCHANGE: &[ListEvent] = &[
+    ListEvent(0, Act::Advance(6), Reply::Horizon(6), "0..2...2...."),
+    ListEvent(
         0,
         Act::Edit(LIMIT, 3, 1),
         Reply::Stamped(stamp!(1, 0)),
         "0.1.1...1...",
     ),
-    Told(
+    ListEvent(
         0,
         Act::Edit(BLOCK, 4, 1),
         Reply::Stamped(stamp!(2, 0)),
         "0.1.1..0#...",
     ),
-    Told(0, Act::Send, Reply::Message(0), "0.1.1..0#..."),
-    Told(1, Act::Advance(6), Reply::Horizon(6), "0..2...2...."),
-    Told(1, Act::Take(0), Reply::Touched(Some(3)), "0.1.1..0#..."),
-    Told(
+    ListEvent(0, Act::Send, Reply::Message(0), "0.1.1..0#..."),
+    ListEvent(1, Act::Advance(6), Reply::Horizon(6), "0..2...2...."),
+    ListEvent(1, Act::Take(0), Reply::Touched(Some(3)), "0.1.1..0#..."),
+    ListEvent(
         1,
         Act::Edit(LIMIT, 3, 0),
         Reply::Stamped(stamp!(3, 1)),
         "00...0..#...",
     ),
-    Told(
+    ListEvent(
         0,
         Act::Edit(LIMIT, 5, 0),
         Reply::Stamped(stamp!(3, 0)),
         "00.0...0#...",
     ),
-    Told(1, Act::Heads, Reply::Message(1), "00...0..#..."),
-    Told(0, Act::Beyond(1), Reply::Message(2), "00.0...0#..."),
-    Told(2, Act::Advance(6), Reply::Horizon(6), "0..2...2...."),
-    Told(2, Act::Take(2), Reply::Touched(Some(4)), "00...0.0#..."),
-    Told(1, Act::Take(2), Reply::Touched(Some(5)), "00...0..#..."),
-    Told(1, Act::Take(2), Reply::Touched(None), "00...0..#..."),
-    Told(
+    ListEvent(1, Act::Heads, Reply::Message(1), "00...0..#..."),
+    ListEvent(0, Act::Beyond(1), Reply::Message(2), "00.0...0#..."),
+    ListEvent(2, Act::Advance(6), Reply::Horizon(6), "0..2...2...."),
+    ListEvent(2, Act::Take(2), Reply::Touched(Some(4)), "00...0.0#..."),
+    ListEvent(1, Act::Take(2), Reply::Touched(Some(5)), "00...0..#..."),
+    ListEvent(1, Act::Take(2), Reply::Touched(None), "00...0..#..."),
+    ListEvent(
         2,
         Act::Withdraw(BLOCK, 4),
         Reply::Stamped(stamp!(4, 2)),
         "00...0...0..",
     ),
-    Told(
+    ListEvent(
         2,
         Act::Import(&[edit!(LIMIT, 3, (5, 64), 1)]),
         Reply::Touched(Some(3)),
@@ -161,21 +161,21 @@ fn draw_world(alloc: Global, portrait: &mut Portrait, world: &World) -> Option<(
 }
 
 // Return the row that a replica shows after the events of a list.
-fn row_after(list: &[Told], at: u32) -> &'static str {
+fn row_after(list: &[ListEvent], at: u32) -> &'static str {
     let mut row = "............";
-    for told in list {
-        if told.0 == at {
-            row = told.3;
+    for listed in list {
+        if listed.0 == at {
+            row = listed.3;
         }
     }
     row
 }
 
 // Return how many messages the events of a list make.
-fn messages_after(list: &[Told]) -> u64 {
+fn messages_after(list: &[ListEvent]) -> u64 {
     let mut count: u64 = 0;
-    for told in list {
-        if let Reply::Message(_) = told.2 {
+    for listed in list {
+        if let Reply::Message(_) = listed.2 {
             count = count.saturating_add(1);
         }
     }
@@ -183,7 +183,7 @@ fn messages_after(list: &[Told]) -> u64 {
 }
 
 // Return whether a world shows what it should after the events of a list.
-fn is_after(alloc: Global, world: &World, list: &[Told]) -> Option<bool> {
+fn is_after(alloc: Global, world: &World, list: &[ListEvent]) -> Option<bool> {
     let count = messages_after(list);
     let last = count
         .checked_sub(1)
@@ -232,16 +232,16 @@ fn apply_event(alloc: Global, world: &mut World, event: &Event) -> Result<Reply,
 }
 
 // Apply an event of a list, which must be accepted.
-fn accept(alloc: Global, world: &mut World, told: &Told) -> Option<()> {
-    let event = told.event(alloc)?;
+fn accept(alloc: Global, world: &mut World, listed: &ListEvent) -> Option<()> {
+    let event = listed.event(alloc)?;
     apply_event(alloc, world, &event).ok()?;
     Some(())
 }
 
 // Apply the events of a list, which must all be accepted.
-fn accept_all(alloc: Global, world: &mut World, list: &[Told]) -> Option<()> {
-    for told in list {
-        accept(alloc, world, told)?;
+fn accept_all(alloc: Global, world: &mut World, list: &[ListEvent]) -> Option<()> {
+    for listed in list {
+        accept(alloc, world, listed)?;
     }
     Some(())
 }
@@ -397,10 +397,10 @@ fn accept_list(alloc: Global, events: &[Event], played: Played) -> Result<Played
 }
 
 // Return whether each event of a list was answered as expected.
-fn are_wanted(replies: &[Result<Reply, WorldFault>], list: &[Told]) -> bool {
+fn are_wanted(replies: &[Result<Reply, WorldFault>], list: &[ListEvent]) -> bool {
     let mut are_wanted = replies.len() == list.len();
-    for (reply, told) in replies.iter().zip(list) {
-        are_wanted = are_wanted && matches!(reply, Ok(reply) if *reply == told.2);
+    for (reply, listed) in replies.iter().zip(list) {
+        are_wanted = are_wanted && matches!(reply, Ok(reply) if *reply == listed.2);
     }
     are_wanted
 }
@@ -427,10 +427,10 @@ impl Call for Playing {
 }
 
 // Return the events of a list.
-fn events_of(alloc: Global, list: &[Told]) -> Option<Vec<Event>> {
+fn events_of(alloc: Global, list: &[ListEvent]) -> Option<Vec<Event>> {
     let mut events = Vec::new(alloc);
-    for told in list {
-        events.push(told.event(alloc)?).ok()?;
+    for listed in list {
+        events.push(listed.event(alloc)?).ok()?;
     }
     Some(events)
 }

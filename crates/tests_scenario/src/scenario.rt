@@ -61,7 +61,7 @@ const TWO: Edit = edit!(LIMIT, 0, (7, 64), 2);
 
 const THREE: Edit = edit!(LIMIT, 0, (7, 64), 3);
 
-/// An edit, and another edit for the same object and step that wins.
+/// Two edits for the same object and step. The second one wins.
 const ONE: Edit = edit!(LIMIT, 3, (1, 0), 1);
 
 const NEXT: Edit = edit!(LIMIT, 3, (2, 1), 2);
@@ -181,7 +181,8 @@ const ALL_KINDS: &[Edit] = &[
     edit!(LIMIT, 3, (1, 0), 9),
 ];
 
-/// A limit, a slowing chance, an inflow, the blocked cells, whether the detector is on, and the chance of standing cars.
+/// A limit, a slowing chance, an inflow, the blocked cells, whether the detector is on, and the chance of standing
+/// cars.
 type Given = (u32, u32, u32, &'static [u32], bool, u32);
 
 /// Steps, and the settings of the free road that these edits give.

@@ -28,19 +28,19 @@ pub(crate) fn sink_for(alloc: Global, room: usize) -> Result<MemorySink, OutOfMe
 
 /// A hasher with one hash for all names, so that each look-up compares names.
 #[derive(Clone, Copy, Debug)]
-pub(crate) struct AllAlike;
+pub(crate) struct EqualHashes;
 
-impl BuildHasher for AllAlike {
-    type Hasher = AllAlike;
+impl BuildHasher for EqualHashes {
+    type Hasher = EqualHashes;
 
     ghost build_hasher = { λ builder. builder };
 
-    fn build_hasher(&self) -> AllAlike {
-        AllAlike
+    fn build_hasher(&self) -> EqualHashes {
+        EqualHashes
     }
 }
 
-impl Hasher for AllAlike {
+impl Hasher for EqualHashes {
     ghost write = { λ hasher bytes. hasher };
 
     ghost finish = { λ hasher. 0 };
@@ -53,9 +53,9 @@ impl Hasher for AllAlike {
 }
 
 /// A gatherer that fails to run any crowd: the thread of the first session cannot be started.
-pub(crate) struct Unmanned;
+pub(crate) struct NoThreads;
 
-impl Crowds for Unmanned {
+impl Crowds for NoThreads {
     fn gather(
         &self,
         _alloc: Global,
@@ -141,8 +141,8 @@ fn ends(alloc: Global, input: &str, run: &Run, step: usize) -> Result<bool, Fail
         &mut reader,
         &mut writer,
         &mut Alone,
-        &Unmanned,
-        AllAlike,
+        &NoThreads,
+        EqualHashes,
         lines,
         bytes,
     );
@@ -194,8 +194,8 @@ fn a_refused_plan_ends_the_run(rt: HostRuntime) -> Result<(), Fail> {
         &mut reader,
         &mut writer,
         crew,
-        &Unmanned,
-        AllAlike,
+        &NoThreads,
+        EqualHashes,
     );
     assert!(rt; matches!(ended, Err(ServeFault::BadPlan)));
     Ok(())
@@ -220,8 +220,8 @@ fn a_crowd_without_threads_ends_the_run(rt: HostRuntime) -> Result<(), Fail> {
         &mut reader,
         &mut writer,
         &mut crew,
-        &Unmanned,
-        AllAlike,
+        &NoThreads,
+        EqualHashes,
     );
     assert!(rt; matches!(ended, Err(ServeFault::WorkersGone)) && crew.gone == 0);
     let replies = "{\"open\":3}\n{\"refused\":\"Insider\"}\n";
@@ -266,8 +266,8 @@ fn flushes(alloc: Global, mut holding: Holding) -> bool {
         &mut reader,
         &mut writer,
         &mut Alone,
-        &Unmanned,
-        AllAlike,
+        &NoThreads,
+        EqualHashes,
     );
     drop(writer);
     match ended {

@@ -2,7 +2,7 @@
 
 ghost use Rattle.std.specs.Prelude.{◌<◌, ◌≤◌};
 
-use crate::runs::{AllAlike, Unmanned, sink_for};
+use crate::runs::{EqualHashes, NoThreads, sink_for};
 use crate::sweeps::{ANSWERS, STORED};
 use road_serve::{Failing, MemorySource, run_by};
 use road_workers::{Alone, Crew, CrewFault, Pool};
@@ -23,7 +23,14 @@ const MANY: u64 = 24;
 fn run_stored<C: Crew>(alloc: Global, crew: &mut C) -> Result<(u8, usize), Fail> {
     let mut writer = sink_for(alloc, 1000)?;
     let mut reader = MemorySource::new(STORED.as_bytes(), 1, Failing::Never);
-    let ended = run_by(alloc, &mut reader, &mut writer, crew, &Unmanned, AllAlike);
+    let ended = run_by(
+        alloc,
+        &mut reader,
+        &mut writer,
+        crew,
+        &NoThreads,
+        EqualHashes,
+    );
     let written = writer.bytes().len();
     if ANSWERS.as_bytes().get(..written) != Some(writer.bytes()) {
         return Err(Fail::new("the bytes written must be a prefix of the answers"));
@@ -92,7 +99,14 @@ const LONG: &str =
 fn answers_by<C: Crew>(alloc: Global, crew: &mut C, script: &str) -> Result<Vec<u8>, Fail> {
     let mut writer = sink_for(alloc, 20_000)?;
     let mut reader = MemorySource::new(script.as_bytes(), usize::MAX, Failing::Never);
-    let ended = run_by(alloc, &mut reader, &mut writer, crew, &Unmanned, AllAlike);
+    let ended = run_by(
+        alloc,
+        &mut reader,
+        &mut writer,
+        crew,
+        &NoThreads,
+        EqualHashes,
+    );
     if ended.status != 0 {
         return Err(Fail::new("the script must be answered"));
     }

@@ -1,6 +1,6 @@
 //! The stored run with a crew that fails at each of its calls in turn.
 
-use crate::runs::{AllAlike, Unmanned, sink_for};
+use crate::runs::{EqualHashes, NoThreads, sink_for};
 use road_serve::{Failing, MemorySource, run_by};
 use std::alloc::Global;
 use std::test::Fail;
@@ -70,8 +70,8 @@ fn ends_as_expected(alloc: Global, calls: u64) -> Result<bool, Fail> {
         &mut reader,
         &mut writer,
         &mut crew,
-        &Unmanned,
-        AllAlike,
+        &NoThreads,
+        EqualHashes,
     );
     let is_ended = if calls < CALLS {
         ended.status == 7 && ended.line == Some("workers gone") && crew.gone == 1

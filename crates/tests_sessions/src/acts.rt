@@ -54,7 +54,7 @@ pub(crate) struct Script {
 /// The last receipt, and the last sheet that was kept.
 #[derive(Drop)]
 struct Memory<J: Naming> {
-    told: Option<Receipt<J>>,
+    receipt: Option<Receipt<J>>,
     kept: Option<Arc<Sheet>>,
 }
 
@@ -84,8 +84,8 @@ fn kept_shows(alloc: Global, kept: &Option<Arc<Sheet>>, run: Run) -> bool {
 }
 
 // Let a session hear of the last write. Return whether there was one.
-fn hear<J: Naming>(session: &mut Session<J>, told: Option<Receipt<J>>) -> bool {
-    match told {
+fn hear<J: Naming>(session: &mut Session<J>, receipt: Option<Receipt<J>>) -> bool {
+    match receipt {
         Some(receipt) => {
             session.hear(receipt);
             true
@@ -106,10 +106,10 @@ fn try_act<J: Naming, R: Wait + Drop, W: Wait>(
     match act {
         Act::Write(write, wanted) => {
             let (answer, receipt) = parts(write_alone(rt, alloc, shared, session, write));
-            memory.told = receipt;
+            memory.receipt = receipt;
             answer == *wanted
         }
-        Act::Hear => hear(session, memory.told.take()),
+        Act::Hear => hear(session, memory.receipt.take()),
         Act::Keep => {
             memory.kept = session.look(shared).ok();
             memory.kept.is_some()
@@ -143,7 +143,7 @@ pub(crate) fn try_acts<J: Naming, R: Wait + Drop, W: Wait>(
     all: &[(usize, Act)],
 ) -> bool {
     let mut memory = Memory {
-        told: None,
+        receipt: None,
         kept: None,
     };
     let mut well = true;

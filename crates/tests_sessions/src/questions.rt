@@ -166,11 +166,11 @@ fn shows_cars<J: Naming, R: Wait + Drop>(
     session: &mut Session<J>,
     cars: &Cars,
 ) -> bool {
-    let (wanted, told): (&[Car], _) = match cars.1 {
+    let (wanted, expected): (&[Car], _) = match cars.1 {
         Ok(wanted) => (wanted, Ok(true)),
         Err(fault) => (&[], Err(fault)),
     };
-    has_cars(alloc, shared, session, cars.0, wanted) == told
+    has_cars(alloc, shared, session, cars.0, wanted) == expected
 }
 
 // Return the answer to a session that queries a count.

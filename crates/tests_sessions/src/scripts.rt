@@ -28,7 +28,7 @@ const BLOCKS: Act = Act::Write(
 const FULL: Act = Act::Write(Write::Advance(7), Err(WriteFault::JournalFull));
 
 /// One session advances and blocks a cell, and tells the other session. The journal is then full.
-pub(crate) const TOLD: Script = Script {
+pub(crate) const RECEIPT: Script = Script {
     number: 0,
     sessions: 2,
     limit: 2,
@@ -83,7 +83,7 @@ pub(crate) const LAST_MISSING: Script = Script {
         Line::Took(1, &[BLOCKED]),
         Line::Advanced(2, 7),
     ],
-    ..TOLD
+    ..RECEIPT
 };
 
 /// The first session is missing at first, and the last one takes its place.
@@ -109,7 +109,7 @@ pub(crate) const ALONE: Script = Script {
     closing: Closing::WithoutLast,
     journal: &[Line::Advanced(0, 6)],
     rows: FREE_ROWS,
-    ..TOLD
+    ..RECEIPT
 };
 
 const NOT_SIMULATED: LookFault = LookFault::Sheet(SheetFault::NotSimulated);
@@ -156,7 +156,7 @@ pub(crate) const WITHDRAWN: Script = Script {
         Line::Took(0, &[BLOCKED]),
     ],
     rows: FREE_ROWS,
-    ..TOLD
+    ..RECEIPT
 };
 
 /// Three sessions of replica 3 write. Each entry names its session, and the stamps have the number of the replica.
@@ -209,7 +209,7 @@ pub(crate) const KEPT: Script = Script {
     closing: Closing::LastFirst,
     journal: &[Line::Advanced(0, 130), Line::Took(0, &[SLOW])],
     rows: &[(129, ".1.1.1.1.1.."), (130, "0.1.1.1.1.1.")],
-    ..TOLD
+    ..RECEIPT
 };
 
 const OPENS: Act = Act::Look(0, &[(0, "............")]);
@@ -242,5 +242,5 @@ pub(crate) const EIGHT: Script = Script {
     closing: Closing::LastFirst,
     journal: &[Line::Advanced(7, 6)],
     rows: FREE_ROWS,
-    ..TOLD
+    ..RECEIPT
 };

@@ -2,7 +2,7 @@
 
 use crate::acts::{Script, run_script};
 use crate::scripts::{
-    ALONE, CLOSINGS, EIGHT, FIRST_MISSING, KEPT, LAST_MISSING, THREE, TOLD, WITHDRAWN,
+    ALONE, CLOSINGS, EIGHT, FIRST_MISSING, KEPT, LAST_MISSING, RECEIPT, THREE, WITHDRAWN,
 };
 use road_sessions::{OpenFault, Prepared, prepare};
 use std::alloc::Global;
@@ -40,7 +40,7 @@ fn open_and_run_script<R: Wait + Drop + Copy>(rt: R, alloc: Global, script: &Scr
 #[test]
 fn a_session_sees_the_write_that_it_is_told_of(rt: HostRuntime) {
     for closing in CLOSINGS {
-        let script = Script { closing, ..TOLD };
+        let script = Script { closing, ..RECEIPT };
         assert!(rt; open_and_run_script(&rt, rt.alloc(), &script));
     }
 }

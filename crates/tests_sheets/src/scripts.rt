@@ -102,8 +102,7 @@ fn has_cars(alloc: Global, sheet: &Sheet, step: u32, cars: &[Car]) -> Result<boo
     Ok(sheet.state(alloc, step)?.cars() == cars)
 }
 
-// Return whether three give the same road at a step: a cache of a sheet, the sheet, and the sheet that was run from
-// step zero.
+// Return whether a cache of a sheet, the sheet, and the sheet that was run from step zero show the same road at a step.
 fn states_agree(
     alloc: Global,
     sheet: &Sheet,
@@ -118,7 +117,7 @@ fn states_agree(
     Ok(has_cars(alloc, sheet, step, road.cars())? && has_cars(alloc, straight, step, road.cars())?)
 }
 
-// Return whether the three give the same road at all steps of a script, with one cache.
+// Return whether the cache and both sheets show the same road at each step of a script, with one cache for all steps.
 fn all_states_agree(
     alloc: Global,
     sheet: &Sheet,

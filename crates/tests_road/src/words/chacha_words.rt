@@ -1,6 +1,6 @@
-/// The first two blocks of the ChaCha8 keystream under a key of 32 zero bytes, a nonce of zeros and block number 0, four
-/// bytes at a time as they are printed in "Test Vectors for the Stream Cipher ChaCha" (J. Strombergson, Internet-Draft
-/// draft-strombergson-chacha-test-vectors, TC1).
+/// The first two blocks of the ChaCha8 keystream under a key of 32 zero bytes, a nonce of zeros and block number 0,
+/// four bytes at a time as they are printed in "Test Vectors for the Stream Cipher ChaCha" (J. Strombergson,
+/// Internet-Draft draft-strombergson-chacha-test-vectors, TC1).
 pub const ZERO_KEY: &[u32] = &[
     0x3e00ef2f, 0x895f40d6, 0x7f5bb8e8, 0x1f09a5a1, 0x2c840ec3, 0xce9a7f3b, 0x181be188, 0xef711a1e,
     0x984ce172, 0xb9216f41, 0x9f445367, 0x456d5619, 0x314a42a3, 0xda86b001, 0x387bfdb8, 0x0e0cfe42,
