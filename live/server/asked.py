@@ -1,6 +1,6 @@
 """Read what a tab asks, field by field.
 
-    with Asked(verb, fields) as asked:
+    with CommandFields(verb, fields) as asked:
         step = asked.whole("step")
     .. a field of another shape, or one that nobody asked for, is `Refused`
 """
@@ -58,7 +58,7 @@ def folded(name: str) -> str:
     return unicodedata.normalize("NFC", "".join(plain.split()).translate(LOOK_ALIKE))
 
 
-class Asked:
+class CommandFields:
     """The fields of a command; on leaving, those that were not asked for are refused."""
 
     def __init__(self, verb: str, fields: object) -> None:
@@ -67,7 +67,7 @@ class Asked:
         self.verb, self._known = verb, set[str]()
         self._fields: dict[str, Json] = fields
 
-    def __enter__(self) -> Asked:
+    def __enter__(self) -> CommandFields:
         return self
 
     def __exit__(self, kind_of_fault: object, *_: object) -> None:
@@ -86,14 +86,14 @@ class Asked:
 
     def _checked(self, name: str, faults: Part) -> Json:
         value = self.require(name)
-        told = list(islice(faults(value), TOLD))
-        if told:
+        named = list(islice(faults(value), TOLD))
+        if named:
             text = packed(value).encode()
             try:
-                told = list(islice(faults(value_of(text)), TOLD)) if len(text) < LONG else told  # numbers as they were written
+                named = list(islice(faults(value_of(text)), TOLD)) if len(text) < LONG else named  # numbers as they were written
             except ValueError as fault:
-                told = [str(fault)]
-            raise not_a_command(f"`{name}`: {'; '.join(told)}")
+                named = [str(fault)]
+            raise not_a_command(f"`{name}`: {'; '.join(named)}")
         return value
 
     def whole(self, name: str, least: int = 0, most: int = GREATEST, default: int | None = None) -> int:

@@ -4,12 +4,12 @@ from __future__ import annotations
 import argparse
 from typing import Callable
 
-from .journal import Broken
+from .journal import CannotStart
 
 try:
     import paho.mqtt.client as mqtt
 except ImportError:
-    raise Broken("python3-paho-mqtt is not installed: apt-get install python3-paho-mqtt") from None
+    raise CannotStart("python3-paho-mqtt is not installed: apt-get install python3-paho-mqtt") from None
 
 connack_string: Callable[[int], str] = mqtt.connack_string
 """Return why a broker does not let a client in."""
@@ -31,14 +31,14 @@ def broker_of(said: str) -> tuple[str, int]:
     """Return host and port of HOST:PORT."""
     host, _, port = said.rpartition(":")
     if not (host and port.isdecimal() and 1 <= int(port) <= 65_535):
-        raise Broken(f"--broker must be HOST:PORT, not {said}")
+        raise CannotStart(f"--broker must be HOST:PORT, not {said}")
     return host, int(port)
 
 
 def needs_tls(options: argparse.Namespace) -> bool:
-    """Return whether a broker is reached by TLS; raise `Broken` if one on another host has no TLS or no password."""
+    """Return whether a broker is reached by TLS; raise `CannotStart` if one on another host has no TLS or no password."""
     host = options.broker.rpartition(":")[0]
     is_here = host in ("127.0.0.1", "::1", "localhost")
     if not is_here and not (options.broker_user and options.broker_password):
-        raise Broken("a broker on another host requires --broker-user, --broker-password and TLS")
+        raise CannotStart("a broker on another host requires --broker-user, --broker-password and TLS")
     return not is_here or options.broker_authority is not None

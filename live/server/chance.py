@@ -58,14 +58,14 @@ class Question:
             self.stop()
         assert self._process.stdin is not None and self._process.stdout is not None
         asked: DaysAsked = {"roads": roads, "days": self.days}
-        told: DaysTold = {}
+        reply: DaysTold = {}
         try:
             self._process.stdin.write(packed(asked).encode())
             self._process.stdin.close()
             async for line in self._process.stdout:
-                told = json.loads(line)
-                if "done" in told:
-                    self.done = told["done"]
+                reply = json.loads(line)
+                if "done" in reply:
+                    self.done = reply["done"]
                     progress()
         except (OSError, ValueError):
             pass
@@ -74,9 +74,9 @@ class Question:
             await self._process.wait()
         if self.is_stopped and not self.done:
             raise Refused("Stopped", "the request was stopped before the first day was simulated")
-        if "fault" in told or self.done < self.days and not self.is_stopped:
-            raise Refused("Failed", told.get("fault", "the figures failed; the server's log says why"))
-        return {"days": self.done, "stopped": self.done < self.days, "figures": told["figures"]}
+        if "fault" in reply or self.done < self.days and not self.is_stopped:
+            raise Refused("Failed", reply.get("fault", "the figures failed; the server's log says why"))
+        return {"days": self.done, "stopped": self.done < self.days, "figures": reply["figures"]}
 
     def stop(self, done: bool = False) -> None:
         """End the process, with all that it has started."""
@@ -126,9 +126,9 @@ def main() -> None:
     try:
         for day in days_of(asked):
             found.append(day)
-            tell({"done": len(found), "figures": told(found)})
+            print_line({"done": len(found), "figures": describe_days(found)})
     except Fault as fault:
-        tell({"fault": str(fault)})
+        print_line({"fault": str(fault)})
 
 
 def days_of(asked: DaysAsked) -> Iterator[Day]:
@@ -159,11 +159,11 @@ def die_with_parent() -> None:
     ctypes.CDLL(None).prctl(1, signal.SIGKILL)  # PR_SET_PDEATHSIG
 
 
-def tell(value: DaysTold) -> None:
+def print_line(value: DaysTold) -> None:
     print(json.dumps(value), flush=True)
 
 
-def told(days: list[Day]) -> list[FigureTold]:
+def describe_days(days: list[Day]) -> list[FigureTold]:
     """Return the figures that each day has, each mean with how far its interval reaches to both sides: of one day that is not known."""
     from zegdrut.days import Day, compare_days
     names = [name for name in days[0].before if all(name in side for day in days for side in (day.before, day.after))]

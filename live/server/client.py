@@ -46,7 +46,7 @@ class Seat:
         self._hello = hello
         self._number = 0
         self._open: dict[int, asyncio.Future[Frame]] = {}
-        self.told: list[Frame] = []
+        self.received: list[Frame] = []
         """All that came without being asked for."""
         self.welcome: Welcome = {}
 
@@ -81,7 +81,7 @@ class Seat:
             value: Frame = json.loads(message.data)
             waiting = self._open.pop(value["id"], None) if "id" in value else None
             if waiting is None:
-                self.told.append(value)
+                self.received.append(value)
             elif not waiting.done():
                 waiting.set_result(value)
         for waiting in self._open.values():

@@ -20,8 +20,12 @@ SUM = 18  # bytes of a checksum, at the end of a line
 SUMMED = re.compile(rb',"(crc|and)":"([0-9a-f]{8})"\}')
 
 
-class Broken(Exception):
-    """The journal has a malformed line, or the folder cannot be used. The text says so in a sentence."""
+class CannotStart(Exception):
+    """The server cannot start with this folder or these options. The text says why in a sentence."""
+
+
+class CorruptJournal(CannotStart):
+    """The journal has a malformed line."""
 
 
 def packed(value: object) -> str:
@@ -44,7 +48,7 @@ class Entries:
         self.size = 0
 
     def __iter__(self) -> Iterator[Entry]:
-        """Yield each entry. `Broken` names a malformed line, unless it is of a write that never ended."""
+        """Yield each entry. `CorruptJournal` names a malformed line, unless it is of a write that never ended."""
         if not self._path.exists():
             return
         left = self._path.stat().st_size if self._most is None else self._most
@@ -56,7 +60,7 @@ class Entries:
                     return
                 try:
                     entry = entry_of(self._path, number, line[:-1])
-                except Broken:
+                except CorruptJournal:
                     if not self._never_ended(line[:-1], file.read(left)):
                         raise
                     return
@@ -71,14 +75,14 @@ class Entries:
 
 
 def read_entries(path: Path, size: int | None = None) -> tuple[list[Entry], int]:
-    """Return the entries of a journal (of its first bytes), and how many bytes they take. `Broken` names a malformed line,
+    """Return the entries of a journal (of its first bytes), and how many bytes they take. `CorruptJournal` names a malformed line,
     unless it is of a write that never ended."""
     entries = Entries(path, size)
     return list(entries), entries.size
 
 
 def entry_of(path: Path, number: int, line: bytes) -> Entry:
-    """Read an entry; raise `Broken` if it is malformed, or its checksum differs."""
+    """Read an entry; raise `CorruptJournal` if it is malformed, or its checksum differs."""
     summed = SUMMED.fullmatch(line[-SUM:])
     text = line[:-SUM] + b"}" if summed else line
     try:
@@ -86,10 +90,10 @@ def entry_of(path: Path, number: int, line: bytes) -> Entry:
             raise ValueError("its checksum differs")
         entry: Json = json.loads(text)
     except (ValueError, RecursionError) as fault:
-        raise Broken(f"{path}, line {number}, is malformed ({fault}): {line[:60]!r}") from None
+        raise CorruptJournal(f"{path}, line {number}, is malformed ({fault}): {line[:60]!r}") from None
     fields = {kind: value for kind, value in entry.items() if isinstance(value, dict)} if isinstance(entry, dict) else {}
     if len(fields) != 1 or fields != entry:
-        raise Broken(f"{path}, line {number}, is not an entry: {line[:60]!r}")
+        raise CorruptJournal(f"{path}, line {number}, is not an entry: {line[:60]!r}")
     return fields
 
 
@@ -97,7 +101,7 @@ def begins_a_write(path: Path, line: bytes) -> bool:
     """Return whether all lines before were confirmed: this one was written behind them."""
     try:
         entry_of(path, 0, line)
-    except Broken:
+    except CorruptJournal:
         return False
     summed = SUMMED.fullmatch(line[-SUM:])
     return summed is None or summed[1] == b"crc"

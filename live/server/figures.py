@@ -242,11 +242,11 @@ def road_of(road: DrivenRoad, wanted: list[Rates], window: Window) -> RoadFigure
             "travel_by_entry": {str(step): times_told(times) for step, times in by_entry.items()}}
 
 
-def compared(before: Trips, after: Trips, told: Sequence[RoadFigures], window: Window) -> FiguresTold:
+def compared(before: Trips, after: Trips, sides: Sequence[RoadFigures], window: Window) -> FiguresTold:
     """Return the figures of both roads, and what the change costs: vehicle hours, cars, and how late these are at each detector."""
     from zegdrut.trips import compare_trips
     found = compare_trips(before, after, window)
-    return {"before": told[0], "after": told[1], "delay_hours": found.delay_hours, "delayed": found.cars,
+    return {"before": sides[0], "after": sides[1], "delay_hours": found.delay_hours, "delayed": found.cars,
             "later": times_told(found.at_sites)}
 
 
@@ -280,8 +280,8 @@ class Roads:
         if done < window.last:
             return {"done": done}
         asked_for = both["demands"]["before"], both["demands"]["after"]
-        told = [road_of(road, road.demands(window.last, one), window) for road, one in zip(roads, asked_for)]
-        return compared(roads[0].trips, roads[1].trips, told, window)
+        sides = [road_of(road, road.demands(window.last, one), window) for road, one in zip(roads, asked_for)]
+        return compared(roads[0].trips, roads[1].trips, sides, window)
 
 
 def leave_one_free() -> None:

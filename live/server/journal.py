@@ -25,7 +25,7 @@ import time
 from pathlib import Path
 from typing import Callable, Iterable, Iterator, ParamSpec, TypeVar
 
-from .entries import Broken as Broken, Entries as Entries, Entry as Entry
+from .entries import CannotStart as CannotStart, CorruptJournal as CorruptJournal, Entries as Entries, Entry as Entry
 from .entries import journal_line as journal_line, packed as packed, read_entries as read_entries
 
 JOURNAL = "journal.jsonl"
@@ -44,7 +44,7 @@ class NotWritten(Exception):
 
 @contextlib.contextmanager
 def lock(folder: Path) -> Iterator[None]:
-    """Hold a folder; two servers there would make one stamp twice. `Broken` if another server holds it, also where its
+    """Hold a folder; two servers there would make one stamp twice. `CannotStart` if another server holds it, also where its
     file `lock` was removed: each holds its journal, too."""
     with contextlib.ExitStack() as files:
         try:
@@ -60,12 +60,12 @@ def lock(folder: Path) -> Iterator[None]:
 
 
 def held(path: Path) -> int:
-    """Open a journal, and lock it until the file is closed; `Broken` if another server has it."""
+    """Open a journal, and lock it until the file is closed; `CannotStart` if another server has it."""
     file = os.open(path, os.O_RDONLY)
     try:
         hold(file, path.parent)
         if os.fstat(file).st_ino != os.stat(path).st_ino:  # a server that has ended since put another in its place
-            raise Broken(f"another server ran in {path.parent} until just now: try again")
+            raise CannotStart(f"another server ran in {path.parent} until just now: try again")
     except BaseException:
         os.close(file)
         raise
@@ -76,7 +76,7 @@ def hold(file: int, folder: Path) -> None:
     try:
         fcntl.flock(file, fcntl.LOCK_EX | fcntl.LOCK_NB)
     except BlockingIOError:
-        raise Broken(f"another server runs in {folder}") from None
+        raise CannotStart(f"another server runs in {folder}") from None
 
 
 def is_read_only(fault: OSError) -> bool:

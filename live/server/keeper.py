@@ -21,7 +21,7 @@ from zegdrut.wire import ReplyFields
 
 from .asked import why_refused
 from .records import JOURNAL_FORM, AnyEntry, Clock, Folder, Made, Upgraded, read_plan_line
-from .journal import Broken, Entries, Entry, Journal, NotWritten, packed, put_in_place, sync_folder
+from .journal import CannotStart, CorruptJournal, Entries, Entry, Journal, NotWritten, packed, put_in_place, sync_folder
 from .listeners import Listeners
 from .model.operations import Json, Operation
 from .model.road import Road
@@ -51,8 +51,8 @@ class NotKept(Refused):
         super().__init__("NotWritten", f"it could not be kept, and was not done: {fault}. Try again later")
 
 
-async def nothing() -> None:
-    """Do nothing, as a job."""
+async def do_nothing() -> None:
+    """Do do_nothing, as a job."""
 
 
 class Keeper:
@@ -62,18 +62,18 @@ class Keeper:
         self.folder, self.path, self.settings = folder, program, settings
         self.stamps = StampClock(settings.milliseconds)
         self.state = State(self.stamps, time.time_ns() // 1_000)
-        self.wanted: dict[int, int] = {}  # how far each replica shall have run
-        self.here: set[int] = set()  # seats with a tab
-        self.turns = Turns(self._around, may_be_within=lambda: self.journal.failures == self._forgotten)
+        self.target_steps: dict[int, int] = {}  # how far each replica shall have run
+        self.connected: set[int] = set()  # seats with a tab
+        self.turns = Turns(self._with_program, may_be_within=lambda: self.journal.failures == self._forgotten)
         self.changes = 0  # of the program
         self.why_changed: str | None = None  # for people, where it was not to be
-        self.undone = 0  # operations that were undone or withdrawn since the oldest were forgotten
+        self.undo_count = 0  # operations that were undone or withdrawn since the oldest were forgotten
         self._trouble: str | None = None
         self._is_stalled = False
         self._try: asyncio.Future[str | None] | None = None  # of a disk that took nothing
         self.confirmed = 0  # how many of the shared operations are on the disk: nobody hears of others
         self._forgotten = 0  # failures of the journal after which what was not written was forgotten
-        self.since = time.monotonic()
+        self.clock_started = time.monotonic()
         self._former: int | None = None  # the form of a journal that is still to be written again
         self.differences = Differences()
         self._screen: Screen | None = None
@@ -84,7 +84,7 @@ class Keeper:
     # Start
 
     async def open(self, plan: Callable[[], Mapping[str, Json]], site: int | None) -> bool:
-        """Read the journal, or begin one of this plan, and start the program. Return whether the journal is new. Raise `Broken`
+        """Read the journal, or begin one of this plan, and start the program. Return whether the journal is new. Raise `CannotStart`
         if it cannot be read; a program that refuses the plan leaves the folder as it was."""
         path = self.folder / "journal.jsonl"
         entries = Entries(path)
@@ -92,7 +92,7 @@ class Keeper:
         self.confirmed = self.state.shared.size
         is_new = count == 0
         if not is_new and site not in (None, self.state.site):
-            raise Broken(f"{self.folder} belongs to site {self.state.site}, and its site never changes")
+            raise CannotStart(f"{self.folder} belongs to site {self.state.site}, and its site never changes")
         if is_new:
             first: dict[str, Json] = {**plan(), "replicas": [self.state.replica(seat.index).at for seat in self.state.seats]}
             # A program must take it before it is written that this is the plan.
@@ -103,11 +103,11 @@ class Keeper:
         elif form != JOURNAL_FORM:
             self._former = form
             await self._upgrade()
-        self.since = time.monotonic()
+        self.clock_started = time.monotonic()
         self._forget()
         self._screen = await self._start()
-        self.tasks = [supervised("what seats ask", self.turns.run, self.ended),
-                      supervised("the look at the disk", self._watch_disk, self.ended)]
+        self.tasks = [supervised("what seats ask", self.turns.run, self.report_end),
+                      supervised("the look at the disk", self._watch_disk, self.report_end)]
         return is_new
 
     async def _upgrade(self) -> None:
@@ -134,18 +134,18 @@ class Keeper:
         for number, entry in enumerate(entries, 1):
             try:
                 state.read(entry)
-            except Broken as fault:
-                raise Broken(f"{self.folder / 'journal.jsonl'}, line {number}: {fault}") from None
+            except CorruptJournal as fault:
+                raise CorruptJournal(f"{self.folder / 'journal.jsonl'}, line {number}: {fault}") from None
         if number and state.plan is NO_PLAN:
-            raise Broken(f"{self.folder / 'journal.jsonl'} does not begin with a plan")
+            raise CorruptJournal(f"{self.folder / 'journal.jsonl'} does not begin with a plan")
         form = state.form
         state.end_reading()
         state.shared.prepare()
         return state, number, form
 
-    def ended(self, sentence: str) -> None:
+    def report_end(self, sentence: str) -> None:
         """Tell people that a part of the server has ended, and is started again."""
-        self.listeners.ended.tell(sentence)
+        self.listeners.ended.notify(sentence)
 
     async def close(self) -> None:
         """End the program. What was confirmed is on the disk."""
@@ -153,7 +153,7 @@ class Keeper:
             task.cancel()
         if self._screen is not None:
             self.program.kill()
-        self.no_successor()
+        self.cancel_successor()
         if hasattr(self, "journal"):
             await self.journal.close()
 
@@ -163,28 +163,28 @@ class Keeper:
         entry.apply(self.state)
         if isinstance(entry, Made):
             one = entry.operation
-            self.undone += one.undoes is not None or None in one.sets.values()
+            self.undo_count += one.undoes is not None or None in one.sets.values()
         upto = self.state.shared.size
 
-        def is_there() -> None:
+        def confirm() -> None:
             self.confirmed = max(self.confirmed, upto)
-        done = self.journal.write(entry.written(), is_there)
+        done = self.journal.write(entry.written(), confirm)
         done.add_done_callback(self._is_written)
         return done
 
-    def record_late(self, entry: AnyEntry, then: Callable[[], None]) -> asyncio.Future[None]:
+    def apply_when_written(self, entry: AnyEntry, then: Callable[[], None]) -> asyncio.Future[None]:
         """Apply an entry once it is on the disk, when the future is done."""
-        def so() -> None:
+        def apply() -> None:
             entry.apply(self.state)
             then()
         self._check_disk()
-        done = self.journal.write(entry.written(), so)
+        done = self.journal.write(entry.written(), apply)
         done.add_done_callback(self._is_written)
         return done
 
     def _is_written(self, done: asyncio.Future[None]) -> None:
         if not done.cancelled() and done.exception() is not None:
-            self.turns.ask(SHARED, nothing)  # before it what is not written is forgotten
+            self.turns.ask(SHARED, do_nothing)  # before it what is not written is forgotten
 
     # The disk
 
@@ -203,13 +203,13 @@ class Keeper:
             if self.journal.waits(STALLS) != self._is_stalled:
                 self._is_stalled = not self._is_stalled
                 logging.warning("the disk %s", "does not answer" if self._is_stalled else "has answered")
-                self.listeners.trouble.tell()
+                self.listeners.trouble.notify()
 
     def _check_disk(self) -> None:
         if self.journal.fault is not None:
             raise NotKept(self.journal.fault)
 
-    async def writable(self) -> None:
+    async def require_writable(self) -> None:
         """Try the disk, in a job that will write, if it took nothing before. Raise `Refused` if it still takes nothing."""
         if self.journal.fault is None:
             return
@@ -233,15 +233,15 @@ class Keeper:
             return f"the disk does not accept it ({fault.strerror})"
         await self._upgrade()
         self._trouble = None
-        self.listeners.trouble.tell()
+        self.listeners.trouble.notify()
         return None
 
-    async def until_writable(self) -> None:
+    async def wait_until_writable(self) -> None:
         """While the disk takes nothing it is tried after a growing while."""
         pause = 1.0
         while self.journal.fault is not None:
             with contextlib.suppress(Refused):
-                await self.turns.ask(SHARED, self.writable)
+                await self.turns.ask(SHARED, self.require_writable)
                 return
             await asyncio.sleep(pause)
             pause = min(LONGEST_PAUSE, 2 * pause)
@@ -256,18 +256,18 @@ class Keeper:
         failures = self.journal.failures
         logging.error("%s: returning to what is on the disk", self.journal.fault)
         self._trouble = self.journal.fault
-        self.listeners.trouble.tell()
+        self.listeners.trouble.notify()
         try:
             state, _, _ = await asyncio.to_thread(lambda: self._read(self.journal.confirmed()))
-        except (OSError, Broken) as fault:
+        except (OSError, CannotStart) as fault:
             raise NotKept(f"what is on the disk cannot be read ({fault})") from None
         clock, self.state, self.confirmed = self.clock(), state, state.shared.size
         clock.apply(self.state)
-        self.since = time.monotonic()
+        self.clock_started = time.monotonic()
         await self.replace()
         self._forgotten = failures
-        self.listeners.shared.tell(0)
-        self.listeners.seats.tell()
+        self.listeners.shared.notify(0)
+        self.listeners.seats.notify()
 
     @property
     def reference(self) -> str:
@@ -290,7 +290,7 @@ class Keeper:
     def program(self) -> Program:
         return self.screen.program
 
-    async def _around(self, job: Callable[[], Awaitable[T]]) -> T:
+    async def _with_program(self, job: Callable[[], Awaitable[T]]) -> T:
         """Do a job with a program that lives and holds nothing that is not written."""
         try:
             for _ in range(2):
@@ -308,21 +308,21 @@ class Keeper:
 
     async def replace(self, why: str | None = None) -> None:
         """Start another program in the place of this one. Its replicas are shown their roads when they are next asked."""
-        self.no_successor()
+        self.cancel_successor()
         self.why_changed = why
         old, self._screen = self._screen, await self._start()
         self.changes += 1
         if old is not None:
             old.program.kill()
-        self.listeners.program.tell()
+        self.listeners.program.notify()
 
     def _forget(self) -> None:
         """Forget private operations that say nothing any more, but for the newest: no road differs without them."""
-        self.undone = 0
+        self.undo_count = 0
         for seat in self.state.seats[1:]:
             self.state.forget(seat, KEPT)
 
-    def no_successor(self) -> None:
+    def cancel_successor(self) -> None:
         if self._next is not None:
             self._next.cancel()
             self._next = None
@@ -335,11 +335,11 @@ class Keeper:
             if successor.exception() is None:
                 asyncio.ensure_future(self.program.close())
                 self._screen, self.changes, self.why_changed = successor.result(), self.changes + 1, None
-                self.listeners.program.tell()
+                self.listeners.program.notify()
             else:
                 logging.warning("no program is ready to replace this one: %s", successor.exception())
         settings = self.settings
-        is_late = (self.program.lines >= settings.most_lines or self.undone >= settings.most_undone
+        is_late = (self.program.lines >= settings.most_lines or self.undo_count >= settings.most_undone
                    or self.screen.withdrawn >= settings.most_withdrawn)
         if self._next is None and is_late:
             self._forget()
@@ -348,8 +348,8 @@ class Keeper:
     async def _successor(self) -> Screen:
         screen = await self._start()
         try:
-            for index in (SHARED, *self.here):
-                while not await self._bring(screen, index):
+            for index in (SHARED, *self.connected):
+                while not await self._run_to_target(screen, index):
                     pass
         except BaseException:
             screen.program.kill()
@@ -360,13 +360,13 @@ class Keeper:
         """Return the road that a replica of the program shall show. The shared one has what is on the disk."""
         return self.state.shared.upto(self.confirmed) if index == SHARED else self.state.seats[index].road
 
-    async def _bring(self, screen: Screen, index: int) -> bool:
+    async def _run_to_target(self, screen: Screen, index: int) -> bool:
         """Bring a replica one piece of what it lacks: edits of its road, or some steps. Return whether it lacks nothing."""
         at, road, shown = self.state.replica(index).at, self.road(index), screen.shown(index)
         if shown is not road:
             await screen.show(index, at, road, await self.differences.between(shown, road))
             return False
-        to = self.wanted.get(index, 0)
+        to = self.target_steps.get(index, 0)
         return screen.program.horizons.get(at, 0) >= to or await screen.program.advance(at, to) >= to
 
     def ask(self, turn: int, replicas: tuple[int, ...], body: Job[T], at_leisure: bool = False,
@@ -378,7 +378,7 @@ class Keeper:
             if len(failures) > 1:
                 raise NotKept(self.journal.fault or "the disk did not accept it")
             for index in replicas:
-                if not await self._bring(self.screen, index):
+                if not await self._run_to_target(self.screen, index):
                     return MORE
             return await body()
         failures: set[int] = set()
@@ -389,7 +389,7 @@ class Keeper:
         return self.state.shared.places.get(one, self.confirmed) < self.confirmed
 
     async def read_committed(self, look: Callable[[], Awaitable[T]], may_see: str = "all") -> T:
-        """Return what `look` gives, once what it may have seen of others is on the disk: nothing, what was `shared`, or `all`.
+        """Return what `look` gives, once what it may have seen of others is on the disk: do_nothing, what was `shared`, or `all`.
         Look again if that was not taken."""
         while True:
             failures = self._forgotten  # not those of the journal: what is forgotten just now may still be looked at
@@ -403,7 +403,7 @@ class Keeper:
             else:
                 if failures == self._forgotten == self.journal.failures:
                     return found
-            await self.turns.ask(SHARED, nothing)
+            await self.turns.ask(SHARED, do_nothing)
 
     async def say(self, line: bytes, times: Times) -> bytes:
         """Return the program's reply to a line, in a job; raise its refusal."""
@@ -429,4 +429,4 @@ class Keeper:
     def now(self) -> int:
         """Return the step of the clock."""
         last = LAST_HORIZON if self.state.stop is None else self.state.stop
-        return min(last, self.state.now + int(self.state.rate * (time.monotonic() - self.since)))
+        return min(last, self.state.now + int(self.state.rate * (time.monotonic() - self.clock_started)))

@@ -39,7 +39,7 @@ Reply = Mapping[str, object]
 """The fields of a reply to a tab."""
 NewsReply = TypedDict("NewsReply", {"size": int, "from": "list[str]", "shares": "list[dict[str, Json]]", "changes": "list[Act]"})
 Called = Union[Stamp, str]  # a stamp, or the key of an operation of the seat
-Makes = Callable[[SeatReplica, Stamp, About], Operation]  # makes an operation of this stamp
+MakeOperation = Callable[[SeatReplica, Stamp, About], Operation]  # makes an operation of this stamp
 T = TypeVar("T")
 
 
@@ -69,7 +69,7 @@ class Lab:
         is_new = await self.keeper.open(plan, site)
         self._checks = Checks(self.state.plan)
         self.keeper.tasks.append(supervised("the clock, seats that nobody uses and a long journal", self._look_after,
-                                            self.keeper.ended))
+                                            self.keeper.report_end))
         return is_new
 
     @property
@@ -82,7 +82,7 @@ class Lab:
         size, rounds = settings.most_journal, 0
         while True:
             await asyncio.sleep(1)
-            await self.keeper.until_writable()
+            await self.keeper.wait_until_writable()
             if self.keeper.journal.fault is not None:
                 continue
             rounds += 1
@@ -108,16 +108,16 @@ class Lab:
         if shape is not None:
             self._checks.shape(shape)
 
-        def makes(seat: SeatReplica, stamp: Stamp, about: About) -> Operation:
-            changed = self._line(seat, line)
+        def make_operation(seat: SeatReplica, stamp: Stamp, about: About) -> Operation:
+            changed = self._find_line(seat, line)
             said = demand if demand is not None or shape is None else kept_demand(seat.road, changed, shape)
             return change(seat.road, stamp, changed, shape, top, with_more(about, written_demand(said)))
-        return await self._make(index, key, note, times, makes)
+        return await self._make(index, key, note, times, make_operation)
 
     async def lift_line(self, index: int, times: Times, *, key: str, note: str, line: Called) -> Reply:
         """Put a line of the list on top, as it is."""
         return await self._make(index, key, note, times, lambda seat, stamp, about: lift(
-            stamp, self._line(seat, line), about))
+            stamp, self._find_line(seat, line), about))
 
     async def put_edits(self, index: int, times: Times, *, key: str, note: str, edits: Sequence[RawEdit],
                         shape: Shape | None = None) -> Reply:
@@ -130,21 +130,21 @@ class Lab:
 
     async def undo(self, index: int, times: Times, *, key: str, note: str, stamp: Called) -> Reply:
         """Undo an operation."""
-        def makes(seat: SeatReplica, new: Stamp, about: About) -> Operation:
-            undone = self._held_by(seat, stamp)
+        def make_operation(seat: SeatReplica, new: Stamp, about: About) -> Operation:
+            undone = self._find_operation(seat, stamp)
             if not would_change(seat.road, undone):
                 raise Refused("NothingToUndo", self._why_nothing(seat, undone))
             return undo(new, undone, about)
-        return await self._make(index, key, note, times, makes)
+        return await self._make(index, key, note, times, make_operation)
 
     async def put_again(self, index: int, times: Times, *, key: str, stamp: Called) -> Reply:
         """Do once more what an operation did to its lines, on top."""
-        def makes(seat: SeatReplica, new: Stamp, about: About) -> Operation:
-            old = self._held_by(seat, stamp)
+        def make_operation(seat: SeatReplica, new: Stamp, about: About) -> Operation:
+            old = self._find_operation(seat, stamp)
             if not old.names:
                 raise Refused("NothingToPut", "an undo cannot be repeated: change the line itself")
             return repeat(seat.road, new, old, About(about.who, old.about.note, about.when, old.about.shape, old.about.more))
-        return await self._make(index, key, "", times, makes)
+        return await self._make(index, key, "", times, make_operation)
 
     async def exclude_site(self, index: int, times: Times, *, key: str, note: str, site: int, out: bool) -> Reply:
         """Let nothing count that a site made and will make; or let it count again."""
@@ -152,15 +152,15 @@ class Lab:
             raise Refused("OwnSite", f"site {site} cannot exclude itself: another site must do it")
         return await self._make(index, key, note, times, lambda seat, stamp, about: exclude(stamp, site, out, about))
 
-    def _called(self, seat: SeatReplica, called: Called) -> Stamp:
+    def _find_stamp(self, seat: SeatReplica, called: Called) -> Stamp:
         stamp = seat.done.get(called) if isinstance(called, str) else seat.renamed.get(called, called)
         if stamp is None:
             raise Refused("NoSuchChange", f"you made no change with the key {called}")
         return stamp
 
-    def _line(self, seat: SeatReplica, called: Called) -> Stamp:
+    def _find_line(self, seat: SeatReplica, called: Called) -> Stamp:
         """Return a line of the seat's list, named by its stamp or by an operation that changed it."""
-        line = self._called(seat, called)
+        line = self._find_stamp(seat, called)
         if not stands(seat.road, line) and not seat.road.setters_of(line):
             held = self.state.held_by(seat, line)
             if not held:
@@ -171,8 +171,8 @@ class Lab:
                 raise Refused("NoSuchChange", "this line excludes a site, and has no shape")
         return line
 
-    def _held_by(self, seat: SeatReplica, called: Called) -> Operation:
-        stamp = self._called(seat, called)
+    def _find_operation(self, seat: SeatReplica, called: Called) -> Operation:
+        stamp = self._find_stamp(seat, called)
         held = self.state.held_by(seat, stamp)
         if not held:
             raise Refused("NoSuchChange", f"you hold no change with the stamp {list(stamp)}")
@@ -190,7 +190,7 @@ class Lab:
         later = sorted({other.about.who for other in by if other.names or other.excludes})
         return f"{' and '.join(later)} changed it since" if later else "nothing of it is left"
 
-    async def _make(self, index: int, key: str, note: str, times: Times, makes: Makes) -> Reply:
+    async def _make(self, index: int, key: str, note: str, times: Times, make_operation: MakeOperation) -> Reply:
         """Make an operation, once for each key, and answer when it is on the disk."""
         async def make(write: Write) -> Reply:
             seat = self.seating.owned(index)
@@ -198,23 +198,23 @@ class Lab:
                 write.dones.extend(self._pending.get((index, key), ()))
                 return {"stamp": seat.done[key], "touched": None, "again": True, **self.list_of(seat, seat.version)}
             await write.ready()
-            self._stamp_anew(seat, write)
+            self._restamp_early(seat, write)
             before, version = seat.road, self._version(seat)
-            one = self._made(seat, note, makes)
+            one = self._new_operation(seat, note, make_operation)
             write.record(Made(index, one, key))
             self._pending[index, key] = write.dones
             write.dones[-1].add_done_callback(lambda _: self._pending.pop((index, key), None))
             return {"stamp": one.stamp, "touched": await self._touched(before, seat.road), **self.list_of(seat, version)}
         return await self._write(index, make, times, takes_long=False)
 
-    def _early(self, seat: SeatReplica) -> list[Operation]:
+    def _find_early(self, seat: SeatReplica) -> list[Operation]:
         """Return the private operations that are stamped more than a day ahead of the clock."""
         latest = self.keeper.stamps.latest_count()
         return [one for one in self.state.private(seat) if one.stamp[0] > latest]
 
-    def _stamp_anew(self, seat: SeatReplica, write: Write) -> None:
+    def _restamp_early(self, seat: SeatReplica, write: Write) -> None:
         """Give new stamps to private operations that a wrong clock has put too far ahead: no other site would take them."""
-        early = in_order(self._early(seat))
+        early = in_order(self._find_early(seat))
         if not early:
             return
         count, number = self.state.stamp(seat)
@@ -223,11 +223,11 @@ class Lab:
             stamped_anew(early, stamps)
             write.record(StampedAnew(seat.index, stamps))
 
-    def _made(self, seat: SeatReplica, note: str, makes: Makes) -> Operation:
+    def _new_operation(self, seat: SeatReplica, note: str, make_operation: MakeOperation) -> Operation:
         """Return a new operation that any site takes and that changes something; raise `Refused` if there is none."""
         stamp = self.state.stamp(seat)
         try:
-            one = makes(seat, stamp, About(seat.name, note, int(time.time())))
+            one = make_operation(seat, stamp, About(seat.name, note, int(time.time())))
         except ValueError:
             raise Refused("Count", "this change is stamped more than a day ahead of the clock: wait until that "
                           "day to change it") from None
@@ -287,9 +287,9 @@ class Lab:
         """Give own operations to the shared road."""
         async def make(write: Write) -> tuple[list[Stamp], int | None]:
             seat, shared = self.seating.owned(index), self.state.shared
-            if self._early(seat):
+            if self._find_early(seat):
                 await write.ready()
-                self._stamp_anew(seat, write)
+                self._restamp_early(seat, write)
             chosen = None if stamps is None else {seat.renamed.get(stamp, stamp) for stamp in stamps}
             given = seat.shareable() if chosen is None else sendable(seat.road, shared.road, seat.number, chosen)
             before = shared.road
@@ -299,7 +299,7 @@ class Lab:
             return [one.stamp for one in given], await self._touched(before, shared.road)
         found, touched = await self._write(index, make, times)
         if found:
-            self.keeper.listeners.shared.tell(touched)
+            self.keeper.listeners.shared.notify(touched)
         return {"message": "shared", "size": len(found), "stamps": found, "touched": touched}
 
     async def take(self, index: int, times: Times) -> Reply:
@@ -319,7 +319,7 @@ class Lab:
                     "changes": [lister.operation(one, None) for one in came[-MOST_TOLD:]], **self.list_of(seat, version)}
         return await self._write(index, make, times, takes_long=True)
 
-    def news(self, index: int, most: int) -> NewsReply:
+    def unseen_shares(self, index: int, most: int) -> NewsReply:
         """Return what was shared by others and this seat has not taken."""
         seat, shared, upto = self.state.seats[index], self.state.shared, self.keeper.confirmed
         begin = max(seat.upto, upto - LOOKED_AT)  # of one who never takes not all is gone through for each news
@@ -327,7 +327,7 @@ class Lab:
         shares = [one for one in self.state.shares if seat.upto < one.upto <= upto]
         lister = Lister(self.state, shared, self.keeper.road(SHARED))
         return {"size": len(fresh) + begin - seat.upto, "from": sorted({one.about.who for one in fresh})[:10],
-                "shares": [one.told() for one in shares[-20:]],
+                "shares": [one.reply_fields() for one in shares[-20:]],
                 "changes": [lister.operation(one, None) for one in fresh[-most:]]}
 
     async def works_are_shared(self) -> None:
@@ -336,7 +336,7 @@ class Lab:
 
     # What comes from other sites
 
-    async def came(self, operations: list[Operation], title: str, times: Times) -> bool:
+    async def receive(self, operations: list[Operation], title: str, times: Times) -> bool:
         """Take operations of another site; all passed `check`. Return whether there was anything new. `times` gets the
         `work`."""
         async def make(write: Write) -> int | None:
@@ -357,7 +357,7 @@ class Lab:
         if not is_new:
             await confirmed(self.keeper.journal.settled(), times)
             return False
-        self.keeper.listeners.shared.tell(touched)
+        self.keeper.listeners.shared.notify(touched)
         return True
 
     def check(self, one: Operation) -> None:
@@ -368,6 +368,6 @@ class Lab:
         """Write down that a site's number is this folder's."""
         await confirmed(self.keeper.record(Bound(number, folder)), {})
 
-    async def back(self, stamps: list[Stamp]) -> None:
+    async def acknowledge(self, stamps: list[Stamp]) -> None:
         """Note that these came back from the broker: they need not be sent again."""
         await confirmed(self.keeper.record(CameBack(stamps)), {})

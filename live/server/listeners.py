@@ -1,7 +1,7 @@
 """Tell listeners when something has changed.
 
     listeners.shared.on(tell_tabs)
-    listeners.shared.tell(step)
+    listeners.shared.notify(step)
 """
 from __future__ import annotations
 
@@ -19,7 +19,7 @@ class Topic(Generic[P]):
     def on(self, listener: Callable[P, object]) -> None:
         self._listeners.append(listener)
 
-    def tell(self, *news: P.args, **named: P.kwargs) -> None:
+    def notify(self, *news: P.args, **named: P.kwargs) -> None:
         for listener in self._listeners:
             listener(*news, **named)
 

@@ -85,7 +85,7 @@ class Peers:
         if is_new:
             self._tell()
 
-    async def _bind(self, folder: str, number: int, told: Json) -> None:
+    async def _bind(self, folder: str, number: int, said: Json) -> None:
         """Write down whose a number is, and who this site's own one is bound to, as another site says."""
         state = self._keeper.state
         own, before = state.site, state.bound.get(number)
@@ -96,7 +96,7 @@ class Peers:
         elif before and before != folder:
             self._say(f"Number {number} is bound to another folder than the one that uses it now. If the one that uses it is right: live/road "
                       f"NAME unbind {number}")
-        other = told.get(str(own)) if isinstance(told, dict) else None
+        other = said.get(str(own)) if isinstance(said, dict) else None
         if type(other) is not str or other == self._id or self.is_anothers():
             return
         if state.bound.get(own) == self._id:

@@ -13,8 +13,8 @@ from zegdrut.clock import Clock
 from zegdrut.demand import find_rate
 from zegdrut.wire import PlanLine
 
-from .asked import LONGEST_NAME, Asked, clean_text
-from .journal import Broken, packed
+from .asked import LONGEST_NAME, CommandFields, clean_text
+from .journal import CannotStart, packed
 from .lab import Lab
 from .model.demands import INFLOW
 from .model.operations import END, Json, Shape
@@ -57,14 +57,14 @@ def read_plan(path: Path) -> dict[str, Json]:
     try:
         text = path.read_bytes()
     except OSError as fault:
-        raise Broken(f"no plan at {path}: {fault.strerror}") from None
+        raise CannotStart(f"no plan at {path}: {fault.strerror}") from None
     try:
         value: Json = json.loads(text)
         packed(value).encode()  # halves of signs, and NaN, can be read and not written
     except (ValueError, RecursionError) as fault:
-        raise Broken(f"{path} is neither a plan line nor a freeway in km: {fault}") from None
+        raise CannotStart(f"{path} is neither a plan line nor a freeway in km: {fault}") from None
     if not isinstance(value, dict):
-        raise Broken(f"{path} is neither a plan line nor a freeway in km: it is not a JSON object")
+        raise CannotStart(f"{path} is neither a plan line nor a freeway in km: it is not a JSON object")
     return value
 
 
@@ -73,7 +73,7 @@ def is_freeway(value: Mapping[str, Json]) -> bool:
 
 
 def read_road(path: Path, program: str) -> Planned:
-    """Return what a file has; raise `Broken` if it cannot be read. For a freeway the chances that admit its demand are measured,
+    """Return what a file has; raise `CannotStart` if it cannot be read. For a freeway the chances that admit its demand are measured,
     for some seconds."""
     value = read_plan(path)
     if not is_freeway(value):
@@ -86,7 +86,7 @@ def read_road(path: Path, program: str) -> Planned:
         return Planned(said["plan"], [*demand_shapes(chances, shapes, said["demands"]), *works],
                        clean_text(path.name, LONGEST_NAME) or "freeway")
     except Refused as fault:
-        raise Broken(f"{path}: {fault.why}") from None
+        raise CannotStart(f"{path}: {fault.why}") from None
 
 
 Converted = TypedDict("Converted", {
@@ -122,7 +122,7 @@ def by_recipe(path: Path, program: str) -> Converted:
                 said.append(line.strip())
         found = process.stdout.read()
     if process.returncode:
-        raise Broken(f"{path} is neither a plan line nor a freeway in km: {' '.join(said[-1:])}")
+        raise CannotStart(f"{path} is neither a plan line nor a freeway in km: {' '.join(said[-1:])}")
     for line in said:
         print(line, file=sys.stderr, flush=True)
     converted: Converted = json.loads(found)
@@ -131,7 +131,7 @@ def by_recipe(path: Path, program: str) -> Converted:
 
 def shape_of(value: Json) -> Shape:
     """Return a shape, checked as that of a tab."""
-    return Asked("gesture", {"shape": value}).shape()
+    return CommandFields("gesture", {"shape": value}).shape()
 
 
 def is_another(path: Path, plan: PlanLine, kept: Path) -> bool:
@@ -144,7 +144,7 @@ def is_another(path: Path, plan: PlanLine, kept: Path) -> bool:
     return one != other
 
 
-async def lay(lab: Lab, road: Planned) -> None:
+async def share_works(lab: Lab, road: Planned) -> None:
     """Put and share the works that a freeway begins with, from a seat that is freed afterwards."""
     if not road.shapes:
         return
@@ -154,8 +154,8 @@ async def lay(lab: Lab, road: Planned) -> None:
             await lab.put_shape(index, {}, key=f"plan {number}", note="", shape=shape, demand=demand, is_planned=demand is not None)
         await lab.share(index, {}, stamps=None, title="")
         await lab.works_are_shared()
-        await lab.seating.give_back(index)
+        await lab.seating.release_seat(index)
     except Refused as fault:
-        raise Broken(f"{road.name}: {fault.why}") from None
+        raise CannotStart(f"{road.name}: {fault.why}") from None
     finally:
         lab.seating.leave(index)

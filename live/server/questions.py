@@ -354,7 +354,7 @@ class Questions:
         question = self._chance.begin(index, days, lambda other: self._keeper.state.seats[other].name)
         try:
             roads = await self._both(index, own, of, first, last)
-            said = await question.answer(roads, lambda: listeners.days.tell(index, question.done, question.days))
+            said = await question.answer(roads, lambda: listeners.days.notify(index, question.done, question.days))
         finally:
             self._chance.end(question)
         return {"from": first, "to": last, **said}

@@ -390,7 +390,7 @@ class News(Said):
     when: float = field(metadata=TIME)
     size: int = field(metadata=PLACE)
 
-    def told(self) -> dict[str, Json]:
+    def reply_fields(self) -> dict[str, Json]:
         """Return it as a tab gets it."""
         return {name: value for name, value in self.fields().items() if name != "upto"}
 

@@ -59,7 +59,7 @@ class KeptRoad:
         return await self._keeper.say_all(lines, times)
 
     async def advance(self, to: int) -> int:
-        wanted = self._keeper.wanted
+        wanted = self._keeper.target_steps
         wanted[self._index] = max(to, wanted.get(self._index, 0))
 
         async def body() -> int:

@@ -25,7 +25,7 @@ import time
 from pathlib import Path
 from typing import Callable, Dict, NamedTuple
 
-from .journal import Broken, packed, put_in_place, sync_folder
+from .journal import CannotStart, packed, put_in_place, sync_folder
 from .model.operations import Json
 
 LATE = 600.0  # seconds that a sealed message may be on its way, or two clocks apart
@@ -56,7 +56,7 @@ def key_of(path: Path) -> bytes:
     """Return the sites' shared secret, without spaces around it."""
     key = path.read_bytes().strip()
     if len(key) < SHORTEST_KEY:
-        raise Broken(f"{path} has {len(key)} bytes, but the key of the sites must have at least {SHORTEST_KEY}")
+        raise CannotStart(f"{path} has {len(key)} bytes, but the key of the sites must have at least {SHORTEST_KEY}")
     return key
 
 

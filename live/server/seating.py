@@ -61,7 +61,7 @@ class Seating:
 
     def seats(self) -> list[ListedSeat]:
         """Return who has a seat, for people."""
-        return [{"seat": seat.index, "at": seat.at, "name": seat.name, "here": seat.index in self._keeper.here,
+        return [{"seat": seat.index, "at": seat.at, "name": seat.name, "here": seat.index in self._keeper.connected,
                  "private": len(seat.shareable())} for seat in self._state.seats[1:] if seat.key]
 
     async def seats_kept(self, turn: int | None = None) -> list[ListedSeat]:
@@ -77,7 +77,7 @@ class Seating:
                 asked.cancel()
                 kept = [one.copy() for one in self._listed]
                 for one in kept:
-                    one["here"] = one["seat"] in self._keeper.here
+                    one["here"] = one["seat"] in self._keeper.connected
                 return kept
         self._listed = asked.result()
         return self._listed
@@ -98,7 +98,7 @@ class Seating:
     async def _take_over(self, index: int) -> tuple[int, str]:
         if not 1 <= index < SEATS or not self._state.seats[index].key:
             raise self._refused("NoSuchSeat", "nobody has this seat")
-        if index in self._keeper.here:
+        if index in self._keeper.connected:
             raise self._refused("SeatConnected", "a tab is connected to this seat")
         return await self._give(index, self._state.seats[index].name)
 
@@ -134,11 +134,11 @@ class Seating:
 
     async def _give(self, index: int, name: str, upto: int = 0, key: str = "") -> tuple[int, str]:
         key = key or secrets.token_urlsafe(12)
-        self._keeper.here.add(index)  # so that nobody else gets it meanwhile
+        self._keeper.connected.add(index)  # so that nobody else gets it meanwhile
         try:
             try:
-                await self._keeper.turns.ask(SHARED, self._keeper.writable)
-                await confirmed(self._keeper.record_late(self._entry(index, name, key, upto), lambda: None), {})
+                await self._keeper.turns.ask(SHARED, self._keeper.require_writable)
+                await confirmed(self._keeper.apply_when_written(self._entry(index, name, key, upto), lambda: None), {})
             except NotKept:  # who looks needs no disk
                 key = self._signed(key[:8], index, name)
                 entry = self._entry(index, name, key, upto)
@@ -148,7 +148,7 @@ class Seating:
                     self._unkept[index] = entry
                 await self._keeper.turns.ask(SHARED, looks)
         except BaseException:  # also where its tab went meanwhile
-            self._keeper.here.discard(index)
+            self._keeper.connected.discard(index)
             raise
         return index, key
 
@@ -165,19 +165,19 @@ class Seating:
 
     def leave(self, index: int) -> None:
         """Note that the tab of a seat has gone."""
-        self._keeper.here.discard(index)
+        self._keeper.connected.discard(index)
         if self._keeper.journal.fault is None and self._state.seats[index].key:
             self._note_use(index)
 
     def _note_use(self, index: int) -> None:
         self._keeper.record(SeatUsed(index, int(time.time())))
 
-    async def give_back(self, index: int) -> None:
+    async def release_seat(self, index: int) -> None:
         """Free a seat that holds nothing private, when what it was asked before is done."""
         async def body() -> asyncio.Future[None]:
             if self.owned(index).shareable():
                 raise Refused("PrivateChanges", "this seat has changes that are not shared: share them, or undo them")
-            await self._keeper.writable()
+            await self._keeper.require_writable()
             return self._free(index)
         await confirmed(await self._keeper.turns.ask(index, body), {})
 
@@ -189,7 +189,7 @@ class Seating:
         return seat
 
     def _free(self, index: int) -> asyncio.Future[None]:
-        self._keeper.wanted.pop(index, None)
+        self._keeper.target_steps.pop(index, None)
         return self._keeper.record(SeatFreed(index))
 
     def free_unused(self) -> None:
@@ -199,13 +199,13 @@ class Seating:
             return
         now, day = time.time(), self._keeper.settings.day
         for seat in [one for one in self._state.seats[1:] if one.key]:
-            if seat.index in self._keeper.here:
+            if seat.index in self._keeper.connected:
                 if seat.used < now - day * NOTED:
                     self._note_use(seat.index)
             elif seat.used < now - day and not seat.shareable():
                 logging.info("seat %d of %s is free again", seat.index, seat.name)
                 self._free(seat.index)
-                self._keeper.listeners.seats.tell()
+                self._keeper.listeners.seats.notify()
 
 
 class SteadyClock:

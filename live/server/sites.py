@@ -92,7 +92,7 @@ class Sites:
         host, port = self._broker
         self._client.connect_async(host, port, keepalive=30)
         self._client.loop_start()
-        self._tasks = [supervised("what other sites hear", self._announce, self._keeper.ended)]
+        self._tasks = [supervised("what other sites hear", self._announce, self._keeper.report_end)]
         return self
 
     async def __aexit__(self, kind: type[BaseException] | None, fault: BaseException | None,
@@ -369,7 +369,7 @@ class Sites:
 
     async def _take(self, folder: str, operations: list[Operation], title: str) -> None:
         times: Times = {}
-        await self._lab.came(operations, title, times)
+        await self._lab.receive(operations, title, times)
         if folder != self._id:
             self._floods.add_work(self._sender(folder), times.get("work", 0))
         for one in operations:
@@ -377,7 +377,7 @@ class Sites:
         unsent = self._keeper.state.unsent
         back = [one.stamp for one in map(self._keeper.state.interned, operations) if one in unsent]
         if back:
-            await self._lab.back(back)
+            await self._lab.acknowledge(back)
             self._tell()
 
     def _tell_if_twice(self, one: Operation) -> None:

@@ -19,7 +19,7 @@ from zegdrut.wire import PlanLine
 from .records import (JOURNAL_FORM, AllNews, AnyEntry, Bound, Came, Clock, Fields, Folder, Keys, Made, News, SeatFreed,
                       SeatGiven, Take, Works, read_entry)
 from .former_journal import Former
-from .journal import Broken
+from .journal import CorruptJournal
 from .model.changes import all_lines, altered, lines_of, operations_on
 from .model.choices import forgettable, shareable
 from .model.operations import SEATS, Operation, Stamp, is_raw, same_int, stamped_anew
@@ -279,13 +279,13 @@ class State:
     # Entries
 
     def read(self, entry: Mapping[str, Fields]) -> None:
-        """Apply an entry of a journal, of any form; raise `Broken` if it is malformed."""
+        """Apply an entry of a journal, of any form; raise `CorruptJournal` if it is malformed."""
         (kind, value), = entry.items()
         try:
             if self._former is None or not self._former.apply(kind, value):
                 read_entry(kind, value).apply(self)
         except (KeyError, IndexError, TypeError, ValueError, OverflowError) as fault:
-            raise Broken(f"no entry `{kind}`: {fault}" if isinstance(fault, ValueError) else f"no entry `{kind}`: {fault!r}") from None
+            raise CorruptJournal(f"no entry `{kind}`: {fault}" if isinstance(fault, ValueError) else f"no entry `{kind}`: {fault!r}") from None
 
     def begin(self, plan: PlanLine, site: int, folder: str, form: int) -> None:
         self.plan, self.site, self.folder, self.form = plan, site, folder, form

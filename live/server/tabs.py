@@ -20,7 +20,7 @@ from aiohttp import WSMsgType, web
 from zegdrut.programs import describe_standing
 
 from . import plans, verbs
-from .asked import LONGEST_NAME, MOST_EDITS, Asked
+from .asked import LONGEST_NAME, MOST_EDITS, CommandFields
 from .journal import packed
 from .model.operations import Json
 from .keeper import Times
@@ -162,7 +162,7 @@ class Tab:
     async def _enter(self, number: int, verb: str, fields: Json) -> None:
         self._is_entering = True
         try:
-            asked = Asked(verb, fields)
+            asked = CommandFields(verb, fields)
             if not hmac.compare_digest(str(asked.require("token")).encode("utf-8", "replace"), self._tabs.token.encode()):
                 self.disconnect(1008, "the address lacks the right token: open it as live/serve printed it")
                 return
@@ -248,11 +248,11 @@ class Tabs:
         listeners.program.on(lambda: self._tell_all("program", {"changes": keeper.changes, "why": keeper.why_changed}))
         self._ended: str | None = None  # what of the server has ended a moment ago, for people
         listeners.ended.on(self._part_ended)
-        self._ticks = supervised("the clock that tabs see", self._tick, keeper.ended)
+        self._ticks = supervised("the clock that tabs see", self._tick, keeper.report_end)
 
     # Coming and going
 
-    async def welcome(self, tab: Tab, asked: Asked) -> Mapping[str, object]:
+    async def welcome(self, tab: Tab, asked: CommandFields) -> Mapping[str, object]:
         """Give a tab its seat."""
         with asked:
             name, key = asked.text("name", LONGEST_NAME, ""), asked.text("key", 100, "")
@@ -266,13 +266,13 @@ class Tabs:
                 self._questions.left(index)
                 other.disconnect(4000, "this seat is open in another tab")
         tab.index = index
-        self.lab.keeper.here.add(index)
+        self.lab.keeper.connected.add(index)
         state = self.lab.keeper.state
         seat = state.seats[index]
         plan: Mapping[str, object] = {**state.plan, "replicas": []}
         return {"at": seat.at, "seat": index, "name": seat.name, "key": key, "number": seat.number,
                 "form": TAB_FORM, "site": state.site, "plan": plan,
-                "horizon": self.lab.keeper.wanted.get(index, 0), **self.lab.keeper.clock().fields(), "ahead": AHEAD,
+                "horizon": self.lab.keeper.target_steps.get(index, 0), **self.lab.keeper.clock().fields(), "ahead": AHEAD,
                 "time": round(time.time(), 3),
                 "most": {"edits": MOST_EDITS, "rows": MOST_ROWS, "bytes": MOST_BYTES,
                          "days": self.lab.keeper.settings.days}, "broker": self._broker(),
@@ -350,7 +350,7 @@ class Tabs:
         """Answer a seat; raise `Refused` if that cannot be done."""
         if verb == "ping":
             return {"pong": fields}
-        reply = await verbs.answer(self.lab, self._questions, index, Asked(verb, fields), times)
+        reply = await verbs.answer(self.lab, self._questions, index, CommandFields(verb, fields), times)
         if verb == "take":
             self._tell_news(tab, None)
         elif verb == "leave":
@@ -360,7 +360,7 @@ class Tabs:
     def _left(self, tab: Tab, index: int) -> None:
         """Let the tab of a free seat go."""
         tab.index = None
-        self.lab.keeper.here.discard(index)
+        self.lab.keeper.connected.discard(index)
         self._questions.left(index)
         self._seats()
         asyncio.get_running_loop().call_later(TOLD_EVERY, tab.disconnect, 4001, "the seat was left")
@@ -430,7 +430,7 @@ class Tabs:
     def _news_of(self, tab: Tab, index: int) -> Mapping[str, object]:
         """Steps that the tab was not told of are in it."""
         first, tab.steps = min(tab.steps, default=None), []
-        return {**self.lab.news(index, MOST_TOLD), "touched": first}
+        return {**self.lab.unseen_shares(index, MOST_TOLD), "touched": first}
 
     async def _tick(self) -> None:
         while True:

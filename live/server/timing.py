@@ -32,20 +32,20 @@ class Timing:
         if to is not None and not now <= to <= min(LAST_HORIZON, now + AHEAD):
             raise Refused("Range", f"`to` must be {now} to {min(LAST_HORIZON, now + AHEAD)}, not {to}")
         async with self._setting:
-            await keeper.turns.ask(SHARED, keeper.writable)
+            await keeper.turns.ask(SHARED, keeper.require_writable)
             clock = keeper.clock() if rate is None else Clock(rate, keeper.now())
             step = clock.now if to is None else max(to, clock.now)
             stop = min(LAST_HORIZON, step + HOUR) if clock.rate > FAST else clock.stop
             await confirmed(self._put(Clock(clock.rate, step, stop)), {})
-        keeper.listeners.clock.tell()
+        keeper.listeners.clock.notify()
         return {"now": step}
 
     def _put(self, clock: Clock) -> asyncio.Future[None]:
         """Write down a clock, which goes on from now; it takes effect once that is on the disk."""
         def begin() -> None:
-            self._keeper.since = begun
+            self._keeper.clock_started = begun
         begun = time.monotonic()
-        self._waiting.add(done := self._keeper.record_late(clock, begin))
+        self._waiting.add(done := self._keeper.apply_when_written(clock, begin))
         done.add_done_callback(self._waiting.discard)
         return done
 
@@ -57,10 +57,10 @@ class Timing:
             return
         if clock.now > before:
             keeper.record(clock)
-            keeper.since += (clock.now - before) / clock.rate
+            keeper.clock_started += (clock.now - before) / clock.rate
         elif clock.now == clock.stop:
             self._put(Clock(0, before)).add_done_callback(self._has_stopped)
 
     def _has_stopped(self, done: asyncio.Future[None]) -> None:
         if not done.cancelled() and done.exception() is None:
-            self._keeper.listeners.clock.tell()
+            self._keeper.listeners.clock.notify()

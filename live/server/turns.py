@@ -73,11 +73,11 @@ class Use:
 class Turns:
     """The queues of all seats, and one task that works through them."""
 
-    def __init__(self, around: Around, clock: Callable[[], float] = time.monotonic,
+    def __init__(self, do_job: Around, clock: Callable[[], float] = time.monotonic,
                  most_waited: float = MOST_WAITED, may_be_within: Callable[[], bool] = lambda: True) -> None:
         """`around` calls a job; it may mend what the job stands on, and call it again. `may_be_within` says whether a short job
         may be called within the turn of another seat, as it is."""
-        self._around, self._clock, self._most_waited, self._may_be_within = around, clock, most_waited, may_be_within
+        self._do_job, self._clock, self._most_waited, self._may_be_within = do_job, clock, most_waited, may_be_within
         self._queues: Dict[int, Queue] = collections.defaultdict(collections.deque)
         self._later: Dict[int, Queue] = collections.defaultdict(collections.deque)  # what is done at leisure
         self._turn: Deque[int] = collections.deque()
@@ -152,7 +152,7 @@ class Turns:
 
     async def _with_short_ones(self, job: Work) -> object:
         """Do a job, and while it waits the short jobs of others."""
-        turn = asyncio.ensure_future(self._around(job))
+        turn = asyncio.ensure_future(self._do_job(job))
         turn.add_done_callback(lambda _: self._work.set())
         await asyncio.sleep(0)  # it begins first
         try:
@@ -181,7 +181,7 @@ class Turns:
             if future.cancelled():
                 result: object = MORE
             elif self._is_short(seat):
-                result = await (job() if is_within else self._around(job))
+                result = await (job() if is_within else self._do_job(job))
             else:
                 result = await self._with_short_ones(job)
         except Exception as fault:  # pylint: disable=broad-except

@@ -9,7 +9,7 @@ from typing import Awaitable, Callable, TypeVar
 from zegdrut.grammar import LAST_HORIZON
 
 from . import peers
-from .asked import LONGEST_NOTE, Asked, RawEdit
+from .asked import LONGEST_NOTE, CommandFields, RawEdit
 from .keeper import SHARED, Times
 from .lab import Lab
 from .questions import Questions, Reply
@@ -51,7 +51,7 @@ class Call:
 
 Does = Callable[[Call], Awaitable[Reply]]
 """A command whose fields are read: it answers a call."""
-Reads = Callable[[Asked], Does]
+Reads = Callable[[CommandFields], Does]
 T = TypeVar("T")
 
 
@@ -64,7 +64,7 @@ class Verb:
     lists: frozenset[str] = frozenset()
 
 
-async def answer(lab: Lab, questions: Questions, index: int, asked: Asked, times: Times) -> Reply:
+async def answer(lab: Lab, questions: Questions, index: int, asked: CommandFields, times: Times) -> Reply:
     """Answer a seat; raise `Refused` if that cannot be done."""
     if asked.verb not in VERBS:
         raise not_a_command(f"`{asked.verb}` is not a command of a tab")
@@ -78,7 +78,7 @@ async def answer(lab: Lab, questions: Questions, index: int, asked: Asked, times
     return await lab.keeper.read_committed(lambda: does(call), may_see)
 
 
-def where(lab: Lab, index: int, asked: Asked, verb: Verb) -> str:
+def where(lab: Lab, index: int, asked: CommandFields, verb: Verb) -> str:
     """Return the road that `at` names."""
     if verb.of == ALL:
         return "own"
@@ -97,23 +97,23 @@ def no_fields(does: Does) -> Reads:
     return lambda _asked: does
 
 
-def one_part(read: Callable[[Asked], T], does: Callable[[Call, T], Awaitable[Reply]]) -> Reads:
+def one_part(read: Callable[[CommandFields], T], does: Callable[[Call, T], Awaitable[Reply]]) -> Reads:
     """Return the reader of a command whose fields are one part: a value, or a tuple."""
-    def reads(asked: Asked) -> Does:
+    def reads(asked: CommandFields) -> Does:
         part = read(asked)
         return lambda call: does(call, part)
     return reads
 
 
-def read_steps(asked: Asked) -> tuple[int, int]:
+def read_steps(asked: CommandFields) -> tuple[int, int]:
     return asked.whole("from"), asked.whole("to")
 
 
-def read_key_and_note(asked: Asked) -> tuple[str, str]:
+def read_key_and_note(asked: CommandFields) -> tuple[str, str]:
     return asked.key(), asked.text("note", LONGEST_NOTE, "")
 
 
-def read_comparison(asked: Asked) -> tuple[str, int, int]:
+def read_comparison(asked: CommandFields) -> tuple[str, int, int]:
     """Return which roads are compared, and the steps."""
     of = asked.require("of")
     if type(of) is not str or of not in ("preview", "mine"):
@@ -121,11 +121,11 @@ def read_comparison(asked: Asked) -> tuple[str, int, int]:
     return (of, *read_steps(asked))
 
 
-def read_site(asked: Asked) -> int:
+def read_site(asked: CommandFields) -> int:
     return asked.whole("site", 1, 1_023)
 
 
-def require_shared(asked: Asked, field: str) -> None:
+def require_shared(asked: CommandFields, field: str) -> None:
     if asked.require(field) != "shared":
         raise Refused("not a command", f"`{field}` must be \"shared\" here")
 
@@ -136,7 +136,7 @@ async def seats(call: Call) -> Reply:
     return {"seats": await call.lab.seating.seats_kept(call.index)}
 
 
-def clock(asked: Asked) -> Does:
+def clock(asked: CommandFields) -> Does:
     rate = asked.number("rate", FASTEST) if asked.has("rate") else None
     to = asked.whole("to") if rate is None else None
     return lambda call: call.lab.timing.set_clock(rate, to)
@@ -152,7 +152,7 @@ async def unbind(call: Call, site: int) -> Reply:
     return {}
 
 
-def admission(asked: Asked) -> Does:
+def admission(asked: CommandFields) -> Does:
     """Read an inlet, the slow-to-start chance there, and the chances of inlets before it."""
     inlet = asked.whole("inlet")
     start = None if asked.is_null("start") else asked.whole("start", 0, 65_536)
@@ -172,7 +172,7 @@ def admission(asked: Asked) -> Does:
 
 # The own road is changed, shared, taken
 
-def gesture(asked: Asked) -> Does:
+def gesture(asked: CommandFields) -> Does:
     """Read a gesture: raw edits, a new shape, or another shape or height of a line."""
     key, note = read_key_and_note(asked)
     if asked.has("edits"):
@@ -193,12 +193,12 @@ def gesture(asked: Asked) -> Does:
     return lambda call: call.lab.change_line(call.index, call.times, key=key, note=note, line=line, shape=shape, top=top, demand=said)
 
 
-def read_edit(asked: Asked) -> list[RawEdit]:
+def read_edit(asked: CommandFields) -> list[RawEdit]:
     """Read the `edit` and `withdraw` of the format, as raw edits."""
     thing = asked.require("object")
     edit = [*(thing if isinstance(thing, list) else [thing]), asked.require("step"),
             asked.require("value") if asked.verb == "edit" else None]
-    edits = Asked("gesture", {"edits": [edit]}).edits()
+    edits = CommandFields("gesture", {"edits": [edit]}).edits()
     if asked.verb == "edit" and edit[-1] is None:
         raise Refused("not a command", "`value` is null: use `withdraw` to take an edit back")
     return edits
@@ -209,49 +209,49 @@ async def put_edits(call: Call, edits: list[RawEdit]) -> Reply:
     return {"stamp": said["stamp"]}
 
 
-def undo(asked: Asked) -> Does:
+def undo(asked: CommandFields) -> Does:
     key, note = read_key_and_note(asked)
     stamp = asked.stamp_or_key("stamp")
     return lambda call: call.lab.undo(call.index, call.times, key=key, note=note, stamp=stamp)
 
 
-def put_again(asked: Asked) -> Does:
+def put_again(asked: CommandFields) -> Does:
     key, stamp = asked.key(), asked.stamp_or_key("stamp")
     return lambda call: call.lab.put_again(call.index, call.times, key=key, stamp=stamp)
 
 
-def exclude_site(asked: Asked) -> Does:
+def exclude_site(asked: CommandFields) -> Does:
     key, note = read_key_and_note(asked)
     site, is_out = read_site(asked), asked.flag("out")
     return lambda call: call.lab.exclude_site(call.index, call.times, key=key, note=note, site=site, out=is_out)
 
 
-def share(asked: Asked) -> Does:
+def share(asked: CommandFields) -> Does:
     require_shared(asked, "name")
     stamps, title = asked.stamps(), asked.text("title", LONGEST_NOTE, "")
     return lambda call: call.lab.share(call.index, call.times, stamps=stamps, title=title)
 
 
 async def leave(call: Call) -> Reply:
-    await call.lab.seating.give_back(call.index)
+    await call.lab.seating.release_seat(call.index)
     return {}
 
 
 # Roads are asked
 
-def forward(asked: Asked) -> Does:
+def forward(asked: CommandFields) -> Does:
     """Give the program a command as it is."""
     fields = asked.remaining()
     return lambda call: call.questions.plain(call.road, call.times, asked.verb, fields)
 
 
-def diagram(asked: Asked) -> Does:
+def diagram(asked: CommandFields) -> Does:
     first, last = read_steps(asked)
     every, cells = asked.whole("every", 1, LAST_HORIZON, 1), asked.stretch()
     return lambda call: call.questions.diagram(call.road, call.times, first=first, last=last, every=every, cells=cells)
 
 
-def counts(asked: Asked) -> Does:
+def counts(asked: CommandFields) -> Does:
     first, last = read_steps(asked)
     each = asked.whole("each", 1, LAST_HORIZON) if asked.has("each") else None
     return lambda call: call.questions.counts(call.road, call.times, first=first, last=last, each=each)
@@ -259,7 +259,7 @@ def counts(asked: Asked) -> Does:
 
 # Lists, and what would be
 
-def preview(asked: Asked) -> Does:
+def preview(asked: CommandFields) -> Does:
     what = None if asked.is_null("what") else asked.require("what")
     if what not in (None, "share", "take"):
         raise not_a_command('`what` must be "share", "take" or null')
@@ -267,7 +267,7 @@ def preview(asked: Asked) -> Does:
     return lambda call: call.questions.preview(call.index, what, stamps)
 
 
-def days(asked: Asked) -> Does:
+def days(asked: CommandFields) -> Does:
     """Read a comparison over many days; `of` null ends the one that runs."""
     if asked.is_null("of"):
         return lambda call: call.questions.days(call.index, call.replica, None, 0, 0)
@@ -277,20 +277,20 @@ def days(asked: Asked) -> Does:
 
 # What is saved
 
-def transcript(asked: Asked) -> Does:
+def transcript(asked: CommandFields) -> Does:
     first, last = asked.whole("from", default=0), asked.whole("to", 0, LAST_HORIZON)
     piece = asked.whole("next", default=0)
     return lambda call: call.questions.transcript(call.index, call.replica, first, last, piece)
 
 
-def report(asked: Asked) -> Does:
+def report(asked: CommandFields) -> Does:
     """Read a comparison with its title, and sentences about the works on the roads."""
     of, first, last = read_comparison(asked)
     title, works = asked.text("title", LONGEST_NOTE), asked.texts("works", MOST_WORKS, LONGEST_NOTE)
     return lambda call: call.questions.report(call.index, call.replica, of, first, last, title, works)
 
 
-def table_of_counts(asked: Asked) -> Does:
+def table_of_counts(asked: CommandFields) -> Does:
     if asked.require("what") != "counts":
         raise not_a_command('`what` must be "counts"')
     first, last = read_steps(asked)

@@ -35,7 +35,7 @@ class Write:
 
     async def ready(self) -> None:
         """Find out whether the disk takes anything; raise `Refused` if it does not."""
-        await self._keeper.writable()
+        await self._keeper.require_writable()
 
     def record(self, entry: AnyEntry) -> None:
         """Make something so."""

@@ -20,7 +20,7 @@ async def put(seat: Seat, key: str, *edits: list[Any], **more: Any) -> Stamp:
     return (await seat.ask("gesture", key=key, edits=list(edits), **more))["stamp"]
 
 
-async def lay(seat: Seat, key: str, shape: list[Any] | None, **more: Any) -> Stamp:
+async def put_layer(seat: Seat, key: str, shape: list[Any] | None, **more: Any) -> Stamp:
     """Put, change or withdraw a shape. Return the stamp."""
     return (await seat.ask("gesture", key=key, shape=shape, **more))["stamp"]
 
@@ -77,17 +77,17 @@ class Acts(Case):
         self.assertEqual(await numbers(self.ada), closed(60, 69, 30, 60))
 
     async def test_each_of_two_overlapping_closures_can_be_withdrawn(self) -> None:
-        first = await lay(self.ada, "1", ["block", 60, 60, 30, 60, 1])
-        second = await lay(self.ada, "2", ["block", 60, 60, 20, 40, 1])
+        first = await put_layer(self.ada, "1", ["block", 60, 60, 30, 60, 1])
+        second = await put_layer(self.ada, "2", ["block", 60, 60, 20, 40, 1])
         self.assertEqual(await numbers(self.ada), closed(60, 60, 20, 60))
-        await lay(self.ada, "3", None, layer=first)
+        await put_layer(self.ada, "3", None, layer=first)
         self.assertEqual(await numbers(self.ada), closed(60, 60, 20, 40))
-        await lay(self.ada, "4", None, layer=second)
+        await put_layer(self.ada, "4", None, layer=second)
         self.assertEqual(await numbers(self.ada), {})
         self.assertEqual(await lines(self.ada), {})  # it was private: nothing of it is left to list
 
     async def test_a_replaced_preview_leaves_no_program(self) -> None:
-        await lay(self.ada, "1", CLOSED)
+        await put_layer(self.ada, "1", CLOSED)
         asked = []
         for count in range(30):
             await self.ada.ask("preview", what="share")
@@ -103,14 +103,14 @@ class Acts(Case):
         self.assertNotIn("` failed", self.a6.said())  # no question failed (asyncio may log a broken pipe)
 
     async def test_shown_lists_which_layer_covers_which_and_when(self) -> None:
-        old = await lay(self.ada, "old", ["limit", 2, 2, 20, 80, 1], note="long")
+        old = await put_layer(self.ada, "old", ["limit", 2, 2, 20, 80, 1], note="long")
         said = await self.ada.ask("gesture", key="new", shape=["limit", 2, 2, 40, 50, 3])
         new = said["stamp"]
         self.assertEqual({tuple(one["name"]) for one in said["layers"]}, {tuple(old), tuple(new)})  # what differs now
         shown = next(one["shown"] for one in said["layers"] if one["name"] == old)
         self.assertEqual(shown, [["limit", 2, 2, 20, 40, 1, None], ["limit", 2, 2, 40, 50, 1, new],
                                  ["limit", 2, 2, 50, 80, 1, None]])
-        changed = await lay(self.ada, "change", ["limit", 2, 2, 20, 90, 2], layer=old)  # a change keeps its height
+        changed = await put_layer(self.ada, "change", ["limit", 2, 2, 20, 90, 2], layer=old)  # a change keeps its height
         self.assertEqual(await numbers(self.ada), {("limit", 2, 20): 2, ("limit", 2, 40): 3, ("limit", 2, 50): 2,
                                                    ("limit", 2, 90): 5})
         top = await self.ada.ask("gesture", key="top", layer=old, top=True)
@@ -123,8 +123,8 @@ class Acts(Case):
         self.assertEqual((gone["touched"], gone["layers"]), (None, [{"name": new, "gone": True}]))
 
     async def test_undo_restores_exactly_what_was_there(self) -> None:
-        old = await lay(self.ada, "old", ["limit", 2, 2, 20, 80, 1])
-        await lay(self.ada, "new", ["limit", 2, 2, 40, 50, 3])
+        old = await put_layer(self.ada, "old", ["limit", 2, 2, 20, 80, 1])
+        await put_layer(self.ada, "new", ["limit", 2, 2, 40, 50, 3])
         before = await numbers(self.ada), await lines(self.ada)
         gone = await self.ada.ask("gesture", key="gone", layer=old, shape=None)
         self.assertEqual((gone["undo"], gone["redo"]), (gone["stamp"], None))
@@ -157,7 +157,7 @@ class Acts(Case):
         self.assertEqual(await numbers(self.ada), states[3])
 
     async def test_z_undoes_every_change_of_one_line(self) -> None:
-        line = await lay(self.ada, "under", ["limit", 2, 2, 40, 90, 1])
+        line = await put_layer(self.ada, "under", ["limit", 2, 2, 40, 90, 1])
         states = [await numbers(self.ada)]
         gestures: list[tuple[str, dict[str, Any]]] = [
             ("put", {"shape": ["limit", 2, 3, 20, 50, 2]}), ("change", {"shape": ["limit", 2, 3, 20, 70, 2]}),
@@ -175,10 +175,10 @@ class Acts(Case):
             self.assertEqual(said[walk], line if walk == "undo" else None)
 
     async def test_a_change_that_somebody_undid_again_blocks_nobody(self) -> None:
-        mine = await lay(self.ada, "1", CLOSED)
+        mine = await put_layer(self.ada, "1", CLOSED)
         await self.ada.ask("send", name="shared")
         await self.ben.ask("take", message="shared")
-        change = await lay(self.ben, "1", ["block", 60, 69, 30, 70, 1], layer=mine)
+        change = await put_layer(self.ben, "1", ["block", 60, 69, 30, 70, 1], layer=mine)
         await self.ben.ask("send", name="shared")
         await self.ada.ask("take", message="shared")
         with self.assertRaisesRegex(RefusedReply, "Ben changed it since"):
@@ -232,7 +232,7 @@ class Acts(Case):
             said = await ada.reply("gesture", at=ada.at, key="k", shape=["block", 0, 600, 5, 9, 1])
             self.assertEqual(said["refused"], "TooManyObjects")
             for count in range(4):  # and yet more edits than an import has
-                await lay(ada, f"k{count}", ["block", 0, 599, 10 * count, 10 * count + 5, 1])
+                await put_layer(ada, f"k{count}", ["block", 0, 599, 10 * count, 10 * count + 5, 1])
             said = await ada.ask("gesture", key="all", shape=["block", 0, 599, 0, 100, 1])
             self.assertEqual(await numbers(ada), closed(0, 599, 0, 100))
             await ada.ask("undo", key="u", stamp=said["stamp"])
@@ -254,13 +254,13 @@ class Acts(Case):
     async def test_a_shape_takes_the_place_of_raw_edits(self) -> None:
         line = await put(self.ada, "1", ["limit", 2, 50, 1], ["limit", 2, 60, 5], shape=["limit", 2, 2, 50, 60, 1])
         self.assertEqual((await lines(self.ada))[tuple(line)]["shape"], ["limit", 2, 2, 50, 60, 1])
-        stamp = await lay(self.ada, "2", ["limit", 2, 2, 50, 70, 1], layer=line)
+        stamp = await put_layer(self.ada, "2", ["limit", 2, 2, 50, 70, 1], layer=line)
         self.assertEqual(await numbers(self.ada), {("limit", 2, 50): 1, ("limit", 2, 70): 5})
         self.assertEqual({name: one["shape"] for name, one in (await lines(self.ada)).items() if one["standing"]},
                          {tuple(line): ["limit", 2, 2, 50, 70, 1]})  # the line's stamp goes on naming one layer
         await self.ada.ask("undo", key="3", stamp=stamp)
         self.assertEqual(await numbers(self.ada), {("limit", 2, 50): 1, ("limit", 2, 60): 5})
-        await lay(self.ada, "4", None, layer=line)
+        await put_layer(self.ada, "4", None, layer=line)
         self.assertEqual(await numbers(self.ada), {})
 
     async def test_edit_and_withdraw_of_the_format(self) -> None:
@@ -300,13 +300,13 @@ class Acts(Case):
     # Sharing and taking
 
     async def test_shared_changes_are_taken_and_the_later_one_is_on_top(self) -> None:
-        mine = await lay(self.ada, "1", ["limit", 2, 2, 50, 70, 1], note="mine")
-        one = await lay(self.ben, "1", ["limit", 0, 0, 5, None, 4])
-        other = await lay(self.ben, "2", ["limit", 2, 3, 50, 60, 3], note="his")
+        mine = await put_layer(self.ada, "1", ["limit", 2, 2, 50, 70, 1], note="mine")
+        one = await put_layer(self.ben, "1", ["limit", 0, 0, 5, None, 4])
+        other = await put_layer(self.ben, "2", ["limit", 2, 3, 50, 60, 3], note="his")
         said = await self.ben.ask("send", name="shared", title="two")
         self.assertEqual((said["size"], said["stamps"], said["touched"]), (2, [one, other], 5))
         self.assertEqual(await limit_at(self.ada), 1)
-        news = [one["news"] for one in self.ada.told if "news" in one][-1]
+        news = [one["news"] for one in self.ada.received if "news" in one][-1]
         self.assertEqual((news["size"], news["from"], news["touched"], news["shares"][0]["title"]), (2, ["Ben"], 5, "two"))
         self.assertEqual([one["note"] for one in news["changes"]], ["", "his"])
         took = await self.ada.ask("take", message="shared")
@@ -316,11 +316,11 @@ class Acts(Case):
         self.assertEqual(await numbers(self.ada), {("limit", 0, 5): 4, ("limit", 2, 50): 3, ("limit", 2, 60): 1,
                                                    ("limit", 2, 70): 5, ("limit", 3, 50): 3, ("limit", 3, 60): 5})
         self.assertEqual((await self.ada.ask("take", message="shared"))["size"], 0)
-        self.assertGreater(await lay(self.ada, "2", SLOW), other)  # above all that it holds
+        self.assertGreater(await put_layer(self.ada, "2", SLOW), other)  # above all that it holds
 
     async def test_an_operation_has_one_time_at_all_seats(self) -> None:
         """When it was made, and not when it was shared or taken."""
-        mine = await lay(self.ada, "1", CLOSED)
+        mine = await put_layer(self.ada, "1", CLOSED)
         made = (await lines(self.ada))[tuple(mine)]["operations"][0]["when"]
         await asyncio.sleep(1.1)
         await self.ada.ask("send", name="shared")
@@ -330,10 +330,10 @@ class Acts(Case):
         self.assertEqual([*found, took["changes"][0]["when"]], [made] * 3)
 
     async def test_a_shared_change_of_another_seat_is_withdrawn_and_that_is_undone(self) -> None:
-        mine = await lay(self.ada, "1", CLOSED, note="mine")
+        mine = await put_layer(self.ada, "1", CLOSED, note="mine")
         await self.ada.ask("send", name="shared")
         await self.ben.ask("take", message="shared")
-        gone = await lay(self.ben, "1", None, layer=mine, note="open")
+        gone = await put_layer(self.ben, "1", None, layer=mine, note="open")
         line = (await lines(self.ben))[tuple(mine)]
         self.assertEqual((line["who"], line["standing"], line["shared"]), ("Ada", False, False))
         self.assertEqual((await self.ben.ask("send", name="shared"))["stamps"], [gone])
@@ -347,12 +347,12 @@ class Acts(Case):
 
     async def test_a_job_of_another_turn_does_not_run_at_once(self) -> None:
         """A seat that holds a change has seen it, however often the line is changed later; an undo alone, too."""
-        line = tuple(await lay(self.ada, "1", CLOSED))
+        line = tuple(await put_layer(self.ada, "1", CLOSED))
         await self.ada.ask("send", name="shared")
         await self.ben.ask("take", message="shared")
-        await lay(self.ben, "1", ["block", 60, 69, 30, 70, 1], layer=list(line))
-        await lay(self.ben, "2", ["block", 60, 69, 30, 80, 1], layer=list(line))
-        gone = await lay(self.ben, "3", None, layer=list(line))
+        await put_layer(self.ben, "1", ["block", 60, 69, 30, 70, 1], layer=list(line))
+        await put_layer(self.ben, "2", ["block", 60, 69, 30, 80, 1], layer=list(line))
+        gone = await put_layer(self.ben, "3", None, layer=list(line))
         await self.ben.ask("undo", key="4", stamp=gone)
         await self.ben.ask("send", name="shared")
         await self.ada.ask("take", message="shared")
@@ -360,11 +360,11 @@ class Acts(Case):
             self.assertEqual({one["lost"] for one in (await lines(seat))[line]["operations"]}, {None})
 
     async def test_two_at_once_on_one_line(self) -> None:
-        line = tuple(await lay(self.ada, "1", CLOSED))
+        line = tuple(await put_layer(self.ada, "1", CLOSED))
         await self.ada.ask("send", name="shared")
         await self.ben.ask("take", message="shared")
-        change = await lay(self.ada, "2", ["block", 60, 69, 30, 70, 1], layer=list(line))
-        gone = await lay(self.ben, "2", None, layer=list(line))
+        change = await put_layer(self.ada, "2", ["block", 60, 69, 30, 70, 1], layer=list(line))
+        gone = await put_layer(self.ben, "2", None, layer=list(line))
         self.assertGreater(gone, change)  # of two who know nothing of each other the later one wins
         await self.ben.ask("send", name="shared")
         await self.ada.ask("take", message="shared")
@@ -378,8 +378,8 @@ class Acts(Case):
         self.assertEqual(await numbers(self.ben), closed(60, 69, 30, 70))
 
     async def test_operations_are_shared_in_part(self) -> None:
-        first = await lay(self.ada, "1", CLOSED)
-        second = await lay(self.ada, "2", ["block", 65, 74, 40, 80, 1])
+        first = await put_layer(self.ada, "1", CLOSED)
+        second = await put_layer(self.ada, "2", ["block", 65, 74, 40, 80, 1])
         self.assertEqual((await self.ada.ask("send", name="shared", stamps=[second]))["stamps"], [second])
         self.assertEqual(await numbers(self.ada, "shared"), closed(65, 74, 40, 80))
         self.assertEqual((await self.ada.ask("send", name="shared"))["stamps"], [first])
@@ -389,8 +389,8 @@ class Acts(Case):
         self.assertTrue(all(one["shared"] for one in (await lines(self.ada)).values()))
 
     async def test_a_change_is_shared_without_its_put(self) -> None:
-        line = await lay(self.ada, "1", CLOSED)
-        change = await lay(self.ada, "2", ["block", 60, 69, 30, 70, 1], layer=line)
+        line = await put_layer(self.ada, "1", CLOSED)
+        change = await put_layer(self.ada, "2", ["block", 60, 69, 30, 70, 1], layer=line)
         await self.ada.ask("send", name="shared", stamps=[change])
         await self.ben.ask("take", message="shared")
         self.assertEqual(await numbers(self.ben), closed(60, 69, 30, 70))
@@ -399,13 +399,13 @@ class Acts(Case):
         self.assertEqual(await numbers(self.ada, "shared"), closed(60, 69, 30, 70))
 
     async def test_privately_undone_changes_are_not_shared_and_hide_nothing(self) -> None:
-        his = await lay(self.ben, "1", ["limit", 2, 2, 50, 80, 4])
+        his = await put_layer(self.ben, "1", ["limit", 2, 2, 50, 80, 4])
         for count in range(3):
-            await lay(self.ada, f"a{count}", ["limit", 0, 0, 5 + 10 * count, 10 + 10 * count, 3])
-        stamp = await lay(self.ada, "b", ["limit", 2, 2, 40, 70, 1])
+            await put_layer(self.ada, f"a{count}", ["limit", 0, 0, 5 + 10 * count, 10 + 10 * count, 3])
+        stamp = await put_layer(self.ada, "b", ["limit", 2, 2, 40, 70, 1])
         await self.ada.ask("undo", key="u", stamp=stamp)
-        gone = await lay(self.ada, "c", CLOSED)
-        await lay(self.ada, "d", None, layer=gone)
+        gone = await put_layer(self.ada, "c", CLOSED)
+        await put_layer(self.ada, "d", None, layer=gone)
         self.assertEqual((await self.ada.ask("send", name="shared"))["size"], 3)
         self.assertEqual([edit for edit in (await self.ada.ask("scenario", at="shared"))["edits"] if edit[1] != 0], [])
         await self.ben.ask("send", name="shared")
@@ -419,13 +419,13 @@ class Acts(Case):
     async def test_changes_undone_long_ago_are_forgotten_and_never_come_back(self) -> None:
         server = self.server(LIVE_MOST_UNDONE="70")
         async with server.seat() as ada, server.seat("Ben") as ben:
-            first = await lay(ada, "first", ["limit", 2, 2, 20, 60, 1])
+            first = await put_layer(ada, "first", ["limit", 2, 2, 20, 60, 1])
             for count in range(30):
-                await lay(ben, f"b{count}", ["limit", 2, 3, 3 * count, 3 * count + 2, 3])
+                await put_layer(ben, f"b{count}", ["limit", 2, 3, 3 * count, 3 * count + 2, 3])
             for count in range(80):
-                stamp = await lay(ada, f"g{count}", ["limit", 1, 3, count, count + 30, 2])
+                stamp = await put_layer(ada, f"g{count}", ["limit", 1, 3, count, count + 30, 2])
                 await ada.ask("undo", key=f"u{count}", stamp=stamp)
-            last = await lay(ada, "last", ["limit", 1, 1, 7, None, 3])
+            last = await put_layer(ada, "last", ["limit", 1, 1, 7, None, 3])
 
             async def is_shorter() -> bool:
                 await ada.reply("cells", at=ada.at, step=0)
@@ -448,11 +448,11 @@ class Acts(Case):
 
     async def test_a_change_that_names_a_change_belongs_to_its_line(self) -> None:
         """Also by its key, before it is confirmed: three drags give one shape."""
-        line, change, last = await asyncio.gather(lay(self.ada, "a", CLOSED), lay(self.ada, "b", ["block", 60, 70, 30, 60, 1], layer="a"),
-                                                  lay(self.ada, "c", ["block", 60, 71, 30, 60, 1], layer="b"))
+        line, change, last = await asyncio.gather(put_layer(self.ada, "a", CLOSED), put_layer(self.ada, "b", ["block", 60, 70, 30, 60, 1], layer="a"),
+                                                  put_layer(self.ada, "c", ["block", 60, 71, 30, 60, 1], layer="b"))
         undo = (await self.ada.ask("undo", key="u", stamp=last))["stamp"]
         for key, name, cells in (("d", change, 72), ("e", undo, 73)):
-            await lay(self.ada, key, ["block", 60, cells, 30, 60, 1], layer=name)
+            await put_layer(self.ada, key, ["block", 60, cells, 30, 60, 1], layer=name)
         self.assertEqual([(name, one["shape"][2]) for name, one in (await lines(self.ada)).items()], [(tuple(line), 73)])
 
     async def test_a_line_that_excludes_a_site_gets_no_shape(self) -> None:
@@ -465,11 +465,11 @@ class Acts(Case):
     async def test_forgotten_changes_are_no_longer_listed(self) -> None:
         server = self.server(LIVE_MOST_UNDONE="30")
         async with server.seat() as ada:
-            gone = await lay(ada, "gone", ["limit", 2, 2, 20, 60, 1])
-            await lay(ada, "withdrawn", None, layer=gone)
-            line = tuple(await lay(ada, "line", CLOSED))
+            gone = await put_layer(ada, "gone", ["limit", 2, 2, 20, 60, 1])
+            await put_layer(ada, "withdrawn", None, layer=gone)
+            line = tuple(await put_layer(ada, "line", CLOSED))
             for count in range(29):
-                stamp = await lay(ada, f"c{count}", ["block", 60, 69, 30, 70 + count, 1], layer=list(line))
+                stamp = await put_layer(ada, f"c{count}", ["block", 60, 69, 30, 70 + count, 1], layer=list(line))
                 said = await ada.ask("undo", key=f"u{count}", stamp=stamp)
 
             async def is_shorter() -> bool:
@@ -494,7 +494,7 @@ class Acts(Case):
             listed: dict[tuple[int, ...], Any] = {}
             after = 0
             for count in range(11):
-                stamp = await lay(ada, f"g{count}", SLOW)
+                stamp = await put_layer(ada, f"g{count}", SLOW)
                 await ada.ask("undo", key=f"u{count}", stamp=stamp)
                 said = await ada.ask("layers", **{"from": after})
                 after, changed = said["next"], {tuple(one["name"]): one for one in said["layers"]}
@@ -510,12 +510,12 @@ class Acts(Case):
 
     async def test_z_is_the_same_after_what_a_start_forgets(self) -> None:
         """One of the newest operations undoes an older one."""
-        line = await lay(self.ada, "line", CLOSED)
-        stamp = await lay(self.ada, "change", ["block", 60, 69, 30, 70, 1], layer=line)
+        line = await put_layer(self.ada, "line", CLOSED)
+        stamp = await put_layer(self.ada, "change", ["block", 60, 69, 30, 70, 1], layer=line)
         await self.ada.ask("undo", key="undo", stamp=stamp)
         undo: Stamp | None = None
         for count in range(19):
-            undo = await lay(self.ada, f"g{count}", ["limit", 2, 2, 20 + count, 60, 1])
+            undo = await put_layer(self.ada, f"g{count}", ["limit", 2, 2, 20 + count, 60, 1])
         self.a6.restart()
         async with self.a6.seat(key=self.ada.key) as ada:
             for count in range(20):
@@ -525,10 +525,10 @@ class Acts(Case):
             self.assertEqual((undo, await numbers(ada)), (None, {}))
 
     async def test_a_whole_line_is_forgotten(self) -> None:
-        line = await lay(self.ada, "line", CLOSED, note="works")
+        line = await put_layer(self.ada, "line", CLOSED, note="works")
         for count in range(20):
-            await lay(self.ada, f"g{count}", ["limit", 2, 2, 20 + count, 60, 1])
-        gone = await lay(self.ada, "gone", None, layer=line, note="open")
+            await put_layer(self.ada, f"g{count}", ["limit", 2, 2, 20 + count, 60, 1])
+        gone = await put_layer(self.ada, "gone", None, layer=line, note="open")
         self.a6.restart()
         async with self.a6.seat(key=self.ada.key) as ada:
             back = await ada.ask("undo", key="back", stamp=gone)
@@ -540,7 +540,7 @@ class Acts(Case):
 
     async def test_the_list_comes_in_pieces_and_only_with_changes(self) -> None:
         for count in range(3):
-            await lay(self.ada, str(count), ["limit", count, count, 20, 40, 1])
+            await put_layer(self.ada, str(count), ["limit", count, count, 20, 40, 1])
         said = await self.ada.ask("layers")
         self.assertEqual((len(said["layers"]), said["more"]), (3, False))
         again = await self.ada.ask("layers", **{"from": said["next"]})
@@ -561,10 +561,10 @@ class Previews(Case):
         self.ada = await self.enterAsyncContext(self.a6.seat("Ada"))
         self.ben = await self.enterAsyncContext(self.a6.seat("Ben"))
         await self.ada.say("clock", to=200)
-        self.his = await lay(self.ben, "1", ["block", 60, 60, 30, 90, 1], note="works")
+        self.his = await put_layer(self.ben, "1", ["block", 60, 60, 30, 90, 1], note="works")
         await self.ben.ask("send", name="shared")
-        self.slow = await lay(self.ada, "1", ["limit", 0, 1, 1, None, 2], note="slow")
-        self.mine = await lay(self.ada, "2", ["block", 60, 62, 50, 70, 0], note="open")
+        self.slow = await put_layer(self.ada, "1", ["limit", 0, 1, 1, None, 2], note="slow")
+        self.mine = await put_layer(self.ada, "2", ["block", 60, 62, 50, 70, 0], note="open")
 
     async def picture(self, at: str, to: int = 200) -> Any:
         """Rows and counts of a road, by plain questions."""
@@ -627,9 +627,9 @@ class Previews(Case):
     async def test_a_change_that_would_be_lost_is_listed_with_its_shape_and_the_winner(self) -> None:
         """Though nothing would be other on the road."""
         await self.ada.ask("take", message="shared")
-        theirs = await lay(self.ben, "3", ["block", 60, 60, 30, 95, 1], layer=self.his)
+        theirs = await put_layer(self.ben, "3", ["block", 60, 60, 30, 95, 1], layer=self.his)
         await self.ben.ask("send", name="shared")
-        mine = await lay(self.ada, "4", ["block", 60, 60, 30, 99, 1], layer=self.his)
+        mine = await put_layer(self.ada, "4", ["block", 60, 60, 30, 99, 1], layer=self.his)
         for is_shared in (False, True):
             said = await self.ada.ask("preview", what="take")
             line: Any
@@ -669,9 +669,9 @@ class Previews(Case):
         server = self.server(plan=plan)
         async with server.seat() as ada:
             await ada.say("clock", to=300)
-            await lay(ada, "1", ["block", 50, 50, 60, 200, 1])  # a jam before it, to both inlets
-            await lay(ada, "2", ["inflow", 1, 1, 100, 250, 65_536])
-            await lay(ada, "3", ["inflow", 0, 0, 200, None, 0])
+            await put_layer(ada, "1", ["block", 50, 50, 60, 200, 1])  # a jam before it, to both inlets
+            await put_layer(ada, "2", ["inflow", 1, 1, 100, 250, 65_536])
+            await put_layer(ada, "3", ["inflow", 0, 0, 200, None, 0])
             said: Any = await ada.ask("figures", of="mine", **{"from": 30, "to": 290})
             self.assertEqual(said["before"]["asked"], [(290 - 30) / 2, 0])
             self.assertEqual(said["before"]["lost"], [0, 0])
@@ -726,7 +726,7 @@ class Seats(Case):
             async with server.seat("one more"):
                 pass
         for seat in seats:
-            await lay(seat, "1", ["limit", 0, 0, seat.welcome["seat"], seat.welcome["seat"] + 1, 1])
+            await put_layer(seat, "1", ["limit", 0, 0, seat.welcome["seat"], seat.welcome["seat"] + 1, 1])
             await seat.ask("send", name="shared")
         await seats[62].ask("take", message="shared")
         self.assertEqual({name[1] for name in await lines(seats[62])}, set(range(65, 128)))

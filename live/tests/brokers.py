@@ -32,7 +32,7 @@ async def shared(seat: Seat) -> list[Any]:
 
 def broker_of(seat: Seat) -> BrokerState:
     """Return the last state of the broker that a seat has heard."""
-    told = [seat.welcome["broker"], *(one["broker"] for one in seat.told if "broker" in one)]
+    told = [seat.welcome["broker"], *(one["broker"] for one in seat.received if "broker" in one)]
     assert told[-1] is not None
     return told[-1]
 
@@ -77,7 +77,7 @@ class Brokers(Case):
                     await put(ada, ["limit", 2, 80, 1])
                     await put(sam, ["limit", 2, 80, 2])  # a tie: the greater number wins
                     self.assertEqual(await self.same(ada, sam, edits=1), [["limit", 2, 80, 1, 64, 2]])
-                    news = next(one["news"] for one in reversed(ada.told) if "news" in one)
+                    news = next(one["news"] for one in reversed(ada.received) if "news" in one)
                     self.assertIn("Sam", news["from"])
                     key = sam.key
                 second.kill()  # a site is away
@@ -112,12 +112,12 @@ class Brokers(Case):
                     first.restart()
                     broker.start()
                 await until(lambda: self.has_title(sam, title), title)
-            news = next(one["news"] for one in reversed(sam.told) if "news" in one)
+            news = next(one["news"] for one in reversed(sam.received) if "news" in one)
             self.assertEqual([one["title"] for one in news["shares"]], ["night works", "by day"])
 
     async def has_title(self, seat: Seat, title: str) -> bool:
         """Return whether the server told the seat that Ada shared something with this title, and nothing else."""
-        shares = [share for one in seat.told if "news" in one for share in one["news"]["shares"]]
+        shares = [share for one in seat.received if "news" in one for share in one["news"]["shares"]]
         return bool(shares) and (shares[-1]["who"], shares[-1]["title"]) == ("Ada", title)
 
     async def test_garbage_is_skipped_and_reported(self) -> None:

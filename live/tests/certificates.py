@@ -136,7 +136,7 @@ class Certificates(Case):
             await ada.ask("gesture", key="1", edits=[["limit", 1, 5, 1]])
             await ada.ask("send", name="shared")
             async def is_told() -> bool:
-                told[:] = [one["broker"] for one in eve.told if "broker" in one and one["broker"]["told"]]
+                told[:] = [one["broker"] for one in eve.received if "broker" in one and one["broker"]["told"]]
                 return bool(told and (await sam.ask("scenario", at="shared"))["edits"])
             told: list[Any] = []
             await until(is_told, "the one has the edit, the other a warning")

@@ -182,7 +182,7 @@ class Crashes(Case):
             self.assertEqual(len((await ben.ask("scenario"))["edits"]), 2 + min(made, LAST))
 
     def changes(self, seat: Seat) -> int:
-        return max((one["program"]["changes"] for one in seat.told if "program" in one), default=0)
+        return max((one["program"]["changes"] for one in seat.received if "program" in one), default=0)
 
     async def test_an_interrupt_ends_it_with_tabs_open(self) -> None:
         """One of the tabs does not read."""

@@ -12,7 +12,7 @@ from crashes import numbers
 from faulty import Bus, Here, message_of, soon, told
 from running import ALL, LIVE, SMALL, Case
 from server import stamps, verbs
-from server.asked import Asked
+from server.asked import CommandFields
 from server.refusals import MEANINGS, OF_THE_FORMAT, Refused
 from server.model.operations import Operation, Shape, put
 from server.model.projection import timeline
@@ -317,7 +317,7 @@ class Tabs(Case):
                     parent, key = chance.choice(list(places_in(asked["command"])) or [(asked, "command")])
                     parent[key] = chance.choice(JUNK)
                 try:
-                    await soon(verbs.answer(here.lab, here.questions, 1, Asked(verb, asked["command"]), {}))
+                    await soon(verbs.answer(here.lab, here.questions, 1, CommandFields(verb, asked["command"]), {}))
                 except Refused as fault:
                     refused += 1
                     self.assertGreater(len(fault.why), 10)

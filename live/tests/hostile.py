@@ -12,7 +12,7 @@ from unittest import mock
 import aiohttp
 
 from server import verbs
-from server.asked import Asked
+from server.asked import CommandFields
 from server.refusals import Refused
 from server.client import Seat
 from server.doors import Strangers, neighbourhood
@@ -231,14 +231,14 @@ class Long(Case):
                  json.dumps("limit" * 12_000), f'["{"limit " * 10_000}",1]', '[["' + "limit" * 12_000 + '",1,1,1]]',
                  "[" * 900 + "]" * 900, json.dumps("7" * 60_000), json.dumps(" " * 60_000 + "7"), json.dumps('"' * 30_000)]
         reads: dict[str, Any] = {
-            "edits": Asked.edits, "stamps": Asked.stamps, "shape": Asked.shape, "layer": lambda asked: asked.stamp_or_key("layer"),
-            "to": lambda asked: asked.whole("to"), "key": Asked.key, "note": lambda asked: asked.text("note", 200)}
+            "edits": CommandFields.edits, "stamps": CommandFields.stamps, "shape": CommandFields.shape, "layer": lambda asked: asked.stamp_or_key("layer"),
+            "to": lambda asked: asked.whole("to"), "key": CommandFields.key, "note": lambda asked: asked.text("note", 200)}
         frames = [(f'{{"id":1,"x":{{"{name}":{value}}}}}', read) for name, read in reads.items() for value in wrong]
         frames += [(f'{{"id":1,"x":{{"object":{value},"step":1}}}}', verbs.read_edit) for value in wrong]
         for frame, read in frames:
             with takes_at_most(0.05, frame[:40]), contextlib.suppress(Refused, RecursionError):
                 _, verb, fields = parse_frame(frame)
-                read(Asked(verb, fields))
+                read(CommandFields(verb, fields))
 
 
 class Connection(asyncio.Transport):

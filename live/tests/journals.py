@@ -21,7 +21,7 @@ from unittest import mock
 import running
 from faulty import Disk
 from server.client import Seat
-from server.journal import Broken, Entries, Journal, NotWritten, lock, put_in_place, read_entries
+from server.journal import CannotStart, Entries, Journal, NotWritten, lock, put_in_place, read_entries
 from server.keeper import Keeper
 from server.settings import Settings
 from crashes import numbers
@@ -64,7 +64,7 @@ class Reading(unittest.TestCase):
             # A last line with zeros is a write that was cut off, and no fault.
             for rest in (good, line_of(GESTURES[1], None), *([] if 0 in broken else [b""])):
                 self.path.write_bytes(self.lines[0] + broken + rest)
-                with self.assertRaisesRegex(Broken, "line 2"):
+                with self.assertRaisesRegex(CannotStart, "line 2"):
                     read_entries(self.path)
 
     def test_older_lines_have_no_checksum(self) -> None:
@@ -85,7 +85,7 @@ class Reading(unittest.TestCase):
                 kept = 1 + (begin >= len(line_of(GESTURES[1])))
                 self.assertEqual((entries, size), (GESTURES[:kept], sum(map(len, self.lines[:kept]))), (begin, end))
         self.path.write_bytes(whole + bytes(len(last)) + self.lines[2])  # a later write: the zeros were confirmed
-        with self.assertRaisesRegex(Broken, "line 2"):
+        with self.assertRaisesRegex(CannotStart, "line 2"):
             read_entries(self.path)
 
     def test_10_000_operations_are_read_in_a_second(self) -> None:
@@ -101,7 +101,7 @@ class Reading(unittest.TestCase):
             self.assertEqual(len(state.shared.road.layers), size)
 
     def test_only_one_server_locks_a_folder(self) -> None:
-        with lock(self.path.parent), self.assertRaisesRegex(Broken, "another server"), lock(self.path.parent):
+        with lock(self.path.parent), self.assertRaisesRegex(CannotStart, "another server"), lock(self.path.parent):
             self.fail("held twice")
         with lock(self.path.parent):
             pass
@@ -400,7 +400,7 @@ class Folders(Case):
             said = await ada.reply("gesture", at=ada.at, key="x", edits=[["limit", 2, 50, 1]])
             self.assertEqual(said["refused"], "NotWritten")
             self.assertIn("Read-only file system", said["why"])
-            trouble = ada.welcome["trouble"] or next(one["trouble"] for one in reversed(ada.told) if "trouble" in one)
+            trouble = ada.welcome["trouble"] or next(one["trouble"] for one in reversed(ada.received) if "trouble" in one)
             self.assertIn("Read-only file system", str(trouble))
             async with server.seat("Ben") as ben:  # who comes now looks, too
                 self.assertEqual((await ben.ask("scenario"))["edits"], [])
@@ -442,7 +442,7 @@ class Folders(Case):
             resource.prlimit(server.process.pid, resource.RLIMIT_FSIZE, (resource.RLIM_INFINITY, resource.RLIM_INFINITY))
             self.assertEqual((await ada.ask("gesture", key="full 10", edits=[["block", 60, 10, 1]]))["stamp"], [2, 65])
             await ada.reply("ping")  # pushed messages come after the reply
-            troubles = [one["trouble"] for one in ada.told if "trouble" in one]
+            troubles = [one["trouble"] for one in ada.received if "trouble" in one]
             self.assertEqual([bool(one) for one in troubles][-2:], [True, False])
             held = numbers((await ada.ask("scenario"))["edits"])
         server.restart()

@@ -301,7 +301,7 @@ def program() -> Path:
     return program_path()
 
 
-def told(what: str, values: list[float], goal: float | None = None, least: float | None = None, unit: str = "ms") -> None:
+def report(what: str, values: list[float], goal: float | None = None, least: float | None = None, unit: str = "ms") -> None:
     """Print a figure of live/measure or live/measure_page: the median, the goal, and what it must be at the
     least."""
     median = statistics.median(values)

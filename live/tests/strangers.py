@@ -15,10 +15,10 @@ from crashes import numbers
 from faulty import Bus, Here, Message, message_of, told
 from running import SMALL, Case, new_folder
 from server import seals, stamps, verbs
-from server.asked import Asked
+from server.asked import CommandFields
 from server.refusals import Refused
 from server.floods import Floods
-from server.journal import Broken
+from server.journal import CannotStart
 from server.model.operations import About, Shape, edit, is_raw, put
 from server.records import Came, Folder, read_plan_line
 from server.sites import Sites
@@ -123,7 +123,7 @@ class Strangers(Case):
 
     async def ask(self, here: Here, verb: str, **fields: Any) -> Any:
         """Ask a question as a tab. Return the answer."""
-        return await verbs.answer(here.lab, here.questions, 1, Asked(verb, fields), {})
+        return await verbs.answer(here.lab, here.questions, 1, CommandFields(verb, fields), {})
 
     async def announce(self, site: Sites, folder: str, number: int, **more: Any) -> None:
         value = {"folder": folder, "run": "r", "site": number, "road": site._road, "form": 3, **more}
@@ -604,7 +604,7 @@ class Keys(Case):
 
     def test_a_key_that_is_too_short_is_refused(self) -> None:
         self.key.write_text(" 15 bytes, here \n")
-        with self.assertRaisesRegex(Broken, "has 14 bytes, but the key of the sites must have at least 16"):
+        with self.assertRaisesRegex(CannotStart, "has 14 bytes, but the key of the sites must have at least 16"):
             seals.key_of(self.key)
 
 
