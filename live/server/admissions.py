@@ -13,7 +13,7 @@ from pathlib import Path
 from typing import Sequence, TypedDict
 
 from . import figures
-from .journal import packed
+from .journal import to_json
 
 NICE = 8
 POINTS = 128  # of a curve: a straight line between two is off by less than 0.1 cars per hour
@@ -36,7 +36,7 @@ class Admissions(figures.Beside[Inflow, Curve]):
 
     async def curve(self, asked: Inflow, path: str) -> Curve:
         """Return the curve of an inlet, in some seconds if it is not known yet."""
-        key = packed([MEASURE, asked])
+        key = to_json([MEASURE, asked])
         if key not in self._kept:
             async with self._lock:
                 if key not in self._kept:
@@ -72,7 +72,7 @@ def read_kept(path: Path) -> dict[str, Curve]:
 
 # The program
 
-def measured(asked: Inflow) -> Curve:
+def measure_curve(asked: Inflow) -> Curve:
     """Return the curve that a question asks for. Beside other inlets it takes fewer chances: it would take too long."""
     from zegdrut.demand import Drivers, Effort, Inlet, measure_admission
     from zegdrut.units import ALWAYS
@@ -90,7 +90,7 @@ def main() -> None:
     """Answer questions until there are no more."""
     figures.leave_one_free()
     for line in sys.stdin:
-        print(json.dumps(measured(json.loads(line))), flush=True)
+        print(json.dumps(measure_curve(json.loads(line))), flush=True)
 
 
 if __name__ == "__main__":

@@ -14,9 +14,9 @@ from zegdrut.grammar import GREATEST, Part, kind, list_of, put, row_of, shown, v
 from zegdrut.refusals import Reasons
 from zegdrut.wire import PlanLine, ReplyFields
 
-from .journal import packed
+from .journal import to_json
 from .model.demands import INFLOW, MOST_DEMAND
-from .model.operations import Json, Shape, Stamp, same_int
+from .model.operations import Json, Shape, Stamp, intern_int
 from .refusals import NOT_A_COMMAND, Refused, not_a_command
 
 MOST_EDITS = 1_200  # of a gesture: its line is one import
@@ -52,7 +52,7 @@ LOOK_ALIKE = str.maketrans("авесԁԍһіјкӏмнорԛѕтѵԝухαβεζ
                            "\u034f\u115f\u1160\u2800\u3164" + "".join(map(chr, range(0xfe00, 0xfe10))))
 
 
-def folded(name: str) -> str:
+def fold_look_alikes(name: str) -> str:
     """Return what is the same of names that look alike: without case, spaces, widths and styles of letters."""
     plain = unicodedata.normalize("NFKC", unicodedata.normalize("NFKC", name).casefold())
     return unicodedata.normalize("NFC", "".join(plain.split()).translate(LOOK_ALIKE))
@@ -88,7 +88,7 @@ class CommandFields:
         value = self.require(name)
         named = list(islice(faults(value), TOLD))
         if named:
-            text = packed(value).encode()
+            text = to_json(value).encode()
             try:
                 named = list(islice(faults(value_of(text)), TOLD)) if len(text) < LONG else named  # numbers as they were written
             except ValueError as fault:
@@ -185,7 +185,7 @@ class CommandFields:
 
     def shape(self) -> Shape:
         kind_of, first, last, begin, end, value = cast("tuple[str, int, int, int, int | None, int]", self._checked("shape", SHAPE))
-        return Shape(kind_of, same_int(first), same_int(last), same_int(begin), None if end is None else same_int(end), value)
+        return Shape(kind_of, intern_int(first), intern_int(last), intern_int(begin), None if end is None else intern_int(end), value)
 
     def is_null(self, name: str) -> bool:
         return self.has(name) and self._fields[name] is None
@@ -209,9 +209,9 @@ class CommandFields:
         return rest
 
 
-def why_refused(plan: PlanLine, at: str, horizon: int, line: bytes, reply: ReplyFields) -> str:
+def explain_refusal(plan: PlanLine, at: str, horizon: int, line: bytes, reply: ReplyFields) -> str:
     """Return a sentence about a line that the program refused."""
     reasons = Reasons()
-    reasons.hear(packed(plan).encode(), {"open": 1})
-    reasons.hear(packed({"advance": {"at": at, "to": horizon}}).encode(), {"horizon": horizon})
+    reasons.hear(to_json(plan).encode(), {"open": 1})
+    reasons.hear(to_json({"advance": {"at": at, "to": horizon}}).encode(), {"horizon": horizon})
     return reasons.hear(line, reply) or f"the program refused it: {reply['refused']}"

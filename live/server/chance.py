@@ -19,7 +19,7 @@ from concurrent.futures import ProcessPoolExecutor, as_completed
 from typing import TYPE_CHECKING, Callable, Iterator, Sequence, TypedDict
 
 from . import LIVE, figures
-from .journal import packed
+from .journal import to_json
 from .refusals import Refused
 
 if TYPE_CHECKING:
@@ -52,7 +52,7 @@ class Question:
     async def answer(self, roads: figures.TwoRoads, progress: Callable[[], None]) -> dict[str, object]:
         """Return the figures; if it was stopped, those of the days that were done. `progress` is called after each day."""
         self._process = await asyncio.create_subprocess_exec(
-            *figures.gently(__name__, NICE), stdin=asyncio.subprocess.PIPE, stdout=asyncio.subprocess.PIPE,
+            *figures.command_at_low_priority(__name__, NICE), stdin=asyncio.subprocess.PIPE, stdout=asyncio.subprocess.PIPE,
             env=figures.environment(roads["program"]), start_new_session=True, cwd=LIVE)
         if self.is_stopped:
             self.stop()
@@ -60,7 +60,7 @@ class Question:
         asked: DaysAsked = {"roads": roads, "days": self.days}
         reply: DaysTold = {}
         try:
-            self._process.stdin.write(packed(asked).encode())
+            self._process.stdin.write(to_json(asked).encode())
             self._process.stdin.close()
             async for line in self._process.stdout:
                 reply = json.loads(line)
@@ -124,34 +124,34 @@ def main() -> None:
     from zegdrut import Fault
     found: list[Day] = []
     try:
-        for day in days_of(asked):
+        for day in run_days(asked):
             found.append(day)
             print_line({"done": len(found), "figures": describe_days(found)})
     except Fault as fault:
         print_line({"fault": str(fault)})
 
 
-def days_of(asked: DaysAsked) -> Iterator[Day]:
+def run_days(asked: DaysAsked) -> Iterator[Day]:
     """Yield the days as they are done."""
     from zegdrut.days import SEEDS, run_day, unwrap_day
     from zegdrut.units import Units
     roads = asked["roads"]
     both = (roads["before"], roads["demands"]["before"]), (roads["after"], roads["demands"]["after"])
-    wanted = [demands(roads["plan"], figures.edits_of(edits), roads["last"], known) for edits, known in both]
+    wanted = [compute_all_demands(roads["plan"], figures.edits_of(edits), roads["last"], known) for edits, known in both]
     first = int(roads["plan"]["words"])
     seeds = [(first + one) % SEEDS for one in range(asked["days"])]
     with ProcessPoolExecutor(min(len(seeds), len(os.sched_getaffinity(0))), initializer=die_with_parent) as pool:
-        running = [pool.submit(run_day, [], None, seed, Units(), functools.partial(of_day, roads, wanted)) for seed in seeds]
+        running = [pool.submit(run_day, [], None, seed, Units(), functools.partial(compute_day, roads, wanted)) for seed in seeds]
         try:
             yield from (unwrap_day(ended.result()) for ended in as_completed(running))
         finally:
             pool.shutdown(cancel_futures=True)
 
 
-def demands(plan: PlanLine, edits: figures.Edits, last: int, known: Sequence[AskedRates]) -> list[Rates]:
+def compute_all_demands(plan: PlanLine, edits: figures.Edits, last: int, known: Sequence[AskedRates]) -> list[Rates]:
     """Return the demand of each inlet over time: it is the same on each day."""
     from zegdrut.lost import compute_demands
-    return compute_demands(plan, figures.given(edits), last, asked=known)
+    return compute_demands(plan, figures.to_edits(edits), last, asked=known)
 
 
 def die_with_parent() -> None:
@@ -176,7 +176,7 @@ def describe_days(days: list[Day]) -> list[FigureTold]:
              "others": one.others} for one in compare_days(whole)]
 
 
-def of_day(asked: figures.TwoRoads, wanted: list[list[Rates]], _pairs: list[tuple[str, Script]], _at: str | None, seed: int,
+def compute_day(asked: figures.TwoRoads, wanted: list[list[Rates]], _pairs: list[tuple[str, Script]], _at: str | None, seed: int,
            _units: Units) -> Day:
     """Return the figures of a day. Travel times that no car has are missing."""
     from zegdrut.days import Day
@@ -189,7 +189,7 @@ def of_day(asked: figures.TwoRoads, wanted: list[list[Rates]], _pairs: list[tupl
         for road, edits in zip(roads, (asked["before"], asked["after"])):
             road.become(figures.edits_of(edits))
             road.read(window.last, math.inf)
-        both = [named_figures(figures.road_of(road, rates, window)) for road, rates in zip(roads, wanted)]
+        both = [name_figures(figures.road_of(road, rates, window)) for road, rates in zip(roads, wanted)]
         delay = compare_trips(roads[0].trips, roads[1].trips, window).delay_hours
         return Day(seed, *({HOURS: one[HOURS], LOST: one[LOST], DELAY: less, **one}
                            for one, less in zip(both, (0.0, delay))))
@@ -198,7 +198,7 @@ def of_day(asked: figures.TwoRoads, wanted: list[list[Rates]], _pairs: list[tupl
             road.lab.close()
 
 
-def named_figures(found: figures.RoadFigures) -> dict[str, float]:
+def name_figures(found: figures.RoadFigures) -> dict[str, float]:
     """Return the figures of a road by their names: hours, lost demand, then of each detector the cars and the seconds from the inlet."""
     times = [mean for _, mean in found["travel"]]
     return {HOURS: found["vehicle_hours"], LOST: sum(found["lost"]),

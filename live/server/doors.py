@@ -69,11 +69,11 @@ class Doors:
             except OSError as fault:
                 logging.warning("no new connections for a moment: %s", fault)
                 loop.remove_reader(door)
-                loop.call_later(TOO_MANY, self._again, door)
+                loop.call_later(TOO_MANY, self._resume, door)
                 return
-            self._put(connection, neighbourhood(address))
+            self._put(connection, address_group(address))
 
-    def _again(self, door: socket.socket) -> None:
+    def _resume(self, door: socket.socket) -> None:
         if door.fileno() >= 0:
             asyncio.get_running_loop().add_reader(door, self._accept, door)
 
@@ -121,7 +121,7 @@ class Doors:
         has_tls = self._certificate is not None
         try:
             async with asyncio.timeout(HANDSHAKE):
-                await says_something(connection)
+                await wait_for_first_bytes(connection)
             await asyncio.get_running_loop().connect_accepted_socket(
                 self._protocol, connection, ssl=self._certificate, ssl_handshake_timeout=HANDSHAKE if has_tls else None,
                 ssl_shutdown_timeout=FAREWELL if has_tls else None)
@@ -145,7 +145,7 @@ class Doors:
         self._waiting.clear()
 
 
-async def says_something(connection: socket.socket) -> None:
+async def wait_for_first_bytes(connection: socket.socket) -> None:
     """Wait until there is something to read: who is silent takes a socket, and nothing else."""
     loop, said = asyncio.get_running_loop(), asyncio.Event()
     connection.setblocking(False)
@@ -156,7 +156,7 @@ async def says_something(connection: socket.socket) -> None:
         loop.remove_reader(connection)
 
 
-def neighbourhood(address: str) -> str:
+def address_group(address: str) -> str:
     """Return what counts as one address: for IPv6 a network of 64 bits, since one host may have all of it."""
     if ":" not in address:
         return address
@@ -191,4 +191,4 @@ class Strangers:
 
 
 def address_of(transport: asyncio.Transport) -> str:
-    return neighbourhood(str((transport.get_extra_info("peername") or ("",))[0]))
+    return address_group(str((transport.get_extra_info("peername") or ("",))[0]))

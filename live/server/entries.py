@@ -28,7 +28,7 @@ class CorruptJournal(CannotStart):
     """The journal has a malformed line."""
 
 
-def packed(value: object) -> str:
+def to_json(value: object) -> str:
     """Return a value as compact JSON in one line."""
     return json.dumps(value, separators=(",", ":"), ensure_ascii=False, allow_nan=False)
 
@@ -71,7 +71,7 @@ class Entries:
         """Return whether a broken line is of a write that never ended: no write begins behind it."""
         *lines, rest = behind.split(b"\n")
         could = [line.rpartition(b"\0")[2], *lines]
-        return bool(rest or b"\0" in line) and not any(begins_a_write(self._path, one) for one in could)
+        return bool(rest or b"\0" in line) and not any(is_confirmed_before(self._path, one) for one in could)
 
 
 def read_entries(path: Path, size: int | None = None) -> tuple[list[Entry], int]:
@@ -97,7 +97,7 @@ def entry_of(path: Path, number: int, line: bytes) -> Entry:
     return fields
 
 
-def begins_a_write(path: Path, line: bytes) -> bool:
+def is_confirmed_before(path: Path, line: bytes) -> bool:
     """Return whether all lines before were confirmed: this one was written behind them."""
     try:
         entry_of(path, 0, line)

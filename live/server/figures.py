@@ -19,8 +19,8 @@ from collections import OrderedDict
 from typing import TYPE_CHECKING, AsyncIterator, Generic, Mapping, Sequence, TypedDict, TypeVar
 
 from . import LIVE
-from .journal import packed
-from .program import LONGEST_REPLY, dies_with_us, import_lines
+from .journal import to_json
+from .program import LONGEST_REPLY, command_ending_with_parent, import_lines
 from .refusals import Refused
 
 if TYPE_CHECKING:
@@ -94,13 +94,13 @@ class Beside(Generic[Q, A]):
             self.close()
             self._path = path
             self._process = await asyncio.create_subprocess_exec(
-                *gently(self._module, self._nice), stdin=asyncio.subprocess.PIPE, stdout=asyncio.subprocess.PIPE, env=environment(path),
+                *command_at_low_priority(self._module, self._nice), stdin=asyncio.subprocess.PIPE, stdout=asyncio.subprocess.PIPE, env=environment(path),
                 start_new_session=True, cwd=LIVE, limit=LONGEST_REPLY)
         process = self._process
         assert process.stdin is not None and process.stdout is not None
         line = b""
         try:
-            process.stdin.write(packed(asked).encode() + b"\n")
+            process.stdin.write(to_json(asked).encode() + b"\n")
             async with asyncio.timeout(HANGS):
                 line = await process.stdout.readline()
         except (OSError, asyncio.TimeoutError):
@@ -141,13 +141,13 @@ class Figures(Beside[FiguresAsked, FiguresTold]):
 
 def environment(path: str) -> dict[str, str]:
     """Return the environment of a program that runs road_lab at a path by the package zegdrut."""
-    guard = " ".join(dies_with_us([]))
+    guard = " ".join(command_ending_with_parent([]))
     return {**os.environ, "ROAD_LAB": path, **({GUARD: guard} if guard else {})}
 
 
-def gently(module: str, nice: int = NICE) -> list[str]:
+def command_at_low_priority(module: str, nice: int = NICE) -> list[str]:
     """Runs a module of this package as a program for which nobody who edits waits longer."""
-    return dies_with_us(["nice", "-n", str(nice), sys.executable, "-m", module])
+    return command_ending_with_parent(["nice", "-n", str(nice), sys.executable, "-m", module])
 
 
 def kill(process: asyncio.subprocess.Process) -> None:
@@ -194,19 +194,19 @@ class DrivenRoad:
     def demands(self, last: int, asked: Sequence[AskedRates]) -> list[Rates]:
         """Return the demand of each inlet over time, up to a step: what was asked for, or what the chances stand for."""
         from zegdrut.lost import compute_demands
-        return compute_demands(self.plan, given(self.edits), last, asked=asked)
+        return compute_demands(self.plan, to_edits(self.edits), last, asked=asked)
 
     def counts(self, window: Window) -> list[DetectorFigures]:
         """Return what each detector counted."""
         from zegdrut.trips import DetectorCount, count_seconds_on
-        found, watched = [], given(self.edits)
+        found, watched = [], to_edits(self.edits)
         for detector in range(len(self.plan["detectors"])):
             one = self.lab.count("road", detector, *window)
-            found.append(detector_told(DetectorCount(one.cars, one.speeds, count_seconds_on(watched, detector, window), window.steps)))
+            found.append(detector_figures(DetectorCount(one.cars, one.speeds, count_seconds_on(watched, detector, window), window.steps)))
         return found
 
 
-def detector_told(one: DetectorCount) -> DetectorFigures:
+def detector_figures(one: DetectorCount) -> DetectorFigures:
     """Return a detector's count for a reply: cars, the sum of speeds, flow in cars per hour, speed in km/h, seconds on."""
     return {"cars": one.cars, "speeds": one.speeds, "flow": one.flow, "speed": one.time_mean_speed, "on": one.seconds_on}
 
@@ -216,13 +216,13 @@ def edits_of(rows: Sequence[WrittenEdit]) -> Edits:
     return {(kind, index, step): value for kind, index, step, *_, value in rows if value is not None}
 
 
-def given(edits: Edits) -> list[Edit]:
+def to_edits(edits: Edits) -> list[Edit]:
     """Return edits as the package has them."""
     from zegdrut import Edit, Stamp
     return [Edit((kind, index), step, Stamp(1, NUMBER), value) for (kind, index, step), value in edits.items()]
 
 
-def times_told(times: Sequence[TravelTime]) -> Times:
+def travel_times(times: Sequence[TravelTime]) -> Times:
     """Return, for each site and last for the road's end, the cars and their mean seconds."""
     return [[one.cars, one.mean] for one in times]
 
@@ -238,16 +238,16 @@ def road_of(road: DrivenRoad, wanted: list[Rates], window: Window) -> RoadFigure
             "asked": [one.demand for one in supplies], "entered": [one.admitted for one in supplies],
             "lost": [one.lost for one in supplies], "scatter": [one.scatter for one in supplies],
             "vehicle_hours": compute_vehicle_hours(road.trips, window),
-            "travel": times_told(compute_travel_times(road.trips, window)),
-            "travel_by_entry": {str(step): times_told(times) for step, times in by_entry.items()}}
+            "travel": travel_times(compute_travel_times(road.trips, window)),
+            "travel_by_entry": {str(step): travel_times(times) for step, times in by_entry.items()}}
 
 
-def compared(before: Trips, after: Trips, sides: Sequence[RoadFigures], window: Window) -> FiguresTold:
+def compare_figures(before: Trips, after: Trips, sides: Sequence[RoadFigures], window: Window) -> FiguresTold:
     """Return the figures of both roads, and what the change costs: vehicle hours, cars, and how late these are at each detector."""
     from zegdrut.trips import compare_trips
     found = compare_trips(before, after, window)
     return {"before": sides[0], "after": sides[1], "delay_hours": found.delay_hours, "delayed": found.cars,
-            "later": times_told(found.at_sites)}
+            "later": travel_times(found.at_sites)}
 
 
 class Roads:
@@ -281,7 +281,7 @@ class Roads:
             return {"done": done}
         asked_for = both["demands"]["before"], both["demands"]["after"]
         sides = [road_of(road, road.demands(window.last, one), window) for road, one in zip(roads, asked_for)]
-        return compared(roads[0].trips, roads[1].trips, sides, window)
+        return compare_figures(roads[0].trips, roads[1].trips, sides, window)
 
 
 def leave_one_free() -> None:

@@ -44,7 +44,7 @@ class Former:
     def _count(self, gestures: list[Json]) -> None:
         self._places += [self._state.shared.size] * len(gestures)
 
-    def _gesture(self, value: Fields) -> None:
+    def _apply_gesture(self, value: Fields) -> None:
         one = read_former_gesture(dict(value))
         is_shared = value.get("shared") is True
         if one is not None:
@@ -58,7 +58,7 @@ class Former:
         Share.read(value).apply(self._state)
         self._count([None] * (self._state.shared.size - before))
 
-    def _came(self, value: Fields) -> None:
+    def _apply_received(self, value: Fields) -> None:
         gestures = read_list(value["gestures"])
         operations = [one for one in map(read_former_gesture, gestures) if one is not None]
         titles = [one.get("title", "") for one in [value, *gestures] if isinstance(one, dict) and "known" not in one]

@@ -26,7 +26,7 @@ from pathlib import Path
 from typing import Callable, Iterable, Iterator, ParamSpec, TypeVar
 
 from .entries import CannotStart as CannotStart, CorruptJournal as CorruptJournal, Entries as Entries, Entry as Entry
-from .entries import journal_line as journal_line, packed as packed, read_entries as read_entries
+from .entries import journal_line as journal_line, to_json as to_json, read_entries as read_entries
 
 JOURNAL = "journal.jsonl"
 LINES_AT_ONCE = 1_000
@@ -55,11 +55,11 @@ def lock(folder: Path) -> Iterator[None]:
         else:
             hold(file.fileno(), folder)
         with contextlib.suppress(FileNotFoundError):
-            os.close(held(folder / JOURNAL))  # the journal itself holds it from now on
+            os.close(open_locked(folder / JOURNAL))  # the journal itself holds it from now on
         yield
 
 
-def held(path: Path) -> int:
+def open_locked(path: Path) -> int:
     """Open a journal, and lock it until the file is closed; `CannotStart` if another server has it."""
     file = os.open(path, os.O_RDONLY)
     try:
@@ -92,7 +92,7 @@ def sync_folder(folder: Path) -> None:
         os.close(handle)
 
 
-def appended(path: Path) -> int:
+def open_for_append(path: Path) -> int:
     """Open a file to append to, for its owner alone."""
     return os.open(path, os.O_WRONLY | os.O_CREAT | os.O_APPEND, 0o600)
 
@@ -109,35 +109,35 @@ def put_in_place(path: Path, pieces: Iterable[bytes]) -> int:
     """Make a file, or put another in its place, whole or not at all; it stays open, to append to."""
     file = put_beside(path, pieces)
     try:
-        os.rename(beside(path), path)
+        os.rename(successor_path(path), path)
     except OSError:
         close_all(file)
         with contextlib.suppress(OSError):
-            beside(path).unlink()
+            successor_path(path).unlink()
         raise
     return file
 
 
-def beside(path: Path) -> Path:
+def successor_path(path: Path) -> Path:
     """Return where a file is written that takes the place of another."""
     return path.with_name(path.name + ".new")
 
 
 def put_beside(path: Path, pieces: Iterable[bytes]) -> int:
     """Write a file that will take the place of another, whole or not at all; it stays open, to append to."""
-    beside(path).unlink(missing_ok=True)
-    file = appended(beside(path))
+    successor_path(path).unlink(missing_ok=True)
+    file = open_for_append(successor_path(path))
     try:
         write(file, pieces)
     except OSError:
         close_all(file)
         with contextlib.suppress(OSError):
-            beside(path).unlink()
+            successor_path(path).unlink()
         raise
     return file
 
 
-def fork_writing(path: Path, entries: Callable[[], Iterable[Entry]]) -> int:
+def fork_writer(path: Path, entries: Callable[[], Iterable[Entry]]) -> int:
     """Let a process that has this one's memory, as it is now, write `entries()` beside a journal. Return its number; its
     status is 0 if they are on the disk."""
     process = os.fork()
@@ -162,7 +162,7 @@ def journal_lines(entries: Iterable[Entry]) -> Iterator[bytes]:
     """Yield the lines of entries, many at once."""
     several = iter(entries)
     while part := list(itertools.islice(several, LINES_AT_ONCE)):
-        yield b"".join(journal_line(packed(entry), True) for entry in part)
+        yield b"".join(journal_line(to_json(entry), True) for entry in part)
 
 
 class Journal:
@@ -188,7 +188,7 @@ class Journal:
 
     def _begin(self, torn: int) -> None:
         """Lock the journal, and cut off what was never confirmed."""
-        self._held = held(self.path)
+        self._held = open_locked(self.path)
         if torn > 0:
             logging.warning("%s: %d bytes at its end were never confirmed, and are cut off", self.path, torn)
         if not self._is_read_only:
@@ -199,7 +199,7 @@ class Journal:
         """Open the journal to append to. A journal that is there and may not be written can be read; what is written is
         refused until `mend` succeeds."""
         try:
-            return appended(self.path)
+            return open_for_append(self.path)
         except OSError as fault:
             if not is_read_only(fault) or not self.path.exists():
                 raise
@@ -215,7 +215,7 @@ class Journal:
         if self.fault is not None:
             done.set_exception(NotWritten(self.fault))
             return done
-        self._waiting.append((packed(entry), then, done))
+        self._waiting.append((to_json(entry), then, done))
         self._last = done
         if self._writer is None:
             self._writer = asyncio.ensure_future(self._write_all())
@@ -292,12 +292,12 @@ class Journal:
 
     def _mend(self, entry: Entry) -> None:
         if self._is_read_only:
-            file, old = appended(self.path), self._file
+            file, old = open_for_append(self.path), self._file
             self._file, self._is_read_only = file, False
             os.close(old)
         self._cut()
         sync_folder(self.path.parent)
-        self._append(journal_line(packed(entry), True), bytes(ROOM))
+        self._append(journal_line(to_json(entry), True), bytes(ROOM))
         self._cut()
 
     async def compact(self, entries: Callable[[], Iterable[Entry]]) -> None:
@@ -308,10 +308,10 @@ class Journal:
         if self.fault is not None:
             return
         copied, failures = self.size, self.failures
-        if not await self._is_written(fork_writing(self.path, entries)):
+        if not await self._is_written(fork_writer(self.path, entries)):
             logging.warning("the journal was not compacted: the shorter one could not be written")
             return
-        file = appended(beside(self.path))
+        file = open_for_append(successor_path(self.path))
         try:
             while self.size - copied > ROOM and self.failures == failures:
                 copied = await self._asks_beside(self._copy, file, copied)
@@ -362,9 +362,9 @@ class Journal:
     def _rename(self, file: int, copied: int) -> None:
         """Rename a new file over the old one: whoever reads sees the one or the other, and it is locked first."""
         self._copy(file, copied)
-        lock_of_new = held(beside(self.path))
+        lock_of_new = open_locked(successor_path(self.path))
         try:
-            os.rename(beside(self.path), self.path)
+            os.rename(successor_path(self.path), self.path)
         except OSError:
             close_all(lock_of_new)
             raise

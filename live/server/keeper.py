@@ -19,9 +19,9 @@ from typing import Awaitable, Callable, Dict, Iterable, Mapping, TypeVar, Union
 from zegdrut.grammar import LAST_HORIZON
 from zegdrut.wire import ReplyFields
 
-from .asked import why_refused
+from .asked import explain_refusal
 from .records import JOURNAL_FORM, AnyEntry, Clock, Folder, Made, Upgraded, read_plan_line
-from .journal import CannotStart, CorruptJournal, Entries, Entry, Journal, NotWritten, packed, put_in_place, sync_folder
+from .journal import CannotStart, CorruptJournal, Entries, Entry, Journal, NotWritten, to_json, put_in_place, sync_folder
 from .listeners import Listeners
 from .model.operations import Json, Operation
 from .model.road import Road
@@ -31,7 +31,7 @@ from .screen import Differences, Screen
 from .settings import Settings
 from .stamps import StampClock
 from .state import NO_PLAN, State
-from .supervised import supervised
+from .supervised import supervise
 from .turns import MORE, Job, More, Turns
 
 KEPT = 20  # newest private operations of a seat, which are never forgotten
@@ -96,7 +96,7 @@ class Keeper:
         if is_new:
             first: dict[str, Json] = {**plan(), "replicas": [self.state.replica(seat.index).at for seat in self.state.seats]}
             # A program must take it before it is written that this is the plan.
-            await (await start(command_of(self.path, first), packed(first).encode())).close()
+            await (await start(command_of(self.path, first), to_json(first).encode())).close()
         self.journal = Journal(path, entries.size)
         if is_new:
             await self.record(Folder(read_plan_line(first), site or 1, secrets.token_hex(8)))
@@ -106,8 +106,8 @@ class Keeper:
         self.clock_started = time.monotonic()
         self._forget()
         self._screen = await self._start()
-        self.tasks = [supervised("what seats ask", self.turns.run, self.report_end),
-                      supervised("the look at the disk", self._watch_disk, self.report_end)]
+        self.tasks = [supervise("what seats ask", self.turns.run, self.report_end),
+                      supervise("the look at the disk", self._watch_disk, self.report_end)]
         return is_new
 
     async def _upgrade(self) -> None:
@@ -278,7 +278,7 @@ class Keeper:
 
     async def _start(self) -> Screen:
         """Return a program that shows the empty road everywhere."""
-        program = await start(command_of(self.path, self.state.plan), packed(self.state.plan).encode())
+        program = await start(command_of(self.path, self.state.plan), to_json(self.state.plan).encode())
         return Screen(program, self.state.empty)
 
     @property
@@ -423,7 +423,7 @@ class Keeper:
         """Raise what a program has refused, with a sentence."""
         (_, fields), = json.loads(line).items()
         at = str(fields.get("at"))
-        why = why_refused(self.state.plan, at, program.horizons.get(at, 0), line, reply)
+        why = explain_refusal(self.state.plan, at, program.horizons.get(at, 0), line, reply)
         raise Refused(reply["refused"], why)
 
     def now(self) -> int:

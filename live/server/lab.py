@@ -16,9 +16,9 @@ from .checks import Checks
 from .keeper import SHARED, Keeper, Times
 from .lines import Act, Lister
 from .model.changes import lines_of
-from .model.choices import overruling, sendable, undoable, would_change
+from .model.choices import find_overruling, sendable, find_undoable, would_change
 from .model.demands import kept_demand, written_demand
-from .model.operations import (About, Json, Operation, RawName, Shape, Stamp, edit, exclude, in_order, lift, put, stamped_anew,
+from .model.operations import (About, Json, Operation, RawName, Shape, Stamp, edit, exclude, sort_by_stamp, lift, put, restamp,
                                undo)
 from .model.road import Road, change, repeat, stands
 from .records import Bound, Came, CameBack, Made, Share, StampedAnew, Take, Works
@@ -26,9 +26,9 @@ from .refusals import Refused
 from .screen import first_step
 from .seating import Seating
 from .state import Replica, SeatReplica, State
-from .supervised import supervised
+from .supervised import supervise
 from .timing import Timing
-from .writing import Write, confirmed
+from .writing import Write, wait_until_written
 
 MOST_TOLD = 200
 LOOKED_AT = 500
@@ -51,7 +51,7 @@ class FutureStamp(Refused):
                          f"is taken when its day has come")
 
 
-def with_more(about: About, more: Mapping[str, Json]) -> About:
+def add_fields(about: About, more: Mapping[str, Json]) -> About:
     """Return what is known about an operation, with more fields."""
     return replace(about, more=more) if more else about
 
@@ -68,7 +68,7 @@ class Lab:
         """Open the keeper's folder. Return whether it is new."""
         is_new = await self.keeper.open(plan, site)
         self._checks = Checks(self.state.plan)
-        self.keeper.tasks.append(supervised("the clock, seats that nobody uses and a long journal", self._look_after,
+        self.keeper.tasks.append(supervise("the clock, seats that nobody uses and a long journal", self._look_after,
                                             self.keeper.report_end))
         return is_new
 
@@ -100,7 +100,7 @@ class Lab:
         """Put a shape, on top of all. `demand` is what its chance is for, in cars per hour; that of the road's file is planned."""
         self._checks.shape(shape)
         more = written_demand(demand, is_planned)
-        return await self._make(index, key, note, times, lambda seat, stamp, about: put(stamp, shape, with_more(about, more)))
+        return await self._make(index, key, note, times, lambda seat, stamp, about: put(stamp, shape, add_fields(about, more)))
 
     async def change_line(self, index: int, times: Times, *, key: str, note: str, line: Called, shape: Shape | None,
                           top: bool, demand: float | None = None) -> Reply:
@@ -111,7 +111,7 @@ class Lab:
         def make_operation(seat: SeatReplica, stamp: Stamp, about: About) -> Operation:
             changed = self._find_line(seat, line)
             said = demand if demand is not None or shape is None else kept_demand(seat.road, changed, shape)
-            return change(seat.road, stamp, changed, shape, top, with_more(about, written_demand(said)))
+            return change(seat.road, stamp, changed, shape, top, add_fields(about, written_demand(said)))
         return await self._make(index, key, note, times, make_operation)
 
     async def lift_line(self, index: int, times: Times, *, key: str, note: str, line: Called) -> Reply:
@@ -183,7 +183,7 @@ class Lab:
         record = seat.road.record
         if one.site in record.excluded:
             return f"site {one.site} is excluded, so it has no effect"
-        by = [other for other in overruling(seat.road, one) if other is not one]
+        by = [other for other in find_overruling(seat.road, one) if other is not one]
         if not record.counts(one):
             by = [other for other in record.undos_of(one) if record.counts(other)]
             return f"{' and '.join(sorted({other.about.who for other in by}))} undid it already"
@@ -197,7 +197,7 @@ class Lab:
             if key in seat.done:  # sent again after a break: it ends as it did then, or will
                 write.dones.extend(self._pending.get((index, key), ()))
                 return {"stamp": seat.done[key], "touched": None, "again": True, **self.list_of(seat, seat.version)}
-            await write.ready()
+            await write.require_writable()
             self._restamp_early(seat, write)
             before, version = seat.road, self._version(seat)
             one = self._new_operation(seat, note, make_operation)
@@ -214,13 +214,13 @@ class Lab:
 
     def _restamp_early(self, seat: SeatReplica, write: Write) -> None:
         """Give new stamps to private operations that a wrong clock has put too far ahead: no other site would take them."""
-        early = in_order(self._find_early(seat))
+        early = sort_by_stamp(self._find_early(seat))
         if not early:
             return
         count, number = self.state.stamp(seat)
         stamps = {one.stamp: (count + place, number) for place, one in enumerate(early)}
         with contextlib.suppress(ValueError):  # one of them refers to what others have shared: it waits for its day
-            stamped_anew(early, stamps)
+            restamp(early, stamps)
             write.record(StampedAnew(seat.index, stamps))
 
     def _new_operation(self, seat: SeatReplica, note: str, make_operation: MakeOperation) -> Operation:
@@ -257,7 +257,7 @@ class Lab:
         asked."""
         write = Write(self.keeper)
         made: T = await self.keeper.ask(turn, (), lambda: make(write), takes_long=takes_long)
-        await write.confirmed(times)
+        await write.wait_until_written(times)
         return made
 
     # Lists
@@ -271,14 +271,14 @@ class Lab:
         """Return the lines that are other than in a version of a list, and what Z and Redo would do."""
         marks = replica.begin_list()
         lines, after = Lister(self.state, replica).since(marks, version - replica.begun, LIST_AT_ONCE)
-        found = undoable(replica.road, replica.number)
+        found = find_undoable(replica.road, replica.number)
         return {"layers": lines, "since": version, "next": replica.version if after is None else replica.begun + after,
                 "more": after is not None, "undo": found.undo and found.undo.stamp, "redo": found.redo and found.redo.stamp,
                 "blocked": self._blocked(replica.road, found.blocked)}
 
     def _blocked(self, road: Road, some: list[Operation]) -> list[Reply]:
         """Return the own operations that Z passes over, each with who changed it since."""
-        return [{"stamp": one.stamp, "by": sorted({other.about.who for other in overruling(road, one) if other.stamp[1] != one.stamp[1]})}
+        return [{"stamp": one.stamp, "by": sorted({other.about.who for other in find_overruling(road, one) if other.stamp[1] != one.stamp[1]})}
                 for one in some[:MOST_BLOCKED]]
 
     # What is shared
@@ -288,13 +288,13 @@ class Lab:
         async def make(write: Write) -> tuple[list[Stamp], int | None]:
             seat, shared = self.seating.owned(index), self.state.shared
             if self._find_early(seat):
-                await write.ready()
+                await write.require_writable()
                 self._restamp_early(seat, write)
             chosen = None if stamps is None else {seat.renamed.get(stamp, stamp) for stamp in stamps}
             given = seat.shareable() if chosen is None else sendable(seat.road, shared.road, seat.number, chosen)
             before = shared.road
             if given:
-                await write.ready()
+                await write.require_writable()
                 write.record(Share(index, [one.stamp for one in given], seat.name, title, int(time.time())))
             return [one.stamp for one in given], await self._touched(before, shared.road)
         found, touched = await self._write(index, make, times)
@@ -306,7 +306,7 @@ class Lab:
         """Take all that has been shared so far."""
         async def make(write: Write) -> Reply:
             seat = self.seating.owned(index)
-            await write.ready()
+            await write.require_writable()
             version, before, upto = self._version(seat), seat.road, seat.upto
             came = self.state.fresh(seat, self.keeper.confirmed)
             if seat.upto < self.keeper.confirmed:
@@ -332,7 +332,7 @@ class Lab:
 
     async def works_are_shared(self) -> None:
         """Give every new seat from the start what is shared so far."""
-        await confirmed(self.keeper.record(Works(self.keeper.confirmed)), {})
+        await wait_until_written(self.keeper.record(Works(self.keeper.confirmed)), {})
 
     # What comes from other sites
 
@@ -344,7 +344,7 @@ class Lab:
             fresh = [one for one in operations if one not in shared.road]
             if not fresh:
                 return None
-            await write.ready()
+            await write.require_writable()
             before, began = shared.road, time.thread_time()
             write.record(Came(fresh, fresh[0].about.who, title, int(time.time()), is_unsent=False))
             await shared.catch_up()
@@ -355,7 +355,7 @@ class Lab:
         is_new: list[bool] = []
         touched = await self._write(SHARED, make, times)
         if not is_new:
-            await confirmed(self.keeper.journal.settled(), times)
+            await wait_until_written(self.keeper.journal.settled(), times)
             return False
         self.keeper.listeners.shared.notify(touched)
         return True
@@ -366,8 +366,8 @@ class Lab:
 
     async def bind(self, number: int, folder: str) -> None:
         """Write down that a site's number is this folder's."""
-        await confirmed(self.keeper.record(Bound(number, folder)), {})
+        await wait_until_written(self.keeper.record(Bound(number, folder)), {})
 
     async def acknowledge(self, stamps: list[Stamp]) -> None:
         """Note that these came back from the broker: they need not be sent again."""
-        await confirmed(self.keeper.record(CameBack(stamps)), {})
+        await wait_until_written(self.keeper.record(CameBack(stamps)), {})

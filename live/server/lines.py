@@ -9,7 +9,7 @@ from .model.changes import operations_on
 from .model.demands import demand_of, is_planned, stated_demand
 from .model.operations import Name, Operation, Shape, Stamp, is_line, is_raw
 from .model.road import Road, parts_of, stands
-from .model.seen import Rectangle, lost, shown
+from .model.seen import Rectangle, find_overruled, visible_rectangles
 from .state import Replica, SeatReplica, State
 
 SITE = "site"  # the kind of a line that excludes one
@@ -45,7 +45,7 @@ class Lister:
         order = {name: place for place, name in enumerate(first.sets)}
         parts = sorted(parts_of(road, line), key=lambda name: (order.get(name, len(order)), name))
         edits: list[list[str | int]] = [[*name, road.layers[name].value] for name in parts]
-        losses = lost(road, line)
+        losses = find_overruled(road, line)
         said: Line = {
             "name": line, "kind": self.kind(line, done), "shape": self.shape(line, done), "who": first.about.who,
             "note": first.about.note, "when": first.about.when, "height": road.height_of(line),
@@ -61,7 +61,7 @@ class Lister:
         return said
 
     def shown(self, line: Stamp) -> list[Rectangle]:
-        return shown(self._road, line)
+        return visible_rectangles(self._road, line)
 
     def _is_standing(self, line: Stamp, done: list[Operation]) -> bool:
         excludes = self._excluded_by(done)

@@ -5,7 +5,7 @@ import json
 from typing import Mapping
 
 from .asked import clean_text
-from .journal import packed
+from .journal import to_json
 from .model.operations import Json
 
 LONGEST_HASH = 40
@@ -20,7 +20,7 @@ def read_message(body: bytes) -> Mapping[str, Json]:
     """Return the fields of a message; of one that is not an object none."""
     try:
         value: Json = json.loads(body.decode())
-        packed(value).encode()
+        to_json(value).encode()
     except (ValueError, RecursionError):
         raise InvalidMessage(f"it is not JSON: {clean_text(body[:60].decode(errors='replace'), 60)}") from None
     return value if isinstance(value, dict) else {}

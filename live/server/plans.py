@@ -14,7 +14,7 @@ from zegdrut.demand import find_rate
 from zegdrut.wire import PlanLine
 
 from .asked import LONGEST_NAME, CommandFields, clean_text
-from .journal import CannotStart, packed
+from .journal import CannotStart, to_json
 from .lab import Lab
 from .model.demands import INFLOW
 from .model.operations import END, Json, Shape
@@ -60,7 +60,7 @@ def read_plan(path: Path) -> dict[str, Json]:
         raise CannotStart(f"no plan at {path}: {fault.strerror}") from None
     try:
         value: Json = json.loads(text)
-        packed(value).encode()  # halves of signs, and NaN, can be read and not written
+        to_json(value).encode()  # halves of signs, and NaN, can be read and not written
     except (ValueError, RecursionError) as fault:
         raise CannotStart(f"{path} is neither a plan line nor a freeway in km: {fault}") from None
     if not isinstance(value, dict):
@@ -78,7 +78,7 @@ def read_road(path: Path, program: str) -> Planned:
     value = read_plan(path)
     if not is_freeway(value):
         return Planned(value)
-    said = by_recipe(path, program)
+    said = convert_freeway(path, program)
     try:
         shapes = [shape_of(one) for one in said["shapes"]]
         works: list[tuple[Shape, float | None]] = [(shape, None) for shape in shapes if shape.kind != INFLOW]
@@ -108,7 +108,7 @@ def demand_shapes(chances: Sequence[int], shapes: Sequence[Shape],
                     yield one._replace(begin=begin, end=end), find_rate(rates, begin)
 
 
-def by_recipe(path: Path, program: str) -> Converted:
+def convert_freeway(path: Path, program: str) -> Converted:
     """Return the plan and the shapes of a freeway in km, and print what has to differ from what it says."""
     said: list[str] = []
     command = [sys.executable, str(FREEWAY), "--plan", str(path.resolve())]

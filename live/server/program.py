@@ -17,7 +17,7 @@ from typing import Mapping, Sequence
 
 from zegdrut.wire import WrittenEdit
 
-from .journal import packed
+from .journal import to_json
 
 LONGEST_REPLY = 1 << 26
 PIECE = 1_200  # edits of an import, so that its line is at most 65,536 bytes
@@ -42,7 +42,7 @@ def command_of(path: str, plan: Mapping[str, object]) -> list[str]:
     return [path, "--workers", "2"] if pays else [path]
 
 
-def dies_with_us(command: list[str]) -> list[str]:
+def command_ending_with_parent(command: list[str]) -> list[str]:
     """Return a command whose process is killed as soon as this one has ended, however that was."""
     return [*(["setpriv", "--pdeathsig", "KILL"] if shutil.which("setpriv") else []), *command]
 
@@ -116,7 +116,7 @@ class Program:
         """Do one piece of an advance. Return how far the replica has run then."""
         here = self.horizons.get(at, 0)
         if here < to:
-            reply = await self.ask(packed({"advance": {"at": at, "to": min(to, here + STEPS)}}).encode())
+            reply = await self.ask(to_json({"advance": {"at": at, "to": min(to, here + STEPS)}}).encode())
             self.horizons[at] = json.loads(reply).get("horizon", to)
         return self.horizons.get(at, 0)
 
@@ -142,7 +142,7 @@ async def start(command: list[str], plan: bytes) -> Program:
         if not os.access(command[0], os.X_OK):
             raise PermissionError(f"{command[0]} is not a program")
         process = await asyncio.create_subprocess_exec(
-            *dies_with_us(command), stdin=asyncio.subprocess.PIPE, stdout=asyncio.subprocess.PIPE, limit=LONGEST_REPLY,
+            *command_ending_with_parent(command), stdin=asyncio.subprocess.PIPE, stdout=asyncio.subprocess.PIPE, limit=LONGEST_REPLY,
             start_new_session=True)
     except OSError as fault:
         raise ProgramExited(f"the program cannot be started: {fault}") from None

@@ -15,12 +15,12 @@ from zegdrut.wire import CountReply, WrittenEdit
 
 from . import admissions, chance, figures, reports, rows, saving
 from .figures import DetectorFigures, TwoDemands, TwoRoads
-from .journal import packed
+from .journal import to_json
 from .keeper import SHARED, Times
 from .lab import Lab
 from .lab import Reply as Fields
 from .lines import Line, Lister
-from .model.changes import all_lines, altered
+from .model.changes import all_lines, find_altered_lines
 from .model.choices import sendable
 from .model.demands import asked_demands
 from .model.operations import Json, Operation, Stamp
@@ -82,7 +82,7 @@ class Questions:
     async def plain(self, road: AskedRoad, times: Times, verb: str, fields: Mapping[str, Json]) -> bytes:
         """Return what the program answers."""
         asked: Fields = {"at": road.name, **fields}
-        line = packed({verb: asked}).encode()
+        line = to_json({verb: asked}).encode()
 
         async def body() -> bytes:
             return (await road.say_all([line], times))[0]
@@ -139,12 +139,12 @@ class Questions:
     async def _piece(self, road: AskedRoad, steps: list[int], times: Times) -> list[bytes]:
         every = steps[1] - steps[0] if len(steps) > 1 else 1
         if every >= 8 or every >= 2 and self._length >= LONG_ROAD:
-            at = packed(road.name)
+            at = to_json(road.name)
             lines = [f'{{"cells":{{"at":{at},"step":{step}}}}}'.encode() for step in steps]
             return [rows.of_cells(reply) for reply in await road.say_all(lines, times)]
         found: list[bytes] = []
-        for first, last in rows.spans(steps[0], steps[-1], MOST_ROWS // every * every):
-            line = packed({"diagram": {"at": road.name, "from": first, "to": last}})
+        for first, last in rows.split_steps(steps[0], steps[-1], MOST_ROWS // every * every):
+            line = to_json({"diagram": {"at": road.name, "from": first, "to": last}})
             found += rows.of_diagram((await road.say_all([line.encode()], times))[0])[::every]
         return found
 
@@ -177,13 +177,13 @@ class Questions:
         detectors = len(self._keeper.state.plan["detectors"])
         if len(starts) * detectors > MOST_COUNTS:
             raise Refused("Range", f"{len(starts) * detectors} counts are too many: at most {MOST_COUNTS}")
-        lines = [packed({"count": {"at": road.name, "detector": detector, "from": start,
+        lines = [to_json({"count": {"at": road.name, "detector": detector, "from": start,
                                    "to": min(last, start + each) if each else last}}).encode()
                  for start in starts for detector in range(detectors)]
         replies, edits = await self._lines(road, lines, times)
         watched = [Edit.read(edit) for edit in edits if edit[0] == "watch"]
         windows = [Window(start, min(last, start + each) if each else last) for start in starts]
-        return [[figures.detector_told(detector_count(json.loads(replies[place * detectors + detector]), watched, detector, window))
+        return [[figures.detector_figures(detector_count(json.loads(replies[place * detectors + detector]), watched, detector, window))
                  for detector in range(detectors)] for place, window in enumerate(windows)]
 
     async def _lines(self, road: AskedRoad, lines: list[bytes], times: Times) -> tuple[list[bytes], Sequence[WrittenEdit]]:
@@ -238,9 +238,9 @@ class Questions:
                     after, more = place, True
                     break
                 written: Fields = {**one.written(), "shared": one in shared}
-                texts.append(packed(written))
+                texts.append(to_json(written))
                 size += len(texts[-1])
-            return f'{{"operations":[{",".join(texts)}],"next":{after},"more":{packed(more)}}}'.encode()
+            return f'{{"operations":[{",".join(texts)}],"next":{after},"more":{to_json(more)}}}'.encode()
         return await self._keeper.ask(index, (), body)
 
     # Demand
@@ -299,7 +299,7 @@ class Questions:
         listed = all_lines(before)
         found: list[Line] = []
         began = time.perf_counter()
-        for line in sorted(altered(before, after)):
+        for line in sorted(find_altered_lines(before, after)):
             said, was = then.line(line), now.shown(line)
             if "gone" not in said and (said["shown"] != was or any(
                     one["lost"] and one["stamp"] in added for one in said["operations"])):
@@ -397,13 +397,13 @@ class Questions:
         if at == "shared":
             return "the shared road"
         name = next((seat.name for seat in self._keeper.state.seats if seat.at == at), "")
-        return f"the road of {saving.harmless(name) or at}"
+        return f"the road of {saving.escape_formula(name) or at}"
 
     def _file_and_date(self) -> str:
         """Return the name of the road's file and the date of its begin, as far as they are known."""
         folder = self._keeper.folder
         day = clock_of(folder)
-        parts = [saving.harmless(name_of(folder)), "" if day is None or day.date is None else str(day.date)]
+        parts = [saving.escape_formula(name_of(folder)), "" if day is None or day.date is None else str(day.date)]
         return "".join(f", {one}" for one in parts if one)
 
     def say_time(self, step: int) -> str:

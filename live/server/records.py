@@ -46,14 +46,14 @@ How = Mapping[str, Codec[object]]
 """The metadata of a field: its codec, as `how`."""
 
 
-def how(read: Callable[[Json], T], write: Callable[[T], Json], name: str = "") -> How:
+def field_format(read: Callable[[Json], T], write: Callable[[T], Json], name: str = "") -> How:
     codec: Codec[T] = Codec(read, write, name)
     return {"how": codec}
 
 
-def as_it_is(read: Callable[[Json], J], name: str = "") -> How:
+def unconverted(read: Callable[[Json], J], name: str = "") -> How:
     """Return how a value is read that is written as it is."""
-    return how(read, lambda value: value, name)
+    return field_format(read, lambda value: value, name)
 
 
 class Said:
@@ -146,23 +146,23 @@ def form(*forms: int) -> How:
         if type(value) is not int or value not in forms:
             raise Malformed(f"the journal has form {value}, and this server reads the forms 1 to {JOURNAL_FORM}")
         return value
-    return as_it_is(read_form)
+    return unconverted(read_form)
 
 
-def counted(most: int, what: str) -> How:
-    return as_it_is(lambda value: whole(value, most, what))
+def count_format(most: int, what: str) -> How:
+    return unconverted(lambda value: whole(value, most, what))
 
 
-def many(read: Callable[[Json], T], write: Callable[[T], Json]) -> How:
+def list_format(read: Callable[[Json], T], write: Callable[[T], Json]) -> How:
     """Return how a list is read and written, given its items."""
     def read_all(value: Json) -> Sequence[T]:
         if not isinstance(value, list):
             raise Malformed(f"a list was expected, not {str(value)[:40]}")
         return [*map(read, value)]
-    return how(read_all, lambda some: [*map(write, some)])
+    return field_format(read_all, lambda some: [*map(write, some)])
 
 
-def pairs(read_key: Callable[[Json], T], write_key: Callable[[T], Json]) -> How:
+def pairs_format(read_key: Callable[[Json], T], write_key: Callable[[T], Json]) -> How:
     """Return how a mapping to stamps is read and written: as a list of pairs."""
     def read_all(value: Json) -> Mapping[T, Stamp]:
         if not isinstance(value, list):
@@ -172,14 +172,14 @@ def pairs(read_key: Callable[[Json], T], write_key: Callable[[T], Json]) -> How:
 
     def write_all(some: Mapping[T, Stamp]) -> Json:
         return [[write_key(key), [*stamp]] for key, stamp in some.items()]
-    return how(read_all, write_all)
+    return field_format(read_all, write_all)
 
 
-TEXT, TIME, NUMBER = as_it_is(read_string), as_it_is(read_time), as_it_is(read_number)
-SEAT, SITE, STEP = counted(MOST_SEATS - 1, "seat"), counted(1_023, "site"), counted(1 << 30, "step")
-COUNT, PLACE = counted(GREATEST_COUNT, "count"), counted(1 << 40, "place")
-STAMPS = many(read_stamp, lambda stamp: [*stamp])
-SHARED, UNSENT = (as_it_is(lambda value: value is True, name) for name in ("shared", "unsent"))
+TEXT, TIME, NUMBER = unconverted(read_string), unconverted(read_time), unconverted(read_number)
+SEAT, SITE, STEP = count_format(MOST_SEATS - 1, "seat"), count_format(1_023, "site"), count_format(1 << 30, "step")
+COUNT, PLACE = count_format(GREATEST_COUNT, "count"), count_format(1 << 40, "place")
+STAMPS = list_format(read_stamp, lambda stamp: [*stamp])
+SHARED, UNSENT = (unconverted(lambda value: value is True, name) for name in ("shared", "unsent"))
 
 
 # Entries
@@ -189,7 +189,7 @@ class Folder(Entry):
     """A folder's road, and its site."""
 
     kind = "lab"
-    plan: PlanLine = field(metadata=how(read_plan_line, write_plan))
+    plan: PlanLine = field(metadata=field_format(read_plan_line, write_plan))
     site: int = field(metadata=SITE)
     folder: str = field(metadata=TEXT)
     form: int = field(default_factory=lambda: JOURNAL_FORM, metadata=form(*FORMER_FORMS, JOURNAL_FORM))
@@ -271,7 +271,7 @@ class Made(Entry):
 
     kind = "made"
     seat: int = field(metadata=SEAT)
-    operation: Operation = field(metadata=how(read_operation, Operation.written))
+    operation: Operation = field(metadata=field_format(read_operation, Operation.written))
     key: str | None = field(default=None, metadata=TEXT)
     is_shared: bool = field(default=False, metadata=SHARED)
     is_unsent: bool = field(default=False, metadata=UNSENT)
@@ -292,7 +292,7 @@ class StampedAnew(Entry):
 
     kind = "restamp"
     seat: int = field(metadata=SEAT)
-    stamps: Mapping[Stamp, Stamp] = field(metadata=pairs(read_stamp, lambda stamp: [*stamp]))
+    stamps: Mapping[Stamp, Stamp] = field(metadata=pairs_format(read_stamp, lambda stamp: [*stamp]))
 
     def apply(self, state: State) -> None:
         state.stamp_anew(state.seats[self.seat], self.stamps)
@@ -321,7 +321,7 @@ class Came(Entry):
     """Operations of other sites, or of this one where no seat has them any more."""
 
     kind = "came"
-    operations: Sequence[Operation] = field(metadata=many(read_operation, Operation.written))
+    operations: Sequence[Operation] = field(metadata=list_format(read_operation, Operation.written))
     who: str = field(default="", metadata=TEXT)
     title: str = field(default="", metadata=TEXT)
     when: float = field(default=0, metadata=TIME)
@@ -374,7 +374,7 @@ class Keys(Entry):
 
     kind = "done"
     seat: int = field(metadata=SEAT)
-    keys: Mapping[str, Stamp] = field(metadata=pairs(str, str))
+    keys: Mapping[str, Stamp] = field(metadata=pairs_format(str, str))
 
     def apply(self, state: State) -> None:
         state.seats[self.seat].done.update(self.keys)
@@ -404,7 +404,7 @@ class AllNews(Entry):
     """The last shares."""
 
     kind = "shares"
-    shares: Sequence[News] = field(metadata=many(read_news, News.fields))
+    shares: Sequence[News] = field(metadata=list_format(read_news, News.fields))
 
     def apply(self, state: State) -> None:
         state.shares = [*self.shares]

@@ -10,7 +10,7 @@ import sys
 from typing import TYPE_CHECKING, Sequence, TypedDict
 
 from . import LIVE, figures
-from .journal import packed
+from .journal import to_json
 from .program import import_lines
 from .refusals import Refused
 
@@ -34,11 +34,11 @@ async def make(index: int, asked: ReportAsked) -> str:
     """Return the page that a seat asks for."""
     async with figures.alone(index):
         process = await asyncio.create_subprocess_exec(
-            *figures.gently(__name__, NICE), stdin=asyncio.subprocess.PIPE, stdout=asyncio.subprocess.PIPE, 
+            *figures.command_at_low_priority(__name__, NICE), stdin=asyncio.subprocess.PIPE, stdout=asyncio.subprocess.PIPE, 
             env=figures.environment(asked["roads"]["program"]), start_new_session=True, cwd=LIVE)
         try:
             async with asyncio.timeout(PATIENCE):
-                out, _ = await process.communicate(packed(asked).encode())
+                out, _ = await process.communicate(to_json(asked).encode())
         except asyncio.TimeoutError:
             raise Refused("TooLong", f"the report took more than {PATIENCE:.0f} seconds: choose a shorter period") from None
         finally:
@@ -64,7 +64,7 @@ def sides_of(asked: ReportAsked) -> list[Side]:
     for edits, name, demands in zip(both, asked["names"], (known["before"], known["after"])):
         lines: list[Fields] = [*import_lines("A", [(*key, 1, figures.NUMBER, value) for key, value in sorted(edits.items())]),
                                {"advance": {"at": "A", "to": last}}]
-        found.append(Side(name, Script(plan, lines), compute_demands(plan, figures.given(edits), last, asked=demands)))
+        found.append(Side(name, Script(plan, lines), compute_demands(plan, figures.to_edits(edits), last, asked=demands)))
     return found if both[0] != both[1] else found[1:]
 
 
@@ -90,10 +90,10 @@ def closures_of(edits: figures.Edits, last: int) -> list[tuple[int, int, float, 
                 spans.setdefault((begin, step), []).append(cell)
                 begin = None
     return [(begin, end, to_km(cells[0]), to_km(cells[-1] + 1)) for (begin, end), all_cells in spans.items()
-            for cells in runs(all_cells)]
+            for cells in join_adjacent_cells(all_cells)]
 
 
-def runs(cells: Sequence[int]) -> list[list[int]]:
+def join_adjacent_cells(cells: Sequence[int]) -> list[list[int]]:
     """Return stretches of cells beside each other."""
     found: list[list[int]] = []
     for cell in cells:

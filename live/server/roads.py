@@ -10,7 +10,7 @@ from typing import Protocol, Sequence, TypeVar
 from zegdrut.wire import WrittenEdit
 
 from .figures import TwoDemands
-from .journal import packed
+from .journal import to_json
 from .keeper import Keeper, Times
 from .model.road import Road
 from .program import ProgramExited, Program, command_of, import_lines, start
@@ -89,7 +89,7 @@ class Preview:
         """Return its program, when it has the edits of a side and has run as far as it shall."""
         self.used = time.monotonic()
         program = self._program or await self._started()
-        lines = [packed(line).encode() for line in import_lines(side, self.edits[side])]
+        lines = [to_json(line).encode() for line in import_lines(side, self.edits[side])]
         if lines and not self._fed[side]:
             await program.ask_all(lines)
             self._fed[side] = 1
@@ -102,7 +102,7 @@ class Preview:
         if self._is_over:
             raise ProgramExited(LET_GO)
         plan: dict[str, object] = {**self._keeper.state.plan, "replicas": list(SIDES)}
-        program = await start(command_of(self._keeper.path, plan), packed(plan).encode())
+        program = await start(command_of(self._keeper.path, plan), to_json(plan).encode())
         if self._is_over:
             program.kill()
             raise ProgramExited(LET_GO)

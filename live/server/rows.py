@@ -21,6 +21,6 @@ def diagram_of(rows: Sequence[bytes]) -> bytes:
     return b'{"rows":["' + b'","'.join(rows) + b'"]}'
 
 
-def spans(first: int, last: int, most: int) -> Iterator[tuple[int, int]]:
+def split_steps(first: int, last: int, most: int) -> Iterator[tuple[int, int]]:
     """Yield the steps from the first to the last in stretches of at most `most` steps."""
     return ((start, min(last, start + most - 1)) for start in range(first, last + 1, most))

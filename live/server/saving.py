@@ -11,7 +11,7 @@ from zegdrut.units import to_km
 from zegdrut.wire import PlanLine, WrittenEdit
 
 from .figures import DetectorFigures
-from .journal import packed
+from .journal import to_json
 from .program import Program, command_of, import_lines, start
 from .refusals import Refused
 
@@ -43,7 +43,7 @@ def commands(plan: PlanLine, name: str, edits: Sequence[WrittenEdit], last: int)
     """Return the script of a road: plan, edits, and that it runs to a step."""
     at = name.encode()[:LONGEST_REPLICA].decode(errors="ignore")
     lines: list[Mapping[str, object]] = [{**plan, "replicas": [at]}, *import_lines(at, edits), {"advance": {"at": at, "to": last}}]
-    return "".join(packed(line) + "\n" for line in lines)
+    return "".join(to_json(line) + "\n" for line in lines)
 
 
 async def transcript(path: str, plan: PlanLine, lines: Iterable[Mapping[str, object]]) -> list[str]:
@@ -51,7 +51,7 @@ async def transcript(path: str, plan: PlanLine, lines: Iterable[Mapping[str, obj
     pieces = [""]
     program: Program | None = None
     try:
-        for line in map(packed, lines):
+        for line in map(to_json, lines):
             if program is None:
                 program, reply = await start(command_of(path, plan), line.encode()), b'{"open":1}'
             else:
@@ -97,7 +97,7 @@ class Saved:
         self._of.pop(index, None)
 
 
-def harmless(value: object) -> object:
+def escape_formula(value: object) -> object:
     """Return a cell that no spreadsheet runs as a formula."""
     return f"'{value}" if isinstance(value, str) and value.lstrip()[:1] in ("=", "+", "-", "@") else value
 
@@ -108,20 +108,20 @@ def table(head: list[str], lines: Iterable[Sequence[object]]) -> str:
     writer = csv.writer(text, lineterminator="\n")
     if head:
         writer.writerow(head)
-    writer.writerows([harmless(cell) for cell in line] for line in lines)
+    writer.writerows([escape_formula(cell) for cell in line] for line in lines)
     return text.getvalue()
 
 
 def table_of_counts(plan: PlanLine, title: str, say_time: Callable[[int], str], windows: Sequence[Window],
                     counts: Sequence[Sequence[DetectorFigures]]) -> str:
     """Return what detectors counted, window by window. The first line is the title, the second has the units."""
-    lines = [[say_time(window.first), say_time(window.last), detector, rounded(to_km(plan["detectors"][detector]), 4),
-              one["cars"], rounded(one["flow"], 1), rounded(one["speed"], 1), one["on"]]
+    lines = [[say_time(window.first), say_time(window.last), detector, round_or_blank(to_km(plan["detectors"][detector]), 4),
+              one["cars"], round_or_blank(one["flow"], 1), round_or_blank(one["speed"], 1), one["on"]]
              for window, span in zip(windows, counts) for detector, one in enumerate(span)]
     head = ["from", "to", "detector", "km", "cars", "flow in cars/h", "time-mean speed in km/h", "seconds on"]
     return f"# {title}\n" + table(head, lines)
 
 
-def rounded(value: float | None, digits: int) -> float | str:
+def round_or_blank(value: float | None, digits: int) -> float | str:
     """Return a rounded number; an empty text if there is none."""
     return "" if value is None else round(value, digits)

@@ -8,7 +8,7 @@ from typing import Deque
 
 from zegdrut.wire import WrittenEdit
 
-from .journal import packed
+from .journal import to_json
 from .model.projection import Edits, difference, difference_like
 from .model.road import Road
 from .program import Program, import_lines
@@ -74,7 +74,7 @@ class Screen:
         """Have a replica simulate a road. `edits` lead to it from the road that it simulates now."""
         self._count += 1
         self.withdrawn += sum(value is None for value in edits.values())
-        lines = [packed(line).encode() for line in import_lines(at, rows_of(edits, self._count))]
+        lines = [to_json(line).encode() for line in import_lines(at, rows_of(edits, self._count))]
         for reply in await self.program.ask_all(lines) if lines else ():
             if not reply.startswith(b'{"touched"'):
                 logging.error("the program refused edits that had been checked: %s", reply[:200])

@@ -25,7 +25,7 @@ import time
 from pathlib import Path
 from typing import Callable, Dict, NamedTuple
 
-from .journal import CannotStart, packed, put_in_place, sync_folder
+from .journal import CannotStart, to_json, put_in_place, sync_folder
 from .model.operations import Json
 
 LATE = 600.0  # seconds that a sealed message may be on its way, or two clocks apart
@@ -106,7 +106,7 @@ class Taken:
     def _write(self) -> None:
         if self._path is not None:
             try:
-                os.close(put_in_place(self._path, [packed(self._bounds).encode()]))
+                os.close(put_in_place(self._path, [to_json(self._bounds).encode()]))
                 sync_folder(self._path.parent)
             except OSError as fault:
                 logging.warning("the numbers of messages cannot be written, so after a restart old messages may be "
@@ -148,7 +148,7 @@ class Seal:
         now = int(1_000 * self._clock())
         self._number = max(self._number + 1, now)
         head = Head(self.folder, now, self._number)
-        return packed(head._replace(mac=self._mac(topic, head, body))._asdict()).encode() + b"\n" + body
+        return to_json(head._replace(mac=self._mac(topic, head, body))._asdict()).encode() + b"\n" + body
 
     def opened(self, topic: str, payload: bytes) -> tuple[str, bytes]:
         """Return the folder that sent it, empty if it does not say, and the body. Raise `Unsealed`, `Replayed` or `Expired`."""
@@ -183,7 +183,7 @@ class Seal:
 
     def _mac(self, topic: str, head: Head, body: bytes) -> str:
         assert self.key is not None
-        told = packed([topic, head.folder, head.time, head.number]).encode() + b"\n" + body
+        told = to_json([topic, head.folder, head.time, head.number]).encode() + b"\n" + body
         return hmac.new(self.key, told, hashlib.sha256).hexdigest()
 
 

@@ -14,13 +14,13 @@ import secrets
 import time
 from typing import Callable, TypedDict
 
-from .asked import folded
+from .asked import fold_look_alikes
 from .keeper import A_MOMENT, SHARED, Keeper, NotKept
 from .model.operations import SEATS
 from .records import SeatFreed, SeatGiven, SeatUsed
 from .refusals import Refused
 from .state import SeatReplica, State
-from .writing import confirmed
+from .writing import wait_until_written
 
 JUMP = 60.0  # seconds between the time that passed and the system's clock
 NOTED = 1 / 24  # of the time after which a seat that nobody uses is free
@@ -127,7 +127,7 @@ class Seating:
 
     def _alike(self, name: str) -> str | None:
         """Return the name of a seat that looks like this one, or is it."""
-        return next((seat.name for seat in self._state.seats if seat.key and folded(seat.name) == folded(name)), None)
+        return next((seat.name for seat in self._state.seats if seat.key and fold_look_alikes(seat.name) == fold_look_alikes(name)), None)
 
     def _refused(self, text: str, why: str) -> Refused:
         return Refused(text, why, seats=self.seats())
@@ -138,7 +138,7 @@ class Seating:
         try:
             try:
                 await self._keeper.turns.ask(SHARED, self._keeper.require_writable)
-                await confirmed(self._keeper.apply_when_written(self._entry(index, name, key, upto), lambda: None), {})
+                await wait_until_written(self._keeper.apply_when_written(self._entry(index, name, key, upto), lambda: None), {})
             except NotKept:  # who looks needs no disk
                 key = self._signed(key[:8], index, name)
                 entry = self._entry(index, name, key, upto)
@@ -179,7 +179,7 @@ class Seating:
                 raise Refused("PrivateChanges", "this seat has changes that are not shared: share them, or undo them")
             await self._keeper.require_writable()
             return self._free(index)
-        await confirmed(await self._keeper.turns.ask(index, body), {})
+        await wait_until_written(await self._keeper.turns.ask(index, body), {})
 
     def owned(self, index: int) -> SeatReplica:
         """Return a seat, unless it was left by what was asked before."""

@@ -20,7 +20,7 @@ from typing import TYPE_CHECKING, Callable, Deque, Iterator, Mapping, NamedTuple
 from .asked import LONGEST_NAME, LONGEST_NOTE, clean_text
 from .brokers import broker_of, connack_string, new_client
 from .floods import FLOOD, STRANGERS, UNSEALED, Floods, drop_oldest
-from .journal import packed
+from .journal import to_json
 from .keeper import SHARED, Times
 from .lab import FutureStamp, Lab
 from .messages import InvalidMessage, form_of, read_message, site_of, sum_of
@@ -32,7 +32,7 @@ from .peers import EVERY, BrokerState, Peers, Site
 from .refusals import Refused
 from .seals import LATE, Replayed, Expired, Seal, Unsealed, key_of
 from .state import SITE_FORM, State
-from .supervised import supervised
+from .supervised import supervise
 
 if TYPE_CHECKING:
     import paho.mqtt.client as mqtt
@@ -92,7 +92,7 @@ class Sites:
         host, port = self._broker
         self._client.connect_async(host, port, keepalive=30)
         self._client.loop_start()
-        self._tasks = [supervised("what other sites hear", self._announce, self._keeper.report_end)]
+        self._tasks = [supervise("what other sites hear", self._announce, self._keeper.report_end)]
         return self
 
     async def __aexit__(self, kind: type[BaseException] | None, fault: BaseException | None,
@@ -196,7 +196,7 @@ class Sites:
     def _publish(self, topic: str, value: Mapping[str, object], quality: int) -> None:
         if self._connected:
             fields: Mapping[str, object] = {"folder": self._id, **value}
-            body = packed(fields).encode()
+            body = to_json(fields).encode()
             self._client.publish(topic, self._seal.sealed(topic, body), qos=quality)
 
     def _send(self, operations: list[Operation]) -> None:
@@ -211,7 +211,7 @@ class Sites:
         for one in operations:
             written = one.written()
             part.append(written)
-            size += len(packed(written))
+            size += len(to_json(written))
             if size > PIECE:
                 self._send_part(part, title)
                 part, size = [], 0
@@ -438,4 +438,4 @@ class Sites:
 
 def hash_of(edits: Edits) -> str:
     """Return a hash of what holds on a road, whatever the stamps."""
-    return hashlib.sha256(packed(sorted([*name, value] for name, value in edits.items())).encode()).hexdigest()[:16]
+    return hashlib.sha256(to_json(sorted([*name, value] for name, value in edits.items())).encode()).hexdigest()[:16]

@@ -20,7 +20,7 @@ def milliseconds() -> int:
     return time.time_ns() // 1_000_000
 
 
-def some_bits() -> int:
+def random_bits() -> int:
     """Return bits that let two clones differ that stamp in one millisecond."""
     return random.SystemRandom().randrange(A_MILLISECOND)
 
@@ -44,7 +44,7 @@ class StampClock:
 
     def count_after(self, greatest: int) -> int:
         """Return the count of the next stamp."""
-        return next_count(greatest, self._now(), some_bits() if self._fixed is None else 0)
+        return next_count(greatest, self._now(), random_bits() if self._fixed is None else 0)
 
     def latest_count(self) -> int:
         """Return the greatest count that is taken: a day ahead of the clock. What is above it is taken later, whatever is held,

@@ -20,9 +20,9 @@ from .records import (JOURNAL_FORM, AllNews, AnyEntry, Bound, Came, Clock, Field
                       SeatGiven, Take, Works, read_entry)
 from .former_journal import Former
 from .journal import CorruptJournal
-from .model.changes import all_lines, altered, lines_of, operations_on
-from .model.choices import forgettable, shareable
-from .model.operations import SEATS, Operation, Stamp, is_raw, same_int, stamped_anew
+from .model.changes import all_lines, find_altered_lines, lines_of, operations_on
+from .model.choices import find_forgettable, shareable
+from .model.operations import SEATS, Operation, Stamp, is_raw, intern_int, restamp
 from .model.road import Road
 from .stamps import StampClock
 
@@ -104,14 +104,14 @@ class Replica:
         """Replace the road, and mark the lines that may look different."""
         before, self._road = self._road, road
         if self.marks is not None and before is not None:
-            self.mark(sorted(altered(before, road)))
+            self.mark(sorted(find_altered_lines(before, road)))
 
     def hold(self, operations: Iterable[Operation]) -> list[Operation]:
         """Hold operations, and return those that are new."""
         fresh = []
         for one in operations:
             if one not in self.places:
-                self.places[one] = same_int(self.size)
+                self.places[one] = intern_int(self.size)
                 self.size += 1
                 fresh.append(one)
         if self._road is not None:
@@ -123,7 +123,7 @@ class Replica:
         if self.marks is not None:
             for line in lines:
                 self.version += 1
-                self.marks[line] = same_int(self.version - self.begun)
+                self.marks[line] = intern_int(self.version - self.begun)
 
     def begin_list(self) -> dict[Stamp, int]:
         """Return the marks. The first time, all lines are new."""
@@ -384,7 +384,7 @@ class State:
     def stamp_anew(self, seat: SeatReplica, stamps: Mapping[Stamp, Stamp]) -> None:
         """Give private operations of a seat new stamps. The old ones still name them, too."""
         old = [one for one in self.private(seat) if one.stamp in stamps]
-        new = stamped_anew(old, stamps)
+        new = restamp(old, stamps)
         for one in old:
             self._drop(seat, one)
         for one in map(self.interned, new):
@@ -406,7 +406,7 @@ class State:
         private = self.private(seat)
         if len(private) <= kept:
             return
-        gone = forgettable(seat.road, self.shared.road, seat.number, kept) & set(private)
+        gone = find_forgettable(seat.road, self.shared.road, seat.number, kept) & set(private)
         if not gone:
             return
         lines = {line for one in gone for line in lines_of(seat.road, one)}

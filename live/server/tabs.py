@@ -21,7 +21,7 @@ from zegdrut.programs import describe_standing
 
 from . import plans, verbs
 from .asked import LONGEST_NAME, MOST_EDITS, CommandFields
-from .journal import packed
+from .journal import to_json
 from .model.operations import Json
 from .keeper import Times
 from .lab import Lab
@@ -29,7 +29,7 @@ from .questions import MOST_BYTES, MOST_ROWS, Questions, Reply
 from .refusals import Refused, not_a_command
 from .seating import ListedSeat
 from .state import TAB_FORM
-from .supervised import supervised
+from .supervised import supervise
 from .timing import AHEAD
 
 if TYPE_CHECKING:
@@ -96,12 +96,12 @@ class Tab:
         self._news[kind] = value
         self._wake.set()
 
-    def _next(self) -> str:
+    def _next_message(self) -> str:
         """Return what is sent next."""
         if self._replies:
             return self._replies.popleft()
         kind = next(iter(self._news))
-        return packed({kind: self._news.pop(kind)()})
+        return to_json({kind: self._news.pop(kind)()})
 
     async def _hello_in_time(self) -> None:
         await asyncio.sleep(self._tabs.lab.keeper.settings.hello)
@@ -115,7 +115,7 @@ class Tab:
             await self._wake.wait()
             self._wake.clear()
             while self._replies or self._news:
-                text = self._next()
+                text = self._next_message()
                 self._read.set()
                 try:
                     async with asyncio.timeout(PATIENCE):  # (`wait_for` may lose that the task was cancelled)
@@ -194,20 +194,20 @@ class Tab:
         finally:
             self._tabs.changing[index] -= changes
         times["server"] = time.perf_counter() - came
-        us = packed({name: round(1e6 * value) for name, value in times.items()})
-        text = reply.decode() if isinstance(reply, bytes) else packed(reply)
+        us = to_json({name: round(1e6 * value) for name, value in times.items()})
+        text = reply.decode() if isinstance(reply, bytes) else to_json(reply)
         self._replies.append(f'{{"id":{number},"us":{us}{"," if len(text) > 2 else ""}{text[1:]}')
         self._wake.set()
 
     def _send(self, value: Mapping[str, object]) -> None:
-        self._replies.append(packed(value))
+        self._replies.append(to_json(value))
         self._wake.set()
 
 
 def parse_frame(text: str) -> tuple[int, str, Json]:
     """Return number, command and fields of a frame; raise ValueError if it is malformed or not UTF-8."""
     text.encode()
-    value: Json = json.loads(text, parse_constant=no_number, parse_float=finite)
+    value: Json = json.loads(text, parse_constant=refuse_constant, parse_float=parse_finite)
     number = value.get("id") if isinstance(value, dict) else None
     if not isinstance(value, dict) or type(number) is not int or len(value) != 2:
         raise ValueError("no command")
@@ -219,11 +219,11 @@ def parse_frame(text: str) -> tuple[int, str, Json]:
     return number, verb, fields
 
 
-def no_number(text: str) -> None:
+def refuse_constant(text: str) -> None:
     raise ValueError(f"{text} is not a JSON number")
 
 
-def finite(text: str) -> float:
+def parse_finite(text: str) -> float:
     if abs(float(text)) == float("inf"):
         raise ValueError(f"{text} is too great")
     return float(text)
@@ -248,7 +248,7 @@ class Tabs:
         listeners.program.on(lambda: self._tell_all("program", {"changes": keeper.changes, "why": keeper.why_changed}))
         self._ended: str | None = None  # what of the server has ended a moment ago, for people
         listeners.ended.on(self._part_ended)
-        self._ticks = supervised("the clock that tabs see", self._tick, keeper.report_end)
+        self._ticks = supervise("the clock that tabs see", self._tick, keeper.report_end)
 
     # Coming and going
 

@@ -10,7 +10,7 @@ from zegdrut.grammar import LAST_HORIZON
 from .keeper import A_MOMENT, SHARED, Keeper
 from .records import Clock
 from .refusals import Refused
-from .writing import confirmed
+from .writing import wait_until_written
 
 AHEAD = 36_000  # steps that a replica may run past the clock, and that the clock may be set forward
 FASTEST, FAST = 600, 60  # steps a second; a clock that is faster stops in an hour
@@ -36,7 +36,7 @@ class Timing:
             clock = keeper.clock() if rate is None else Clock(rate, keeper.now())
             step = clock.now if to is None else max(to, clock.now)
             stop = min(LAST_HORIZON, step + HOUR) if clock.rate > FAST else clock.stop
-            await confirmed(self._put(Clock(clock.rate, step, stop)), {})
+            await wait_until_written(self._put(Clock(clock.rate, step, stop)), {})
         keeper.listeners.clock.notify()
         return {"now": step}
 

@@ -69,7 +69,7 @@ async def answer(lab: Lab, questions: Questions, index: int, asked: CommandField
     if asked.verb not in VERBS:
         raise not_a_command(f"`{asked.verb}` is not a command of a tab")
     verb = VERBS[asked.verb]
-    call = Call(lab, questions, index, where(lab, index, asked, verb), times)
+    call = Call(lab, questions, index, road_name(lab, index, asked, verb), times)
     with asked:
         does = verb.reads(asked)
     if verb.of in (ALL, OWN) and not verb.lists:
@@ -78,7 +78,7 @@ async def answer(lab: Lab, questions: Questions, index: int, asked: CommandField
     return await lab.keeper.read_committed(lambda: does(call), may_see)
 
 
-def where(lab: Lab, index: int, asked: CommandFields, verb: Verb) -> str:
+def road_name(lab: Lab, index: int, asked: CommandFields, verb: Verb) -> str:
     """Return the road that `at` names."""
     if verb.of == ALL:
         return "own"
@@ -97,7 +97,7 @@ def no_fields(does: Does) -> Reads:
     return lambda _asked: does
 
 
-def one_part(read: Callable[[CommandFields], T], does: Callable[[Call, T], Awaitable[Reply]]) -> Reads:
+def reader_of_one_part(read: Callable[[CommandFields], T], does: Callable[[Call, T], Awaitable[Reply]]) -> Reads:
     """Return the reader of a command whose fields are one part: a value, or a tuple."""
     def reads(asked: CommandFields) -> Does:
         part = read(asked)
@@ -303,34 +303,34 @@ VERBS: dict[str, Verb] = {
     "seats": Verb(ALL, no_fields(seats)),
     "clock": Verb(ALL, clock),
     "numbers": Verb(ALL, no_fields(list_numbers)),
-    "unbind": Verb(ALL, one_part(read_site, unbind)),
+    "unbind": Verb(ALL, reader_of_one_part(read_site, unbind)),
     "admission": Verb(ALL, admission),
     # The own road is changed, shared, taken
     "gesture": Verb(OWN, gesture),
-    "edit": Verb(OWN, one_part(read_edit, put_edits)),
-    "withdraw": Verb(OWN, one_part(read_edit, put_edits)),
+    "edit": Verb(OWN, reader_of_one_part(read_edit, put_edits)),
+    "withdraw": Verb(OWN, reader_of_one_part(read_edit, put_edits)),
     "undo": Verb(OWN, undo),
     "again": Verb(OWN, put_again),
     "site": Verb(OWN, exclude_site),
     "send": Verb(OWN, share),
-    "take": Verb(OWN, one_part(lambda asked: require_shared(asked, "message"), lambda call, _: call.lab.take(call.index, call.times))),
+    "take": Verb(OWN, reader_of_one_part(lambda asked: require_shared(asked, "message"), lambda call, _: call.lab.take(call.index, call.times))),
     "leave": Verb(OWN, no_fields(leave)),
     # Roads are asked
-    "advance": Verb(ROADS, one_part(lambda asked: asked.whole("to"), lambda call, to: call.questions.advance(call.road, to))),
+    "advance": Verb(ROADS, reader_of_one_part(lambda asked: asked.whole("to"), lambda call, to: call.questions.advance(call.road, to))),
     "cells": Verb(ROADS, forward),
     "cars": Verb(ROADS, forward),
     "count": Verb(ROADS, forward),
     "scenario": Verb(KEPT, forward),
     "diagram": Verb(ROADS, diagram),
-    "sums": Verb(ROADS, one_part(read_steps, lambda call, span: call.questions.sums(call.road, call.times, *span))),
+    "sums": Verb(ROADS, reader_of_one_part(read_steps, lambda call, span: call.questions.sums(call.road, call.times, *span))),
     "counts": Verb(ROADS, counts),
     # Lists, and what would be
-    "layers": Verb(KEPT, one_part(lambda asked: asked.version("from"), lambda call, version: call.questions.layers(
+    "layers": Verb(KEPT, reader_of_one_part(lambda asked: asked.version("from"), lambda call, version: call.questions.layers(
         call.index, call.replica, version)), SHARED_ROAD),
-    "operations": Verb(KEPT, one_part(lambda asked: asked.whole("from", default=0), lambda call, first: call.questions.operations(
+    "operations": Verb(KEPT, reader_of_one_part(lambda asked: asked.whole("from", default=0), lambda call, first: call.questions.operations(
         call.index, call.replica, first)), SHARED_ROAD),
     "preview": Verb(OWN, preview),  # (which waits itself, before it keeps the two roads)
-    "figures": Verb(OWN, one_part(read_comparison, lambda call, asked: call.questions.figures(call.index, call.replica, *asked)), OWN),
+    "figures": Verb(OWN, reader_of_one_part(read_comparison, lambda call, asked: call.questions.figures(call.index, call.replica, *asked)), OWN),
     "days": Verb(OWN, days, OWN),
     # What is saved
     "transcript": Verb(KEPT, transcript, SHARED_ROAD),

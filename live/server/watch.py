@@ -63,7 +63,7 @@ class Watch:
         self._looker.start()
 
     def _tell(self, took: float, callback: object) -> None:
-        where = max(self._seen, key=self._seen.count, default=named(callback))
+        where = max(self._seen, key=self._seen.count, default=describe_callback(callback))
         self._told(f"{SAID} for a piece of work of {took:.2f} s: {where}")
 
     def _look(self) -> None:
@@ -84,7 +84,7 @@ class Watch:
         self._looker.join()
 
 
-def named(callback: object) -> str:
+def describe_callback(callback: object) -> str:
     """Return what a piece does, where nobody has seen where it was."""
     task = getattr(callback, "__self__", None)
     return repr(task.get_coro()) if isinstance(task, asyncio.Task) else repr(callback)

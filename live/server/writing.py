@@ -16,7 +16,7 @@ from .keeper import Keeper, NotKept, Times
 from .records import AnyEntry
 
 
-async def confirmed(done: Awaitable[None], times: Times) -> None:
+async def wait_until_written(done: Awaitable[None], times: Times) -> None:
     """Wait until something is on the disk; raise `Refused` if it is not taken. Whoever waits may go, and others wait on."""
     began = time.perf_counter()
     try:
@@ -33,7 +33,7 @@ class Write:
         self._keeper = keeper
         self.dones: list[asyncio.Future[None]] = []
 
-    async def ready(self) -> None:
+    async def require_writable(self) -> None:
         """Find out whether the disk takes anything; raise `Refused` if it does not."""
         await self._keeper.require_writable()
 
@@ -41,7 +41,7 @@ class Write:
         """Make something so."""
         self.dones.append(self._keeper.record(entry))
 
-    async def confirmed(self, times: Times) -> None:
+    async def wait_until_written(self, times: Times) -> None:
         """Wait until all of it is on the disk; raise `Refused` if it is not taken."""
         for done in self.dones:
-            await confirmed(done, times)
+            await wait_until_written(done, times)

@@ -15,7 +15,7 @@ from server import stamps, verbs
 from server.asked import CommandFields
 from server.refusals import MEANINGS, OF_THE_FORMAT, Refused
 from server.model.operations import Operation, Shape, put
-from server.model.projection import timeline
+from server.model.projection import all_edits
 from server.screen import rows_of
 from server.floods import Floods
 
@@ -191,7 +191,7 @@ class Bounds(Case):
                 await site._came(f"road/{site._road}/{topic}", "f", json.dumps(message).encode())
         self.assertEqual(error.call_args_list, [])
         reply = await here.keeper.ask(0, (0,), lambda: here.keeper.say(b'{"scenario":{"at":"shared"}}', {}))
-        self.assertEqual(numbers(json.loads(reply)["edits"]), numbers(rows_of(timeline(here.lab.state.shared.road))))
+        self.assertEqual(numbers(json.loads(reply)["edits"]), numbers(rows_of(all_edits(here.lab.state.shared.road))))
         self.assertGreater(here.lab.state.shared.size, 10)
 
     async def test_missing_operations_are_sent_after_a_hash_is_heard_twice(self) -> None:
@@ -327,4 +327,4 @@ class Tabs(Case):
             replica = here.lab.state.replica(seat)
             line = json.dumps({"scenario": {"at": replica.at}}).encode()
             reply = await here.keeper.ask(1, (seat,), lambda: here.keeper.say(line, {}))
-            self.assertEqual(numbers(json.loads(reply)["edits"]), numbers(rows_of(timeline(replica.road))))
+            self.assertEqual(numbers(json.loads(reply)["edits"]), numbers(rows_of(all_edits(replica.road))))

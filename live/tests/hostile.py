@@ -15,7 +15,7 @@ from server import verbs
 from server.asked import CommandFields
 from server.refusals import Refused
 from server.client import Seat
-from server.doors import Strangers, neighbourhood
+from server.doors import Strangers, address_group
 from server.tabs import Tab, parse_frame
 from running import PATIENCE, SMALL, Case, Server, transport_of, until
 from working import takes_at_most
@@ -261,7 +261,7 @@ class Crowds(Case):
         for one, other, is_one in (("1.2.3.4", "1.2.3.5", False), ("2001:db8::1", "2001:db8::ffff:2", True), ("::1", "::1", True),
                                    ("2001:db8::1", "2001:db8:0:1::1", False), ("fe80::1%eth0", "fe80::2%eth0", True),
                                    ("::ffff:1.2.3.4", "1.2.3.4", True), ("::ffff:1.2.3.4", "::ffff:1.2.3.5", False)):
-            self.assertEqual(neighbourhood(one) == neighbourhood(other), is_one, (one, other))
+            self.assertEqual(address_group(one) == address_group(other), is_one, (one, other))
 
     def test_strangers_are_64_of_an_address_and_512_of_all_for_a_minute(self) -> None:
         """The oldest are cut; a tab with the token does not count as a stranger."""

@@ -9,8 +9,8 @@ import itertools
 from typing import Iterable
 
 from .layers import Rank, Stretch, rank, touches
-from .operations import Name, Operation, RawName, Stamp, in_order, is_line, is_raw, line_of
-from .projection import MANY, changed, stretches, united
+from .operations import Name, Operation, RawName, Stamp, sort_by_stamp, is_line, is_raw, line_of
+from .projection import MANY, changed_layers, changed_stretches, merge_stretches
 from .road import Road, parts_of
 
 
@@ -31,7 +31,7 @@ def lines_of_root(road: Road, root: Operation) -> set[Stamp]:
     lines = {name for name in root.names if is_line(name)}
     for name, shape in root.sets.items():
         if is_raw(name):
-            replaced = replaced_line(road, root, name)
+            replaced = find_replaced_line(road, root, name)
             lines |= (set() if shape is None else {line_of(root, name)}) | (set() if replaced is None else {replaced})
     return lines or {root.stamp}
 
@@ -42,7 +42,7 @@ def line_of_site(road: Road, site: int) -> set[Stamp]:
     return set() if first is None else {first.stamp}
 
 
-def replaced_line(road: Road, one: Operation, name: Name) -> Stamp | None:
+def find_replaced_line(road: Road, one: Operation, name: Name) -> Stamp | None:
     """Return the line of the raw edit that an operation withdraws or takes the place of: of the newest older one."""
     older = (other for other in reversed(road.setters_of(name))
              if other is not one and other.sets[name] is not None and other < one)
@@ -50,7 +50,7 @@ def replaced_line(road: Road, one: Operation, name: Name) -> Stamp | None:
     return None if found is None else line_of(found, name)
 
 
-def replacing(road: Road, one: Operation, name: RawName) -> list[Operation]:
+def find_replacing(road: Road, one: Operation, name: RawName) -> list[Operation]:
     """Return the newer operations whose raw edit is in the place of this one's: up to the first that sets a value."""
     newer = [*itertools.takewhile(lambda other: other is not one, reversed(road.setters_of(name)))]
     found: list[Operation] = []
@@ -75,10 +75,10 @@ def operations_on(road: Road, line: Stamp) -> list[Operation]:
     found = [one for one in roots if line in lines_of(road, one)]
     for one in found:
         found += [other for other in record.undos_of(one) if other not in roots]
-    return in_order(set(found))
+    return sort_by_stamp(set(found))
 
 
-def altered(before: Road, after: Road) -> set[Stamp]:
+def find_altered_lines(before: Road, after: Road) -> set[Stamp]:
     """Return the lines that may show something else on `after` than on `before`, which `after` was made from by adding
     operations."""
     step = after.step
@@ -91,17 +91,17 @@ def altered(before: Road, after: Road) -> set[Stamp]:
     for one in step.fresh | step.flipped:
         lines |= lines_of(after, one)
         if one in step.fresh:  # what waited for it had a line of its own, and what is older may name another one
-            lines |= {each.stamp for each in above(after, one)[1:]}
+            lines |= {each.stamp for each in with_undos(after, one)[1:]}
             lines |= set() if one.excludes is None else line_of_site(before, one.excludes[0])
-            others.update(other for name in one.sets if is_raw(name) for other in replacing(after, one, name))
+            others.update(other for name in one.sets if is_raw(name) for other in find_replacing(after, one, name))
     for other in others:  # a raw edit belongs to the line of an older one, too
         lines |= lines_of(after, other) | (lines_of(before, other) if other in before else set())
-    names = changed(before, after)
+    names = changed_layers(before, after)
     lines |= {road.layers[name].line for name in names for road in (before, after) if name in road.layers}
-    return lines | beneath(before, after, names)
+    return lines | find_lines_beneath(before, after, names)
 
 
-def above(road: Road, one: Operation) -> list[Operation]:
+def with_undos(road: Road, one: Operation) -> list[Operation]:
     """Return an operation, its undos, the undos of those, and so on."""
     found = [one]
     for each in found:
@@ -109,17 +109,17 @@ def above(road: Road, one: Operation) -> list[Operation]:
     return found
 
 
-def beneath(before: Road, after: Road, names: Iterable[Name]) -> set[Stamp]:
+def find_lines_beneath(before: Road, after: Road, names: Iterable[Name]) -> set[Stamp]:
     """Return the lines that lie beneath these layers, on either road: what covers them, and where raw edits among them end,
     may have changed."""
     names, lines = set(names), set[Stamp]()
     if len(names) > MANY:
-        return {line for stretch in united(stretches(before, after, names))
+        return {line for stretch in merge_stretches(changed_stretches(before, after, names))
                 for line in touched_lines((before, after), stretch, None)}
     for name in names:
         there = [road.layers[name] for road in (before, after) if name in road.layers]
         top = None if is_raw(name) else max(map(rank, there), default=None)
-        for kind, first, last, begin, end in stretches(before, after, [name]):
+        for kind, first, last, begin, end in changed_stretches(before, after, [name]):
             if kind in {one.kind for one in there}:
                 lines |= touched_lines((before, after), (kind, first, last, begin, end), top)
     return lines

@@ -3,8 +3,8 @@ from __future__ import annotations
 
 from typing import AbstractSet, NamedTuple
 
-from .operations import SEATS, Operation, Stamp, in_order
-from .projection import changed
+from .operations import SEATS, Operation, Stamp, sort_by_stamp
+from .projection import changed_layers
 from .road import Road
 
 
@@ -19,7 +19,7 @@ class Undoable(NamedTuple):
 
 def own_operations(road: Road, number: int) -> list[Operation]:
     """Return the operations of a seat's number, the oldest first."""
-    return in_order(one for one in road.record.operations() if one.stamp[1] == number)
+    return sort_by_stamp(one for one in road.record.operations() if one.stamp[1] == number)
 
 
 def would_change(road: Road, one: Operation) -> bool:
@@ -27,7 +27,7 @@ def would_change(road: Road, one: Operation) -> bool:
     return one not in road.record.void and road.is_changed_by(road.record.flipped_by_undo(one))
 
 
-def undoable(road: Road, number: int) -> Undoable:
+def find_undoable(road: Road, number: int) -> Undoable:
     """Return what Z and Redo of a seat do next. Both pass over what would change nothing."""
     done: dict[Stamp, Operation] = {}
     undone: dict[Stamp, tuple[Operation, Operation]] = {}  # by the undo: that, and what it undid
@@ -46,13 +46,13 @@ def undoable(road: Road, number: int) -> Undoable:
         if would_change(road, one):
             undo = one
             break
-        if any(other.stamp[1] != number for other in overruling(road, one)):
+        if any(other.stamp[1] != number for other in find_overruling(road, one)):
             blocked.append(one)
     redo = next((one for one, _ in reversed(undone.values()) if would_change(road, one)), None)
     return Undoable(undo, redo, blocked)
 
 
-def overruling(road: Road, one: Operation) -> list[Operation]:
+def find_overruling(road: Road, one: Operation) -> list[Operation]:
     """Return the operations that leave nothing to the undo of this one, the newest first."""
     record = road.record
     root = record.root_of(one)
@@ -77,10 +77,10 @@ def shareable(road: Road, shared: Road, number: int, then: Road | None = None) -
     if number // SEATS in shared.record.excluded:
         return own  # what they would change there is known once the site is let in again
     then = then or shared.adding(own)
-    names, excluded = changed(shared, then), then.record.excluded ^ shared.record.excluded
+    names, excluded = changed_layers(shared, then), then.record.excluded ^ shared.record.excluded
     names.update(road.layers[name].line for name in list(names) for road in (shared, then) if name in road.layers)
     return [one for one in own if any(each.names & names or each.excludes is not None and each.excludes[0] in excluded
-                                      for each in chain(road, one))]
+                                      for each in undo_chain(road, one))]
 
 
 def sendable(road: Road, shared: Road, number: int, stamps: AbstractSet[Stamp] | None = None) -> list[Operation]:
@@ -89,7 +89,7 @@ def sendable(road: Road, shared: Road, number: int, stamps: AbstractSet[Stamp] |
             and (one.undoes is None or one.undoes in shared.record.held) and (stamps is None or one.stamp in stamps)]
 
 
-def chain(road: Road, one: Operation) -> list[Operation]:
+def undo_chain(road: Road, one: Operation) -> list[Operation]:
     """Return an operation, what it undoes, what that undoes, and so on."""
     found = [one]
     for each in found:
@@ -97,7 +97,7 @@ def chain(road: Road, one: Operation) -> list[Operation]:
     return found
 
 
-def forgettable(road: Road, shared: Road, number: int, kept: int) -> set[Operation]:
+def find_forgettable(road: Road, shared: Road, number: int, kept: int) -> set[Operation]:
     """Return the private operations of a seat without which no layer differs: those that are undone, with their undos, and
     those on private layers that are withdrawn. The newest `kept` stay, since Z and Redo may need them."""
     own = private(road, shared, number)

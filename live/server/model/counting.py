@@ -9,7 +9,7 @@ from __future__ import annotations
 from bisect import bisect
 from typing import AbstractSet, Iterable, Iterator
 
-from .operations import Operation, Stamp, in_order
+from .operations import Operation, Stamp, sort_by_stamp
 
 NONE: frozenset[Operation] = frozenset()
 
@@ -74,13 +74,13 @@ class Record:
         before = self._of_exclusions
         fresh = {one for one in operations if self._hold(one)}
         waiting = fresh.union(one for stamp in self._of_exclusions - before for one in self.held.get(stamp, ()))
-        flipped = self._settle(in_order(waiting))
+        flipped = self._settle(sort_by_stamp(waiting))
         if len(fresh) > len(self.void):
             self.void = set(self.void)  # which had room for all that are new
         excluded = self.excluded_if()
         if excluded != self.excluded:
             changed, self.excluded = excluded ^ self.excluded, excluded
-            flipped ^= self._settle(in_order(one for one in self.operations() if one.site in changed))
+            flipped ^= self._settle(sort_by_stamp(one for one in self.operations() if one.site in changed))
         return fresh, flipped
 
     def _hold(self, one: Operation) -> bool:
@@ -92,7 +92,7 @@ class Record:
         if one.undoes is not None:
             self._undos[one.undoes] = *self._undos.get(one.undoes, ()), one
         if one.excludes is not None:
-            self.exclusions = inserted(self.exclusions, one)
+            self.exclusions = insert_in_order(self.exclusions, one)
         if one.excludes is not None or one.undoes in self._of_exclusions:
             chain = [one]
             for each in chain:
@@ -137,7 +137,7 @@ class Record:
         return flipped
 
 
-def inserted(some: tuple[Operation, ...], one: Operation) -> tuple[Operation, ...]:
+def insert_in_order(some: tuple[Operation, ...], one: Operation) -> tuple[Operation, ...]:
     """Return operations in their order, with one more."""
     place = bisect(some, one)
     return *some[:place], one, *some[place:]

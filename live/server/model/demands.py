@@ -8,7 +8,7 @@ from __future__ import annotations
 import math
 from typing import Mapping, Sequence
 
-from .layers import pieces
+from .layers import split_by_topmost
 from .operations import END, Json, Operation, Shape, Stamp, is_line
 from .road import Road
 
@@ -62,7 +62,7 @@ def asked_demands(road: Road, inlets: int) -> list[Asked]:
 def asked_demand(road: Road, inlet: int) -> Asked:
     """Return the demand of an inlet over time: that of the topmost layer."""
     found: list[tuple[int, float | None]] = []
-    for begin, _, layer in pieces(road.on_object(INFLOW, inlet), 0, END):
+    for begin, _, layer in split_by_topmost(road.on_object(INFLOW, inlet), 0, END):
         demand = demand_of(road, layer.name) if layer is not None and is_line(layer.name) else None
         if not found or found[-1][1] != demand:
             found.append((begin, demand))

@@ -8,7 +8,7 @@ from __future__ import annotations
 from typing import Mapping
 
 from .operations import About, Json, Name, Operation, RawName, Shape, Stamp, is_raw
-from .reading import (GREATEST_VALUE, LONGEST_NAME, LONGEST_NOTE, Malformed, optional, read_name, read_raw_name, read_row,
+from .reading import (GREATEST_VALUE, LONGEST_NAME, LONGEST_NOTE, Malformed, read_optional, read_name, read_raw_name, read_row,
                       read_set, read_shape, read_stamp, read_time, whole)
 
 SITE = "site"  # the kind of a layer that excluded a site
@@ -40,7 +40,7 @@ def read_former_gesture(value: Json) -> Operation | None:
 
 
 def read_about(value: Mapping[str, Json]) -> About:
-    shape = optional(value, "shape", read_shape)
+    shape = read_optional(value, "shape", read_shape)
     return About(text(value, "who", LONGEST_NAME), text(value, "note", LONGEST_NOTE), read_time(value.get("when")), shape)
 
 

@@ -34,7 +34,7 @@ def rank(layer: Layer) -> Rank:
     return layer.height, len(layer.name), layer.name
 
 
-def from_the_top(layers: Iterable[Layer]) -> list[Layer]:
+def sort_from_top(layers: Iterable[Layer]) -> list[Layer]:
     return sorted(layers, key=rank, reverse=True)
 
 
@@ -45,7 +45,7 @@ def touches(layer: Layer, stretch: Stretch) -> bool:
             and layer.begin <= end and layer.end >= begin)
 
 
-def pieces(layers: Iterable[Layer], begin: int, end: int) -> list[Piece]:
+def split_by_topmost(layers: Iterable[Layer], begin: int, end: int) -> list[Piece]:
     """Return which layer is the topmost from when to when, given layers from the top down."""
     found: list[Piece] = []
     free = [(begin, end)]

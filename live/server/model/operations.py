@@ -32,7 +32,7 @@ K = TypeVar("K")
 V = TypeVar("V", covariant=True)
 
 
-def same_int(value: int) -> int:
+def intern_int(value: int) -> int:
     """Return the same object for equal small numbers: most objects and steps of a large road are among them."""
     return SMALL[value] if 0 <= value < len(SMALL) else value
 
@@ -71,7 +71,7 @@ class Single(Mapping[K, V], Generic[K, V]):
         return 1
 
 
-def small_mapping(some: Mapping[K, V], empty: Mapping[K, V]) -> Mapping[K, V]:
+def pack_mapping(some: Mapping[K, V], empty: Mapping[K, V]) -> Mapping[K, V]:
     """Return a mapping in as few bytes as it needs."""
     if len(some) > 1:
         return some
@@ -115,8 +115,8 @@ class Operation:
         others = [*self.heights.values(), *(name for name in self.names if not is_raw(name))]
         if any(one >= self.stamp for one in older) or any(one > self.stamp for one in others):
             raise ValueError("an operation may refer only to older ones, and may lift nothing above its own stamp")
-        object.__setattr__(self, "sets", small_mapping(self.sets, NO_LAYERS))
-        object.__setattr__(self, "heights", small_mapping(self.heights, NO_HEIGHTS))
+        object.__setattr__(self, "sets", pack_mapping(self.sets, NO_LAYERS))
+        object.__setattr__(self, "heights", pack_mapping(self.heights, NO_HEIGHTS))
 
     def __lt__(self, other: Operation) -> bool:
         return self.stamp < other.stamp or self.stamp == other.stamp and self.text() < other.text()
@@ -155,7 +155,7 @@ class Operation:
         return json.dumps(self.written(), sort_keys=True)
 
 
-def in_order(operations: Iterable[Operation]) -> list[Operation]:
+def sort_by_stamp(operations: Iterable[Operation]) -> list[Operation]:
     """Return operations in the order of their stamps, and twins in the order of their texts."""
     found = sorted(operations, key=lambda one: one.stamp)
     has_twins = any(one.stamp == other.stamp for one, other in zip(found, found[1:]))
@@ -222,7 +222,7 @@ def exclude(stamp: Stamp, site: int, is_out: bool, about: About = NOTHING) -> Op
     return Operation(stamp, excludes=(site, is_out), about=about)
 
 
-def stamped_anew(operations: Iterable[Operation], stamps: Mapping[Stamp, Stamp]) -> list[Operation]:
+def restamp(operations: Iterable[Operation], stamps: Mapping[Stamp, Stamp]) -> list[Operation]:
     """Return these operations with new stamps, which `stamps` maps from the old ones. They refer to each other by the new ones.
     Raise ValueError if one refers to an operation that keeps a later stamp."""
     def renamed(name: Name) -> Name:

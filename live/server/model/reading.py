@@ -9,7 +9,7 @@ import json
 import sys
 from typing import Callable, Mapping, Sequence, TypeVar
 
-from .operations import (NO_MORE, About, Json, Name, Operation, RawName, Shape, Stamp, is_line, is_raw, raw_shape, same_int)
+from .operations import (NO_MORE, About, Json, Name, Operation, RawName, Shape, Stamp, is_line, is_raw, raw_shape, intern_int)
 
 GREATEST_COUNT, GREATEST_NUMBER, GREATEST_VALUE = 1 << 48, 65_535, (1 << 32) - 1
 MOST_RAW = 1_200  # raw edits of an operation
@@ -38,8 +38,8 @@ def read_operation(value: Json) -> Operation:
                   None if value.get("shape") is None else read_shape(value["shape"]), more)
     try:
         one = Operation(stamp, read_sets(value.get("sets"), stamp), read_heights(value.get("heights")),
-                        optional(value, "undoes", read_stamp), optional(value, "excludes", read_exclusion),
-                        optional(value, "seen", read_stamp), about)
+                        read_optional(value, "undoes", read_stamp), read_optional(value, "excludes", read_exclusion),
+                        read_optional(value, "seen", read_stamp), about)
     except ValueError as fault:
         raise Malformed(str(fault)) from None
     fault_of_size = why_too_large(one)
@@ -59,7 +59,7 @@ def why_too_large(one: Operation) -> str | None:
     return None
 
 
-def optional(value: Mapping[str, Json], name: str, read: Callable[[Json], T]) -> T | None:
+def read_optional(value: Mapping[str, Json], name: str, read: Callable[[Json], T]) -> T | None:
     return None if value.get(name) is None else read(value[name])
 
 
@@ -137,7 +137,7 @@ def whole(value: Json, most: int, what: str) -> int:
     """Return a whole number from 0 on."""
     if type(value) is not int or not 0 <= value <= most:
         raise Malformed(f"{what} {str(value)[:40]} is not a whole number from 0 to {most}")
-    return same_int(value)
+    return intern_int(value)
 
 
 def word(value: Json) -> str:

@@ -10,9 +10,9 @@ from __future__ import annotations
 import weakref
 from typing import AbstractSet, Callable, Iterable
 
-from .counting import NONE, Record, inserted
-from .layers import Layer, Stretch, from_the_top, touches
-from .operations import END, NOTHING, About, Name, Operation, RawName, Shape, Stamp, in_order, is_line, is_raw, line_of
+from .counting import NONE, Record, insert_in_order
+from .layers import Layer, Stretch, sort_from_top, touches
+from .operations import END, NOTHING, About, Name, Operation, RawName, Shape, Stamp, sort_by_stamp, is_line, is_raw, line_of
 
 Plan = Callable[[str, int], "int | None"]
 """The value of an object by the plan; None of cars that start, about which the plan says nothing."""
@@ -49,7 +49,7 @@ class Road:
             return some or ()
         puts = self.record.held.get(name, ())
         return puts if all(name in one.sets for one in puts) and len(puts) < 2 else tuple(
-            in_order(one for one in puts if name in one.sets))
+            sort_by_stamp(one for one in puts if name in one.sets))
 
     def lifters_of(self, name: Name) -> tuple[Operation, ...]:
         return self._lifters.get(name, ())
@@ -76,9 +76,9 @@ class Road:
             for name in one.sets:
                 others = road.setters_of(name)
                 if name != one.stamp or one not in others:
-                    road._setters[name] = inserted(others, one)
+                    road._setters[name] = insert_in_order(others, one)
             for name in one.heights:
-                road._lifters[name] = inserted(road.lifters_of(name), one)
+                road._lifters[name] = insert_in_order(road.lifters_of(name), one)
         names = {name for one in flipped for name in one.names}
         names.update(raw for name in list(names) if is_line(name) for raw in road.members.get(name, ()))
         road._lay(names)
@@ -176,11 +176,11 @@ class Road:
 
     def with_raws(self, kind: str, index: int, shapes: Iterable[Layer]) -> Iterable[Layer]:
         """Return shapes, given from the top down, with the raw edits of an object among them."""
-        return from_the_top([*shapes, *self.raws_at(kind, index)]) if (kind, index) in self.raws else shapes
+        return sort_from_top([*shapes, *self.raws_at(kind, index)]) if (kind, index) in self.raws else shapes
 
     def on_object(self, kind: str, index: int) -> Iterable[Layer]:
         """Return all layers on an object, from the top down."""
-        shapes = from_the_top(self.touching((kind, index, index, 0, END)))
+        shapes = sort_from_top(self.touching((kind, index, index, 0, END)))
         return self.with_raws(kind, index, shapes)
 
 

@@ -3,7 +3,7 @@ from __future__ import annotations
 
 from typing import NamedTuple
 
-from .layers import Layer, columns, from_the_top, pieces, rank
+from .layers import Layer, columns, sort_from_top, split_by_topmost, rank
 from .operations import END, Operation, Stamp
 from .projection import single_objects
 from .road import Road, parts_of
@@ -24,12 +24,12 @@ class Rectangle(NamedTuple):
 def shown_layer(road: Road, own: Layer) -> list[Rectangle]:
     """Return a layer in rectangles."""
     begin, end = own.begin, road.end_of(own)
-    over = from_the_top(one for one in road.touching((own.kind, own.first, own.last, begin, end)) if rank(one) > rank(own))
+    over = sort_from_top(one for one in road.touching((own.kind, own.first, own.last, begin, end)) if rank(one) > rank(own))
     found: list[tuple[int, int, list[tuple[int, int, Stamp | None]]]] = []
     for low, high, places in columns(over, own.first, own.last, single_objects((road,), own.kind, own.first, own.last)):
         here = [one for one in road.with_raws(own.kind, low, [over[place] for place in places]) if rank(one) > rank(own)]
-        line = joined_times([(since, until, None if one is None or one.line == own.line else one.line)
-                             for since, until, one in pieces(here, begin, end)])
+        line = merge_spans([(since, until, None if one is None or one.line == own.line else one.line)
+                             for since, until, one in split_by_topmost(here, begin, end)])
         if found and found[-1][2] == line:
             found[-1] = found[-1][0], high, line
         else:
@@ -38,7 +38,7 @@ def shown_layer(road: Road, own: Layer) -> list[Rectangle]:
             for low, high, line in found for since, until, by in line]
 
 
-def joined_times(line: list[tuple[int, int, Stamp | None]]) -> list[tuple[int, int, Stamp | None]]:
+def merge_spans(line: list[tuple[int, int, Stamp | None]]) -> list[tuple[int, int, Stamp | None]]:
     """Return spans of time, neighbours with one owner as one."""
     found: list[tuple[int, int, Stamp | None]] = []
     for since, until, by in line:
@@ -49,7 +49,7 @@ def joined_times(line: list[tuple[int, int, Stamp | None]]) -> list[tuple[int, i
     return found
 
 
-def shown(road: Road, line: Stamp) -> list[Rectangle]:
+def visible_rectangles(road: Road, line: Stamp) -> list[Rectangle]:
     """Return a line in rectangles: its shape, and raw edits of neighbours that agree as one. Nothing where nothing stands."""
     own = shown_layer(road, road.layers[line]) if line in road.layers else []
     parts = [one for kind in sorted({name[0] for name in parts_of(road, line)}) for one in shown_raws(road, line, kind)]
@@ -67,20 +67,20 @@ def shown_raws(road: Road, line: Stamp, kind: str) -> list[Rectangle]:
     """Return the raw edits of a line, of one kind, in rectangles."""
     found: list[Rectangle] = []
     indexes = sorted({name[1] for name in parts_of(road, line) if name[0] == kind})
-    shapes = from_the_top(road.touching((kind, indexes[0], indexes[-1], 0, END)))
+    shapes = sort_from_top(road.touching((kind, indexes[0], indexes[-1], 0, END)))
     for index in indexes:
         here = list(road.with_raws(kind, index, [one for one in shapes if one.first <= index <= one.last]))
         for own in road.raws_at(kind, index):
             if own.line == line:
                 over = [one for one in here if rank(one) > rank(own)]
                 spans = [(since, until, None if one is None or one.line == line else one.line)
-                         for since, until, one in pieces(over, own.begin, own.end)]
+                         for since, until, one in split_by_topmost(over, own.begin, own.end)]
                 found += [Rectangle(kind, index, index, since, None if until == END else until, own.value, by)
-                          for since, until, by in joined_times(spans)]
+                          for since, until, by in merge_spans(spans)]
     return found
 
 
-def lost(road: Road, line: Stamp) -> dict[Operation, Operation]:
+def find_overruled(road: Road, line: Stamp) -> dict[Operation, Operation]:
     """Return the operations that had no say in what a line is now, because they were made at the same time as one that won:
     each with that one. An undo is lost too if it takes back what the present shape goes back to."""
     counts = road.record.counts
