@@ -163,7 +163,7 @@ class Pieces(Case):
         def slowly(*given: Any) -> Any:
             works(0.005)
             return news(*given)
-        with mock.patch.object(here.lab, "news", slowly):
+        with mock.patch.object(here.lab, "unseen_shares", slowly):
             with takes_at_most(0.1):
                 for step in (70, 50, 60):
                     here.keeper.listeners.shared.notify(step)
