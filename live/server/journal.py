@@ -4,7 +4,7 @@
     with lock(folder): ..              one server a folder; its journal is locked, too
     journal = Journal(path, size)      cuts that off, and appends
     await journal.write({"clock": ..}) returns once the entry is on the disk; one sync serves all that wait
-    await journal.settled()            returns once all is that was written so far
+    await journal.wait_until_written()            returns once all is that was written so far
 
 Its lines are those of `entries`.
 """
@@ -167,7 +167,7 @@ def journal_lines(entries: Iterable[Entry]) -> Iterator[bytes]:
 
 class Journal:
     """Appends entries. After a failed write all that wait are refused with `NotWritten`, and so is all that comes until
-    `mend`: what it would stand on may not be there. `failures` counts how often that was."""
+    `probe_disk`: what it would stand on may not be there. `failures` counts how often that was."""
 
     def __init__(self, path: Path, size: int) -> None:
         self.path, self.size = path, size
@@ -178,7 +178,7 @@ class Journal:
         self._writer: asyncio.Future[None] | None = None
         self._began: float | None = None  # when the disk was asked what it has not answered
         self._is_read_only = self._is_closed = False
-        self._file = self._opened()
+        self._file = self._open()
         self._held = -1
         try:
             self._begin(os.fstat(self._file).st_size - size)
@@ -195,16 +195,16 @@ class Journal:
             self._cut()
             sync_folder(self.path.parent)
 
-    def _opened(self) -> int:
+    def _open(self) -> int:
         """Open the journal to append to. A journal that is there and may not be written can be read; what is written is
-        refused until `mend` succeeds."""
+        refused until `probe_disk` succeeds."""
         try:
             return open_for_append(self.path)
         except OSError as fault:
             if not is_read_only(fault) or not self.path.exists():
                 raise
             logging.warning("%s is read-only (%s): everything can be viewed, and nothing changed", self.path, fault.strerror)
-            self._failed(fault)
+            self._note_fault(fault)
             self._is_read_only = True
             return os.open(self.path, os.O_RDONLY)
 
@@ -221,11 +221,11 @@ class Journal:
             self._writer = asyncio.ensure_future(self._write_all())
         return done
 
-    def waits(self, seconds: float) -> bool:
+    def has_waited(self, seconds: float) -> bool:
         """Return whether the disk has owed an answer for some seconds."""
         return self._began is not None and time.monotonic() - self._began > seconds
 
-    async def settled(self) -> None:
+    async def wait_until_written(self) -> None:
         """Wait until all that was written so far is on the disk; `NotWritten` where it was not taken."""
         if self._last is not None:
             await asyncio.shield(self._last)
@@ -236,10 +236,10 @@ class Journal:
                 batch, self._waiting = self._waiting, []
                 data = b"".join(journal_line(text, place == 0) for place, (text, _, _) in enumerate(batch))
                 try:
-                    await self._asks(self._append, data)
+                    await self._run_on_disk_thread(self._append, data)
                 except OSError as fault:
                     self._waiting = batch + self._waiting
-                    self._failed(fault)
+                    self._note_fault(fault)
                     return
                 for _, then, done in batch:
                     try:
@@ -251,7 +251,7 @@ class Journal:
         finally:
             self._writer = None
 
-    async def _asks(self, does: Callable[P, None], *given: P.args, **named: P.kwargs) -> None:
+    async def _run_on_disk_thread(self, does: Callable[P, None], *given: P.args, **named: P.kwargs) -> None:
         """Let the disk do something, beside all else."""
         self._began = time.monotonic()
         try:
@@ -259,7 +259,7 @@ class Journal:
         finally:
             self._began = None
 
-    def _failed(self, fault: OSError) -> None:
+    def _note_fault(self, fault: OSError) -> None:
         self.fault = f"the disk does not accept it ({fault.strerror})"
         self.failures += 1
         waiting, self._waiting, self._last = self._waiting, [], None
@@ -271,7 +271,7 @@ class Journal:
         try:
             write(self._file, [data, more])
         except OSError:
-            with contextlib.suppress(OSError):  # else `mend` tries it again
+            with contextlib.suppress(OSError):  # else `probe_disk` tries it again
                 self._cut()
             raise
         self.size += len(data)
@@ -280,17 +280,17 @@ class Journal:
         os.ftruncate(self._file, self.size)
         os.fsync(self._file)
 
-    def confirmed(self) -> list[Entry]:
+    def read_confirmed(self) -> list[Entry]:
         """Return what was confirmed, from the disk, whether that can be written or not."""
         return read_entries(self.path, self.size)[0]
 
-    async def mend(self, entry: Entry) -> None:
+    async def probe_disk(self, entry: Entry) -> None:
         """Try the disk by an entry, and as much more as a gesture may be: once that is there, and cut off again, all
         else is taken. OSError where it is not."""
-        await self._asks(self._mend, entry)
+        await self._run_on_disk_thread(self._write_probe, entry)
         self.fault = None
 
-    def _mend(self, entry: Entry) -> None:
+    def _write_probe(self, entry: Entry) -> None:
         if self._is_read_only:
             file, old = open_for_append(self.path), self._file
             self._file, self._is_read_only = file, False
@@ -314,7 +314,7 @@ class Journal:
         file = open_for_append(successor_path(self.path))
         try:
             while self.size - copied > ROOM and self.failures == failures:
-                copied = await self._asks_beside(self._copy, file, copied)
+                copied = await self._run_in_background(self._copy, file, copied)
             while self._writer is not None:
                 await asyncio.wait([self._writer])
             if self.failures == failures and not self._is_closed:
@@ -329,13 +329,13 @@ class Journal:
     async def _is_written(self, process: int) -> bool:
         """Wait for a process that writes; return whether all is on the disk."""
         try:
-            _, status = await self._asks_beside(os.waitpid, process, 0)
+            _, status = await self._run_in_background(os.waitpid, process, 0)
         except asyncio.CancelledError:
             os.kill(process, signal.SIGKILL)
             raise
         return status == 0
 
-    async def _asks_beside(self, does: Callable[P, T], *given: P.args, **named: P.kwargs) -> T:
+    async def _run_in_background(self, does: Callable[P, T], *given: P.args, **named: P.kwargs) -> T:
         """Let the disk do something that nobody waits for."""
         return await asyncio.get_running_loop().run_in_executor(None, functools.partial(does, *given, **named))
 
@@ -349,14 +349,14 @@ class Journal:
 
     async def _replace(self, file: int, copied: int) -> None:
         try:
-            await self._asks(self._rename, file, copied)
+            await self._run_on_disk_thread(self._rename, file, copied)
         except OSError as fault:
             logging.warning("the journal was not compacted: %s", fault)
         else:
             try:
-                await self._asks(sync_folder, self.path.parent)
+                await self._run_on_disk_thread(sync_folder, self.path.parent)
             except OSError as fault:  # the old one may stand there again
-                self._failed(fault)
+                self._note_fault(fault)
         await self._write_all()
 
     def _rename(self, file: int, copied: int) -> None:

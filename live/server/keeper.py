@@ -200,7 +200,7 @@ class Keeper:
         """Say when the disk takes very long, and when that is over; it may take for ever."""
         while True:
             await asyncio.sleep(STALLS / 10)
-            if self.journal.waits(STALLS) != self._is_stalled:
+            if self.journal.has_waited(STALLS) != self._is_stalled:
                 self._is_stalled = not self._is_stalled
                 logging.warning("the disk %s", "does not answer" if self._is_stalled else "has answered")
                 self.listeners.trouble.notify()
@@ -217,7 +217,7 @@ class Keeper:
             raise NotKept(self.journal.fault)
         if self._try is None or self._try.done():
             self._try = asyncio.ensure_future(self._try_disk())
-        elif self.journal.waits(A_MOMENT):
+        elif self.journal.has_waited(A_MOMENT):
             raise NotKept("the disk does not answer")
         if not (await asyncio.wait([self._try], timeout=A_MOMENT))[0]:
             raise NotKept("the disk does not answer")
@@ -228,7 +228,7 @@ class Keeper:
     async def _try_disk(self) -> str | None:
         """Why it does not take anything, where it does not; in the time of others, since it may take for ever."""
         try:
-            await self.journal.mend(self.clock().written())
+            await self.journal.probe_disk(self.clock().written())
         except OSError as fault:
             return f"the disk does not accept it ({fault.strerror})"
         await self._upgrade()
@@ -258,7 +258,7 @@ class Keeper:
         self._trouble = self.journal.fault
         self.listeners.trouble.notify()
         try:
-            state, _, _ = await asyncio.to_thread(lambda: self._read(self.journal.confirmed()))
+            state, _, _ = await asyncio.to_thread(lambda: self._read(self.journal.read_confirmed()))
         except (OSError, CannotStart) as fault:
             raise NotKept(f"what is on the disk cannot be read ({fault})") from None
         clock, self.state, self.confirmed = self.clock(), state, state.shared.size
@@ -343,9 +343,9 @@ class Keeper:
                    or self.screen.withdrawn >= settings.most_withdrawn)
         if self._next is None and is_late:
             self._forget()
-            self._next = asyncio.ensure_future(self._successor())
+            self._next = asyncio.ensure_future(self._start_successor())
 
-    async def _successor(self) -> Screen:
+    async def _start_successor(self) -> Screen:
         screen = await self._start()
         try:
             for index in (SHARED, *self.connected):
@@ -396,7 +396,7 @@ class Keeper:
             try:
                 found = await look()
                 if may_see == "all" or may_see == "shared" and self.confirmed < self.state.shared.size:
-                    await self.journal.settled()
+                    await self.journal.wait_until_written()
             except (NotKept, NotWritten):
                 if failures == self._forgotten == self.journal.failures:
                     raise

@@ -193,18 +193,18 @@ class Lab:
     async def _make(self, index: int, key: str, note: str, times: Times, make_operation: MakeOperation) -> Reply:
         """Make an operation, once for each key, and answer when it is on the disk."""
         async def make(write: Write) -> Reply:
-            seat = self.seating.owned(index)
+            seat = self.seating.require_owned(index)
             if key in seat.done:  # sent again after a break: it ends as it did then, or will
                 write.dones.extend(self._pending.get((index, key), ()))
                 return {"stamp": seat.done[key], "touched": None, "again": True, **self.list_of(seat, seat.version)}
             await write.require_writable()
             self._restamp_early(seat, write)
-            before, version = seat.road, self._version(seat)
+            before, version = seat.road, self._list_version(seat)
             one = self._new_operation(seat, note, make_operation)
             write.record(Made(index, one, key))
             self._pending[index, key] = write.dones
             write.dones[-1].add_done_callback(lambda _: self._pending.pop((index, key), None))
-            return {"stamp": one.stamp, "touched": await self._touched(before, seat.road), **self.list_of(seat, version)}
+            return {"stamp": one.stamp, "touched": await self._first_difference(before, seat.road), **self.list_of(seat, version)}
         return await self._write(index, make, times, takes_long=False)
 
     def _find_early(self, seat: SeatReplica) -> list[Operation]:
@@ -248,7 +248,7 @@ class Lab:
             return "nothing of this change is left to withdraw"
         return "it is so already"
 
-    async def _touched(self, before: Road, after: Road) -> int | None:
+    async def _first_difference(self, before: Road, after: Road) -> int | None:
         """Return the first step from which two roads differ."""
         return first_step(await self.keeper.differences.between(before, after))
 
@@ -262,7 +262,7 @@ class Lab:
 
     # Lists
 
-    def _version(self, seat: SeatReplica) -> int:
+    def _list_version(self, seat: SeatReplica) -> int:
         """Return the version of a seat's list, which begins where it did not yet."""
         seat.begin_list()
         return seat.version
@@ -270,7 +270,7 @@ class Lab:
     def list_of(self, replica: Replica, version: int) -> Reply:
         """Return the lines that are other than in a version of a list, and what Z and Redo would do."""
         marks = replica.begin_list()
-        lines, after = Lister(self.state, replica).since(marks, version - replica.begun, LIST_AT_ONCE)
+        lines, after = Lister(self.state, replica).lines_since(marks, version - replica.begun, LIST_AT_ONCE)
         found = find_undoable(replica.road, replica.number)
         return {"layers": lines, "since": version, "next": replica.version if after is None else replica.begun + after,
                 "more": after is not None, "undo": found.undo and found.undo.stamp, "redo": found.redo and found.redo.stamp,
@@ -286,7 +286,7 @@ class Lab:
     async def share(self, index: int, times: Times, *, stamps: set[Stamp] | None, title: str) -> Reply:
         """Give own operations to the shared road."""
         async def make(write: Write) -> tuple[list[Stamp], int | None]:
-            seat, shared = self.seating.owned(index), self.state.shared
+            seat, shared = self.seating.require_owned(index), self.state.shared
             if self._find_early(seat):
                 await write.require_writable()
                 self._restamp_early(seat, write)
@@ -296,7 +296,7 @@ class Lab:
             if given:
                 await write.require_writable()
                 write.record(Share(index, [one.stamp for one in given], seat.name, title, int(time.time())))
-            return [one.stamp for one in given], await self._touched(before, shared.road)
+            return [one.stamp for one in given], await self._first_difference(before, shared.road)
         found, touched = await self._write(index, make, times)
         if found:
             self.keeper.listeners.shared.notify(touched)
@@ -305,10 +305,10 @@ class Lab:
     async def take(self, index: int, times: Times) -> Reply:
         """Take all that has been shared so far."""
         async def make(write: Write) -> Reply:
-            seat = self.seating.owned(index)
+            seat = self.seating.require_owned(index)
             await write.require_writable()
-            version, before, upto = self._version(seat), seat.road, seat.upto
-            came = self.state.fresh(seat, self.keeper.confirmed)
+            version, before, upto = self._list_version(seat), seat.road, seat.upto
+            came = self.state.unseen(seat, self.keeper.confirmed)
             if seat.upto < self.keeper.confirmed:
                 write.record(Take(index, self.keeper.confirmed))
                 await seat.catch_up()
@@ -330,7 +330,7 @@ class Lab:
                 "shares": [one.reply_fields() for one in shares[-20:]],
                 "changes": [lister.operation(one, None) for one in fresh[-most:]]}
 
-    async def works_are_shared(self) -> None:
+    async def record_works(self) -> None:
         """Give every new seat from the start what is shared so far."""
         await wait_until_written(self.keeper.record(Works(self.keeper.confirmed)), {})
 
@@ -348,14 +348,14 @@ class Lab:
             before, began = shared.road, time.thread_time()
             write.record(Came(fresh, fresh[0].about.who, title, int(time.time()), is_unsent=False))
             await shared.catch_up()
-            touched = await self._touched(before, shared.road)
+            touched = await self._first_difference(before, shared.road)
             times["work"] = time.thread_time() - began
             is_new.append(True)
             return touched
         is_new: list[bool] = []
         touched = await self._write(SHARED, make, times)
         if not is_new:
-            await wait_until_written(self.keeper.journal.settled(), times)
+            await wait_until_written(self.keeper.journal.wait_until_written(), times)
             return False
         self.keeper.listeners.shared.notify(touched)
         return True

@@ -101,7 +101,7 @@ class Lister:
         """Return what an operation did to a line, or to its lines, and who made it; `won` is the operation that beat it."""
         about = one.about
         said: Act = {
-            "stamp": one.stamp, "who": about.who, "note": about.note, "when": about.when, "does": self.does(one, line),
+            "stamp": one.stamp, "who": about.who, "note": about.note, "when": about.when, "does": self.describe_act(one, line),
             "shared": one in self._places, "undoes": one.undoes,
             "lost": None if won is None else won.stamp}
         if one in self._idle:
@@ -113,7 +113,7 @@ class Lister:
             said["demand"] = stated_demand(one, line)
         return said
 
-    def does(self, one: Operation, line: Stamp | None) -> str:
+    def describe_act(self, one: Operation, line: Stamp | None) -> str:
         """Return what an operation did: put, change, withdraw, top, undo, redo, edits, exclude or include."""
         if one.undoes is not None:
             return "redo" if any(undone.undoes is not None for undone in self._road.record.undone_by(one)) else "undo"
@@ -130,7 +130,7 @@ class Lister:
             return "edits" if any(one.sets.values()) else "withdraw"
         return "top" if at in one.heights else "change"
 
-    def since(self, marks: dict[Stamp, int], version: int, seconds: float) -> tuple[list[Line], int | None]:
+    def lines_since(self, marks: dict[Stamp, int], version: int, seconds: float) -> tuple[list[Line], int | None]:
         """Return the lines that were altered behind a version, the newest last, as many as are worked out in about so long;
         and the version of the last one, if there are more."""
         found: list[Line] = []

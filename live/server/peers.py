@@ -71,7 +71,7 @@ class Peers:
         least = min((ahead for when, ahead in [*self._clocks.values()] if when >= begin), default=0.0)
         return least if least > AHEAD else 0.0
 
-    async def heard(self, run: str, site: Site, bound: Json) -> None:
+    async def receive_announcement(self, run: str, site: Site, bound: Json) -> None:
         """Take the announcement of a site; `bound` are the numbers that it says are bound, and their folders."""
         if (site.folder, run) == (self._id, self._run):
             return
@@ -140,7 +140,7 @@ class Peers:
         """Return whether a folder is there, or has a number that is written down. (Also the broker's thread asks.)"""
         return folder in self.known or folder in [*self._keeper.state.bound.values()]
 
-    def named(self, folder: str) -> str:
+    def describe_site(self, folder: str) -> str:
         """Return what people call a folder's site."""
         if folder == self._id:
             return "Somebody with this site's name"

@@ -153,7 +153,7 @@ async def share_works(lab: Lab, road: Planned) -> None:
         for number, (shape, demand) in enumerate(road.shapes):
             await lab.put_shape(index, {}, key=f"plan {number}", note="", shape=shape, demand=demand, is_planned=demand is not None)
         await lab.share(index, {}, stamps=None, title="")
-        await lab.works_are_shared()
+        await lab.record_works()
         await lab.seating.release_seat(index)
     except Refused as fault:
         raise CannotStart(f"{road.name}: {fault.why}") from None

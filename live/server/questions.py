@@ -73,20 +73,20 @@ class Questions:
         self._figures.close()
         self._admissions.close()
 
-    def left(self, index: int) -> None:
+    def drop_seat(self, index: int) -> None:
         """Drop what was kept for a seat whose tab has gone."""
         self._previews.put(index, None)
         self._chance.stop(index)
         self._saved.drop(index)
 
-    async def plain(self, road: AskedRoad, times: Times, verb: str, fields: Mapping[str, Json]) -> bytes:
+    async def ask_program(self, road: AskedRoad, times: Times, verb: str, fields: Mapping[str, Json]) -> bytes:
         """Return what the program answers."""
         asked: Fields = {"at": road.name, **fields}
         line = to_json({verb: asked}).encode()
 
         async def body() -> bytes:
             return (await road.say_all([line], times))[0]
-        return await road.job(body)
+        return await road.run_job(body)
 
     async def advance(self, road: AskedRoad, to: int) -> Reply:
         """Let a road run to a step, at most some hours past the clock."""
@@ -124,9 +124,9 @@ class Questions:
 
         async def body() -> More | None:
             part = steps[len(found):len(found) + self._rows_at_once()]
-            found.extend(await self._piece(road, part, times))
+            found.extend(await self._ask_rows(road, part, times))
             return MORE if len(found) < len(steps) else None
-        await road.job(body)
+        await road.run_job(body)
         return found
 
     @property
@@ -136,7 +136,7 @@ class Questions:
     def _rows_at_once(self) -> int:
         return min(MOST_ROWS, MOST_BYTES // (self._length + 3))
 
-    async def _piece(self, road: AskedRoad, steps: list[int], times: Times) -> list[bytes]:
+    async def _ask_rows(self, road: AskedRoad, steps: list[int], times: Times) -> list[bytes]:
         every = steps[1] - steps[0] if len(steps) > 1 else 1
         if every >= 8 or every >= 2 and self._length >= LONG_ROAD:
             at = to_json(road.name)
@@ -156,7 +156,7 @@ class Questions:
 
         async def body() -> More | None:
             start = first + 1 + len(cars)
-            part = await self._piece(road, list(range(start, min(last + 1, start + self._rows_at_once()))), times)
+            part = await self._ask_rows(road, list(range(start, min(last + 1, start + self._rows_at_once()))), times)
             cars.extend(count_cars(row.decode("ascii")) for row in part)
             return MORE if len(cars) < last - first else None
         await self._of_one_road(road, cars, body)
@@ -164,11 +164,11 @@ class Questions:
 
     async def counts(self, road: AskedRoad, times: Times, *, first: int, last: int, each: int | None) -> Reply:
         """Return what all detectors count, in spans of `each` steps or as a whole."""
-        spans = await self._counted(road, times, first, last, each)
+        spans = await self._count_spans(road, times, first, last, each)
         pairs = [[[one["cars"], one["speeds"]] for one in span] for span in spans]
         return {"counts": pairs[0], "flows": spans[0]} if each is None else {"counts": pairs, "flows": spans}
 
-    async def _counted(self, road: AskedRoad, times: Times, first: int, last: int,
+    async def _count_spans(self, road: AskedRoad, times: Times, first: int, last: int,
                        each: int | None) -> list[list[DetectorFigures]]:
         """Return what each detector counts, span by span."""
         if first > last:
@@ -211,7 +211,7 @@ class Questions:
                 marks.append(road.mark())
                 found.clear()
             return await body()
-        await road.job(part, at_leisure=True)
+        await road.run_job(part, at_leisure=True)
         return marks[-1]
 
     # Lists
@@ -269,15 +269,15 @@ class Questions:
             state = self._keeper.state
             own = state.seats[index]
             if what == "take":
-                return await self._previewed("take", own, state.fresh(own))
-            return await self._previewed("share", state.shared, own.shareable() if stamps is None else sendable(
+                return await self._make_preview("take", own, state.unseen(own))
+            return await self._make_preview("share", state.shared, own.shareable() if stamps is None else sendable(
                 own.road, state.shared.road, own.number, stamps))
         fed = SHARED if what == "share" else index
         preview, reply = await self._keeper.read_committed(lambda: self._keeper.ask(index, (fed,), body), "shared")
         self._previews.put(index, preview)
         return reply
 
-    async def _previewed(self, what: str, replica: Replica, added: list[Operation]) -> tuple[Preview, Reply]:
+    async def _make_preview(self, what: str, replica: Replica, added: list[Operation]) -> tuple[Preview, Reply]:
         """Return the roads of a replica with and without some operations, and how its list would differ."""
         before = replica.road
         after = before.adding(added)
@@ -387,7 +387,7 @@ class Questions:
 
     async def table_of_counts(self, road: AskedRoad, times: Times, first: int, last: int, each: int) -> Reply:
         """Return a table of what detectors count, span by span."""
-        spans = await self._counted(road, times, first, last, each)
+        spans = await self._count_spans(road, times, first, last, each)
         title = f"counts of {self._road_name(road.name)}{self._file_and_date()}, {self.say_time(first)} to {self.say_time(last)}"
         windows = [Window(start, min(last, start + each)) for start in range(first, last, each)]
         return {"csv": saving.table_of_counts(self._keeper.state.plan, title, self.say_time, windows, spans)}

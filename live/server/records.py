@@ -278,7 +278,7 @@ class Made(Entry):
     title: str = field(default="", metadata=TEXT)
 
     def apply(self, state: State) -> None:
-        seat, one = state.seats[self.seat], state.interned(self.operation)
+        seat, one = state.seats[self.seat], state.intern(self.operation)
         if self.is_shared:
             state.hold_shared([one], self.is_unsent, self.title)
         state.hold_own(seat, one)
@@ -313,7 +313,7 @@ class Share(Entry):
         wanted = set(self.stamps)
         given = [one for one in state.private(state.seats[self.seat]) if one.stamp in wanted]
         state.hold_shared(given, is_unsent=True, title=self.title)
-        state.tell(News(state.shared.size, self.who, self.title, self.when, len(given)))
+        state.add_news(News(state.shared.size, self.who, self.title, self.when, len(given)))
 
 
 @dataclass(frozen=True)
@@ -328,8 +328,8 @@ class Came(Entry):
     is_unsent: bool = field(default=False, metadata=UNSENT)
 
     def apply(self, state: State) -> None:
-        fresh = state.hold_shared([*map(state.interned, self.operations)], self.is_unsent, self.title)
-        state.tell(News(state.shared.size, self.who, self.title, self.when, len(fresh)))
+        fresh = state.hold_shared([*map(state.intern, self.operations)], self.is_unsent, self.title)
+        state.add_news(News(state.shared.size, self.who, self.title, self.when, len(fresh)))
 
 
 @dataclass(frozen=True)

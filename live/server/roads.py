@@ -25,11 +25,11 @@ T = TypeVar("T")
 
 
 class AskedRoad(Protocol):
-    """One that can be asked; `job` does a piece of work again as long as it gives `MORE`."""
+    """One that can be asked; `run_job` does a piece of work again as long as it gives `MORE`."""
 
     name: str
 
-    async def job(self, body: Job[T], at_leisure: bool = False) -> T:
+    async def run_job(self, body: Job[T], at_leisure: bool = False) -> T:
         """Do a piece of work when the road has run as far as it shall; at leisure if no picture waits for it."""
 
     def mark(self) -> Road | None:
@@ -49,7 +49,7 @@ class KeptRoad:
         self._keeper, self._turn, self._index = keeper, turn, index
         self.name = keeper.state.replica(index).at
 
-    async def job(self, body: Job[T], at_leisure: bool = False) -> T:
+    async def run_job(self, body: Job[T], at_leisure: bool = False) -> T:
         return await self._keeper.ask(self._turn, (self._index,), body, at_leisure)
 
     def mark(self) -> Road:
@@ -64,7 +64,7 @@ class KeptRoad:
 
         async def body() -> int:
             return self._keeper.program.horizons.get(self.name, 0)
-        return await self.job(body)
+        return await self.run_job(body)
 
 
 class Preview:
@@ -85,7 +85,7 @@ class Preview:
         """Return whether it has a program that is asked nothing just now."""
         return self._program is not None and not self._lock.locked()
 
-    async def ready(self, side: str) -> Program:
+    async def prepare_program(self, side: str) -> Program:
         """Return its program, when it has the edits of a side and has run as far as it shall."""
         self.used = time.monotonic()
         program = self._program or await self._started()
@@ -109,10 +109,10 @@ class Preview:
         self._program = program
         return program
 
-    async def job(self, side: str, body: Job[T]) -> T:
+    async def run_job(self, side: str, body: Job[T]) -> T:
         async with self._lock:
             try:
-                await self.ready(side)
+                await self.prepare_program(side)
                 while isinstance(said := await body(), More):
                     pass
                 return said
@@ -132,7 +132,7 @@ class Preview:
                 self._keeper.refuse(line, json.loads(reply), self._program)
         return replies
 
-    def wants(self, side: str, to: int) -> None:
+    def run_to(self, side: str, to: int) -> None:
         self._wanted[side] = max(to, self._wanted[side])
 
     def close(self) -> None:
@@ -158,8 +158,8 @@ class Side:
         """Return its edits, as an import has them."""
         return self._preview.edits[self.name]
 
-    async def job(self, body: Job[T], at_leisure: bool = False) -> T:
-        return await self._preview.job(self.name, body)
+    async def run_job(self, body: Job[T], at_leisure: bool = False) -> T:
+        return await self._preview.run_job(self.name, body)
 
     def mark(self) -> None:
         return None
@@ -168,11 +168,11 @@ class Side:
         return await self._preview.say_all(lines, times)
 
     async def advance(self, to: int) -> int:
-        self._preview.wants(self.name, to)
+        self._preview.run_to(self.name, to)
 
         async def body() -> int:
             return to
-        return await self.job(body)
+        return await self.run_job(body)
 
 
 class Previews:

@@ -38,17 +38,17 @@ class Differences:
         """Return the edits from one road to another; `like` are two others between which much is the same."""
         if before is after:
             return {}
-        found = self._found(before, after)
+        found = self._find_known(before, after)
         if found is None:
             known = None if like is None else (*like, await self.between(*like))
-            found = await self._worked_out(before, after, known)
+            found = await self._compute(before, after, known)
             self._known.append((before, after, found))
         return found
 
-    def _found(self, before: Road, after: Road) -> Edits | None:
+    def _find_known(self, before: Road, after: Road) -> Edits | None:
         return next((edits for one, other, edits in self._known if one is before and other is after), None)
 
-    async def _worked_out(self, before: Road, after: Road, known: tuple[Road, Road, Edits] | None) -> Edits:
+    async def _compute(self, before: Road, after: Road, known: tuple[Road, Road, Edits] | None) -> Edits:
         if len(before.layers) + len(after.layers) <= MOST_INLINE:
             return difference(before, after)
         loop = asyncio.get_running_loop()

@@ -1,8 +1,8 @@
 """Messages between sites, sealed by their shared key.
 
     seal = Seal(folder, key)               key: bytes, or None: messages are not sealed
-    payload = seal.sealed(topic, body)
-    folder, body = seal.opened(topic, payload)
+    payload = seal.seal(topic, body)
+    folder, body = seal.open(topic, payload)
 
 A sealed payload is a line of JSON {"folder","time","number","mac"} and the body behind it. The MAC (HMAC, SHA-256) is
 over topic, folder, time in milliseconds, a number that rises, and body: so what is played again, or at another topic,
@@ -142,7 +142,7 @@ class Seal:
         self._number = self._taken.bound(folder)
         self._seen: Dict[str, Seen] = collections.OrderedDict()
 
-    def sealed(self, topic: str, body: bytes) -> bytes:
+    def seal(self, topic: str, body: bytes) -> bytes:
         if self.key is None:
             return body
         now = int(1_000 * self._clock())
@@ -150,7 +150,7 @@ class Seal:
         head = Head(self.folder, now, self._number)
         return to_json(head._replace(mac=self._mac(topic, head, body))._asdict()).encode() + b"\n" + body
 
-    def opened(self, topic: str, payload: bytes) -> tuple[str, bytes]:
+    def open(self, topic: str, payload: bytes) -> tuple[str, bytes]:
         """Return the folder that sent it, empty if it does not say, and the body. Raise `Unsealed`, `Replayed` or `Expired`."""
         line, there, body = payload.partition(b"\n")
         head = head_of(line) if there else None

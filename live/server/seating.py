@@ -73,7 +73,7 @@ class Seating:
             return await (look() if turn is None else self._keeper.ask(turn, (), look))
         asked = asyncio.ensure_future(self._keeper.read_committed(in_turn))
         while not (await asyncio.wait([asked], timeout=A_MOMENT))[0]:
-            if self._listed and self._keeper.journal.waits(A_MOMENT):
+            if self._listed and self._keeper.journal.has_waited(A_MOMENT):
                 asked.cancel()
                 kept = [one.copy() for one in self._listed]
                 for one in kept:
@@ -97,21 +97,21 @@ class Seating:
 
     async def _take_over(self, index: int) -> tuple[int, str]:
         if not 1 <= index < SEATS or not self._state.seats[index].key:
-            raise self._refused("NoSuchSeat", "nobody has this seat")
+            raise self._refuse_with_seats("NoSuchSeat", "nobody has this seat")
         if index in self._keeper.connected:
-            raise self._refused("SeatConnected", "a tab is connected to this seat")
+            raise self._refuse_with_seats("SeatConnected", "a tab is connected to this seat")
         return await self._give(index, self._state.seats[index].name)
 
     async def _new_seat(self, name: str) -> tuple[int, str]:
         if not name:
-            raise self._refused("NoName", "give a name of 1 to 64 characters")
-        alike = self._alike(name)
+            raise self._refuse_with_seats("NoName", "give a name of 1 to 64 characters")
+        alike = self._find_similar_name(name)
         if alike is not None:
             looks = "" if alike == name else f", and {name} looks like it"
-            raise self._refused("NameTaken", f"there is a seat of {alike}{looks}: take it over, or choose another name")
+            raise self._refuse_with_seats("NameTaken", f"there is a seat of {alike}{looks}: take it over, or choose another name")
         free = [seat.index for seat in self._state.seats[1:] if not seat.key]
         if not free:
-            raise self._refused("AllSeatsTaken", "all 63 seats are taken: take one over")
+            raise self._refuse_with_seats("AllSeatsTaken", "all 63 seats are taken: take one over")
         made = {number for _, number in self._state.by_stamp}  # whose is not to be another's
         fresh = [index for index in free if self._state.seats[index].number not in made]
         return await self._give((fresh or free)[0], name, self._state.works)
@@ -120,16 +120,16 @@ class Seating:
         """Give a seat that was given by this key while the disk took nothing, if it is free."""
         said, _, name = key.partition(".")[2].partition(".")
         index = int(said) if said.isdecimal() and len(said) <= 2 else 0
-        is_signed = hmac.compare_digest(self._signed(key[:8], index, name).encode(), key.encode("utf-8", "replace"))
-        if not is_signed or self._state.seats[index].key or self._alike(name) is not None:
-            raise self._refused("UnknownKey", "the seat was taken over, or is free again: choose a seat")
+        is_signed = hmac.compare_digest(self._sign(key[:8], index, name).encode(), key.encode("utf-8", "replace"))
+        if not is_signed or self._state.seats[index].key or self._find_similar_name(name) is not None:
+            raise self._refuse_with_seats("UnknownKey", "the seat was taken over, or is free again: choose a seat")
         return await self._give(index, name, self._state.works, key)
 
-    def _alike(self, name: str) -> str | None:
+    def _find_similar_name(self, name: str) -> str | None:
         """Return the name of a seat that looks like this one, or is it."""
         return next((seat.name for seat in self._state.seats if seat.key and fold_look_alikes(seat.name) == fold_look_alikes(name)), None)
 
-    def _refused(self, text: str, why: str) -> Refused:
+    def _refuse_with_seats(self, text: str, why: str) -> Refused:
         return Refused(text, why, seats=self.seats())
 
     async def _give(self, index: int, name: str, upto: int = 0, key: str = "") -> tuple[int, str]:
@@ -140,7 +140,7 @@ class Seating:
                 await self._keeper.turns.ask(SHARED, self._keeper.require_writable)
                 await wait_until_written(self._keeper.apply_when_written(self._entry(index, name, key, upto), lambda: None), {})
             except NotKept:  # who looks needs no disk
-                key = self._signed(key[:8], index, name)
+                key = self._sign(key[:8], index, name)
                 entry = self._entry(index, name, key, upto)
 
                 async def looks() -> None:
@@ -155,7 +155,7 @@ class Seating:
     def _entry(self, index: int, name: str, key: str, upto: int) -> SeatGiven:
         return SeatGiven(index, name, digest(key), int(time.time()), upto=upto)
 
-    def _signed(self, bits: str, index: int, name: str) -> str:
+    def _sign(self, bits: str, index: int, name: str) -> str:
         """Return a key that says whose seat it is."""
         said = f"{index}.{name}"
         seal = hmac.digest(self.secret, f"{bits}.{said}".encode("utf-8", "replace"), "sha256")[:12]
@@ -175,13 +175,13 @@ class Seating:
     async def release_seat(self, index: int) -> None:
         """Free a seat that holds nothing private, when what it was asked before is done."""
         async def body() -> asyncio.Future[None]:
-            if self.owned(index).shareable():
+            if self.require_owned(index).shareable():
                 raise Refused("PrivateChanges", "this seat has changes that are not shared: share them, or undo them")
             await self._keeper.require_writable()
             return self._free(index)
         await wait_until_written(await self._keeper.turns.ask(index, body), {})
 
-    def owned(self, index: int) -> SeatReplica:
+    def require_owned(self, index: int) -> SeatReplica:
         """Return a seat, unless it was left by what was asked before."""
         seat = self._state.seats[index]
         if not seat.key:

@@ -123,7 +123,7 @@ class Sites:
         if self._seal.key is None:
             yield "Anybody who reaches the broker can send changes: start the sites with --site-key"
         for folder in self._floods.paused():
-            yield f"{SENDERS.get(folder) or self._peers.named(folder)} sends too many messages: they are ignored for {FLOOD:.0f} seconds"
+            yield f"{SENDERS.get(folder) or self._peers.describe_site(folder)} sends too many messages: they are ignored for {FLOOD:.0f} seconds"
         if self._early:
             yield f"{len(self._early)} changes are dated more than a day ahead of this server's clock: they take effect at their date"
         if self._left_out:
@@ -150,7 +150,7 @@ class Sites:
     def _on_message(self, _client: mqtt.Client, _data: object, message: mqtt.MQTTMessage) -> None:
         # The broker's thread acknowledges when this returns: so it waits until the edits are on the disk.
         try:
-            folder, body = self._opened(message.topic, message.payload)
+            folder, body = self._open_message(message.topic, message.payload)
         except Replayed:
             return
         except Expired as late:
@@ -164,16 +164,16 @@ class Sites:
             return
         if self._floods.count_message(self._sender(folder)):
             return
-        done = asyncio.run_coroutine_threadsafe(self._came(message.topic, folder, body), self._loop)
+        done = asyncio.run_coroutine_threadsafe(self._receive(message.topic, folder, body), self._loop)
         try:
             done.result()
         except Exception:  # pylint: disable=broad-except
             logging.exception("a message from the broker")
 
-    def _opened(self, topic: str, payload: bytes) -> tuple[str, bytes]:
+    def _open_message(self, topic: str, payload: bytes) -> tuple[str, bytes]:
         if len(payload) > LONGEST:
             raise InvalidMessage(f"it has {len(payload)} bytes, and the limit is {LONGEST}")
-        return self._seal.opened(topic, payload)
+        return self._seal.open(topic, payload)
 
     def _sender(self, folder: str) -> str:
         """Return whose messages those of a folder count as: all folders that were never heard together count as one, since
@@ -188,7 +188,7 @@ class Sites:
         self._sent.clear()
         self._tell()
         if self._connected:
-            self._present()
+            self._announce_site()
             self._send_unreturned()
 
     # What is sent
@@ -197,7 +197,7 @@ class Sites:
         if self._connected:
             fields: Mapping[str, object] = {"folder": self._id, **value}
             body = to_json(fields).encode()
-            self._client.publish(topic, self._seal.sealed(topic, body), qos=quality)
+            self._client.publish(topic, self._seal.seal(topic, body), qos=quality)
 
     def _send(self, operations: list[Operation]) -> None:
         """Send operations, those of one title in messages of some size."""
@@ -243,7 +243,7 @@ class Sites:
         """Something was shared here."""
         self._send_unreturned()
 
-    def _present(self) -> None:
+    def _announce_site(self) -> None:
         state = self._keeper.state
         self._publish(SITES_TOPIC, {"run": self._run, "site": state.site, "road": self._road, "form": SITE_FORM,
                               "time": int(1_000 * time.time()),
@@ -260,7 +260,7 @@ class Sites:
 
     async def announce(self) -> None:
         """Announce this site and what it holds, send what has not come back, and take what has waited."""
-        self._present()
+        self._announce_site()
         self._send_unreturned()
         if self._early and (self._taking is None or self._taking.done()):
             self._taking = asyncio.ensure_future(self._take_early())
@@ -298,37 +298,37 @@ class Sites:
 
     # What comes
 
-    async def _came(self, topic: str, folder: str, body: bytes) -> None:
+    async def _receive(self, topic: str, folder: str, body: bytes) -> None:
         try:
             value = read_message(body) if len(body) < LARGE else await asyncio.to_thread(read_message, body)
             if topic == SITES_TOPIC:
-                await self._heard_site(folder, value)
+                await self._receive_announcement(folder, value)
             elif topic.endswith("/sum"):
-                await self._heard_sum(folder, value)
+                await self._receive_hash(folder, value)
             else:
-                await self._heard(folder, value)
+                await self._receive_operations(folder, value)
         except (InvalidMessage, Refused) as fault:
             self._say_left_out(fault)
 
     def _say_left_out(self, fault: InvalidMessage | Refused) -> None:
         self._say(f"A message from the broker was ignored: {fault.why if isinstance(fault, Refused) else fault}")
 
-    async def _heard_site(self, folder: str, value: Mapping[str, Json]) -> None:
+    async def _receive_announcement(self, folder: str, value: Mapping[str, Json]) -> None:
         folder, run, number, road = site_of(folder, value)
         site = Site(folder, number, road, value.get("silent") is True, form_of(value), time.time())
         sent = value.get("time")
         if type(sent) is int and 0 <= sent < 1 << 53:
             self._peers.hear_clock(folder, sent / 1_000)
-        await self._peers.heard(run, site, value.get("bound"))
+        await self._peers.receive_announcement(run, site, value.get("bound"))
 
-    async def _heard(self, folder: str, value: Mapping[str, Json]) -> None:
+    async def _receive_operations(self, folder: str, value: Mapping[str, Json]) -> None:
         """Take operations. Early ones wait, people hear of malformed ones, and neither keep others back."""
         if self._peers.twin() is not None:
             raise InvalidMessage("another folder uses this site's number: start one of the two with another --site")
         operations = value.get("operations")
         if value.get("form") != SITE_FORM or not isinstance(operations, list):
             raise InvalidMessage(f"it has no list of operations of form {SITE_FORM}")
-        good = await self._good(operations)
+        good = await self._read_operations(operations)
         title = clean_text(value.get("title") or "", LONGEST_NOTE)
         latest = self._keeper.stamps.latest_count()
         due = [one for one in good if one.stamp[0] <= latest]
@@ -340,7 +340,7 @@ class Sites:
         if early:
             raise FutureStamp(early[0])
 
-    async def _good(self, written: Sequence[Json]) -> list[Operation]:
+    async def _read_operations(self, written: Sequence[Json]) -> list[Operation]:
         """Return the operations of a message that every site takes; people hear of the others."""
         good: list[Operation] = []
         began = time.perf_counter()
@@ -375,7 +375,7 @@ class Sites:
         for one in operations:
             self._tell_if_twice(one)
         unsent = self._keeper.state.unsent
-        back = [one.stamp for one in map(self._keeper.state.interned, operations) if one in unsent]
+        back = [one.stamp for one in map(self._keeper.state.intern, operations) if one in unsent]
         if back:
             await self._lab.acknowledge(back)
             self._tell()
@@ -398,7 +398,7 @@ class Sites:
         except (InvalidMessage, Refused) as fault:
             self._say_left_out(fault)
 
-    async def _heard_sum(self, folder: str, value: Mapping[str, Json]) -> None:
+    async def _receive_hash(self, folder: str, value: Mapping[str, Json]) -> None:
         folder, theirs, numbers = sum_of(folder, value)
         if folder == self._id or not self._peers.may_send() or form_of(value) != SITE_FORM:
             return
@@ -410,7 +410,7 @@ class Sites:
         if theirs == ours:
             self._pauses.pop(folder, None)
             if value.get("timeline") != await self._timeline() and self._numbers()[TOTAL] == ours:
-                self._say(f"{self._peers.named(folder)} has the same changes but derives a different road from them: its server "
+                self._say(f"{self._peers.describe_site(folder)} has the same changes but derives a different road from them: its server "
                           f"has another version. Update the older of the two")
         elif before == pair_now or folder in self._pauses and self._pauses[folder].place:
             self._tell_what_may_lack(folder, numbers, ours)

@@ -83,7 +83,7 @@ class Replica:
     @property
     def road(self) -> Road:
         if self._road is None:
-            self._road, self._waiting = self.built(), []
+            self._road, self._waiting = self.build(), []
         if self._waiting:
             waiting, self._waiting = self._waiting, []
             self.become(self._road.adding(waiting))
@@ -96,7 +96,7 @@ class Replica:
             self.become(self._road.adding(part))
             await asyncio.sleep(0)
 
-    def built(self) -> Road:
+    def build(self) -> Road:
         """Build its road from all the operations that it holds."""
         raise NotImplementedError
 
@@ -142,7 +142,7 @@ class SharedReplica(Replica):
         self._order: list[Operation] = []
         self._roads: dict[int, Road] = {}  # by the number of its operations
 
-    def built(self) -> Road:
+    def build(self) -> Road:
         return self.upto(self.size)
 
     def hold(self, operations: Iterable[Operation]) -> list[Operation]:
@@ -194,19 +194,19 @@ class SeatReplica(Replica):
         self.idle: frozenset[Operation] = frozenset()  # private ones that need not be shared, as the list shows
         self._shareable: tuple[Road, Road, list[Operation]] | None = None
 
-    def built(self) -> Road:
+    def build(self) -> Road:
         return self._state.shared.upto(self.upto).adding(self.own)
 
     def rebuild(self) -> None:
         """Build its road again from all the operations that it holds."""
         if self._road is not None:
             self._waiting = []
-            self.become(self.built())
+            self.become(self.build())
 
-    def forgot(self, lines: set[Stamp], others: set[Operation]) -> None:
+    def rebuild_without(self, lines: set[Stamp], others: set[Operation]) -> None:
         """Build its road again, without what was forgotten on these lines. Empty lines had left the list before. Raw edits of
         others that replaced forgotten ones may now belong to other lines: these are listed again."""
-        before, after = self.road, self.built()
+        before, after = self.road, self.build()
         self._road = after
         left = {line for line in lines if operations_on(after, line)}
         left |= {line for one in others for road in (before, after) for line in lines_of(road, one)}
@@ -295,7 +295,7 @@ class State:
         """Note that the whole journal is read: from now on entries are of this form."""
         self.form, self._former = JOURNAL_FORM, None
 
-    def interned(self, one: Operation) -> Operation:
+    def intern(self, one: Operation) -> Operation:
         """Return the equal operation that is already held, or this one."""
         known = self.of_stamp(one.stamp)
         found = next((other for other in known if other.is_same(one)), None)
@@ -346,7 +346,7 @@ class State:
             own.count = max(own.count, count)
 
     def take(self, seat: SeatReplica, upto: int) -> None:
-        came, seat.upto = self.fresh(seat, upto), max(seat.upto, upto)
+        came, seat.upto = self.unseen(seat, upto), max(seat.upto, upto)
         seat.hold(came)
 
     def free(self, index: int, count: int) -> None:
@@ -354,7 +354,7 @@ class State:
         self.lately.pop(index, None)
         self.seats[index] = SeatReplica(index, self, max(old.count, count))
 
-    def tell(self, news: News) -> None:
+    def add_news(self, news: News) -> None:
         self.shares = [*self.shares, news][-MOST_NEWS:]
 
     # Questions
@@ -374,7 +374,7 @@ class State:
         """Return the seat's own operations that have not been shared."""
         return [one for one in seat.own if one not in self.shared.places]
 
-    def fresh(self, seat: SeatReplica, upto: int | None = None) -> list[Operation]:
+    def unseen(self, seat: SeatReplica, upto: int | None = None) -> list[Operation]:
         """Return the shared operations that the seat has not taken and does not hold already."""
         return [one for one in self.shared.operations(seat.upto, upto) if one not in seat.places]
 
@@ -387,7 +387,7 @@ class State:
         new = restamp(old, stamps)
         for one in old:
             self._drop(seat, one)
-        for one in map(self.interned, new):
+        for one in map(self.intern, new):
             self.hold_own(seat, one)
         seat.done = {key: stamps.get(stamp, stamp) for key, stamp in seat.done.items()}
         seat.renamed.update(stamps)
@@ -413,7 +413,7 @@ class State:
         others = {other for one in gone for name in one.sets if is_raw(name) for other in seat.road.setters_of(name)}
         for one in gone:
             self._drop(seat, one)
-        seat.forgot(lines, others - gone)
+        seat.rebuild_without(lines, others - gone)
 
     # Compaction
 

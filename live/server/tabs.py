@@ -71,7 +71,7 @@ class Tab:
 
     async def serve(self) -> None:
         """Read and write until the tab goes, or is let go."""
-        self._tasks = [asyncio.create_task(part) for part in (self._reader(), self._writer(), self._hello_in_time())]
+        self._tasks = [asyncio.create_task(part) for part in (self._reader(), self._writer(), self._require_hello())]
         try:
             await asyncio.wait(self._tasks[:2], return_when=asyncio.FIRST_COMPLETED)
         finally:
@@ -103,7 +103,7 @@ class Tab:
         kind = next(iter(self._news))
         return to_json({kind: self._news.pop(kind)()})
 
-    async def _hello_in_time(self) -> None:
+    async def _require_hello(self) -> None:
         await asyncio.sleep(self._tabs.lab.keeper.settings.hello)
         if self.has_token:
             await asyncio.sleep(NAMED)
@@ -154,7 +154,7 @@ class Tab:
             self._send({"id": number, **Refused("Busy", f"{WAITING} questions wait: try again later").reply()})
             await asyncio.sleep(PAUSE)
         else:
-            task = asyncio.ensure_future(self._answered(self.index, number, verb, fields, came))
+            task = asyncio.ensure_future(self._answer(self.index, number, verb, fields, came))
             self._asked[task] = verb
             task.add_done_callback(self._asked.pop)
             await asyncio.sleep(0)  # so that what a tab asks is done in its order
@@ -173,13 +173,13 @@ class Tab:
                 raise not_a_command("`hello` was sent before")
             else:
                 self._send({"id": number, "welcome": await self._tabs.welcome(self, asked)})
-                self._tabs.arrived(self)
+                self._tabs.register(self)
         except Refused as fault:
             self._send({"id": number, **fault.reply()})
         finally:
             self._is_entering = False
 
-    async def _answered(self, index: int, number: int, verb: str, fields: Json, came: float) -> None:
+    async def _answer(self, index: int, number: int, verb: str, fields: Json, came: float) -> None:
         times: Times = {}
         reply: Reply
         changes = verb in verbs.CHANGES
@@ -247,7 +247,7 @@ class Tabs:
         listeners.trouble.on(self._tell_trouble)
         listeners.program.on(lambda: self._tell_all("program", {"changes": keeper.changes, "why": keeper.why_changed}))
         self._ended: str | None = None  # what of the server has ended a moment ago, for people
-        listeners.ended.on(self._part_ended)
+        listeners.ended.on(self._show_fault)
         self._ticks = supervise("the clock that tabs see", self._tick, keeper.report_end)
 
     # Coming and going
@@ -263,7 +263,7 @@ class Tabs:
         for other in self._all:
             if other.index == index:
                 other.index = None
-                self._questions.left(index)
+                self._questions.drop_seat(index)
                 other.disconnect(4000, "this seat is open in another tab")
         tab.index = index
         self.lab.keeper.connected.add(index)
@@ -287,15 +287,15 @@ class Tabs:
         date, zone = (None if one is None else str(one) for one in (clock.date, clock.zone))
         return {"begin": clock.begin, "date": date, "zone": zone}
 
-    def arrived(self, tab: Tab) -> None:
+    def register(self, tab: Tab) -> None:
         self._tell_news(tab, None)
         self._seats()
 
-    def _gone(self, tab: Tab) -> None:
+    def _unregister(self, tab: Tab) -> None:
         self._all.discard(tab)
         if tab.index is not None:
             self.lab.seating.leave(tab.index)
-            self._questions.left(tab.index)
+            self._questions.drop_seat(tab.index)
             self._seats()
 
     def known(self) -> set[RequestHandler]:
@@ -314,11 +314,11 @@ class Tabs:
         try:
             await tab.serve()
         finally:
-            self._gone(tab)
-        await self._closed(request, socket, tab)
+            self._unregister(tab)
+        await self._close_socket(request, socket, tab)
         return socket
 
-    async def _closed(self, request: web.Request, socket: web.WebSocketResponse, tab: Tab) -> None:
+    async def _close_socket(self, request: web.Request, socket: web.WebSocketResponse, tab: Tab) -> None:
         """Say why, and let the tab go first: until it has gone what still comes is thrown away. A socket that is closed before,
         with something unread, is reset, and its tab would never hear why."""
         code, why = tab.close_reason
@@ -354,14 +354,14 @@ class Tabs:
         if verb == "take":
             self._tell_news(tab, None)
         elif verb == "leave":
-            self._left(tab, index)
+            self._drop_tab(tab, index)
         return reply
 
-    def _left(self, tab: Tab, index: int) -> None:
+    def _drop_tab(self, tab: Tab, index: int) -> None:
         """Let the tab of a free seat go."""
         tab.index = None
         self.lab.keeper.connected.discard(index)
-        self._questions.left(index)
+        self._questions.drop_seat(index)
         self._seats()
         asyncio.get_running_loop().call_later(TOLD_EVERY, tab.disconnect, 4001, "the seat was left")
 
@@ -390,12 +390,12 @@ class Tabs:
     def _tell_trouble(self) -> None:
         self._tell_all("trouble", self._trouble)
 
-    def _part_ended(self, sentence: str | None) -> None:
+    def _show_fault(self, sentence: str | None) -> None:
         """Say for a while that a part of the server has ended."""
         self._ended = sentence
         self._tell_trouble()
         if sentence is not None:
-            asyncio.get_running_loop().call_later(STANDS, self._part_ended, None)
+            asyncio.get_running_loop().call_later(STANDS, self._show_fault, None)
 
     def _days(self, index: int, done: int, days: int) -> None:
         """Tell a seat how many days of its question are done."""

@@ -53,7 +53,7 @@ class Timing:
         """Write down how late it is. What is less than a step goes on."""
         keeper = self._keeper
         clock, before = keeper.clock(), keeper.state.now
-        if self._waiting or keeper.journal.waits(A_MOMENT):
+        if self._waiting or keeper.journal.has_waited(A_MOMENT):
             return
         if clock.now > before:
             keeper.record(clock)

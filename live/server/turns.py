@@ -64,9 +64,9 @@ class Use:
         self._sum, self._at, self.last, self.number = 0.0, 0.0, 0.0, 0
 
     def add(self, seconds: float, now: float, number: int) -> None:
-        self._sum, self._at, self.last, self.number = self.until(now) + seconds, now, seconds, number
+        self._sum, self._at, self.last, self.number = self.used_until(now) + seconds, now, seconds, number
 
-    def until(self, now: float) -> float:
+    def used_until(self, now: float) -> float:
         return self._sum * math.exp((self._at - now) / FORGOTTEN)
 
 
@@ -109,40 +109,40 @@ class Turns:
                 await self._work.wait()
             seat = self._turn.popleft()
             if self._takes_long(seat):
-                await self._others_first(seat)
-            await self._one_turn(seat)
+                await self._serve_others_first(seat)
+            await self._run_turn(seat)
 
     def _takes_long(self, seat: int) -> bool:
         """Return whether what a seat asks next takes long, as far as is known."""
         said = self._first(seat)[0].takes_long
         return self._uses[seat].last >= LONG if said is None else said
 
-    async def _others_first(self, seat: int) -> None:
+    async def _serve_others_first(self, seat: int) -> None:
         """Do before a long turn the jobs of others who have used little, or whose turn is not long; and what those who have used
         little ask next, once they are answered."""
         own = self._uses[seat]
         left, wait = max(LONG, own.last) * PUT_OFF, min(own.last * WAITED, self._most_waited)
         while left > 0:
-            lighter = self._lighter(seat)
+            lighter = self._is_lighter_than(seat)
             asking = next((one for one in self._turn if one != seat and (lighter(one) or not self._takes_long(one))), None)
             if asking is not None:
                 self._turn.remove(asking)
-                await self._one_turn(asking)
+                await self._run_turn(asking)
                 left -= self._uses[asking].last
                 continue
             began = time.monotonic()
-            answered = any(self._uses[one].number > own.number for one in filter(self._lighter(seat), [*self._uses]))
-            if wait <= 0 or not answered or not await self._asked_within(wait):
+            answered = any(self._uses[one].number > own.number for one in filter(self._is_lighter_than(seat), [*self._uses]))
+            if wait <= 0 or not answered or not await self._wait_for_job(wait):
                 return
             wait -= time.monotonic() - began
 
-    def _lighter(self, seat: int) -> Callable[[int], bool]:
+    def _is_lighter_than(self, seat: int) -> Callable[[int], bool]:
         """Return a test of whether another seat has used little, beside this one."""
         now = self._clock()
-        most = self._uses[seat].until(now) * LITTLE
-        return lambda one: one != seat and self._uses[one].until(now) < most
+        most = self._uses[seat].used_until(now) * LITTLE
+        return lambda one: one != seat and self._uses[one].used_until(now) < most
 
-    async def _asked_within(self, seconds: float) -> bool:
+    async def _wait_for_job(self, seconds: float) -> bool:
         """Wait until somebody asks. Return whether somebody did."""
         self._work.clear()
         with contextlib.suppress(asyncio.TimeoutError):
@@ -150,7 +150,7 @@ class Turns:
                 await self._work.wait()
         return self._work.is_set()
 
-    async def _with_short_ones(self, job: Work) -> object:
+    async def _run_beside_short_jobs(self, job: Work) -> object:
         """Do a job, and while it waits the short jobs of others."""
         turn = asyncio.ensure_future(self._do_job(job))
         turn.add_done_callback(lambda _: self._work.set())
@@ -163,7 +163,7 @@ class Turns:
                     await self._work.wait()
                 else:
                     self._turn.remove(short)
-                    await self._one_turn(short, is_within=True)
+                    await self._run_turn(short, is_within=True)
         finally:
             if not turn.done():
                 turn.cancel()
@@ -173,7 +173,7 @@ class Turns:
     def _is_short(self, seat: int) -> bool:
         return self._first(seat)[0].takes_long is False
 
-    async def _one_turn(self, seat: int, is_within: bool = False) -> None:
+    async def _run_turn(self, seat: int, is_within: bool = False) -> None:
         queue = self._first(seat)
         job, future = queue[0].job, queue[0].answer
         began = self._clock()
@@ -183,7 +183,7 @@ class Turns:
             elif self._is_short(seat):
                 result = await (job() if is_within else self._do_job(job))
             else:
-                result = await self._with_short_ones(job)
+                result = await self._run_beside_short_jobs(job)
         except Exception as fault:  # pylint: disable=broad-except
             if not future.done():
                 future.set_exception(fault)

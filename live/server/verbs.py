@@ -242,7 +242,7 @@ async def leave(call: Call) -> Reply:
 def forward(asked: CommandFields) -> Does:
     """Give the program a command as it is."""
     fields = asked.remaining()
-    return lambda call: call.questions.plain(call.road, call.times, asked.verb, fields)
+    return lambda call: call.questions.ask_program(call.road, call.times, asked.verb, fields)
 
 
 def diagram(asked: CommandFields) -> Does:

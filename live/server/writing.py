@@ -1,7 +1,7 @@
 """Writes of commands, and their confirmation.
 
     write = Write(keeper)
-    await write.ready()             `Refused` if the disk takes nothing
+    await write.require_writable()  `Refused` if the disk takes nothing
     write.record(entry)             it is so from now on, here
     await write.confirmed(times)    it is on the disk
 """

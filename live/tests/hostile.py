@@ -111,7 +111,7 @@ class Frames(Case):
         self.enterContext(mock.patch("server.tabs.NAMED", 0.1))
         tab = Tab(mock.Mock(**{"lab.keeper.settings.hello": 0.1}), mock.Mock(), mock.Mock())
         tab.has_token = True
-        await asyncio.wait_for(tab._hello_in_time(), PATIENCE)
+        await asyncio.wait_for(tab._require_hello(), PATIENCE)
         self.assertEqual(tab.close_reason, (1008, "no hello"))
 
     async def test_malformed_frames(self) -> None:

@@ -124,17 +124,17 @@ class Writing(unittest.IsolatedAsyncioTestCase):
         resource.setrlimit(resource.RLIMIT_FSIZE, (journal.size + 20, old[1]))
         try:
             waiting = [journal.write(entry) for entry in GESTURES[1:]]
-            results = await asyncio.gather(*waiting, journal.settled(), return_exceptions=True)
+            results = await asyncio.gather(*waiting, journal.wait_until_written(), return_exceptions=True)
             with self.assertRaises(OSError):
-                await journal.mend(GESTURES[1])
+                await journal.probe_disk(GESTURES[1])
         finally:
             resource.setrlimit(resource.RLIMIT_FSIZE, old)
         self.assertEqual([type(one) for one in results], [NotWritten] * 3)
         self.assertEqual(self.path.read_bytes(), line_of(GESTURES[0]))
         with self.assertRaises(NotWritten):  # the entry before it may be missing
             await journal.write(GESTURES[1])
-        self.assertEqual(journal.confirmed(), GESTURES[:1])
-        await journal.mend(GESTURES[1])
+        self.assertEqual(journal.read_confirmed(), GESTURES[:1])
+        await journal.probe_disk(GESTURES[1])
         await journal.write(GESTURES[2])
         self.assertEqual(read_entries(self.path)[0], GESTURES)
 
@@ -216,8 +216,8 @@ class Writing(unittest.IsolatedAsyncioTestCase):
             with self.assertRaises(NotWritten):
                 await journal.write(GESTURES[2])
             disk.fault = lambda *_: None
-            await journal.mend(GESTURES[2])
-        self.assertEqual(journal.confirmed(), GESTURES[1:])
+            await journal.probe_disk(GESTURES[2])
+        self.assertEqual(journal.read_confirmed(), GESTURES[1:])
 
     async def test_no_line_goes_to_a_strangers_socket_if_the_old_file_cannot_be_closed(self) -> None:
         """Its descriptor is free nevertheless, and the next socket gets it."""
@@ -235,7 +235,7 @@ class Writing(unittest.IsolatedAsyncioTestCase):
         sockets = [socket.socketpair() for _ in range(4)]
         with contextlib.suppress(NotWritten):
             await journal.write(GESTURES[2])
-        self.assertEqual(journal.confirmed(), read_entries(self.path)[0])
+        self.assertEqual(journal.read_confirmed(), read_entries(self.path)[0])
         for one in (one for pair in sockets for one in pair):
             self.addCleanup(one.close)
             one.setblocking(False)

@@ -42,7 +42,7 @@ class Parts(Case):
             await until(again, "it goes on")
         self.assertIn(f"A fault in the server has stopped {what}: it is started again", str(said))
         self.assertIn(what, str(tabs._trouble))
-        tabs._part_ended(None)
+        tabs._show_fault(None)
         self.assertIsNone(tabs._trouble)
 
     async def test_the_task_that_keeps_the_clock_goes_on(self) -> None:
@@ -56,8 +56,8 @@ class Parts(Case):
         """Even the seat whose turn it was."""
         here = await self.enterAsyncContext(Here())
         ada, ben = await here.join("Ada", "Ben")
-        call = failing_once(Turns._one_turn)
-        with mock.patch.object(Turns, "_one_turn", call):
+        call = failing_once(Turns._run_turn)
+        with mock.patch.object(Turns, "_run_turn", call):
             asked = [asyncio.create_task(here.ask(seat, "scenario")) for seat in (ada, ben, ada)]
             await self.ends(here, call, "what seats ask")
             self.assertEqual([one["edits"] for one in await soon(asyncio.gather(*asked))], [[]] * 3)

@@ -76,7 +76,7 @@ class Seats(Case):
             for _ in range(2 * 24 * 6):
                 now[0] += 600
                 self.here.lab.seating.free_unused()
-            await self.here.keeper.journal.settled()
+            await self.here.keeper.journal.wait_until_written()
             self.assertLess(len(self.here.entries()), 60)
             again = await self.enterAsyncContext(Here(copied(self.here.folder)))  # as it is when the server is killed
             again.lab.seating.steady = SteadyClock(3_600, lambda: now[0], lambda: now[0])
@@ -159,7 +159,7 @@ class Seats(Case):
             for _ in range(int(seconds)):
                 self.time += 1
                 lab.timing.keep()
-                await keeper.journal.settled()
+                await keeper.journal.wait_until_written()
                 await asyncio.sleep(0)
             return keeper.now() - before
 

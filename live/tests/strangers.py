@@ -360,11 +360,11 @@ class Strangers(Case):
             """Return whether a site whose clock is this far ahead reports it, and no other does."""
             self.bus.sites.remove(site)
             for other in self.bus.sites:
-                other._present()
+                other._announce_site()
             with mock.patch("server.peers.time.time", lambda: real() + seconds):
                 for message in self.bus.sent:
                     await self.bus.give(site, message)
-                site._present()
+                site._announce_site()
                 said = told(site)
             self.bus.sites.append(site)
             await self.bus.carry()
@@ -451,7 +451,7 @@ class Keys(Case):
         edits = next(one for one in self.bus.seen if one.topic.endswith("/operations"))
         head, _, body = edits.payload.partition(b"\n")
         fields = json.loads(head)
-        other = seals.Seal("x", b"another secret of others").sealed(edits.topic, body)
+        other = seals.Seal("x", b"another secret of others").seal(edits.topic, body)
         changed = body.replace(b"50]", b"51]")
         for number, payload in enumerate((
                 body, changed, head + b"\n" + changed, other,
@@ -492,7 +492,7 @@ class Keys(Case):
         await bus.rounds()
         with mock.patch("server.floods.BURST", 20), mock.patch("server.floods.A_SECOND", 1):
             site._floods = Floods(lambda: now[0])
-            with mock.patch.object(Sites, "_came", lambda _, topic, folder, body: came_in(folder)):
+            with mock.patch.object(Sites, "_receive", lambda _, topic, folder, body: came_in(folder)):
                 async def came_in(folder: str) -> None:
                     came.append(folder)
                 for number in range(300):
@@ -508,7 +508,7 @@ class Keys(Case):
     async def test_replayed_messages_are_ignored(self) -> None:
         await self.share(50)
         seen = []
-        with mock.patch.object(Sites, "_came", lambda _, topic, folder, body: came(body)):
+        with mock.patch.object(Sites, "_receive", lambda _, topic, folder, body: came(body)):
             async def came(body: bytes) -> None:
                 seen.append(body)
             for message in list(self.bus.seen):
@@ -587,7 +587,7 @@ class Keys(Case):
         self.assertIn("more than 10 minutes old by this site's clock", told(self.second))
 
     async def test_a_clock_days_ahead_is_reported_even_though_others_messages_look_old_there(self) -> None:
-        self.first._present()
+        self.first._announce_site()
         clock = time.time
         with mock.patch("server.peers.time.time", lambda: clock() + 86_400), \
                 mock.patch.object(self.second._seal, "_clock", lambda: clock() + 86_400):

@@ -212,14 +212,14 @@ class Written(Case):
         """A tab that asks while the journal is read again after a failed write gets what is there."""
         await self.here.put(self.ada, [*LIMIT, 3])
         share = await self.start(self.here.share(self.ada))
-        reads, is_read, may_read = Journal.confirmed, threading.Event(), threading.Event()
+        reads, is_read, may_read = Journal.read_confirmed, threading.Event(), threading.Event()
         self.addCleanup(may_read.set)
 
         def held_up(journal: Journal) -> list[Any]:
             is_read.set()
             may_read.wait()
             return reads(journal)
-        with mock.patch.object(Journal, "confirmed", held_up):
+        with mock.patch.object(Journal, "read_confirmed", held_up):
             self.release_disk(errno.EIO)
             await asyncio.get_running_loop().run_in_executor(None, is_read.wait)
             asked: list[tuple[str, dict[str, Any]]] = [
