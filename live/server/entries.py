@@ -1,7 +1,8 @@
-"""The lines of a journal, read and written.
+"""Read and write the lines of a journal.
 
-A line ends with the checksum of its entry: as `crc` if a write began with it, as `and` if it went on. So a malformed line was
-never confirmed if no write began behind it. (Lines of older journals have no checksum.)
+A line ends with the checksum of its entry: `crc` in the first line of a write, `and` in the other lines. A write begins only when
+the one before is on the disk. So if a line is malformed and no write begins after it, that line was never confirmed. (Lines of
+older journals have no checksum.)
 """
 from __future__ import annotations
 
@@ -16,12 +17,12 @@ from .model.operations import Json
 
 Entry = Mapping[str, Mapping[str, Json]]
 """The kind of an entry, and its fields."""
-SUM = 18  # bytes of a checksum, at the end of a line
+SUM = 18  # bytes of a checksum at the end of a line
 SUMMED = re.compile(rb',"(crc|and)":"([0-9a-f]{8})"\}')
 
 
 class CannotStart(Exception):
-    """The server cannot start with this folder or these options. The text says why in a sentence."""
+    """The server cannot start with this folder or these options. The text is a sentence that says why."""
 
 
 class CorruptJournal(CannotStart):
@@ -34,21 +35,21 @@ def to_json(value: object) -> str:
 
 
 def journal_line(text: str, is_first: bool) -> bytes:
-    """Return the line of an entry, the first of a write or not."""
+    """Return the line of an entry. `is_first` says whether it is the first of a write."""
     data = text.encode()
     return data[:-1] + b',"%s":"%08x"}\n' % (b"crc" if is_first else b"and", zlib.crc32(data))
 
 
 class Entries:
-    """The entries of a journal, read one by one. When all are read `size` is how many bytes they take."""
+    """The entries of a journal, read one by one. When all have been read, `size` is their length in bytes."""
 
     def __init__(self, path: Path, most: int | None = None) -> None:
-        """Read only the first `most` bytes, if that is given."""
+        """If `most` is given, read only that many bytes."""
         self._path, self._most = path, most
         self.size = 0
 
     def __iter__(self) -> Iterator[Entry]:
-        """Yield each entry. `CorruptJournal` names a malformed line, unless it is of a write that never ended."""
+        """Yield each entry. Raise `CorruptJournal` at a malformed line, unless it belongs to a write that was never confirmed."""
         if not self._path.exists():
             return
         left = self._path.stat().st_size if self._most is None else self._most
@@ -68,15 +69,15 @@ class Entries:
                 yield entry
 
     def _never_ended(self, line: bytes, behind: bytes) -> bool:
-        """Return whether a broken line is of a write that never ended: no write begins behind it."""
+        """Return whether a malformed line belongs to a write that never ended: no write begins in the bytes behind it."""
         *lines, rest = behind.split(b"\n")
         could = [line.rpartition(b"\0")[2], *lines]
         return bool(rest or b"\0" in line) and not any(is_confirmed_before(self._path, one) for one in could)
 
 
 def read_entries(path: Path, size: int | None = None) -> tuple[list[Entry], int]:
-    """Return the entries of a journal (of its first bytes), and how many bytes they take. `CorruptJournal` names a malformed line,
-    unless it is of a write that never ended."""
+    """Return the entries of a journal, or of its first `size` bytes, and their length in bytes. Raise `CorruptJournal` at a malformed
+    line, unless it belongs to a write that was never confirmed."""
     entries = Entries(path, size)
     return list(entries), entries.size
 
@@ -87,7 +88,7 @@ def entry_of(path: Path, number: int, line: bytes) -> Entry:
     text = line[:-SUM] + b"}" if summed else line
     try:
         if summed and zlib.crc32(text) != int(summed[2], 16):
-            raise ValueError("its checksum differs")
+            raise ValueError("its checksum is wrong")
         entry: Json = json.loads(text)
     except (ValueError, RecursionError) as fault:
         raise CorruptJournal(f"{path}, line {number}, is malformed ({fault}): {line[:60]!r}") from None
@@ -98,7 +99,7 @@ def entry_of(path: Path, number: int, line: bytes) -> Entry:
 
 
 def is_confirmed_before(path: Path, line: bytes) -> bool:
-    """Return whether all lines before were confirmed: this one was written behind them."""
+    """Return whether this line shows that all lines before it were confirmed: it is well-formed, and the first of a write."""
     try:
         entry_of(path, 0, line)
     except CorruptJournal:

@@ -211,7 +211,7 @@ class Acts(Case):
         for refusal, why, shape in (
                 ("NoObject", "no zone 6", ["limit", 5, 6, 0, None, 1]), ("NoObject", "before its first", ["limit", 3, 2, 0, 9, 1]),
                 ("NoObject", "no cell 120", ["block", 119, 120, 0, 9, 1]), ("Step", "at most", ["limit", 1, 1, 1_048_576, None, 1]),
-                ("Step", "must end at step", ["limit", 1, 1, 5, 1_048_576, 1]), ("Range", "after its beginning", ["limit", 1, 1, 5, 5, 1]),
+                ("Step", "must end at step", ["limit", 1, 1, 5, 1_048_576, 1]), ("Range", "must end after step", ["limit", 1, 1, 5, 5, 1]),
                 ("ValueOutOfRange", "0 to 9", ["limit", 1, 1, 5, 6, 10]), ("not a command", "not a number", ["limit", 1, 1, 5, 6, None]),
                 ("not a command", "is not [kind", ["limit", 1, 1, 5, 6]), ("not a command", "is not [kind", None),
                 ("not a command", "does not exist", ["lane", 1, 1, 5, 6, 1])):

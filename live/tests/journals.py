@@ -360,7 +360,7 @@ class Folders(Case):
         ran = subprocess.run([sys.executable, LIVE / "serve", "--folder", server.folder, "--port", "0"],
                              capture_output=True, text=True, timeout=running.PATIENCE, check=False)
         self.assertEqual((ran.returncode, ran.stdout), (1, ""))
-        self.assertIn("another server runs in", ran.stderr)
+        self.assertIn("another server is running in", ran.stderr)
         self.assertNotIn("Traceback", ran.stderr)
 
     async def test_a_second_server_says_so_even_if_the_lock_file_was_removed(self) -> None:
@@ -381,7 +381,7 @@ class Folders(Case):
                 ran = subprocess.run([sys.executable, LIVE / "serve", "--folder", server.folder, "--port", "0"],
                                      capture_output=True, text=True, timeout=running.PATIENCE, check=False)
                 self.assertEqual((ran.returncode, ran.stdout), (1, ""))
-                self.assertIn("another server runs in", ran.stderr)
+                self.assertIn("another server is running in", ran.stderr)
             await self.shared(ada, 5)
 
     async def test_a_server_starts_on_a_read_only_disk(self) -> None:
