@@ -261,7 +261,7 @@ class Journal:
             self._began = None
 
     def _note_fault(self, fault: OSError) -> None:
-        self.fault = f"the disk does not accept it ({fault.strerror})"
+        self.fault = f"the disk does not accept writes ({fault.strerror})"
         self.failures += 1
         waiting, self._waiting, self._last = self._waiting, [], None
         for _, _, done in waiting:

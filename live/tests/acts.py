@@ -181,7 +181,7 @@ class Acts(Case):
         change = await put_layer(self.ben, "1", ["block", 60, 69, 30, 70, 1], layer=mine)
         await self.ben.ask("send", name="shared")
         await self.ada.ask("take", message="shared")
-        with self.assertRaisesRegex(RefusedReply, "Ben changed it since"):
+        with self.assertRaisesRegex(RefusedReply, "Ben changed its line since"):
             await self.ada.ask("undo", key="2", stamp=mine)
         await self.ben.ask("undo", key="2", stamp=change)
         await self.ben.ask("send", name="shared")
@@ -200,7 +200,7 @@ class Acts(Case):
             ("undo", {"key": "e", "stamp": "c"}), ("undo", {"key": "f", "stamp": "b"})]
         said = await asyncio.gather(*(self.ada.reply(verb, at=self.ada.at, **fields) for verb, fields in asked))
         self.assertEqual([one.get("refused") for one in said], [None, None, None, None, None, "NothingToUndo"])
-        self.assertIn("Ada undid it already", said[-1]["why"])
+        self.assertIn("Ada undid this change already", said[-1]["why"])
         self.assertEqual(await numbers(self.ada), closed(60, 69, 30, 60))
         self.a6.restart()
         async with self.a6.seat(key=self.ada.key) as ada:  # keys are known after a restart, too
@@ -342,7 +342,7 @@ class Acts(Case):
         self.assertEqual([(one["who"], one["does"], one["note"], one["lost"]) for one in line["operations"]],
                          [("Ada", "put", "mine", None), ("Ben", "withdraw", "open", None)])
         self.assertEqual(await numbers(self.ada), {})
-        with self.assertRaisesRegex(RefusedReply, "Ben changed it since"):
+        with self.assertRaisesRegex(RefusedReply, "Ben changed its line since"):
             await self.ada.ask("undo", key="2", stamp=mine)
 
     async def test_a_job_of_another_turn_does_not_run_at_once(self) -> None:
@@ -478,7 +478,7 @@ class Acts(Case):
             fresh = (await lines(ada))[line]
             self.assertEqual([one["does"] for one in fresh["operations"]], ["put", *["change", "undo"] * 10])
             self.assertEqual((await ada.ask("layers", **{"from": said["next"]}))["layers"], [fresh])
-            with self.assertRaisesRegex(RefusedReply, "you hold no change with the name"):
+            with self.assertRaisesRegex(RefusedReply, "this seat holds no change with the name"):
                 await ada.ask("gesture", key="late", layer=gone, top=True)
 
     async def test_a_list_loses_the_line_of_an_own_raw_edit_that_is_forgotten_after_another_replaced_it(self) -> None:

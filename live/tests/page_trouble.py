@@ -78,7 +78,7 @@ class OneTab(BrowserCase):
         ada.until(lambda: ada.lines("own") and "1" in self.signs_at_35(ada), "it is seen")
         failing.touch()
         stalled.unlink()
-        ada.until(lambda: "the disk does not accept it" in ada.text("stays"), "the page says so")
+        ada.until(lambda: "the disk does not accept writes" in ada.text("stays"), "the page says so")
         ada.until(lambda: not ada.lines("own") and set(self.signs_at_35(ada)) == {"3", "."}, "it is gone")
         failing.unlink()
         ada.until(lambda: "disk" not in ada.text("stays"), "the trouble is over")

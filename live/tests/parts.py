@@ -50,7 +50,7 @@ class Parts(Case):
         call = failing_once(lambda lab: None)
         with mock.patch.object(Timing, "keep", call):
             here = await self.enterAsyncContext(Here())
-            await self.ends(here, call, "the clock, seats that nobody uses and a long journal")
+            await self.ends(here, call, "the task that saves the clock, frees seats and shortens the journal")
 
     async def test_questions_are_answered(self) -> None:
         """Even the seat whose turn it was."""
@@ -59,7 +59,7 @@ class Parts(Case):
         call = failing_once(Turns._run_turn)
         with mock.patch.object(Turns, "_run_turn", call):
             asked = [asyncio.create_task(here.ask(seat, "scenario")) for seat in (ada, ben, ada)]
-            await self.ends(here, call, "what seats ask")
+            await self.ends(here, call, "the answers to tabs")
             self.assertEqual([one["edits"] for one in await soon(asyncio.gather(*asked))], [[]] * 3)
 
     async def test_it_is_started_again_after_growing_pauses(self) -> None:
