@@ -260,5 +260,5 @@ class Freeways(Case):
         (folder / "mine").write_text("kept", encoding="utf-8")
         ran = subprocess.run([LIVE / "serve", "--folder", folder, "--port", "0", folder / "none.json"],
                              stderr=subprocess.PIPE, text=True, timeout=100, check=False)
-        self.assertIn("no plan at", ran.stderr)
+        self.assertIn("cannot read the road from", ran.stderr)
         self.assertEqual((folder / "mine").read_text(encoding="utf-8"), "kept")

@@ -34,7 +34,7 @@ class OneTab(BrowserCase):
         began = time.monotonic()
         os.kill(self.server.program, signal.SIGSTOP)
         self.begin_limit(ada, "1")
-        sentence = f"The program was restarted: the program owed an answer and used no processor for {HANGS} seconds"
+        sentence = f"The program was restarted: the program did not answer and used no processor time for {HANGS} seconds"
         ada.until(lambda: ada.text("said").endswith(": done."), "it is confirmed, whatever the program does")
         ada.until(lambda: sentence in ada.text("stays"), "the page says so")
         self.assertGreater(time.monotonic() - began, HANGS * 0.8)

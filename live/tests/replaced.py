@@ -32,7 +32,7 @@ class Programs(Case):
             with mock.patch("server.program.HANGS", 1.0):
                 reply = await soon(keeper.ask(ada, (ada,), lambda: keeper.say(b'{"scenario":{"at":"seat1"}}', {})))
             self.assertEqual([[*edit[:3], edit[5]] for edit in json.loads(reply)["edits"]], [["limit", 2, 50, 3]])
-            self.assertEqual(told, [(1, "the program owed an answer and used no processor for 1 seconds")])
+            self.assertEqual(told, [(1, "the program did not answer and used no processor time for 1 seconds")])
 
     async def test_a_killed_program_is_replaced_and_users_are_warned(self) -> None:
         async with Here() as here:
