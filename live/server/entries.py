@@ -44,7 +44,7 @@ class Entries:
     """The entries of a journal, read one by one. When all have been read, `size` is their length in bytes."""
 
     def __init__(self, path: Path, most: int | None = None) -> None:
-        """If `most` is given, read only that many bytes."""
+        """Read only the first `most` bytes if that is given."""
         self._path, self._most = path, most
         self.size = 0
 

@@ -49,7 +49,7 @@ class NotKept(Refused):
     """The refusal of a change that could not be written to the disk."""
 
     def __init__(self, fault: object) -> None:
-        super().__init__("NotWritten", f"not saved, so not done: {fault}. Try again later")
+        super().__init__("NotWritten", f"the change was not saved, so it was not made: {fault}. Try again later")
 
 
 async def do_nothing() -> None:
@@ -211,7 +211,7 @@ class Keeper:
             raise NotKept(self.journal.fault)
 
     async def require_writable(self) -> None:
-        """If the disk refused the last write, try it again. Raise `Refused` if it still refuses. A job calls this before it writes."""
+        """Try the disk again if it refused the last write. Raise `Refused` if it still refuses. A job calls this before it writes."""
         if self.journal.fault is None:
             return
         if self.journal.failures != self._forgotten:
@@ -329,8 +329,8 @@ class Keeper:
             self._next = None
 
     def _change_in_time(self) -> None:
-        """If the program is near its limit of lines, or holds many edits without an effect, start a successor in the background. Switch
-        to the successor when it has run as far."""
+        """Start a successor of the program in the background if the program is near its limit of lines, or holds many edits without an
+        effect. Switch to the successor when it has run as far."""
         if self._next is not None and self._next.done():
             successor, self._next = self._next, None
             if successor.exception() is None:

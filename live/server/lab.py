@@ -332,7 +332,7 @@ class Lab:
                 "changes": [lister.operation(one, None) for one in fresh[-most:]]}
 
     async def record_works(self) -> None:
-        """From now on every new seat starts with all that is shared so far."""
+        """Let every new seat from now on start with all that is shared so far."""
         await wait_until_written(self.keeper.record(Works(self.keeper.confirmed)), {})
 
     # What comes from other sites

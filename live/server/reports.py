@@ -1,6 +1,6 @@
-"""The report of two roads in a window: the same page as `zegdrut report` writes of a freeway.
+"""Make the report on two roads in a window: the same page as `zegdrut report` makes for a freeway.
 
-As a program this module reads a `ReportAsked` from standard input, and prints the page.
+As a program, this module reads a `ReportAsked` from standard input, and prints the page.
 """
 from __future__ import annotations
 
@@ -24,14 +24,14 @@ if TYPE_CHECKING:
 DAYS = 5
 NICE = 8
 PATIENCE = 600.0
-MOST_DATES = 12  # of a demand over time, in a sentence; a longer one is a chart
+MOST_DATES = 12  # changes of a demand that a sentence lists; if there are more, the chart shows them
 ReportAsked = TypedDict("ReportAsked", {
     "roads": figures.TwoRoads, "title": str, "works": Sequence[str], "names": Sequence[str], "clock": Sequence["str | None"], "days": int})
-"""Two roads with their names, sentences about the works on them, and the begin, date and time zone of the file."""
+"""Two roads and their names, sentences about the change, the begin, date and time zone of the road's file, and the number of days."""
 
 
 async def make(index: int, asked: ReportAsked) -> str:
-    """Return the page that a seat asks for."""
+    """Return the report that a seat asks for, as HTML. Raise `Refused` if it takes too long, or others are waiting for theirs."""
     async with figures.alone(index):
         process = await asyncio.create_subprocess_exec(
             *figures.command_at_low_priority(__name__, NICE), stdin=asyncio.subprocess.PIPE, stdout=asyncio.subprocess.PIPE, 
@@ -45,14 +45,14 @@ async def make(index: int, asked: ReportAsked) -> str:
             if process.returncode is None:  # nobody waits for it any more
                 figures.kill(process)
     if process.returncode != 0:
-        raise Refused("Failed", "the report failed; the server's log says why")
+        raise Refused("Failed", "the report could not be made; the server's log says why")
     return out.decode()
 
 
 # The program
 
 def sides_of(asked: ReportAsked) -> list[Side]:
-    """Return the roads before and after, or the one if they are the same."""
+    """Return the roads before and after the change; only one road if they are equal."""
     from zegdrut.lost import compute_demands
     from zegdrut.report import Side
     from zegdrut.scripts import Script
@@ -69,12 +69,12 @@ def sides_of(asked: ReportAsked) -> list[Side]:
 
 
 def edits_of(roads: figures.TwoRoads) -> list[figures.Edits]:
-    """Return the edits of both roads."""
+    """Return the edits of the roads before and after the change."""
     return [figures.edits_of(roads["before"]), figures.edits_of(roads["after"])]
 
 
 def closures_of(edits: figures.Edits, last: int) -> list[tuple[int, int, float, float]]:
-    """Return the closures of a road, as (from step, to step, from km, to km): neighbouring cells as one."""
+    """Return the closures of a road, as (from step, to step, from km, to km). Neighbouring cells are one closure."""
     from zegdrut.units import to_km
     changes: dict[int, list[tuple[int, int]]] = {}
     for (kind, cell, step), value in sorted(edits.items()):
@@ -94,7 +94,7 @@ def closures_of(edits: figures.Edits, last: int) -> list[tuple[int, int, float, 
 
 
 def join_adjacent_cells(cells: Sequence[int]) -> list[list[int]]:
-    """Return stretches of cells beside each other."""
+    """Return the cells, in rising order, as stretches of adjacent cells."""
     found: list[list[int]] = []
     for cell in cells:
         if found and found[-1][-1] == cell - 1:
@@ -105,7 +105,7 @@ def join_adjacent_cells(cells: Sequence[int]) -> list[list[int]]:
 
 
 def facts_of(roads: figures.TwoRoads, side: Side, clock: Clock) -> list[str]:
-    """Return length, drivers and demand, a sentence each."""
+    """Return sentences that say the length, drivers and demands of a road."""
     from zegdrut.units import ALWAYS, KMH, to_km
     plan = roads["plan"]
     kinds = {(limit, slowing) for limit, slowing in plan["zones"]}
@@ -123,14 +123,14 @@ def named_demands(plan: PlanLine, side: Side) -> list[tuple[str, Rates]]:
 
 
 def demand_chart(plan: PlanLine, sides: Sequence[Side], clock: Clock, window: Window) -> str:
-    """Return the demands of the roads as a chart; of one if they are the same."""
+    """Return a chart of the demands of the roads; of only one road if they are equal."""
     from zegdrut.report_page import draw_demands
     shown = sides if sides[0].demands != sides[-1].demands else sides[-1:]
     return draw_demands([(side.name if len(shown) > 1 else "", named_demands(plan, side)) for side in shown], clock, window)
 
 
 def demand_text(rates: Rates, clock: Clock, last: int) -> str:
-    """Return a demand over time in words."""
+    """Return a phrase that describes a demand over time, up to the step `last`."""
     whole = [(step, round(rate)) for step, rate in rates if step < last]
     dates = [one for place, one in enumerate(whole) if not place or one[1] != whole[place - 1][1]]
     if len(dates) == 1:
@@ -142,7 +142,7 @@ def demand_text(rates: Rates, clock: Clock, last: int) -> str:
 
 
 def page(asked: ReportAsked) -> str:
-    """Return the page."""
+    """Return the report as HTML."""
     from zegdrut.clock import Clock
     from zegdrut.report import make_table, run_sides
     from zegdrut.report_page import Contents, format_page
@@ -160,7 +160,7 @@ def page(asked: ReportAsked) -> str:
 
 
 def main() -> None:
-    """Print the page of what standard input asks for."""
+    """Print the report that standard input asks for."""
     figures.leave_one_free()
     sys.stdout.write(page(json.load(sys.stdin)))
 

@@ -1,4 +1,4 @@
-"""The clock of a folder's road: it goes on by itself at a rate, or is set forward."""
+"""Set the clock of the road: let it run at a rate, or set it forward to a step."""
 from __future__ import annotations
 
 import asyncio
@@ -12,13 +12,13 @@ from .records import Clock
 from .refusals import Refused
 from .writing import wait_until_written
 
-AHEAD = 36_000  # steps that a replica may run past the clock, and that the clock may be set forward
-FASTEST, FAST = 600, 60  # steps a second; a clock that is faster stops in an hour
-HOUR = 3_600
+AHEAD = 36_000  # steps that a replica may run ahead of the clock, and that the clock may be set forward
+FASTEST, FAST = 600, 60  # steps a second; above `FAST` the clock stops after an hour of the road
+HOUR = 3_600  # steps
 
 
 class Timing:
-    """Sets the clock, and writes down now and then how late it is."""
+    """Sets the clock, and saves it to the journal at intervals."""
 
     def __init__(self, keeper: Keeper) -> None:
         self._keeper = keeper
@@ -26,7 +26,8 @@ class Timing:
         self._waiting: set[asyncio.Future[None]] = set()  # clocks that are being written
 
     async def set_clock(self, rate: float | None = None, to: int | None = None) -> Mapping[str, object]:
-        """Let the clock go on at a rate, or set it forward. Of several who do so at once each keeps what the others set."""
+        """Set the rate of the clock in steps a second, or set the clock forward to a step. If several tabs do this at the same time, one
+        that sets the rate does not change the step, and vice versa. Return the present step."""
         keeper = self._keeper
         now = keeper.now()
         if to is not None and not now <= to <= min(LAST_HORIZON, now + AHEAD):
@@ -41,7 +42,7 @@ class Timing:
         return {"now": step}
 
     def _put(self, clock: Clock) -> asyncio.Future[None]:
-        """Write down a clock, which goes on from now; it takes effect once that is on the disk."""
+        """Save a clock. It takes effect once it is on the disk, and then counts from now."""
         def begin() -> None:
             self._keeper.clock_started = begun
         begun = time.monotonic()
@@ -50,7 +51,7 @@ class Timing:
         return done
 
     def keep(self) -> None:
-        """Write down how late it is. What is less than a step goes on."""
+        """Save the present step if the clock has run on; keep the fraction of a step. Stop a fast clock at its end."""
         keeper = self._keeper
         clock, before = keeper.clock(), keeper.state.now
         if self._waiting or keeper.journal.has_waited(A_MOMENT):

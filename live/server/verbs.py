@@ -86,7 +86,7 @@ def road_name(lab: Lab, index: int, asked: CommandFields, verb: Verb) -> str:
     meant = "own" if at == own else at
     if type(meant) is not str or meant not in verb.of:
         valid = " or ".join(f'"{own if one == "own" else one}"' for one in sorted(verb.of))
-        raise Refused("NotYourReplica", "a tab may change only its own replica, and read only that one, the shared one and the two "
+        raise Refused("NotYourReplica", "a tab can change only its own road, and query only that one, the shared road and the two roads "
                       f"of its preview: here `at` must be {valid}")
     return meant
 

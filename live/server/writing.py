@@ -1,9 +1,9 @@
-"""Writes of commands, and their confirmation.
+"""Write the entries of a command, and wait for their confirmation.
 
     write = Write(keeper)
-    await write.require_writable()  `Refused` if the disk takes nothing
-    write.record(entry)             it is so from now on, here
-    await write.confirmed(times)    it is on the disk
+    await write.require_writable()          raises `Refused` if the disk refuses writes
+    write.record(entry)                     applies the entry at once
+    await write.wait_until_written(times)   returns when all entries are on the disk
 """
 from __future__ import annotations
 
@@ -17,7 +17,8 @@ from .records import AnyEntry
 
 
 async def wait_until_written(done: Awaitable[None], times: Times) -> None:
-    """Wait until something is on the disk; raise `Refused` if it is not taken. Whoever waits may go, and others wait on."""
+    """Wait until an entry is on the disk, and add the seconds to `times`. Raise `Refused` if the write fails. If the caller is cancelled,
+    the write goes on."""
     began = time.perf_counter()
     try:
         await asyncio.shield(done)
@@ -34,14 +35,14 @@ class Write:
         self.dones: list[asyncio.Future[None]] = []
 
     async def require_writable(self) -> None:
-        """Find out whether the disk takes anything; raise `Refused` if it does not."""
+        """Raise `Refused` if the disk refuses writes."""
         await self._keeper.require_writable()
 
     def record(self, entry: AnyEntry) -> None:
-        """Make something so."""
+        """Apply an entry to the state at once, and write it."""
         self.dones.append(self._keeper.record(entry))
 
     async def wait_until_written(self, times: Times) -> None:
-        """Wait until all of it is on the disk; raise `Refused` if it is not taken."""
+        """Wait until all entries are on the disk. Raise `Refused` if a write fails."""
         for done in self.dones:
             await wait_until_written(done, times)

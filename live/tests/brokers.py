@@ -214,7 +214,7 @@ class Brokers(Case):
         return (now["state"], now["unsent"]) == (state, unsent)
 
     async def test_a_broker_on_another_host_requires_a_password(self) -> None:
-        with self.assertRaisesRegex(RuntimeError, "requires --broker-user, --broker-password"):
+        with self.assertRaisesRegex(RuntimeError, "give --broker-user and --broker-password"):
             self.server("--broker", "192.0.2.1:8883")
 
 

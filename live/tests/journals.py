@@ -434,7 +434,7 @@ class Folders(Case):
                                                      edits=[["block", 60, step, 1], ["limit", 0, step, 0]])
                                           for step in range(10, 13) for seat in (ada, ben)))
             self.assertEqual({one.get("refused") for one in said}, {"NotWritten"})
-            self.assertTrue(all("not saved, so not done" in one["why"] for one in said))
+            self.assertTrue(all("was not saved, so it was not made" in one["why"] for one in said))
             self.assertEqual((server.folder / "journal.jsonl").stat().st_size, size)
             after = await ada.ask("diagram", **{"from": 0, "to": 60}), await ada.ask("scenario")
             self.assertEqual([one.get("rows") or one["edits"] for one in before], [one.get("rows") or one["edits"] for one in after])
