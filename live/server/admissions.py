@@ -17,7 +17,7 @@ from .journal import to_json
 NICE = 8
 POINTS = 128  # intervals of a curve; interpolation between two points is off by less than 0.1 cars per hour
 MOST_KEPT = 2_000  # curves
-KEPT = "admissions.jsonl"  # the file of a folder with its curves, one per line
+CURVES_FILE = "admissions.jsonl"  # the file of a folder with its curves, one per line
 MEASURE = 1  # the version of the measurement: increase it if curves are measured in a different way
 Inflow = TypedDict("Inflow", {
     "limit": int, "slowing": int, "start": "int | None", "entry": int, "cell": int, "before": Sequence["tuple[int, int]"]})
@@ -31,7 +31,7 @@ class Admissions(figures.Beside[Inflow, Curve]):
 
     def __init__(self, folder: Path) -> None:
         super().__init__(__name__, NICE)
-        self._file = folder / KEPT
+        self._file = folder / CURVES_FILE
         self._kept = read_kept(self._file)
         self._lock = asyncio.Lock()
 

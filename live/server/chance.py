@@ -149,7 +149,7 @@ def run_days(asked: DaysAsked) -> Iterator[Day]:
             pool.shutdown(cancel_futures=True)
 
 
-def compute_all_demands(plan: PlanLine, edits: figures.Edits, last: int, known: Sequence[AskedRates]) -> list[Rates]:
+def compute_all_demands(plan: PlanLine, edits: figures.EditValues, last: int, known: Sequence[AskedRates]) -> list[Rates]:
     """Return the demand of each inlet over time, which is the same on all days."""
     from zegdrut.lost import compute_demands
     return compute_demands(plan, figures.to_edits(edits), last, asked=known)

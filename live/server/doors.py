@@ -24,14 +24,14 @@ from typing import Callable, Container, Deque, Iterable, Protocol
 
 MOST_WAITING = 64  # connections in the queue of an address
 MOST_ADDRESSES = 256  # that have a queue
-AT_ONCE, A_SECOND = 128, 100  # connections that may enter in a burst, and per second
+ENTRY_BURST, ENTRIES_PER_SECOND = 128, 100  # connections that may enter in a burst, and per second
 MOST_ENTERING = 64  # connections before their first bytes, or in their TLS handshake
 HANDSHAKE = 10.0  # seconds for the first bytes, and again for the handshake
-FAREWELL = 5.0  # seconds for the TLS shutdown
+TLS_SHUTDOWN = 5.0  # seconds for the TLS shutdown
 AT_A_TIME = 256  # connections that are accepted before other work has its turn
 FEW, MANY = 64, 512  # connections without the token, of an address, and of all addresses
 SHORT = 60.0  # seconds in which a connection must show the token
-EVERY = 0.2  # seconds between two looks at connections without the token
+LOOK_EVERY = 0.2  # seconds between two looks at connections without the token
 TOO_MANY = 0.5  # seconds until the next try if the system has no more sockets
 
 
@@ -51,7 +51,7 @@ class Doors:
         self._waiting: collections.OrderedDict[str, Deque[socket.socket]] = collections.OrderedDict()  # queues by address
         self._entering: dict[asyncio.Future[None], str] = {}  # tasks, the oldest first, and their addresses
         self._come = asyncio.Event()
-        self._left, self._at = float(AT_ONCE), time.monotonic()
+        self._left, self._at = float(ENTRY_BURST), time.monotonic()
 
     def open(self) -> None:
         """Accept connections from now on."""
@@ -104,9 +104,9 @@ class Doors:
     async def _pace(self) -> None:
         """Wait until one more connection may enter."""
         now = time.monotonic()
-        self._left = min(AT_ONCE, self._left + A_SECOND * (now - self._at)) - 1
+        self._left = min(ENTRY_BURST, self._left + ENTRIES_PER_SECOND * (now - self._at)) - 1
         self._at = now
-        await asyncio.sleep(max(0.0, -self._left / A_SECOND))
+        await asyncio.sleep(max(0.0, -self._left / ENTRIES_PER_SECOND))
 
     def _enter(self, connection: socket.socket, address: str) -> None:
         task = asyncio.ensure_future(self._connect(connection))
@@ -124,7 +124,7 @@ class Doors:
                 await wait_for_first_bytes(connection)
             await asyncio.get_running_loop().connect_accepted_socket(
                 self._protocol, connection, ssl=self._certificate, ssl_handshake_timeout=HANDSHAKE if has_tls else None,
-                ssl_shutdown_timeout=FAREWELL if has_tls else None)
+                ssl_shutdown_timeout=TLS_SHUTDOWN if has_tls else None)
         except (OSError, asyncio.TimeoutError):  # (errors of TLS are OSErrors, too)
             connection.close()
         except asyncio.CancelledError:
@@ -175,7 +175,7 @@ class Strangers:
     async def watch(self) -> None:
         """Look at all connections again and again; never return."""
         while True:
-            await asyncio.sleep(EVERY)
+            await asyncio.sleep(LOOK_EVERY)
             self.look(time.monotonic())
 
     def look(self, now: float) -> None:

@@ -15,7 +15,7 @@ from typing import Iterator, Mapping
 
 from .model.operations import Json
 
-Entry = Mapping[str, Mapping[str, Json]]
+JournalLine = Mapping[str, Mapping[str, Json]]
 """The kind of an entry, and its fields."""
 SUM = 18  # bytes of a checksum at the end of a line
 SUMMED = re.compile(rb',"(crc|and)":"([0-9a-f]{8})"\}')
@@ -48,7 +48,7 @@ class Entries:
         self._path, self._most = path, most
         self.size = 0
 
-    def __iter__(self) -> Iterator[Entry]:
+    def __iter__(self) -> Iterator[JournalLine]:
         """Yield each entry. Raise `CorruptJournal` at a malformed line, unless it belongs to a write that was never confirmed."""
         if not self._path.exists():
             return
@@ -75,14 +75,14 @@ class Entries:
         return bool(rest or b"\0" in line) and not any(is_confirmed_before(self._path, one) for one in could)
 
 
-def read_entries(path: Path, size: int | None = None) -> tuple[list[Entry], int]:
+def read_entries(path: Path, size: int | None = None) -> tuple[list[JournalLine], int]:
     """Return the entries of a journal, or of its first `size` bytes, and their length in bytes. Raise `CorruptJournal` at a malformed
     line, unless it belongs to a write that was never confirmed."""
     entries = Entries(path, size)
     return list(entries), entries.size
 
 
-def entry_of(path: Path, number: int, line: bytes) -> Entry:
+def entry_of(path: Path, number: int, line: bytes) -> JournalLine:
     """Read an entry; raise `CorruptJournal` if it is malformed, or its checksum differs."""
     summed = SUMMED.fullmatch(line[-SUM:])
     text = line[:-SUM] + b"}" if summed else line

@@ -31,8 +31,8 @@ if TYPE_CHECKING:
     from zegdrut.wire import PlanLine, WrittenEdit
 
 PATIENCE = 60.0  # seconds for a question; the next one resumes where this one stopped
-AT_ONCE = 5.0  # seconds after which the program reports its progress
-HANGS = 600.0  # seconds without a report after which the program is ended
+REPORT_EVERY = 5.0  # seconds after which the program reports its progress
+REPORT_PATIENCE = 600.0  # seconds without a report after which the program is ended
 PIECE = 1_920  # steps that are read at a time
 MOST_ROADS = 12  # roads that are kept
 RUNNING = asyncio.Semaphore(1)
@@ -102,7 +102,7 @@ class Beside(Generic[Q, A]):
         line = b""
         try:
             process.stdin.write(to_json(asked).encode() + b"\n")
-            async with asyncio.timeout(HANGS):
+            async with asyncio.timeout(REPORT_PATIENCE):
                 line = await process.stdout.readline()
         except (OSError, asyncio.TimeoutError):
             pass
@@ -133,7 +133,7 @@ class Figures(Beside[FiguresAsked, FiguresTold]):
         until = time.monotonic() + PATIENCE
         async with alone(index):
             while True:
-                said = await self.ask({"roads": roads, "slots": slots, "seconds": AT_ONCE}, roads["program"])
+                said = await self.ask({"roads": roads, "slots": slots, "seconds": REPORT_EVERY}, roads["program"])
                 if "done" not in said:
                     return said
                 if time.monotonic() > until:
@@ -159,7 +159,7 @@ def kill(process: asyncio.subprocess.Process) -> None:
 
 # The program
 
-Edits = dict[tuple[str, int, int], int]
+EditValues = dict[tuple[str, int, int], int]
 """The values of edits, by kind, index and step."""
 
 
@@ -169,12 +169,12 @@ class DrivenRoad:
     def __init__(self, plan: PlanLine) -> None:
         from zegdrut import RoadLab
         from zegdrut.trips import Trips
-        self.edits: Edits = {}
+        self.edits: EditValues = {}
         self.plan, self._count = plan, 0
         self.lab: RoadLab = RoadLab(plan)
         self.trips: Trips = Trips(plan, plan["detectors"])
 
-    def become(self, edits: Edits) -> None:
+    def become(self, edits: EditValues) -> None:
         """Replace all edits by these."""
         keys = [key for key in edits.keys() | self.edits.keys() if edits.get(key) != self.edits.get(key)]
         if not keys:
@@ -212,12 +212,12 @@ def detector_figures(one: DetectorCount) -> DetectorFigures:
     return {"cars": one.cars, "speeds": one.speeds, "flow": one.flow, "speed": one.time_mean_speed, "on": one.seconds_on}
 
 
-def edits_of(rows: Sequence[WrittenEdit]) -> Edits:
+def edits_of(rows: Sequence[WrittenEdit]) -> EditValues:
     """Return the edits in rows of an import, without those that are withdrawn."""
     return {(kind, index, step): value for kind, index, step, *_, value in rows if value is not None}
 
 
-def to_edits(edits: Edits) -> list[Edit]:
+def to_edits(edits: EditValues) -> list[Edit]:
     """Return edits in the form of the package zegdrut."""
     from zegdrut import Edit, Stamp
     return [Edit((kind, index), step, Stamp(1, NUMBER), value) for (kind, index, step), value in edits.items()]

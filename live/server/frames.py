@@ -18,11 +18,11 @@ Welcome = TypedDict("Welcome", {
     "at": str, "seat": int, "name": str, "key": str, "number": int, "form": int, "site": int, "plan": PlanLine, "horizon": int, "rate": float,
     "now": int, "stop": int, "ahead": int, "time": float, "most": Mapping[str, int], "broker": "BrokerState | None",
     "trouble": "str | None", "standing": "str | None", "day": Day, "road": str}, total=False)
-Bound = TypedDict("Bound", {"site": int, "folder": str})
+BoundSite = TypedDict("BoundSite", {"site": int, "folder": str})
 """A site's number, and the folder that it is bound to."""
 Blocked = TypedDict("Blocked", {"stamp": Stamp, "by": Sequence[str]})
 """An operation of the seat that undo skips, and the names of those who changed its line since."""
-News = TypedDict("News", {
+NewsFrame = TypedDict("NewsFrame", {
     "size": int, "from": Sequence[str], "shares": Sequence[Mapping[str, Json]], "changes": Sequence[Act], "touched": "int | None"})
 """What others shared and the seat has not taken, and the first step that changes."""
 Held = TypedDict("Held", {
@@ -37,6 +37,6 @@ Frame = TypedDict("Frame", {
     "cars": Json, "speeds": int, "edits": Sequence[WrittenEdit], "sums": Sequence[int], "flows": Sequence[DetectorFigures],
     "counts": Json, "from": int, "to": int, "before": RoadFigures, "after": RoadFigures, "delay_hours": float,
     "delayed": int, "later": Times, "days": int, "stopped": bool, "figures": Sequence[FigureTold], "lines": str, "html": str, "csv": str,
-    "own": int, "numbers": Sequence[Bound], "points": Sequence["tuple[int, float]"], "capacity": float, "now": int, "news": News, "pong": Json,
+    "own": int, "numbers": Sequence[BoundSite], "points": Sequence["tuple[int, float]"], "capacity": float, "now": int, "news": NewsFrame, "pong": Json,
     "broker": BrokerState, "trouble": "str | None", "program": Mapping[str, int]}, total=False)
 """The fields of all replies and news. Each frame has some of them."""

@@ -25,7 +25,7 @@ import time
 from pathlib import Path
 from typing import Callable, Iterable, Iterator, ParamSpec, TypeVar
 
-from .entries import CannotStart as CannotStart, CorruptJournal as CorruptJournal, Entries as Entries, Entry as Entry
+from .entries import CannotStart as CannotStart, CorruptJournal as CorruptJournal, Entries as Entries, JournalLine as JournalLine
 from .entries import journal_line as journal_line, to_json as to_json, read_entries as read_entries
 
 JOURNAL = "journal.jsonl"
@@ -137,7 +137,7 @@ def put_beside(path: Path, pieces: Iterable[bytes]) -> int:
     return file
 
 
-def fork_writer(path: Path, entries: Callable[[], Iterable[Entry]]) -> int:
+def fork_writer(path: Path, entries: Callable[[], Iterable[JournalLine]]) -> int:
     """Fork a process, which writes `entries()` to the replacement of a journal. Return its number. Its status is 0 if all of them are
     on the disk."""
     process = os.fork()
@@ -158,7 +158,7 @@ def fork_writer(path: Path, entries: Callable[[], Iterable[Entry]]) -> int:
         os._exit(status)
 
 
-def journal_lines(entries: Iterable[Entry]) -> Iterator[bytes]:
+def journal_lines(entries: Iterable[JournalLine]) -> Iterator[bytes]:
     """Yield the lines of entries, in blocks of many lines."""
     several = iter(entries)
     while part := list(itertools.islice(several, LINES_AT_ONCE)):
@@ -208,7 +208,7 @@ class Journal:
             self._is_read_only = True
             return os.open(self.path, os.O_RDONLY)
 
-    def write(self, entry: Entry, then: Then = lambda: None) -> asyncio.Future[None]:
+    def write(self, entry: JournalLine, then: Then = lambda: None) -> asyncio.Future[None]:
         """Write an entry. Return a future that is done once the entry is on the disk and `then` was called, or that fails with
         `NotWritten`."""
         done: asyncio.Future[None] = asyncio.get_running_loop().create_future()
@@ -281,17 +281,17 @@ class Journal:
         os.ftruncate(self._file, self.size)
         os.fsync(self._file)
 
-    def read_confirmed(self) -> list[Entry]:
+    def read_confirmed(self) -> list[JournalLine]:
         """Read all confirmed entries from the disk, which need not be writable."""
         return read_entries(self.path, self.size)[0]
 
-    async def probe_disk(self, entry: Entry) -> None:
+    async def probe_disk(self, entry: JournalLine) -> None:
         """Try whether the disk accepts writes again: append an entry and as many bytes as a gesture can have, and remove these bytes.
         From then on `write` works again. Raise OSError if the disk refuses."""
         await self._run_on_disk_thread(self._write_probe, entry)
         self.fault = None
 
-    def _write_probe(self, entry: Entry) -> None:
+    def _write_probe(self, entry: JournalLine) -> None:
         if self._is_read_only:
             file, old = open_for_append(self.path), self._file
             self._file, self._is_read_only = file, False
@@ -301,7 +301,7 @@ class Journal:
         self._append(journal_line(to_json(entry), True), bytes(ROOM))
         self._cut()
 
-    async def compact(self, entries: Callable[[], Iterable[Entry]]) -> None:
+    async def compact(self, entries: Callable[[], Iterable[JournalLine]]) -> None:
         """Replace all that was written so far by `entries()`, and append what is written meanwhile. A forked process writes the entries,
         as they are at a moment when no write is waiting; other writes go on."""
         while self._writer is not None:

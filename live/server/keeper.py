@@ -22,7 +22,7 @@ from zegdrut.wire import ReplyFields
 
 from .asked import explain_refusal
 from .records import JOURNAL_FORM, AnyEntry, Clock, Folder, Made, Upgraded, read_plan_line
-from .journal import CannotStart, CorruptJournal, Entries, Entry, Journal, NotWritten, to_json, put_in_place, sync_folder
+from .journal import CannotStart, CorruptJournal, Entries, JournalLine, Journal, NotWritten, to_json, put_in_place, sync_folder
 from .listeners import Listeners
 from .model.operations import Json, Operation
 from .model.road import Road
@@ -35,7 +35,7 @@ from .state import NO_PLAN, State
 from .supervised import supervise
 from .turns import MORE, Job, More, Turns
 
-KEPT = 20  # newest private operations of a seat, which are never forgotten
+MOST_UNDOABLE = 20  # newest private operations of a seat, which are never forgotten
 LONGEST_PAUSE = 60.0  # seconds between two tries of a disk that refuses writes
 STALLS = 5.0  # seconds without an answer of the disk after which the page says so
 A_MOMENT = 1.0  # seconds that a try of the disk may keep others waiting
@@ -128,7 +128,7 @@ class Keeper:
         """Shorten the journal: write the present state, with each operation once."""
         await self.journal.compact(lambda: (entry.written() for entry in self.state.entries()))
 
-    def _read(self, entries: Iterable[Entry]) -> tuple[State, int, int]:
+    def _read(self, entries: Iterable[JournalLine]) -> tuple[State, int, int]:
         """Return the state that entries describe, their number, and the form of the journal."""
         number = 0
         state = State(self.stamps, time.time_ns() // 1_000)
@@ -321,7 +321,7 @@ class Keeper:
         """Forget private operations that have no effect any more, except the newest. No road differs without them."""
         self.undo_count = 0
         for seat in self.state.seats[1:]:
-            self.state.forget(seat, KEPT)
+            self.state.forget(seat, MOST_UNDOABLE)
 
     def cancel_successor(self) -> None:
         if self._next is not None:

@@ -20,7 +20,7 @@ from .model.demands import INFLOW
 from .model.operations import END, Json, Shape
 from .refusals import Refused
 
-KEPT = "freeway.json"  # the file of a folder with the freeway in km that it began with
+FREEWAY_FILE = "freeway.json"  # the file of a folder with the freeway in km that it began with
 NAME = "road.name"  # the file of a folder with the name of the file that it began with
 FREEWAY = Path(__file__).resolve().parents[2] / "recipes" / "freeway" / "run"
 OF_A_PLAN = {"zones", "inlets"}  # fields of a plan line that no freeway in km has
@@ -39,7 +39,7 @@ class Planned:
 def clock_of(folder: Path) -> Clock | None:
     """Return the time of day of a folder's road, if its file is a freeway with a `begin`. None: times count from 0:00."""
     try:
-        value = json.loads((folder / KEPT).read_bytes())
+        value = json.loads((folder / FREEWAY_FILE).read_bytes())
         return Clock.read(*(value.get(name) for name in ("begin", "date", "timezone"))) if value.get("begin") is not None else None
     except (OSError, ValueError, AttributeError):  # (an InvalidTime is a ValueError)
         return None

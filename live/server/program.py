@@ -22,7 +22,7 @@ from .journal import to_json
 LONGEST_REPLY = 1 << 26
 PIECE = 1_200  # edits of an import, so that its line has at most 65,536 bytes
 STEPS = 2_000  # steps that are simulated at a time, so that other seats get their turn
-HANGS = 10.0  # seconds without processor time after which a program that owes an answer is ended
+IDLE_PATIENCE = 10.0  # seconds without processor time after which a program that owes an answer is ended
 LOOKS = 8  # how often the program is looked at in that time
 LONG_ROAD = 4_096  # cells from which on two threads are faster than one; more than two are not, on a machine that does other work
 
@@ -98,10 +98,10 @@ class Program:
         now = self._done()
         idle = idle + 1 if now == before else 0
         if idle >= LOOKS:
-            self._fault = f"the program did not answer and used no processor time for {HANGS:g} seconds"
+            self._fault = f"the program did not answer and used no processor time for {IDLE_PATIENCE:g} seconds"
             self.kill()
         else:
-            self._watch = asyncio.get_running_loop().call_later(HANGS / LOOKS, self._look, now, idle)
+            self._watch = asyncio.get_running_loop().call_later(IDLE_PATIENCE / LOOKS, self._look, now, idle)
 
     def _done(self) -> object:
         """Return a value that changes when the program has done something."""

@@ -32,7 +32,7 @@ from .refusals import Refused
 from .roads import SIDES, KeptRoad, Preview, Previews, AskedRoad, Side
 from .screen import first_step, rows_of
 from .state import Replica
-from .timing import AHEAD
+from .timing import STEPS_AHEAD
 from .turns import MORE, Job, More
 
 MOST_ROWS, MOST_BYTES = 1_024, 1_100_000  # rows in a reply, and their bytes
@@ -98,9 +98,9 @@ class Questions:
         now = self._keeper.now()
         if to > LAST_HORIZON:
             raise Refused("Horizon", f"`to` must be at most {LAST_HORIZON}, not {to}")
-        if to > now + AHEAD:
-            raise Refused("TooFarAhead", f"a road runs at most {AHEAD} steps ahead of the clock, which is at {now}: `to` must be at most "
-                          f"{now + AHEAD}, not {to}")
+        if to > now + STEPS_AHEAD:
+            raise Refused("TooFarAhead", f"a road runs at most {STEPS_AHEAD} steps ahead of the clock, which is at {now}: `to` must be at most "
+                          f"{now + STEPS_AHEAD}, not {to}")
 
     # Rows
 

@@ -68,12 +68,12 @@ def sides_of(asked: ReportAsked) -> list[Side]:
     return found if both[0] != both[1] else found[1:]
 
 
-def edits_of(roads: figures.TwoRoads) -> list[figures.Edits]:
+def edits_of(roads: figures.TwoRoads) -> list[figures.EditValues]:
     """Return the edits of the roads before and after the change."""
     return [figures.edits_of(roads["before"]), figures.edits_of(roads["after"])]
 
 
-def closures_of(edits: figures.Edits, last: int) -> list[tuple[int, int, float, float]]:
+def closures_of(edits: figures.EditValues, last: int) -> list[tuple[int, int, float, float]]:
     """Return the closures of a road, as (from step, to step, from km, to km). Neighbouring cells are one closure."""
     from zegdrut.units import to_km
     changes: dict[int, list[tuple[int, int]]] = {}

@@ -15,7 +15,7 @@ from .program import Program, import_lines
 
 NUMBER = 64  # the number in all stamps that the program gets; no replica has it
 MOST_INLINE = 64  # layers of two roads whose difference is computed in the event loop; if there are more, in a thread
-KEPT = 16  # differences
+MOST_DIFFERENCES = 16  # differences
 
 
 def rows_of(edits: Edits, count: int = 1) -> list[WrittenEdit]:
@@ -32,7 +32,7 @@ class Differences:
     """Computes the edits between two roads. Keeps the latest, since many seats need the same."""
 
     def __init__(self) -> None:
-        self._known: Deque[tuple[Road, Road, Edits]] = collections.deque(maxlen=KEPT)
+        self._known: Deque[tuple[Road, Road, Edits]] = collections.deque(maxlen=MOST_DIFFERENCES)
 
     async def between(self, before: Road, after: Road, like: tuple[Road, Road] | None = None) -> Edits:
         """Return the edits that turn `before` into `after`. `like` are two roads with a similar difference, which saves work."""

@@ -29,7 +29,7 @@ from .journal import CannotStart, to_json, put_in_place, sync_folder
 from .model.operations import Json
 
 LATE = 600.0  # seconds that a sealed message may be on its way, or that two clocks may differ
-AHEAD = 200  # how much the bound on the disk is above the accepted number; numbers are milliseconds or more
+NUMBERS_RESERVED = 200  # how much the bound on the disk is above the accepted number; numbers are milliseconds or more
 WINDOW = 4_096  # numbers of a folder within which messages may arrive out of order
 MOST_FOLDERS = 256
 SHORTEST_KEY = 16  # bytes
@@ -94,7 +94,7 @@ class Taken:
         if number <= self.bound(folder):
             return
         self._bounds = {one: bound for one, bound in self._bounds.items() if bound >= oldest}
-        self._bounds[folder] = number + AHEAD
+        self._bounds[folder] = number + NUMBERS_RESERVED
         self._greatest = {one: taken for one, taken in self._greatest.items() if one in self._bounds}
         self._write()
 

@@ -12,7 +12,7 @@ from .records import Clock
 from .refusals import Refused
 from .writing import wait_until_written
 
-AHEAD = 36_000  # steps that a replica may run ahead of the clock, and that the clock may be set forward
+STEPS_AHEAD = 36_000  # steps that a replica may run ahead of the clock, and that the clock may be set forward
 FASTEST, FAST = 600, 60  # steps a second; above `FAST` the clock stops after an hour of the road
 HOUR = 3_600  # steps
 
@@ -30,8 +30,8 @@ class Timing:
         that sets the rate does not change the step, and vice versa. Return the present step."""
         keeper = self._keeper
         now = keeper.now()
-        if to is not None and not now <= to <= min(LAST_HORIZON, now + AHEAD):
-            raise Refused("Range", f"`to` must be {now} to {min(LAST_HORIZON, now + AHEAD)}, not {to}")
+        if to is not None and not now <= to <= min(LAST_HORIZON, now + STEPS_AHEAD):
+            raise Refused("Range", f"`to` must be {now} to {min(LAST_HORIZON, now + STEPS_AHEAD)}, not {to}")
         async with self._setting:
             await keeper.turns.ask(SHARED, keeper.require_writable)
             clock = keeper.clock() if rate is None else Clock(rate, keeper.now())

@@ -1,5 +1,5 @@
-"""Answer the commands of a tab. One table has for each its name, the roads that may be asked, and the reader of its fields, which
-returns what answers it."""
+"""Answer the commands of a tab. The table `VERBS` has for each command the roads that `at` may name, and the reader of its fields. A
+reader returns a function that answers the command."""
 from __future__ import annotations
 
 import secrets
@@ -18,12 +18,12 @@ from .roads import SIDES, AskedRoad
 from .state import Replica
 from .timing import FASTEST
 
-MOST_WORKS = 200  # sentences of a report
-ALL = frozenset[str]()  # it is of no road
+MOST_WORKS = 200  # sentences about the change in a report
+ALL = frozenset[str]()  # the command has no `at`
 OWN = frozenset({"own"})
 SHARED_ROAD = frozenset({"shared"})
-KEPT = OWN | SHARED_ROAD
-ROADS = KEPT | frozenset(SIDES)
+KEPT_ROADS = OWN | SHARED_ROAD
+ROADS = KEPT_ROADS | frozenset(SIDES)
 
 
 CHANGES = frozenset({"gesture", "edit", "withdraw", "undo", "again", "site", "send", "take", "leave", "clock", "unbind"})
@@ -31,7 +31,7 @@ CHANGES = frozenset({"gesture", "edit", "withdraw", "undo", "again", "site", "se
 
 @dataclass
 class Call:
-    """A question: the seat that asks, the road, and how long each part takes."""
+    """A command that is being answered: the seat that sent it, the road that it is about, and the times that the answer takes."""
 
     lab: Lab
     questions: Questions
@@ -41,7 +41,7 @@ class Call:
 
     @property
     def replica(self) -> Replica:
-        """Return the seat, or the shared road, that is asked about."""
+        """Return the replica that the command is about: the seat's own or the shared one."""
         return self.lab.state.replica(SHARED if self.at == "shared" else self.index)
 
     @property
@@ -50,14 +50,15 @@ class Call:
 
 
 Does = Callable[[Call], Awaitable[Reply]]
-"""A command whose fields are read: it answers a call."""
+"""A command whose fields have been read. It answers a call."""
 Reads = Callable[[CommandFields], Does]
 T = TypeVar("T")
 
 
 @dataclass(frozen=True)
 class Verb:
-    """A command. If the road is one of `lists`, the answer may show what others did. It waits until that is on the disk."""
+    """A command: the roads that `at` may name, and the reader of its fields. If the command is about a road in `lists`, the reply may
+    show changes of other seats, so it waits until these are on the disk."""
 
     of: frozenset[str]
     reads: Reads
@@ -65,9 +66,9 @@ class Verb:
 
 
 async def answer(lab: Lab, questions: Questions, index: int, asked: CommandFields, times: Times) -> Reply:
-    """Answer a seat; raise `Refused` if that cannot be done."""
+    """Return the reply to a command of a seat. Raise `Refused` if the command is refused."""
     if asked.verb not in VERBS:
-        raise not_a_command(f"`{asked.verb}` is not a command of a tab")
+        raise not_a_command(f"there is no command `{asked.verb}`")
     verb = VERBS[asked.verb]
     call = Call(lab, questions, index, road_name(lab, index, asked, verb), times)
     with asked:
@@ -98,7 +99,7 @@ def no_fields(does: Does) -> Reads:
 
 
 def reader_of_one_part(read: Callable[[CommandFields], T], does: Callable[[Call, T], Awaitable[Reply]]) -> Reads:
-    """Return the reader of a command whose fields are one part: a value, or a tuple."""
+    """Return the reader of a command whose fields `read` returns as one value or tuple, which `does` gets."""
     def reads(asked: CommandFields) -> Does:
         part = read(asked)
         return lambda call: does(call, part)
@@ -114,7 +115,7 @@ def read_key_and_note(asked: CommandFields) -> tuple[str, str]:
 
 
 def read_comparison(asked: CommandFields) -> tuple[str, int, int]:
-    """Return which roads are compared, and the steps."""
+    """Return which roads a command compares, and the steps."""
     of = asked.require("of")
     if type(of) is not str or of not in ("preview", "mine"):
         raise not_a_command('`of` must be "preview" or "mine"')
@@ -130,7 +131,7 @@ def require_shared(asked: CommandFields, field: str) -> None:
         raise Refused("not a command", f"`{field}` must be \"shared\" here")
 
 
-# Of no road
+# Commands without a road
 
 async def seats(call: Call) -> Reply:
     return {"seats": await call.lab.seating.seats_kept(call.index)}
@@ -153,7 +154,7 @@ async def unbind(call: Call, site: int) -> Reply:
 
 
 def admission(asked: CommandFields) -> Does:
-    """Read an inlet, the slow-to-start chance there, and the chances of inlets before it."""
+    """Read an inlet, the slow-to-start chance there, and the chances of the inlets upstream."""
     inlet = asked.whole("inlet")
     start = None if asked.is_null("start") else asked.whole("start", 0, 65_536)
     before = asked.pairs("before")
@@ -170,10 +171,10 @@ def admission(asked: CommandFields) -> Does:
     return does
 
 
-# The own road is changed, shared, taken
+# Commands that change, share or take
 
 def gesture(asked: CommandFields) -> Does:
-    """Read a gesture: raw edits, a new shape, or another shape or height of a line."""
+    """Read a gesture: raw edits, a new shape, or a new shape or height for a line."""
     key, note = read_key_and_note(asked)
     if asked.has("edits"):
         drawn = None if not asked.has("shape") or asked.is_null("shape") else asked.shape()
@@ -194,7 +195,7 @@ def gesture(asked: CommandFields) -> Does:
 
 
 def read_edit(asked: CommandFields) -> list[RawEdit]:
-    """Read the `edit` and `withdraw` of the format, as raw edits."""
+    """Read the commands `edit` and `withdraw` of docs/FORMAT.md as a raw edit."""
     thing = asked.require("object")
     edit = [*(thing if isinstance(thing, list) else [thing]), asked.require("step"),
             asked.require("value") if asked.verb == "edit" else None]
@@ -237,10 +238,10 @@ async def leave(call: Call) -> Reply:
     return {}
 
 
-# Roads are asked
+# Queries of roads
 
 def forward(asked: CommandFields) -> Does:
-    """Give the program a command as it is."""
+    """Forward a command to the program unchanged."""
     fields = asked.remaining()
     return lambda call: call.questions.ask_program(call.road, call.times, asked.verb, fields)
 
@@ -257,7 +258,7 @@ def counts(asked: CommandFields) -> Does:
     return lambda call: call.questions.counts(call.road, call.times, first=first, last=last, each=each)
 
 
-# Lists, and what would be
+# Lists and previews
 
 def preview(asked: CommandFields) -> Does:
     what = None if asked.is_null("what") else asked.require("what")
@@ -268,14 +269,14 @@ def preview(asked: CommandFields) -> Does:
 
 
 def days(asked: CommandFields) -> Does:
-    """Read a comparison over many days; `of` null ends the one that runs."""
+    """Read a comparison over many days. If `of` is null, the command stops the one that is running."""
     if asked.is_null("of"):
         return lambda call: call.questions.days(call.index, call.replica, None, 0, 0)
     of, first, last = read_comparison(asked)
     return lambda call: call.questions.days(call.index, call.replica, of, first, last)
 
 
-# What is saved
+# Files
 
 def transcript(asked: CommandFields) -> Does:
     first, last = asked.whole("from", default=0), asked.whole("to", 0, LAST_HORIZON)
@@ -284,7 +285,7 @@ def transcript(asked: CommandFields) -> Does:
 
 
 def report(asked: CommandFields) -> Does:
-    """Read a comparison with its title, and sentences about the works on the roads."""
+    """Read a comparison, the title of its report, and sentences about the change."""
     of, first, last = read_comparison(asked)
     title, works = asked.text("title", LONGEST_NOTE), asked.texts("works", MOST_WORKS, LONGEST_NOTE)
     return lambda call: call.questions.report(call.index, call.replica, of, first, last, title, works)
@@ -299,13 +300,13 @@ def table_of_counts(asked: CommandFields) -> Does:
 
 
 VERBS: dict[str, Verb] = {
-    # Of no road
+    # Commands without a road
     "seats": Verb(ALL, no_fields(seats)),
     "clock": Verb(ALL, clock),
     "numbers": Verb(ALL, no_fields(list_numbers)),
     "unbind": Verb(ALL, reader_of_one_part(read_site, unbind)),
     "admission": Verb(ALL, admission),
-    # The own road is changed, shared, taken
+    # Commands that change, share or take
     "gesture": Verb(OWN, gesture),
     "edit": Verb(OWN, reader_of_one_part(read_edit, put_edits)),
     "withdraw": Verb(OWN, reader_of_one_part(read_edit, put_edits)),
@@ -315,26 +316,26 @@ VERBS: dict[str, Verb] = {
     "send": Verb(OWN, share),
     "take": Verb(OWN, reader_of_one_part(lambda asked: require_shared(asked, "message"), lambda call, _: call.lab.take(call.index, call.times))),
     "leave": Verb(OWN, no_fields(leave)),
-    # Roads are asked
+    # Queries of roads
     "advance": Verb(ROADS, reader_of_one_part(lambda asked: asked.whole("to"), lambda call, to: call.questions.advance(call.road, to))),
     "cells": Verb(ROADS, forward),
     "cars": Verb(ROADS, forward),
     "count": Verb(ROADS, forward),
-    "scenario": Verb(KEPT, forward),
+    "scenario": Verb(KEPT_ROADS, forward),
     "diagram": Verb(ROADS, diagram),
     "sums": Verb(ROADS, reader_of_one_part(read_steps, lambda call, span: call.questions.sums(call.road, call.times, *span))),
     "counts": Verb(ROADS, counts),
-    # Lists, and what would be
-    "layers": Verb(KEPT, reader_of_one_part(lambda asked: asked.version("from"), lambda call, version: call.questions.layers(
+    # Lists and previews
+    "layers": Verb(KEPT_ROADS, reader_of_one_part(lambda asked: asked.version("from"), lambda call, version: call.questions.layers(
         call.index, call.replica, version)), SHARED_ROAD),
-    "operations": Verb(KEPT, reader_of_one_part(lambda asked: asked.whole("from", default=0), lambda call, first: call.questions.operations(
+    "operations": Verb(KEPT_ROADS, reader_of_one_part(lambda asked: asked.whole("from", default=0), lambda call, first: call.questions.operations(
         call.index, call.replica, first)), SHARED_ROAD),
-    "preview": Verb(OWN, preview),  # (which waits itself, before it keeps the two roads)
+    "preview": Verb(OWN, preview),  # (`Questions.preview` waits for the disk itself, before it keeps the two roads)
     "figures": Verb(OWN, reader_of_one_part(read_comparison, lambda call, asked: call.questions.figures(call.index, call.replica, *asked)), OWN),
     "days": Verb(OWN, days, OWN),
-    # What is saved
-    "transcript": Verb(KEPT, transcript, SHARED_ROAD),
+    # Files
+    "transcript": Verb(KEPT_ROADS, transcript, SHARED_ROAD),
     "report": Verb(OWN, report, OWN),
-    "script": Verb(KEPT, no_fields(lambda call: call.questions.script(call.index, call.replica)), SHARED_ROAD),
-    "csv": Verb(KEPT, table_of_counts, SHARED_ROAD),
+    "script": Verb(KEPT_ROADS, no_fields(lambda call: call.questions.script(call.index, call.replica)), SHARED_ROAD),
+    "csv": Verb(KEPT_ROADS, table_of_counts, SHARED_ROAD),
 }

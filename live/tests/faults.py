@@ -267,7 +267,7 @@ class Faults(Case):
             await self.whole()
         for number, way in each((number, way) for number in range(1, lines + 1) for way in LINES):
             async with Story() as story:
-                with mock.patch.object(Program, "ask_all", ends_at(number, way)), mock.patch("server.program.HANGS", 0.4):
+                with mock.patch.object(Program, "ask_all", ends_at(number, way)), mock.patch("server.program.IDLE_PATIENCE", 0.4):
                     await story.runs()
                 await story.ends()
                 self.look(story, f"line {number}, {way}", False)

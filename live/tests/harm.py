@@ -56,7 +56,7 @@ class Bounds(Case):
         now = [0.0]
         first._floods = Floods(lambda: now[0])
         await bus.rounds()
-        with mock.patch("server.floods.BURST", 20), mock.patch("server.floods.A_SECOND", 1):
+        with mock.patch("server.floods.MESSAGE_BURST", 20), mock.patch("server.floods.MESSAGES_PER_SECOND", 1):
             first._floods = Floods(lambda: now[0])
             for _ in range(30):
                 second._announce_site()
@@ -219,7 +219,7 @@ class Bounds(Case):
         await site._receive(f"road/{site._road}/sum", "f", body)
         self.assertNotIn("another road", told(site))
         await site._receive(f"road/{site._road}/sum", "f", body.replace(b'"timeline": "', b'"timeline": "x'))
-        self.assertIn("has the same changes but derives a different road from them", told(site))
+        self.assertIn("has the same changes but computes a different road from them", told(site))
         self.assertEqual(bus.sent, [])
 
 
@@ -271,7 +271,7 @@ class Bounds(Case):
         await one.share(1)
         await bus.carry()
         bus.site(two)
-        with mock.patch("server.sites.AT_ONCE", 10):
+        with mock.patch("server.sites.OPERATIONS_AT_ONCE", 10):
             counts = []
             for _ in range(6):
                 bus.seen.clear()

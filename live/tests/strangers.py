@@ -71,7 +71,7 @@ class Strangers(Case):
         stamp = await self.put(again, "limit", 2, 50, 3)
         await self.bus.rounds(3)
         self.assertEqual((await self.shared(one), len(other.state()["sites"])), ([], 1))
-        self.assertIn("This site's number, 2, belongs to another folder: nothing is sent", " ".join(other.state()["stays"]))
+        self.assertIn("This site's number, 2, belongs to another folder, so nothing is sent", " ".join(other.state()["stays"]))
         self.assertEqual(first.state()["sites"], [])
         self.leave(other)
         await again.keeper.close()
@@ -187,7 +187,7 @@ class Strangers(Case):
         for form, update in cases:
             older = {"folder": f"{two.lab.state.folder}-12345678", "site": 2, "road": first._road, **form}
             await self.bus.give(first, Message("road/sites", json.dumps(older).encode()))
-            self.assertIn(f"Nothing is exchanged with site 2, whose server has another version: update {update}", told(first))
+            self.assertIn(f"Nothing is exchanged with site 2, whose server has a different version: update {update}", told(first))
             self.assertEqual(first.state()["sites"], [])
         await self.bus.rounds(2)
         self.assertNotIn("another folder", told(second))
@@ -207,7 +207,7 @@ class Strangers(Case):
         roads = [numbers(await self.shared(here)) for here, _ in sites]
         self.assertEqual(roads, [roads[0]] * 3)
         for here, site in sites:
-            self.assertIn(f"Two changes have the same stamp, {stamp}: of Eva and of Eve, slow", told(site))
+            self.assertIn(f"Two changes have the same stamp, {stamp}, probably from a copied folder: of Eva and of Eve, slow", told(site))
             self.assertEqual(sorted(one.about.who for one in here.lab.state.shared.places), ["Eva", "Eve"])
 
     async def test_a_gesture_is_one_message_and_then_there_is_silence(self) -> None:
@@ -291,14 +291,14 @@ class Strangers(Case):
             self.assertEqual([here.lab.state.shared.size for here in (one, two)], [2, 2])
             for site in (first, second):
                 self.assertIn("of number 70 is more than a day ahead of the clock", told(site))
-                self.assertIn("1 changes are dated more than a day ahead", told(site))
+                self.assertIn("1 changes are stamped more than a day ahead", told(site))
             clock[0] += 1_000
             await self.bus.rounds()
             self.assertEqual([here.lab.state.shared.size for here in (one, two)], [2, 2])
             clock[0] += 2_000
             await self.bus.rounds()
             self.assertEqual([here.lab.state.shared.size for here in (one, two)], [3, 3])
-            self.assertNotIn("1 changes are dated more than a day ahead", told(first))
+            self.assertNotIn("1 changes are stamped more than a day ahead", told(first))
 
     async def test_early_operations_hold_up_no_others_and_wait_once(self) -> None:
         """Another change of the same message is taken at once; what is sent again and again waits once, and not much waits."""
@@ -314,17 +314,17 @@ class Strangers(Case):
             for _ in range(3):
                 await comes((0, 1), (DAY + 1_000, 2), (DAY + 2_000, 3))
             self.assertEqual(steps(here), [1])
-            self.assertIn("2 changes are dated more than a day ahead", told(site))
+            self.assertIn("2 changes are stamped more than a day ahead", told(site))
             await comes((DAY + 1_000, 1 << 20))
-            self.assertIn("2 changes are dated more than a day ahead", told(site))  # what is not of the plan does not wait
+            self.assertIn("2 changes are stamped more than a day ahead", told(site))  # what is not of the plan does not wait
             with mock.patch("server.sites.MOST_EARLY", 9), mock.patch("server.sites.LONGEST_EARLY", 650):
                 await comes(*((DAY + 3_000, step) for step in range(4, 30)))
-                self.assertIn("8 changes are dated more than a day ahead", told(site))
+                self.assertIn("8 changes are stamped more than a day ahead", told(site))
             await comes((DAY + 1_000, 2), (DAY + 2_000, 3))
             clock[0] += 1_500
             await self.bus.rounds()
             self.assertEqual(steps(here), [1, 2])
-            self.assertIn("9 changes are dated more than a day ahead", told(site))
+            self.assertIn("9 changes are stamped more than a day ahead", told(site))
 
     async def test_private_operations_stamped_by_a_wrong_clock_get_new_stamps(self) -> None:
         """Three days ahead for one gesture: all goes on, and other sites take it as soon as it is shared."""
@@ -464,13 +464,13 @@ class Keys(Case):
             self.assertEqual((self.held(self.two), self.second.state()["left_out"]), (1, number), payload)
         await self.bus.give(self.second, Message("road/sites", edits.payload))  # at another topic
         self.assertEqual(self.second.state()["left_out"], 10)
-        self.assertIn("10 messages were ignored: they have no seal of this site's --site-key", " ".join(self.second.state()["stays"]))
+        self.assertIn("10 messages were ignored: they are not sealed with this site's --site-key", " ".join(self.second.state()["stays"]))
 
     async def test_a_flood_without_a_seal_is_ignored_and_reported(self) -> None:
         """It costs the event loop nothing, and sealed messages are heard."""
         now = [0.0]
         await self.bus.rounds()
-        with mock.patch("server.floods.BURST", 20), mock.patch("server.floods.A_SECOND", 1):
+        with mock.patch("server.floods.MESSAGE_BURST", 20), mock.patch("server.floods.MESSAGES_PER_SECOND", 1):
             self.second._floods = Floods(lambda: now[0])
             said: list[str] = []
             with mock.patch.object(self.second, "_say", said.append):
@@ -490,7 +490,7 @@ class Keys(Case):
         bus, now, came = Bus(), [0.0], []
         site, _ = bus.site(here), bus.site(self.one)
         await bus.rounds()
-        with mock.patch("server.floods.BURST", 20), mock.patch("server.floods.A_SECOND", 1):
+        with mock.patch("server.floods.MESSAGE_BURST", 20), mock.patch("server.floods.MESSAGES_PER_SECOND", 1):
             site._floods = Floods(lambda: now[0])
             with mock.patch.object(Sites, "_receive", lambda _, topic, folder, body: came_in(folder)):
                 async def came_in(folder: str) -> None:
@@ -517,7 +517,7 @@ class Keys(Case):
 
     async def test_messages_replayed_after_a_restart_are_ignored(self) -> None:
         """Otherwise an announcement of this folder, or of another with its number, would mute it."""
-        with mock.patch("server.seals.AHEAD", 1):
+        with mock.patch("server.seals.NUMBERS_RESERVED", 1):
             await self.bus.rounds(2)
             await self.share(50)
             caught = list(self.bus.seen)
@@ -536,7 +536,7 @@ class Keys(Case):
     async def test_messages_sent_after_a_restart_are_heard_at_once(self) -> None:
         """The server ended, or was killed; messages from before are not heard."""
         for is_killed in (True, False):
-            with mock.patch("server.seals.AHEAD", 200 if is_killed else 3_600_000):
+            with mock.patch("server.seals.NUMBERS_RESERVED", 200 if is_killed else 3_600_000):
                 await self.bus.rounds(2)
                 await self.share(50 + is_killed)
                 caught, held = list(self.bus.seen), self.held(self.two)
@@ -599,7 +599,7 @@ class Keys(Case):
         here = await self.enterAsyncContext(Here(site=3))
         site = Bus().site(here)
         self.assertFalse(site.state()["sealed"])
-        self.assertIn("Anybody who reaches the broker can send changes", " ".join(site.state()["stays"]))
+        self.assertIn("Anybody who can connect to the broker can send changes", " ".join(site.state()["stays"]))
         self.assertNotIn("trust", " ".join(self.first.state()["stays"]))
 
     def test_a_key_that_is_too_short_is_refused(self) -> None:

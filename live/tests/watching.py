@@ -136,7 +136,7 @@ class Pieces(Case):
             some = list(operations)
             added.append(len([one for one in some if one not in road]))
             return adding(road, some)
-        with mock.patch("server.state.AT_ONCE", 7), mock.patch.object(Road, "adding", counted):
+        with mock.patch("server.state.APPLIED_AT_ONCE", 7), mock.patch.object(Road, "adding", counted):
             await here.lab.receive(many, "", {})
             self.assertEqual((await here.take(ada))["size"], 60)
         self.assertEqual((max(added), sum(added)), (7, 120))
