@@ -173,7 +173,7 @@ class Questions:
                        each: int | None) -> list[list[DetectorFigures]]:
         """Return what each detector counts, for each span of `each` steps."""
         if first > last:
-            raise Refused("Range", f"`from`, {first}, is after `to`, {last}")
+            raise Refused("Range", f"`from` {first} is above `to` {last}")
         starts = range(first, last, each) if each else range(first, first + 1)
         detectors = len(self._keeper.state.plan["detectors"])
         if len(starts) * detectors > MOST_COUNTS:

@@ -187,7 +187,7 @@ class SeatReplica(Replica):
         self.name, self.key = "", ""  # `key` is the hash of its tab's key; empty if nobody has the seat
         self.count = count  # the greatest count in its stamps
         self.upto = 0  # how many operations of the shared road it has taken
-        self.used: float = 0  # when it last had a tab, in seconds since 1970
+        self.used: float = 0  # when it last had a tab, in seconds since 1970, in seconds since 1970
         self.own: dict[Operation, None] = {}  # made at this seat, in order
         self.done: dict[str, Stamp] = {}  # its operations by their keys
         self.renamed: dict[Stamp, Stamp] = {}  # the stamps of operations that were stamped again

@@ -136,7 +136,7 @@ class Brokers(Case):
             for text, why in (
                     ("good morning", "not JSON"), ("", "not JSON"), ("[" * 3_000, "not JSON"), ("[1]", "no list"),
                     ('{"operations":7}', "no list"), ('{"operations":[],"form":2}', "no list"),
-                    (said(7), "an operation is an object"), (said({"stamp": [1, 70]}), "does nothing"),
+                    (said(7), "an operation must be a JSON object"), (said({"stamp": [1, 70]}), "the operation does nothing"),
                     (said(limit([1, 70], 99, 8)), "no zone 99"), (said(limit([1, 3], 1, 8)), "belongs to a replica"),
                     (said(limit([281474976710656, 70], 1, 20)), "[281474976710656, 70] of number 70 is more than a day"),
                     (said(limit([2764800001, 70], 1, 21)), "[2764800001, 70] of number 70 is more than a day ahead"),

@@ -9,8 +9,8 @@ from .road import Road
 
 
 class Undoable(NamedTuple):
-    """The operation that Z undoes next, and the undo that Redo undoes. `blocked` are newer own operations that Z passes over,
-    because what they did was done again, otherwise, by somebody else since."""
+    """The operation that the key for undo undoes next, and the undo that the key for redo undoes. `blocked` are newer operations of the
+    seat that undo skips, because somebody else has changed their lines since."""
 
     undo: Operation | None
     redo: Operation | None
@@ -18,7 +18,7 @@ class Undoable(NamedTuple):
 
 
 def own_operations(road: Road, number: int) -> list[Operation]:
-    """Return the operations of a seat's number, the oldest first."""
+    """Return the operations with a number in their stamps, the oldest first."""
     return sort_by_stamp(one for one in road.record.operations() if one.stamp[1] == number)
 
 
@@ -28,9 +28,9 @@ def would_change(road: Road, one: Operation) -> bool:
 
 
 def find_undoable(road: Road, number: int) -> Undoable:
-    """Return what Z and Redo of a seat do next. Both pass over what would change nothing."""
+    """Return what undo and redo of a seat do next. Both skip operations whose undo would change nothing."""
     done: dict[Stamp, Operation] = {}
-    undone: dict[Stamp, tuple[Operation, Operation]] = {}  # by the undo: that, and what it undid
+    undone: dict[Stamp, tuple[Operation, Operation]] = {}  # by the stamp of an undo: the undo, and what it undid
     for one in own_operations(road, number):
         if one.undoes in done:
             undone[one.stamp] = one, done.pop(one.undoes)
@@ -53,7 +53,7 @@ def find_undoable(road: Road, number: int) -> Undoable:
 
 
 def find_overruling(road: Road, one: Operation) -> list[Operation]:
-    """Return the operations that leave nothing to the undo of this one, the newest first."""
+    """Return the operations that overrule this one, so that its undo would change nothing; the newest first."""
     record = road.record
     root = record.root_of(one)
     found = {setter for name in root.sets for setter in [road.setter(name)] if setter is not None}
@@ -71,11 +71,11 @@ def private(road: Road, shared: Road, number: int) -> list[Operation]:
 
 
 def shareable(road: Road, shared: Road, number: int, then: Road | None = None) -> list[Operation]:
-    """Return the private operations that count and would change the shared road. An undo of what others never had is
-    not among them. `then` is the shared road with all private operations, if that is known."""
+    """Return the private operations that count and would change the shared road. Leave out undos of private operations. `then` is the
+    shared road with all private operations, if that is known."""
     own = sendable(road, shared, number)
     if number // SEATS in shared.record.excluded:
-        return own  # what they would change there is known once the site is let in again
+        return own  # what they would change is known only when the site is included again
     then = then or shared.adding(own)
     names, excluded = changed_layers(shared, then), then.record.excluded ^ shared.record.excluded
     names.update(road.layers[name].line for name in list(names) for road in (shared, then) if name in road.layers)
@@ -84,13 +84,13 @@ def shareable(road: Road, shared: Road, number: int, then: Road | None = None) -
 
 
 def sendable(road: Road, shared: Road, number: int, stamps: AbstractSet[Stamp] | None = None) -> list[Operation]:
-    """Return the private operations that count, all or those of some stamps, but no undo of what others never had."""
+    """Return the private operations that count, all of them or those with these stamps. Leave out undos of private operations."""
     return [one for one in private(road, shared, number) if road.record.counts(one)
             and (one.undoes is None or one.undoes in shared.record.held) and (stamps is None or one.stamp in stamps)]
 
 
 def undo_chain(road: Road, one: Operation) -> list[Operation]:
-    """Return an operation, what it undoes, what that undoes, and so on."""
+    """Return an operation, the operation that it undoes, the one that this undoes, and so on."""
     found = [one]
     for each in found:
         found += road.record.undone_by(each)
@@ -98,8 +98,8 @@ def undo_chain(road: Road, one: Operation) -> list[Operation]:
 
 
 def find_forgettable(road: Road, shared: Road, number: int, kept: int) -> set[Operation]:
-    """Return the private operations of a seat without which no layer differs: those that are undone, with their undos, and
-    those on private layers that are withdrawn. The newest `kept` stay, since Z and Redo may need them."""
+    """Return the private operations of a seat that can be forgotten without any effect on the road: those that are undone, with their
+    undos, and those on private layers that are withdrawn. Leave out the newest `kept`, which undo and redo may need."""
     own = private(road, shared, number)
     gone = set(own[:max(0, len(own) - kept)])
     while needed := {one for one in gone if is_needed(road, one, gone)}:
@@ -108,7 +108,7 @@ def find_forgettable(road: Road, shared: Road, number: int, kept: int) -> set[Op
 
 
 def is_needed(road: Road, one: Operation, gone: set[Operation]) -> bool:
-    """Return whether an operation still says something, if all of these were forgotten with it."""
+    """Return whether an operation still has an effect if all operations in `gone` are forgotten together."""
     record = road.record
     if one.site in record.excluded or one.excludes is not None:
         return True

@@ -1,7 +1,7 @@
-"""Make the edits that bring a program from one road to another.
+"""Compute the edits that turn one road of a program into another.
 
-On each object there is a number at each step where the value changes, and nothing else. Where no layer covers an object any
-more, that number is the plan's.
+A program has an edit at each step at which the value of an object changes, and no others. At a step from which on no layer covers the
+object, the edit has the plan's value.
 """
 from __future__ import annotations
 
@@ -12,13 +12,13 @@ from .operations import END, Name, RawName, is_raw
 from .road import Road
 
 Edits = dict[RawName, "int | None"]
-"""A value, or None that withdraws the edit, by kind, object and step."""
+"""Edits by kind, object and step: the value, or None, which withdraws the edit."""
 
 MANY = 64  # stretches from which on whole kinds are compared
 
 
 def difference(before: Road, after: Road, within: set[Stretch] | None = None) -> Edits:
-    """Return the edits that bring a program from `before` to `after`; of some stretches, or everywhere."""
+    """Return the edits that turn `before` into `after`; only those in the stretches `within` if these are given."""
     if before is after:
         return {}
     edits: Edits = {}
@@ -39,8 +39,8 @@ def difference(before: Road, after: Road, within: set[Stretch] | None = None) ->
 
 
 def difference_like(known: tuple[Road, Road, Edits], before: Road, after: Road) -> Edits:
-    """Return the same, where the edits between two other roads are known. Only where those roads differ from these is
-    anything worked out again: so all seats that take the same operations share most of the work."""
+    """Return the edits that turn `before` into `after`, given two other roads and their edits in `known`. Only stretches where these roads
+    differ from the other two are computed, so seats that take the same operations share most of the work."""
     own = (changed_stretches(known[0], before, changed_layers(known[0], before))
            | changed_stretches(known[1], after, changed_layers(known[1], after)))
     if len(own) >= MANY:
@@ -54,7 +54,7 @@ def difference_like(known: tuple[Road, Road, Edits], before: Road, after: Road) 
 
 
 def all_edits(road: Road) -> Edits:
-    """Return all edits of a road, for a program that has none."""
+    """Return all edits of a road, which turn the road of the plan into it."""
     return difference(road.empty(), road)
 
 
@@ -67,8 +67,8 @@ def changed_layers(before: Road, after: Road) -> set[Name]:
 
 
 def changed_stretches(before: Road, after: Road, names: Iterable[Name]) -> set[Stretch]:
-    """Return where these layers are on two roads: nowhere else does anything differ. Slowing chances also decide those of cars
-    that start, at any step."""
+    """Return the stretches of these layers on two roads. The roads do not differ elsewhere if these are all changed layers. A change of a
+    slowing chance can change the slow-to-start chance of its zone at any step."""
     found: set[Stretch] = set()
     for name in names:
         some = [layer for road in (before, after) for layer in [road.layers.get(name)] if layer is not None]
@@ -79,14 +79,14 @@ def changed_stretches(before: Road, after: Road, names: Iterable[Name]) -> set[S
 
 
 def intersect(ones: Iterable[Stretch], others: Iterable[Stretch]) -> set[Stretch]:
-    """Return the stretches that two sets have in common."""
+    """Return the intersections of the stretches of two sets."""
     parts = ((kind, max(first, low), min(last, high), max(begin, since), min(end, until))
              for kind, first, last, begin, end in ones for other, low, high, since, until in others if kind == other)
     return {part for part in parts if part[1] <= part[2] and part[3] <= part[4]}
 
 
 def merge_stretches(some: set[Stretch]) -> set[Stretch]:
-    """Return few stretches as they are, and of many one for each kind, at all steps."""
+    """Return the stretches unchanged if there are few. Otherwise return one for each kind that covers all of them, at all steps."""
     if len(some) < MANY:
         return some
     kinds: dict[str, list[Stretch]] = {}
@@ -97,8 +97,8 @@ def merge_stretches(some: set[Stretch]) -> set[Stretch]:
 
 def compare_objects(before: Road, after: Road, stretch: Stretch,
              objects: AbstractSet[tuple[str, int]]) -> Iterator[tuple[int, int, dict[int, int], dict[int, int]]]:
-    """Yield neighbours on which something may differ, by layers or by the raw edits of `objects`, with their numbers before
-    and after."""
+    """Yield groups of neighbouring objects that may differ between two roads in a stretch: the first object, the last one, and the value
+    changes of each before and after. `objects` are those whose raw edits differ."""
     kind, first, last, begin, end = stretch
     wide = kind, first, last, begin - 1, end
     olds, news = before.touching(wide), after.touching(wide)
@@ -109,13 +109,14 @@ def compare_objects(before: Road, after: Road, stretch: Stretch,
         top = next((at for at, place in enumerate(here) if place in not_old or place in not_new), None)
         if (kind, low) not in objects and (top is None or all(one is not None for _, _, one in split_by_topmost(
                 (layers[place] for place in here[:top]), begin - 1, min(END, end + 1)))):
-            continue  # the same layers, or others that are covered as a whole
+            continue  # the layers are the same, or those that differ are completely covered
         yield (low, high, value_changes(before, kind, low, begin, end, (layers[place] for place in here if place not in not_old)),
                value_changes(after, kind, low, begin, end, (layers[place] for place in here if place not in not_new)))
 
 
 def single_objects(roads: Iterable[Road], kind: str, first: int, last: int) -> set[int]:
-    """Return cuts around objects that differ from their neighbours, by the plan or by raw edits."""
+    """Return the objects at which groups of neighbours must be cut, since they may differ from their neighbours by the plan or by raw
+    edits."""
     if kind != "block":
         return set(range(first, last + 1))
     return {cut for road in roads if road.raws for index in range(first, last + 1) if (kind, index) in road.raws
@@ -123,8 +124,8 @@ def single_objects(roads: Iterable[Road], kind: str, first: int, last: int) -> s
 
 
 def value_changes(road: Road, kind: str, index: int, begin: int, end: int, shapes: Iterable[Layer]) -> dict[int, int]:
-    """Return the steps from `begin` to `end` at which an object's value changes, with the new values. `shapes` are all that
-    touch it then, from the top down."""
+    """Return the steps from `begin` to `end` at which an object's value changes, with the new values. `shapes` are all shapes on the
+    object at these steps, from the top down."""
     found: dict[int, int] = {}
     plan = last = road.plan(kind, index)
     assert plan is not None
@@ -137,8 +138,8 @@ def value_changes(road: Road, kind: str, index: int, begin: int, end: int, shape
 
 
 def start_changes(road: Road, index: int) -> dict[int, int]:
-    """Return the same for cars that start, about which the plan says nothing: from the first layer's end on, if there is none,
-    they have the slowing chance of their zone at that time."""
+    """Return the steps at which the slow-to-start chance of a zone changes, with the new values. The plan has no such chance. After the
+    first layer of this kind has ended, the chance equals the slowing chance of the zone wherever no layer covers it."""
     slow = value_changes(road, "slow", index, 0, END, sort_from_top(road.touching(("slow", index, index, 0, END))))
     found: dict[int, int] = {}
     plan, last = road.plan("slow", index), None
