@@ -379,7 +379,7 @@ class Reading(unittest.TestCase):
         one = read_operation({**value, "colour": "red"})
         self.assertEqual(one.written()["colour"], "red")
         self.assertFalse(one.is_same(CLOSURE))
-        with self.assertRaisesRegex(Malformed, "more than 1000 bytes"):
+        with self.assertRaisesRegex(Malformed, "at most 1000 bytes"):
             read_operation({**value, "colour": "r" * 1_000})
 
     def test_whatever_is_changed_in_one_is_read_or_refused(self) -> None:
@@ -399,7 +399,7 @@ class Reading(unittest.TestCase):
         cases: list[dict[str, Json]] = [
             {"undoes": [2, ADA]}, {"seen": [3, ADA]}, {"heights": [[[1, ADA], [3, ADA]]]}, {"sets": [[[3, ADA], None]]}]
         for more in cases:
-            with self.assertRaisesRegex(Malformed, "older ones"):
+            with self.assertRaisesRegex(Malformed, "older operations"):
                 read_operation({"stamp": [2, ADA], **more})
 
     def test_an_operation_without_effect_is_refused(self) -> None:
