@@ -123,6 +123,20 @@ class Bounds(Case):
         self.assertIn(good.stamp, [each.stamp for each in one.lab.state.shared.places])  # the others of the message came
         self.assertEqual(first._early, {})
 
+    async def test_an_undo_that_does_something_else_is_refused(self) -> None:
+        """It would be in force and in no list; the other operations of its message are taken."""
+        here = await self.enterAsyncContext(Here(site=1, plan=SMALL))
+        site, number = Bus().site(here), 2 * 64 + 1
+        good = put((1, number), Shape("limit", 1, 1, 5, None, 1))
+        layer = Operation((2, number), {(2, number): Shape("limit", 2, 2, 5, None, 1)}, undoes=good.stamp)
+        height = Operation((3, number), heights={good.stamp: (3, number)}, undoes=good.stamp)
+        exclusion = Operation((4, number), undoes=good.stamp, excludes=(3, True))
+        message = message_of(site, layer, good, height, exclusion)
+        await site._receive(message.topic, "f", message.payload)
+        self.assertEqual([one.stamp for one in here.lab.state.shared.places], [good.stamp])
+        for one in (layer, height, exclusion):
+            self.assertIn(f"the operation {list(one.stamp)} undoes another one, so it must do nothing else", told(site))
+
     async def test_an_operation_without_an_effect_is_refused_with_a_sentence(self) -> None:
         here = await self.enterAsyncContext(Here(site=1))
         await here.join("Ada")
