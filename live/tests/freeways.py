@@ -67,7 +67,7 @@ class Freeways(Case):
         server.stop()
         (server.folder / "plan.json").write_text(json.dumps({**KM, "main": 800}), encoding="utf-8")
         server.start()
-        self.assertIn("has another plan than", server.said())
+        self.assertIn("has another road than", server.said())
 
     async def test_demand_and_clock_are_those_of_the_file(self) -> None:
         """900 cars an hour, and 600 from 7:05 on; 200 at a ramp beside them: to half a per cent, and the curve that the page asks for

@@ -313,7 +313,7 @@ class Folders(Case):
         self.assertEqual((len(token), path.stat().st_mode & 0o777), (24, 0o600))
         for short in ("", "\n", token[:15]):
             path.write_text(short)
-            with self.assertRaisesRegex(RuntimeError, "token has [0-9]+ signs.*nobody is let in"):
+            with self.assertRaisesRegex(RuntimeError, "token has [0-9]+ characters.*makes a new token"):
                 server.start()
             self.assertEqual(path.read_text(), short)
         path.unlink()
@@ -345,7 +345,7 @@ class Folders(Case):
 
     async def test_a_plan_that_is_refused_leaves_a_folder_that_can_be_used(self) -> None:
         folder = running.new_folder()
-        for plan, why in (({**SMALL, "length": 7}, "the program refuses the plan: Length"), ({"a": 1}, "refuses the plan")):
+        for plan, why in (({**SMALL, "length": 7}, r"the program refuses the plan line \(Length\)"), ({"a": 1}, "refuses the plan")):
             with self.assertRaisesRegex(RuntimeError, why):
                 running.Server(folder, plan)
             self.assertEqual(read_entries(folder / "journal.jsonl"), ([], 0))

@@ -97,7 +97,7 @@ class Shell(Case):
         said = [await self.road("cron", *words) for words in (("out", "2"), ("in", "2"), ("out", "1"))]
         self.assertEqual([status for status, _, _ in said], [0, 0, 1])
         self.assertIn("site 1 cannot exclude itself", said[2][2])
-        self.assertEqual((await self.road("cron", "tell"))[:2], (0, "all came back"))
+        self.assertEqual((await self.road("cron", "tell"))[:2], (0, "all shared changes came back from the broker"))
         self.here.kill()
         await self.road("cron", "share")
         status, _, why = await self.road("cron", "tell", PATIENCE="1")
@@ -146,7 +146,7 @@ class Shell(Case):
                 (("cron", "edit", "limt", "2", "50", "1"), 1, "use `limit`"),
                 (("cron", "edit", "limit", "2", "50"), 2, "unknown command or wrong arguments"),
                 (("cron", "edit", "limit", "2", "x", "1"), 2, "is not a whole number"),
-                (("cron", "ask", "nonsense"), 2, "expected JSON"),
+                (("cron", "ask", "nonsense"), 2, "write JSON"),
                 (("cron", "ask", '{"scenario":{"at":"cron"}}'), 1, 'here `at` must be "seat1" or "shared"'),
                 (("cron", "ask", '{"take":{"at":"shared","message":"shared"}}'), 1, 'here `at` must be "seat1"'),
                 (("cron", "ask", '{"crowd":{}}'), 1, "there is no command `crowd`"),
