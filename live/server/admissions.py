@@ -35,7 +35,7 @@ class Admissions(figures.Beside[Inflow, Curve]):
         self._kept = read_kept(self._file)
         self._lock = asyncio.Lock()
 
-    async def curve(self, asked: Inflow, path: str) -> Curve:
+    async def find_curve(self, asked: Inflow, path: str) -> Curve:
         """Return the curve of an inlet. A curve that is not known yet takes some seconds. `path` is that of road_lab."""
         key = to_json([MEASURE, asked])
         if key not in self._kept:

@@ -190,7 +190,7 @@ def compute_day(asked: figures.TwoRoads, wanted: list[list[Rates]], _pairs: list
         for road, edits in zip(roads, (asked["before"], asked["after"])):
             road.become(figures.edits_of(edits))
             road.read(window.last, math.inf)
-        both = [name_figures(figures.road_of(road, rates, window)) for road, rates in zip(roads, wanted)]
+        both = [name_figures(figures.compute_road_figures(road, rates, window)) for road, rates in zip(roads, wanted)]
         delay = compare_trips(roads[0].trips, roads[1].trips, window).delay_hours
         return Day(seed, *({HOURS: one[HOURS], LOST: one[LOST], DELAY: less, **one}
                            for one, less in zip(both, (0.0, delay))))

@@ -20,7 +20,7 @@ class Checks:
         self._reasons = Reasons()
         self._reasons.accept(plan, {"open": 1})
 
-    def operation(self, one: Operation) -> None:
+    def check_operation(self, one: Operation) -> None:
         """Raise `Refused` if an operation does not fit this plan, is larger than the limits allow, or undoes an operation and does
         something else, too. An undo is listed only in the lines of what it undoes, so the layers that it set would be in no list."""
         if one.undoes is not None and (one.names or one.excludes is not None):
@@ -32,23 +32,23 @@ class Checks:
         too_large = why_too_large(one)
         if too_large:
             raise Refused("TooManyEdits", too_large)
-        self._edit("limit", 0, 0, 0, one.stamp)
+        self._check_edit("limit", 0, 0, 0, one.stamp)
         for name, shape in one.sets.items():
             if is_raw(name):
-                self.edit(name, None if shape is None else shape.value)
+                self.check_edit(name, None if shape is None else shape.value)
             elif shape is not None:
-                self.shape(shape)
+                self.check_shape(shape)
 
-    def edit(self, name: RawName, value: int | None) -> None:
+    def check_edit(self, name: RawName, value: int | None) -> None:
         """Raise `Refused` if a raw edit does not fit this plan."""
-        self._edit(*name, value, (1, SEATS))
+        self._check_edit(*name, value, (1, SEATS))
 
-    def shape(self, shape: Shape) -> None:
+    def check_shape(self, shape: Shape) -> None:
         """Raise `Refused` if a shape covers objects that do not exist, or ends before it begins."""
         kind, first, last, begin, end, value = shape
         if first > last:
             raise Refused("NoObject", f"a shape's last {kind}, {last}, is before its first, {first}")
-        self._edit(kind, last, begin, value, (1, SEATS))
+        self._check_edit(kind, last, begin, value, (1, SEATS))
         if last - first >= MOST_OBJECTS:
             raise Refused("TooManyObjects", f"a shape can cover at most {MOST_OBJECTS} objects, not {last - first + 1}: make several "
                           "smaller shapes")
@@ -59,7 +59,7 @@ class Checks:
         if end <= begin:
             raise Refused("Range", f"a shape must end after step {begin}, where it begins, not at {end}")
 
-    def _edit(self, kind: str, index: int, step: int, value: int | None, stamp: Stamp) -> None:
+    def _check_edit(self, kind: str, index: int, step: int, value: int | None, stamp: Stamp) -> None:
         if kind not in KINDS:
             raise Refused("not a command", f"there is no kind {kind!r}: use one of {', '.join(sorted(KINDS))}")
         fault = self._reasons.edit_fault((kind, index, step, *stamp, value))

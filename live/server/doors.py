@@ -93,7 +93,7 @@ class Doors:
         while True:
             self._come.clear()
             while self._waiting:
-                await self._pace()
+                await self._wait_to_enter()
                 address, queue = self._waiting.popitem(last=False)
                 connection = queue.popleft()
                 if queue:
@@ -101,7 +101,7 @@ class Doors:
                 self._enter(connection, address)
             await self._come.wait()
 
-    async def _pace(self) -> None:
+    async def _wait_to_enter(self) -> None:
         """Wait until one more connection may enter."""
         now = time.monotonic()
         self._left = min(ENTRY_BURST, self._left + ENTRIES_PER_SECOND * (now - self._at)) - 1

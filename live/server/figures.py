@@ -70,7 +70,7 @@ FiguresTold = TypedDict("FiguresTold", {
 
 
 @contextlib.asynccontextmanager
-async def alone(index: int) -> AsyncIterator[None]:
+async def wait_for_slot(index: int) -> AsyncIterator[None]:
     """Wait until no other road is simulated besides the laboratory's. Raise `Refused` if the seat waits already, or too many wait."""
     if index in WAITING or len(WAITING) >= MOST_WAITING:
         raise Refused("Busy", "the server is simulating other roads for figures or files: try again later")
@@ -128,10 +128,10 @@ class Figures(Beside[FiguresAsked, FiguresTold]):
     def __init__(self) -> None:
         super().__init__(__name__)
 
-    async def of(self, index: int, roads: TwoRoads, slots: Sequence[str]) -> FiguresTold:
+    async def compute(self, index: int, roads: TwoRoads, slots: Sequence[str]) -> FiguresTold:
         """Return the figures that a seat asks for. Raise `Refused` if they take too long, or others are waiting for theirs."""
         until = time.monotonic() + PATIENCE
-        async with alone(index):
+        async with wait_for_slot(index):
             while True:
                 said = await self.ask({"roads": roads, "slots": slots, "seconds": REPORT_EVERY}, roads["program"])
                 if "done" not in said:
@@ -228,7 +228,7 @@ def travel_times(times: Sequence[TravelTime]) -> Times:
     return [[one.cars, one.mean] for one in times]
 
 
-def road_of(road: DrivenRoad, wanted: list[Rates], window: Window) -> RoadFigures:
+def compute_road_figures(road: DrivenRoad, wanted: list[Rates], window: Window) -> RoadFigures:
     """Return the figures of a road in a window; `wanted` is the demand of each inlet."""
     from zegdrut.lost import compute_supplies
     from zegdrut.trips import compute_travel_times, compute_travel_times_by_entry, compute_vehicle_hours, count_admitted_cars
@@ -281,7 +281,7 @@ class Roads:
         if done < window.last:
             return {"done": done}
         asked_for = both["demands"]["before"], both["demands"]["after"]
-        sides = [road_of(road, road.demands(window.last, one), window) for road, one in zip(roads, asked_for)]
+        sides = [compute_road_figures(road, road.demands(window.last, one), window) for road, one in zip(roads, asked_for)]
         return compare_figures(roads[0].trips, roads[1].trips, sides, window)
 
 

@@ -47,7 +47,7 @@ class Floods:
         self._left[sender] = left - WORK * seconds, when
         drop_oldest(self._left)
 
-    def paused(self) -> list[str]:
+    def ignored_senders(self) -> list[str]:
         """Return the senders that are ignored now."""
         now = self._clock()
         return [sender for sender, until in list(self._until.items()) if now < until]

@@ -53,7 +53,7 @@ def lock(folder: Path) -> Iterator[None]:
             if not is_read_only(fault):
                 raise
         else:
-            hold(file.fileno(), folder)
+            lock_file(file.fileno(), folder)
         with contextlib.suppress(FileNotFoundError):
             os.close(open_locked(folder / JOURNAL))  # only a test: `Journal` locks it again
         yield
@@ -63,7 +63,7 @@ def open_locked(path: Path) -> int:
     """Open a journal and lock it until the file is closed. Raise `CannotStart` if another server has locked it."""
     file = os.open(path, os.O_RDONLY)
     try:
-        hold(file, path.parent)
+        lock_file(file, path.parent)
         if os.fstat(file).st_ino != os.stat(path).st_ino:  # another server has replaced the file in the meantime
             raise CannotStart(f"another server was running in {path.parent} until a moment ago: try again")
     except BaseException:
@@ -72,7 +72,7 @@ def open_locked(path: Path) -> int:
     return file
 
 
-def hold(file: int, folder: Path) -> None:
+def lock_file(file: int, folder: Path) -> None:
     try:
         fcntl.flock(file, fcntl.LOCK_EX | fcntl.LOCK_NB)
     except BlockingIOError:

@@ -20,7 +20,7 @@ from .model.choices import find_overruling, sendable, find_undoable, would_chang
 from .model.demands import kept_demand, written_demand
 from .model.operations import (About, Json, Operation, RawName, Shape, Stamp, edit, exclude, sort_by_stamp, lift, put, restamp,
                                undo)
-from .model.road import Road, change, repeat, stands
+from .model.road import Road, change, repeat, is_standing
 from .records import Bound, Came, CameBack, Made, Share, StampedAnew, Take, Works
 from .refusals import Refused
 from .screen import first_step
@@ -86,7 +86,7 @@ class Lab:
             if self.keeper.journal.fault is not None:
                 continue
             rounds += 1
-            self.timing.keep()
+            self.timing.save()
             if rounds % 10 == 0 or settings.day < 60:
                 self.seating.free_unused()
             if self.keeper.journal.size > size:
@@ -99,7 +99,7 @@ class Lab:
                         is_planned: bool = False) -> Reply:
         """Put a shape on top of all. `demand` is what an inflow chance stands for, in cars per hour; it `is_planned` if it is the demand
         of the road's file."""
-        self._checks.shape(shape)
+        self._checks.check_shape(shape)
         more = written_demand(demand, is_planned)
         return await self._make(index, key, note, times, lambda seat, stamp, about: put(stamp, shape, add_fields(about, more)))
 
@@ -107,7 +107,7 @@ class Lab:
                           top: bool, demand: float | None = None) -> Reply:
         """Change the shape of a line, or withdraw the line if `shape` is None. It keeps its height unless `top` is true."""
         if shape is not None:
-            self._checks.shape(shape)
+            self._checks.check_shape(shape)
 
         def make_operation(seat: SeatReplica, stamp: Stamp, about: About) -> Operation:
             changed = self._find_line(seat, line)
@@ -125,7 +125,7 @@ class Lab:
         """Put raw edits. `shape` is only shown, and has no effect."""
         values: dict[RawName, int | None] = {(kind, thing, step): value for kind, thing, step, value in edits}
         for name, value in values.items():
-            self._checks.edit(name, value)
+            self._checks.check_edit(name, value)
         return await self._make(index, key, note, times, lambda seat, stamp, about: edit(
             stamp, values, About(about.who, about.note, about.when, shape)))
 
@@ -162,7 +162,7 @@ class Lab:
     def _find_line(self, seat: SeatReplica, called: Called) -> Stamp:
         """Return the name of a line of the seat's list. `called` is that name, or an operation that changed the line."""
         line = self._find_stamp(seat, called)
-        if not stands(seat.road, line) and not seat.road.setters_of(line):
+        if not is_standing(seat.road, line) and not seat.road.setters_of(line):
             held = self.state.held_by(seat, line)
             if not held:
                 raise Refused("NoSuchChange", f"this seat holds no change with the name {list(line)}: take what others shared, if it is theirs")
@@ -363,7 +363,7 @@ class Lab:
 
     def check(self, one: Operation) -> None:
         """Raise `Refused` if an operation, of a seat or of another site, is not one that every site takes."""
-        self._checks.operation(one)
+        self._checks.check_operation(one)
 
     async def bind(self, number: int, folder: str) -> None:
         """Bind a site's number to a folder, in the journal."""

@@ -8,7 +8,7 @@ from typing import AbstractSet, Sequence, TypedDict
 from .model.changes import operations_on
 from .model.demands import demand_of, is_planned, stated_demand
 from .model.operations import Name, Operation, Shape, Stamp, is_line, is_raw
-from .model.road import Road, parts_of, stands
+from .model.road import Road, parts_of, is_standing
 from .model.seen import Rectangle, find_overruled, visible_rectangles
 from .state import Replica, SeatReplica, State
 
@@ -66,7 +66,7 @@ class Lister:
 
     def _is_standing(self, line: Stamp, done: list[Operation]) -> bool:
         excludes = self._excluded_by(done)
-        return excludes in self._road.record.excluded if excludes is not None else stands(self._road, line)
+        return excludes in self._road.record.excluded if excludes is not None else is_standing(self._road, line)
 
     def _excluded_by(self, done: list[Operation]) -> int | None:
         """Return the site that a line excludes; None if it excludes none."""

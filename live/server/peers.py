@@ -63,7 +63,7 @@ class Peers:
         self._clocks[folder] = (now, ahead) if ahead <= least or now - before > RECENT else (before, least)
         drop_oldest(self._clocks)
 
-    def ahead(self) -> float:
+    def seconds_ahead(self) -> float:
         """Return the seconds that this server's clock is ahead of all sites that were heard in the last minute; 0 if it is not much."""
         begin = time.monotonic() - RECENT
         least = min((ahead for when, ahead in [*self._clocks.values()] if when >= begin), default=0.0)
@@ -148,8 +148,8 @@ class Peers:
 
     def own_state(self) -> Iterator[str]:
         """Yield sentences that say what is wrong with this site's clock and number."""
-        if self.ahead():
-            yield (f"This server's clock is {self.ahead() / 60:.0f} minutes ahead of all other sites': correct it. Until then "
+        if self.seconds_ahead():
+            yield (f"This server's clock is {self.seconds_ahead() / 60:.0f} minutes ahead of all other sites': correct it. Until then "
                    f"changes made here are stamped by the others' clocks")
         number = self._keeper.state.site
         if self.is_anothers():

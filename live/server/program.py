@@ -95,7 +95,7 @@ class Program:
 
     def _look(self, before: object, idle: int) -> None:
         """While the program owes an answer, look at intervals whether it does anything. End it if it hangs."""
-        now = self._done()
+        now = self._find_progress()
         idle = idle + 1 if now == before else 0
         if idle >= LOOKS:
             self._fault = f"the program did not answer and used no processor time for {IDLE_PATIENCE:g} seconds"
@@ -103,7 +103,7 @@ class Program:
         else:
             self._watch = asyncio.get_running_loop().call_later(IDLE_PATIENCE / LOOKS, self._look, now, idle)
 
-    def _done(self) -> object:
+    def _find_progress(self) -> object:
         """Return a value that changes when the program has done something."""
         try:
             said = Path(f"/proc/{self._process.pid}/stat").read_text(encoding="ascii", errors="replace")

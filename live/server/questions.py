@@ -90,10 +90,10 @@ class Questions:
 
     async def advance(self, road: AskedRoad, to: int) -> Reply:
         """Simulate a road up to a step, which may be some hours ahead of the clock."""
-        self._reaches(to)
+        self._require_reachable(to)
         return {"horizon": await road.advance(to)}
 
-    def _reaches(self, to: int) -> None:
+    def _require_reachable(self, to: int) -> None:
         """Raise `Refused` if a road would run further than the clock may be set."""
         now = self._keeper.now()
         if to > LAST_HORIZON:
@@ -255,7 +255,7 @@ class Questions:
         limit, slowing = plan["zones"][cell // plan["zone"]]
         beside = sorted((plan["inlets"][one][0], chance_of) for one, chance_of in before if chance_of)
         entry = find_entry(plan, cell) if beside else 0
-        return await self._admissions.curve({"limit": limit, "slowing": slowing, "start": start, "entry": entry, "cell": cell if beside else 0,
+        return await self._admissions.find_curve({"limit": limit, "slowing": slowing, "start": start, "entry": entry, "cell": cell if beside else 0,
                                              "before": beside}, self._keeper.path)
 
     # What would be
@@ -314,15 +314,15 @@ class Questions:
 
     async def figures(self, index: int, own: Replica, of: str, first: int, last: int) -> Reply:
         """Return the figures of two roads: of the preview if `of` is "preview", else of the shared road and the seat's own."""
-        roads = await self._both(index, own, of, first, last)
+        roads = await self._find_both_roads(index, own, of, first, last)
         slots = [f"{index} before", f"{index} after"] if of == "preview" else ["shared", f"{index} own"]
-        return {"from": first, "to": last, **await self._figures.of(index, roads, slots)}
+        return {"from": first, "to": last, **await self._figures.compute(index, roads, slots)}
 
-    async def _both(self, index: int, own: Replica, of: str, first: int, last: int) -> TwoRoads:
+    async def _find_both_roads(self, index: int, own: Replica, of: str, first: int, last: int) -> TwoRoads:
         """Return two roads and a window, for a program that simulates them."""
         if first >= last:
             raise Refused("Range", f"`from` {first} must be below `to` {last}")
-        self._reaches(last)
+        self._require_reachable(last)
         state = self._keeper.state
 
         async def body() -> tuple[dict[str, Sequence[WrittenEdit]], TwoDemands]:
@@ -355,7 +355,7 @@ class Questions:
                           "this day")
         question = self._chance.begin(index, days, lambda other: self._keeper.state.seats[other].name)
         try:
-            roads = await self._both(index, own, of, first, last)
+            roads = await self._find_both_roads(index, own, of, first, last)
             said = await question.answer(roads, lambda: listeners.days.notify(index, question.done, question.days))
         finally:
             self._chance.end(question)
@@ -367,10 +367,10 @@ class Questions:
         """Return a piece of a transcript for the viewer. Piece 0 makes the transcript."""
         if first > last:
             raise Refused("Range", f"`from` {first} is above `to` {last}")
-        self._reaches(last)
+        self._require_reachable(last)
         if piece == 0:
             self._saved.make_room(index)
-            async with figures.alone(index):
+            async with figures.wait_for_slot(index):
                 name = self._keeper.state.seats[replica.index].name or replica.at
                 lines = saving.script(self._keeper.state.plan, name, rows_of(await self._timeline(replica.road)), first, last)
                 self._saved.put(index, await saving.transcript(self._keeper.path, self._keeper.state.plan, lines))
@@ -379,11 +379,11 @@ class Questions:
 
     async def report(self, index: int, own: Replica, of: str, first: int, last: int, title: str, works: list[str]) -> Reply:
         """Return the report on two roads: of the preview if `of` is "preview", else of the shared road and the seat's own."""
-        roads = await self._both(index, own, of, first, last)
+        roads = await self._find_both_roads(index, own, of, first, last)
         day, seat = clock_of(self._keeper.folder), self._keeper.state.seats[index]
         names = ["before", "after"] if of == "preview" else ["shared", seat.name or seat.at]
         clock = () if day is None else (day.to_text(0), *(None if one is None else str(one) for one in (day.date, day.zone)))
-        html = await reports.make(index, {"roads": roads, "title": title, "works": works, "names": names, "clock": clock,
+        html = await reports.make_report(index, {"roads": roads, "title": title, "works": works, "names": names, "clock": clock,
                                           "days": reports.DAYS})
         return {"from": first, "to": last, "html": html}
 

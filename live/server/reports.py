@@ -30,9 +30,9 @@ ReportAsked = TypedDict("ReportAsked", {
 """Two roads and their names, sentences about the change, the begin, date and time zone of the road's file, and the number of days."""
 
 
-async def make(index: int, asked: ReportAsked) -> str:
+async def make_report(index: int, asked: ReportAsked) -> str:
     """Return the report that a seat asks for, as HTML. Raise `Refused` if it takes too long, or others are waiting for theirs."""
-    async with figures.alone(index):
+    async with figures.wait_for_slot(index):
         process = await asyncio.create_subprocess_exec(
             *figures.command_at_low_priority(__name__, NICE), stdin=asyncio.subprocess.PIPE, stdout=asyncio.subprocess.PIPE, 
             env=figures.environment(asked["roads"]["program"]), start_new_session=True, cwd=LIVE)
@@ -141,7 +141,7 @@ def demand_text(rates: Rates, clock: Clock, last: int) -> str:
     return ", ".join(f"{rate:,} from {clock.to_text(step)}" for step, rate in dates) + " cars/h"
 
 
-def page(asked: ReportAsked) -> str:
+def make_page(asked: ReportAsked) -> str:
     """Return the report as HTML."""
     from zegdrut.clock import Clock
     from zegdrut.report import make_table, run_sides
@@ -162,7 +162,7 @@ def page(asked: ReportAsked) -> str:
 def main() -> None:
     """Print the report that standard input asks for."""
     figures.leave_one_free()
-    sys.stdout.write(page(json.load(sys.stdin)))
+    sys.stdout.write(make_page(json.load(sys.stdin)))
 
 
 if __name__ == "__main__":

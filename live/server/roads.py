@@ -89,7 +89,7 @@ class Preview:
     async def prepare_program(self, side: str) -> Program:
         """Return its program, when that has the edits of a side and has simulated it as far as it shall."""
         self.used = time.monotonic()
-        program = self._program or await self._started()
+        program = self._program or await self._start_program()
         lines = [to_json(line).encode() for line in import_lines(side, self.edits[side])]
         if lines and not self._fed[side]:
             await program.ask_all(lines)
@@ -98,7 +98,7 @@ class Preview:
             await asyncio.sleep(0)
         return program
 
-    async def _started(self) -> Program:
+    async def _start_program(self) -> Program:
         """Start its program. Raise `ProgramExited` if the preview was dropped in the meantime."""
         if self._is_over:
             raise ProgramExited(LET_GO)

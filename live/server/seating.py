@@ -59,16 +59,16 @@ class Seating:
 
     # Lists
 
-    def seats(self) -> list[ListedSeat]:
+    def list_seats(self) -> list[ListedSeat]:
         """Return the seats that somebody has."""
         return [{"seat": seat.index, "at": seat.at, "name": seat.name, "here": seat.index in self._keeper.connected,
                  "private": len(seat.shareable())} for seat in self._state.seats[1:] if seat.key]
 
-    async def seats_kept(self, turn: int | None = None) -> list[ListedSeat]:
+    async def list_saved_seats(self, turn: int | None = None) -> list[ListedSeat]:
         """Return the seats that somebody has, when they are on the disk; in the turn of a seat if `turn` is given. If the disk does not
         answer, return the last list that was on the disk."""
         async def look() -> list[ListedSeat]:
-            return self.seats()
+            return self.list_seats()
 
         async def in_turn() -> list[ListedSeat]:
             return await (look() if turn is None else self._keeper.ask(turn, (), look))
@@ -131,7 +131,7 @@ class Seating:
         return next((seat.name for seat in self._state.seats if seat.key and fold_look_alikes(seat.name) == fold_look_alikes(name)), None)
 
     def _refuse_with_seats(self, text: str, why: str) -> Refused:
-        return Refused(text, why, seats=self.seats())
+        return Refused(text, why, seats=self.list_seats())
 
     async def _give(self, index: int, name: str, upto: int = 0, key: str = "") -> tuple[int, str]:
         key = key or secrets.token_urlsafe(12)
@@ -196,7 +196,7 @@ class Seating:
     def free_unused(self) -> None:
         """Free the seats that nobody has used for a day and that have no private changes. Write down at intervals which seats are used,
         so that this is known after a kill. Do nothing for an hour after a start or a jump of the clock."""
-        if not self.steady.is_so():
+        if not self.steady.is_steady():
             return
         now, day = time.time(), self._keeper.settings.day
         for seat in [one for one in self._state.seats[1:] if one.key]:
@@ -218,7 +218,7 @@ class SteadyClock:
         self._patience, self._wall, self._passed = patience, wall, passed
         self._offset, self._since = wall() - passed(), passed()
 
-    def is_so(self) -> bool:
+    def is_steady(self) -> bool:
         """Return whether the clock has run without a jump for long enough. Must be called at intervals."""
         offset, now = self._wall() - self._passed(), self._passed()
         if abs(offset - self._offset) > JUMP:

@@ -21,7 +21,7 @@ class Settings:
     milliseconds: int | None = None  # a constant clock for stamps, in milliseconds since 1970
 
     @classmethod
-    def of(cls, environment: Mapping[str, str] = os.environ) -> Settings:
+    def read(cls, environment: Mapping[str, str] = os.environ) -> Settings:
         given = {one.name: environment.get(f"LIVE_{one.name.upper()}") or None for one in fields(cls)}
         kinds = {"float": float, "int": int, "int | None": int}
         return cls(**{one.name: kinds[str(one.type)](given[one.name]) for one in fields(cls)

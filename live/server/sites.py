@@ -71,7 +71,7 @@ class Sites:
         self._seal = Seal(self._id, key_of(options.site_key) if options.site_key else None, lab.keeper.folder / "seen.json")
         self._connected = False
         self._peers = Peers(lab, self._run, self._road, self._say, lambda: self._tell())
-        self._keeper.stamps.follow(self._peers.ahead)
+        self._keeper.stamps.follow(self._peers.seconds_ahead)
         self._told: Deque[str] = collections.deque(maxlen=TOLD)
         self._sent: dict[Operation, tuple[float, float]] = {}  # when it was sent last, and the seconds until it is sent again
         self._sums: dict[str, tuple[str, str]] = {}  # by folder: its latest hash, and this site's hash at that time
@@ -122,7 +122,7 @@ class Sites:
         yield from self._peers.own_state()
         if self._seal.key is None:
             yield "Anybody who can connect to the broker can send changes: start all sites with --site-key"
-        for folder in self._floods.paused():
+        for folder in self._floods.ignored_senders():
             yield f"{SENDERS.get(folder) or self._peers.describe_site(folder)} sends too many messages: they are ignored for {FLOOD:.0f} seconds"
         if self._early:
             yield f"{len(self._early)} changes are stamped more than a day ahead of this server's clock: they take effect when that day comes"
@@ -178,7 +178,7 @@ class Sites:
     def _sender(self, folder: str) -> str:
         """Return the sender as which a folder's messages are counted. All folders that were not heard before are one sender, since
         anybody could invent many."""
-        is_known = folder == self._id or self._peers.has_heard(folder) or folder in self._floods.paused()
+        is_known = folder == self._id or self._peers.has_heard(folder) or folder in self._floods.ignored_senders()
         return folder if is_known else STRANGERS
 
     def _is_connected(self, code: int | None) -> None:
@@ -238,7 +238,7 @@ class Sites:
         """Return the operations that are on the disk and that the broker has not returned."""
         return [one for one in self._keeper.state.unsent if self._keeper.is_confirmed(one)]
 
-    def shared(self) -> None:
+    def send_shared(self) -> None:
         """Send what was shared at this site."""
         self._send_unreturned()
 
@@ -268,12 +268,12 @@ class Sites:
         unsent = self._keeper.state.unsent
         self._sent = {one: when for one, when in self._sent.items() if one in unsent}
         if self._peers.may_send():
-            numbers = self._numbers()
+            numbers = self._hash_numbers()
             self._publish(f"road/{self._road}/sum", {"form": SITE_FORM, "sum": numbers[TOTAL], "numbers": numbers,
-                                                     "timeline": await self._timeline()}, 0)
+                                                     "timeline": await self._hash_road()}, 0)
         self._tell()
 
-    async def _timeline(self) -> str:
+    async def _hash_road(self) -> str:
         """Return a hash of the values in force on the shared road. If it differs between sites with the same operations, their servers
         have different rules."""
         road = self._keeper.road(SHARED)
@@ -282,7 +282,7 @@ class Sites:
             self._hashed = road, await self._loop.run_in_executor(None, hash_of, edits)
         return self._hashed[1]
 
-    def _numbers(self) -> dict[str, str]:
+    def _hash_numbers(self) -> dict[str, str]:
         """Return a hash of the operations of each number in stamps, so that a site sends only those that may be missing; and a hash of
         all operations."""
         state = self._keeper.state
@@ -308,9 +308,9 @@ class Sites:
             else:
                 await self._receive_operations(folder, value)
         except (InvalidMessage, Refused) as fault:
-            self._say_left_out(fault)
+            self._report_ignored(fault)
 
-    def _say_left_out(self, fault: InvalidMessage | Refused) -> None:
+    def _report_ignored(self, fault: InvalidMessage | Refused) -> None:
         self._say(f"A message from the broker was ignored: {fault.why if isinstance(fault, Refused) else fault}")
 
     async def _receive_announcement(self, folder: str, value: Mapping[str, Json]) -> None:
@@ -336,7 +336,7 @@ class Sites:
             await self._take(folder, due[begin:begin + OPERATIONS_AT_ONCE], title)
         early = [one for one in good if one.stamp[0] > latest]
         for one in early:
-            self._wait(one)
+            self._keep_early(one)
         if early:
             raise FutureStamp(early[0])
 
@@ -361,7 +361,7 @@ class Sites:
         self._lab.check(one)
         return one
 
-    def _wait(self, one: Operation) -> None:
+    def _keep_early(self, one: Operation) -> None:
         """Let an early operation wait, once, however often it comes. If too many wait, drop the oldest; they will be sent again."""
         self._early[hashlib.sha256(one.text().encode()).hexdigest()] = one
         while len(self._early) > MOST_EARLY or sum(len(each.text()) for each in self._early.values()) > LONGEST_EARLY:
@@ -373,14 +373,14 @@ class Sites:
         if folder != self._id:
             self._floods.add_work(self._sender(folder), times.get("work", 0))
         for one in operations:
-            self._tell_if_twice(one)
+            self._report_twins(one)
         unsent = self._keeper.state.unsent
         back = [one.stamp for one in map(self._keeper.state.intern, operations) if one in unsent]
         if back:
             await self._lab.acknowledge(back)
             self._tell()
 
-    def _tell_if_twice(self, one: Operation) -> None:
+    def _report_twins(self, one: Operation) -> None:
         """Report operations with the same stamp. All of them are held, and all sites have the same road in spite of them."""
         twins = self._keeper.state.of_stamp(one.stamp)
         if len(twins) > 1:
@@ -396,26 +396,26 @@ class Sites:
             if due:
                 await self._take(self._id, list(due.values()), "")
         except (InvalidMessage, Refused) as fault:
-            self._say_left_out(fault)
+            self._report_ignored(fault)
 
     async def _receive_hash(self, folder: str, value: Mapping[str, Json]) -> None:
         folder, theirs, numbers = sum_of(folder, value)
         if folder == self._id or not self._peers.may_send() or form_of(value) != SITE_FORM:
             return
-        ours = self._numbers()[TOTAL]
+        ours = self._hash_numbers()[TOTAL]
         pair_now = theirs, ours
         before = self._sums.pop(folder, None)
         self._sums[folder] = pair_now
         drop_oldest(self._sums)
         if theirs == ours:
             self._pauses.pop(folder, None)
-            if value.get("timeline") != await self._timeline() and self._numbers()[TOTAL] == ours:
+            if value.get("timeline") != await self._hash_road() and self._hash_numbers()[TOTAL] == ours:
                 self._say(f"{self._peers.describe_site(folder)} has the same changes but computes a different road from them: its server "
                           f"has a different version. Update the older of the two")
         elif before == pair_now or folder in self._pauses and self._pauses[folder].place:
-            self._tell_what_may_lack(folder, numbers, ours)
+            self._send_missing(folder, numbers, ours)
 
-    def _tell_what_may_lack(self, folder: str, numbers: dict[str, str], held: str) -> None:
+    def _send_missing(self, folder: str, numbers: dict[str, str], held: str) -> None:
         """Send a folder a piece of the operations that it may lack. The next piece follows at its next announcement. After the last piece,
         begin again after a pause, which grows each time."""
         now = time.monotonic()
@@ -424,7 +424,7 @@ class Sites:
         if not place and now < last.told + pause:
             self._pauses[folder] = last
             return
-        own = self._numbers()
+        own = self._hash_numbers()
         other = {number for number, found in own.items() if numbers.get(number) != found}
         lacking = sorted((one for one in self._keeper.state.shared.operations(0, self._keeper.confirmed)
                           if str(one.stamp[1]) in other), key=lambda one: one.stamp)

@@ -72,7 +72,7 @@ class Tab:
 
     async def serve(self) -> None:
         """Read and write frames until the tab goes or is disconnected."""
-        self._tasks = [asyncio.create_task(part) for part in (self._reader(), self._writer(), self._require_hello())]
+        self._tasks = [asyncio.create_task(part) for part in (self._read_frames(), self._write_frames(), self._require_hello())]
         try:
             await asyncio.wait(self._tasks[:2], return_when=asyncio.FIRST_COMPLETED)
         finally:
@@ -111,7 +111,7 @@ class Tab:
         if self.index is None and not self._is_entering:
             self.disconnect(1008, "no hello")
 
-    async def _writer(self) -> None:
+    async def _write_frames(self) -> None:
         while True:
             await self._wake.wait()
             self._wake.clear()
@@ -127,17 +127,17 @@ class Tab:
                 except (ConnectionError, RuntimeError):
                     return
 
-    async def _reader(self) -> None:
+    async def _read_frames(self) -> None:
         async for message in self._socket:
             if message.type != WSMsgType.TEXT:
                 self.close_reason = 1003, "frames are text"
                 return
-            await self._line(message.data)
+            await self._handle_frame(message.data)
             while len(self._replies) > WAITING:  # do not read from a tab that does not read
                 self._read.clear()
                 await self._read.wait()
 
-    async def _line(self, text: str) -> None:
+    async def _handle_frame(self, text: str) -> None:
         came = time.perf_counter()
         try:
             number, verb, fields = parse_frame(text)
@@ -414,7 +414,7 @@ class Tabs:
 
     async def seats(self) -> list[ListedSeat]:
         """Return the seats that somebody has, once they are on the disk."""
-        return await self.lab.seating.seats_kept()
+        return await self.lab.seating.list_saved_seats()
 
     def _news(self, touched: int | None) -> None:
         for tab in self._all:

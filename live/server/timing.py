@@ -50,7 +50,7 @@ class Timing:
         done.add_done_callback(self._waiting.discard)
         return done
 
-    def keep(self) -> None:
+    def save(self) -> None:
         """Save the present step if the clock has run on; keep the fraction of a step. Stop a fast clock at its end."""
         keeper = self._keeper
         clock, before = keeper.clock(), keeper.state.now

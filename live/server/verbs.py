@@ -134,7 +134,7 @@ def require_shared(asked: CommandFields, field: str) -> None:
 # Commands without a road
 
 async def seats(call: Call) -> Reply:
-    return {"seats": await call.lab.seating.seats_kept(call.index)}
+    return {"seats": await call.lab.seating.list_saved_seats(call.index)}
 
 
 def clock(asked: CommandFields) -> Does:

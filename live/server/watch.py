@@ -57,13 +57,13 @@ class Watch:
                 self._piece = None
                 took = clock() - began
                 if took > longest:
-                    self._tell(took, callback)
+                    self._report(took, callback)
                 self._seen = []
         self._measured = measured
         setattr(asyncio.Handle, "_run", measured)
         self._looker.start()
 
-    def _tell(self, took: float, callback: object) -> None:
+    def _report(self, took: float, callback: object) -> None:
         where = max(self._seen, key=self._seen.count, default=describe_callback(callback))
         self._told(f"{SAID} for a piece of work of {took:.2f} s: {where}")
 

@@ -84,7 +84,7 @@ class Here:
         self.keys: dict[int, str] = {}
 
     async def __aenter__(self) -> Here:
-        self.keeper = Keeper(self.folder, str(program()), Settings.of())
+        self.keeper = Keeper(self.folder, str(program()), Settings.read())
         self.lab = Lab(self.keeper)
         self.questions = Questions(self.lab)
         self.heard: list[Any] = []
@@ -161,7 +161,7 @@ class Bus:
         with mock.patch.object(Sites, "_new_client", lambda _: self):
             site = Sites(here.lab, lambda: None, options)
         site._loop, site._connected = asyncio.get_running_loop(), True
-        here.keeper.listeners.shared.on(lambda touched: site.shared())
+        here.keeper.listeners.shared.on(lambda touched: site.send_shared())
         self.sites.append(site)
         return site
 

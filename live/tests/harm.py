@@ -99,7 +99,7 @@ class Bounds(Case):
                 now[0] += seconds
         self.assertEqual(one.lab.state.shared.size, 4)
         self.assertIn("Site 2 sends too many messages: they are ignored for 30 seconds", " ".join(first.state()["stays"]))
-        self.assertEqual(second._floods.paused(), [])  # not by its own
+        self.assertEqual(second._floods.ignored_senders(), [])  # not by its own
 
     async def test_every_site_accepts_exactly_the_operations_that_a_tab_may_make(self) -> None:
         """One gate for all: a closure of 600 cells in raw edits, and the drag of its end, which withdraws them all."""
@@ -227,9 +227,9 @@ class Bounds(Case):
         bus = Bus()
         here = await self.enterAsyncContext(Here(site=1))
         site = bus.site(here)
-        numbers_here = site._numbers()
+        numbers_here = site._hash_numbers()
         body = json.dumps({"folder": "f", "form": 3, "sum": numbers_here["all"], "numbers": numbers_here,
-                           "timeline": await site._timeline()}).encode()
+                           "timeline": await site._hash_road()}).encode()
         await site._receive(f"road/{site._road}/sum", "f", body)
         self.assertNotIn("another road", told(site))
         await site._receive(f"road/{site._road}/sum", "f", body.replace(b'"timeline": "', b'"timeline": "x'))

@@ -11,7 +11,7 @@ from server.model import changes, choices, seen
 from server.model.operations import About, Json, Operation, Shape, Stamp, edit, exclude, lift, put, undo
 from server.model.projection import difference, all_edits
 from server.model.reading import Malformed, read_operation
-from server.model.road import Road, change, repeat, stands
+from server.model.road import Road, change, repeat, is_standing
 
 ADA, BEN, CLEO = 65, 129, 193
 SHAPE, LONGER, WIDE = Shape("block", 2, 4, 5, 15, 1), Shape("block", 2, 4, 5, 25, 1), Shape("block", 1, 6, 5, 15, 1)
@@ -267,7 +267,7 @@ class Raw(unittest.TestCase):
         adas, bens = (change(self.base, (2, number), self.line, None) for number in (ADA, BEN))
         road = in_every_order([self.edits, adas, bens])
         self.assertEqual(changes.operations_on(road, self.line), [self.edits, adas, bens])
-        self.assertFalse(stands(road, self.line))
+        self.assertFalse(is_standing(road, self.line))
 
     def test_a_withdrawal_of_one_step_belongs_to_the_line_of_what_it_withdraws(self) -> None:
         one = edit((2, BEN), {("block", 3, 5): None})
@@ -285,7 +285,7 @@ class Raw(unittest.TestCase):
         """Others' raw edits have replaced all of it: a change puts a shape on top, and *put on top* changes nothing."""
         others = edit((2, BEN), {**self.VALUES})
         road = self.base.adding([others])
-        self.assertFalse(stands(road, self.line))
+        self.assertFalse(is_standing(road, self.line))
         self.assertEqual(road.adding([lift((3, ADA), self.line)]).layers, road.layers)
         changed = road.adding([change(road, (3, ADA), self.line, WIDE)])
         self.assertEqual(changed.layers[self.line].height, (3, ADA))

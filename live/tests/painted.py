@@ -16,7 +16,7 @@ from running import ALL
 from server.model import changes, choices, projection, seen
 from server.model.operations import About, Operation, Shape, Stamp, edit, exclude, is_raw, lift, put, undo
 from server.model.reading import read_operation
-from server.model.road import Road, change, stands
+from server.model.road import Road, change, is_standing
 
 STEPS, LAST = 30, 43
 THERE = {"block": 10, "limit": 6, "slow": 6, "start": 6, "inflow": 4, "watch": 3}
@@ -67,7 +67,7 @@ class Replica:
 def entry(road: Road, line: Stamp) -> Any:
     """Return what a line of the list shows."""
     losses = seen.find_overruled(road, line)
-    return {"shown": seen.visible_rectangles(road, line), "standing": stands(road, line), "operations": [
+    return {"shown": seen.visible_rectangles(road, line), "standing": is_standing(road, line), "operations": [
         (one.text(), road.record.counts(one), losses[one].stamp if one in losses else None)
         for one in changes.operations_on(road, line)]}
 

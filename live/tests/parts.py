@@ -48,7 +48,7 @@ class Parts(Case):
     async def test_the_task_that_keeps_the_clock_goes_on(self) -> None:
         """So do compaction and the freeing of seats."""
         call = failing_once(lambda lab: None)
-        with mock.patch.object(Timing, "keep", call):
+        with mock.patch.object(Timing, "save", call):
             here = await self.enterAsyncContext(Here())
             await self.ends(here, call, "the task that saves the clock, frees seats and shortens the journal")
 

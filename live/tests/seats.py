@@ -158,7 +158,7 @@ class Seats(Case):
             before = keeper.now()
             for _ in range(int(seconds)):
                 self.time += 1
-                lab.timing.keep()
+                lab.timing.save()
                 await keeper.journal.wait_until_written()
                 await asyncio.sleep(0)
             return keeper.now() - before

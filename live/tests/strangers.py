@@ -269,7 +269,7 @@ class Strangers(Case):
         restored, fourth = await self.here(1, one.folder)
         await self.bus.rounds(3)
         self.assertEqual((restored.lab.state.shared.size, len(restored.lab.state.seats[1].own)), (1, 1))
-        self.assertEqual(fourth._numbers(), second._numbers())
+        self.assertEqual(fourth._hash_numbers(), second._hash_numbers())
         self.assertEqual((await restored.take(1))["size"], 0)
         self.assertEqual((await restored.share(1))["size"], 0)
         line, = (await restored.ask(1, "layers"))["layers"]
@@ -623,7 +623,7 @@ class Counting(unittest.TestCase):
                 looks.append(True)
                 return super().__iter__()
         clock, looks, soon, late = [0], list[bool](), 32 * DAY // 2, 32 * 3 * DAY
-        with mock.patch("server.stamps.milliseconds", lambda: clock[0]), mock.patch("server.stamps.some_bits", lambda: 0):
+        with mock.patch("server.stamps.milliseconds", lambda: clock[0]), mock.patch("server.stamps.random_bits", lambda: 0):
             state = State(stamps.StampClock())
             Folder(read_plan_line(SMALL), 1, "f").apply(state)
             state.by_stamp = Looked()

@@ -65,7 +65,7 @@ class Watching(unittest.IsolatedAsyncioTestCase):
         asyncio.get_running_loop().call_soon(works, 0.2)
         await asyncio.sleep(0.01)
         self.assertEqual(said, [])
-        self.assertTrue(is_of_server(Tab._reader))
+        self.assertTrue(is_of_server(Tab._read_frames))
         self.assertFalse(is_of_server(Seat._read))  # of a tab that the test has
 
 
@@ -167,7 +167,7 @@ class Pieces(Case):
             with takes_at_most(0.1):
                 for step in (70, 50, 60):
                     here.keeper.listeners.shared.notify(step)
-            writers = [asyncio.create_task(tab._writer()) for tab in several]
+            writers = [asyncio.create_task(tab._write_frames()) for tab in several]
 
             async def all_are_told() -> bool:
                 return len(sent) == 63

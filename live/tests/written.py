@@ -183,15 +183,15 @@ class Written(Case):
     async def test_a_tab_that_leaves_while_it_gets_a_seat_harms_nobody(self) -> None:
         """Others, who wait for the same write, are answered, and the seat can be taken over."""
         join = await self.start(self.here.lab.seating.join("Cleo", "", None))
-        looks = [asyncio.create_task(self.here.lab.seating.seats_kept(turn)) for turn in (self.ben, None)]
+        looks = [asyncio.create_task(self.here.lab.seating.list_saved_seats(turn)) for turn in (self.ben, None)]
         await asyncio.sleep(0.1)
         join.cancel()
-        looks.append(asyncio.create_task(self.here.lab.seating.seats_kept()))
+        looks.append(asyncio.create_task(self.here.lab.seating.list_saved_seats()))
         await asyncio.sleep(0.1)
         self.release_disk()
         for look in looks:
             self.assertEqual([one["name"] for one in await soon(look)][:2], ["Ada", "Ben"])
-        seats = {one["name"]: one for one in await soon(self.here.lab.seating.seats_kept())}
+        seats = {one["name"]: one for one in await soon(self.here.lab.seating.list_saved_seats())}
         self.assertEqual([seats[name]["here"] for name in ("Ada", "Ben", "Cleo")], [True, True, False])
         index, _ = await soon(self.here.lab.seating.join("", "", seats["Cleo"]["seat"]))
         await soon(self.here.put(index, [*LIMIT, 3]))
@@ -398,7 +398,7 @@ def counted() -> Iterator[list[Any]]:
             computed.append(found := await does(*given))
             return found
         return also
-    with mock.patch.object(figures.Figures, "of", kept(figures.Figures.of)), mock.patch.object(
+    with mock.patch.object(figures.Figures, "compute", kept(figures.Figures.compute)), mock.patch.object(
             chance.Question, "answer", kept(chance.Question.answer)):
         yield computed
 
@@ -421,7 +421,7 @@ class Stalled(Case):
         await self.here.share(self.ben)
         await self.here.take(self.ben)
         await self.here.put(self.ben, ["limit", 1, 60, 3])
-        await self.here.lab.seating.seats_kept()
+        await self.here.lab.seating.list_saved_seats()
 
     async def stalls(self, *names: str) -> None:
         """Stall from the next call with such a name on."""
@@ -454,7 +454,7 @@ class Stalled(Case):
                 await soon(ask(ben, verb, at=at, **fields))
         await soon(ask(ben, "layers"))
         for turn in (ben, None):
-            self.assertEqual([one["name"] for one in await soon(self.here.lab.seating.seats_kept(turn))], ["Ada", "Ben"])
+            self.assertEqual([one["name"] for one in await soon(self.here.lab.seating.list_saved_seats(turn))], ["Ada", "Ben"])
 
     async def test_changes_are_pending_and_all_else_goes_on(self) -> None:
         await self.here.lab.timing.set_clock(rate=60)
@@ -504,7 +504,7 @@ class Stalled(Case):
         await self.looks(2)
         second._peers.known.clear()
         await soon(first.announce())
-        first._tell_what_may_lack("another", {}, "")
+        first._send_missing("another", {}, "")
         told = [one for one in bus.sent if one.topic.endswith("operations")]
         self.assertEqual([len(json.loads(one.payload)["operations"]) for one in told], [2])  # what is on the disk
         bus.sent = [one for one in bus.sent if one not in told]

@@ -191,7 +191,7 @@ def parts_of(road: Road, line: Stamp) -> frozenset[RawName]:
     return road.members.get(line, frozenset())
 
 
-def stands(road: Road, line: Stamp) -> bool:
+def is_standing(road: Road, line: Stamp) -> bool:
     return line in road.layers or line in road.members
 
 
@@ -210,7 +210,7 @@ def change(road: Road, stamp: Stamp, line: Stamp, shape: Shape | None, on_top: b
     The raw edits of a line are withdrawn, and a shape of the line's name replaces them."""
     sets: dict[Name, Shape | None] = {name: None for name in sorted(parts_of(road, line))}
     sets[line] = shape
-    is_lifted = shape is not None and (on_top or not stands(road, line))
+    is_lifted = shape is not None and (on_top or not is_standing(road, line))
     return Operation(stamp, sets, {line: stamp} if is_lifted else {}, seen=last_setter(road, line), about=about)
 
 
