@@ -95,8 +95,8 @@ class Beside(Generic[Q, A]):
             self.close()
             self._path = path
             self._process = await asyncio.create_subprocess_exec(
-                *command_at_low_priority(self._module, self._nice), stdin=asyncio.subprocess.PIPE, stdout=asyncio.subprocess.PIPE, env=environment(path),
-                start_new_session=True, cwd=LIVE, limit=LONGEST_REPLY)
+                *command_at_low_priority(self._module, self._nice), stdin=asyncio.subprocess.PIPE, stdout=asyncio.subprocess.PIPE,
+                env=environment(path), start_new_session=True, cwd=LIVE, limit=LONGEST_REPLY)
         process = self._process
         assert process.stdin is not None and process.stdout is not None
         line = b""

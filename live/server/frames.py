@@ -15,8 +15,8 @@ from .seating import ListedSeat
 Day = TypedDict("Day", {"begin": "int | None", "date": "str | None", "zone": "str | None"})
 """The time of day at step 0 in seconds after midnight, the date and the time zone; null if the road's file does not have them."""
 Welcome = TypedDict("Welcome", {
-    "at": str, "seat": int, "name": str, "key": str, "number": int, "form": int, "site": int, "plan": PlanLine, "horizon": int, "rate": float,
-    "now": int, "stop": int, "ahead": int, "time": float, "most": Mapping[str, int], "broker": "BrokerState | None",
+    "at": str, "seat": int, "name": str, "key": str, "number": int, "form": int, "site": int, "plan": PlanLine, "horizon": int,
+    "rate": float, "now": int, "stop": int, "ahead": int, "time": float, "most": Mapping[str, int], "broker": "BrokerState | None",
     "trouble": "str | None", "standing": "str | None", "day": Day, "road": str}, total=False)
 BoundSite = TypedDict("BoundSite", {"site": int, "folder": str})
 """A site's number, and the folder that it is bound to."""
@@ -37,6 +37,6 @@ Frame = TypedDict("Frame", {
     "cars": Json, "speeds": int, "edits": Sequence[WrittenEdit], "sums": Sequence[int], "flows": Sequence[DetectorFigures],
     "counts": Json, "from": int, "to": int, "before": RoadFigures, "after": RoadFigures, "delay_hours": float,
     "delayed": int, "later": Times, "days": int, "stopped": bool, "figures": Sequence[FigureTold], "lines": str, "html": str, "csv": str,
-    "own": int, "numbers": Sequence[BoundSite], "points": Sequence["tuple[int, float]"], "capacity": float, "now": int, "news": NewsFrame, "pong": Json,
-    "broker": BrokerState, "trouble": "str | None", "program": Mapping[str, int]}, total=False)
+    "own": int, "numbers": Sequence[BoundSite], "points": Sequence["tuple[int, float]"], "capacity": float, "now": int,
+    "news": NewsFrame, "pong": Json, "broker": BrokerState, "trouble": "str | None", "program": Mapping[str, int]}, total=False)
 """The fields of all replies and news. Each frame has some of them."""

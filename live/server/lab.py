@@ -165,7 +165,7 @@ class Lab:
         if not is_standing(seat.road, line) and not seat.road.setters_of(line):
             held = self.state.held_by(seat, line)
             if not held:
-                raise Refused("NoSuchChange", f"this seat holds no change with the name {list(line)}: take what others shared, if it is theirs")
+                raise Refused("NoSuchChange", f"this seat holds no change with the name {list(line)}: if it is somebody else's, `take` first")
             lines = lines_of(seat.road, held[0])
             line = line if line in lines else min(lines)
             if any(one.excludes for one in self.state.of_stamp(line)):
@@ -176,7 +176,7 @@ class Lab:
         stamp = self._find_stamp(seat, called)
         held = self.state.held_by(seat, stamp)
         if not held:
-            raise Refused("NoSuchChange", f"this seat holds no change with the stamp {list(stamp)}: take what others shared, if it is theirs")
+            raise Refused("NoSuchChange", f"this seat holds no change with the stamp {list(stamp)}: if it is somebody else's, `take` first")
         return held[0]
 
     def _why_nothing(self, seat: SeatReplica, one: Operation) -> str:
@@ -279,8 +279,8 @@ class Lab:
 
     def _blocked(self, road: Road, some: list[Operation]) -> list[Reply]:
         """Return the seat's operations that undo skips, each with the names of those who changed its line since."""
-        return [{"stamp": one.stamp, "by": sorted({other.about.who for other in find_overruling(road, one) if other.stamp[1] != one.stamp[1]})}
-                for one in some[:MOST_BLOCKED]]
+        return [{"stamp": one.stamp, "by": sorted({other.about.who for other in find_overruling(road, one)
+                                                   if other.stamp[1] != one.stamp[1]})} for one in some[:MOST_BLOCKED]]
 
     # What is shared
 

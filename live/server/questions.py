@@ -99,8 +99,8 @@ class Questions:
         if to > LAST_HORIZON:
             raise Refused("Horizon", f"`to` must be at most {LAST_HORIZON}, not {to}")
         if to > now + STEPS_AHEAD:
-            raise Refused("TooFarAhead", f"a road runs at most {STEPS_AHEAD} steps ahead of the clock, which is at {now}: `to` must be at most "
-                          f"{now + STEPS_AHEAD}, not {to}")
+            raise Refused("TooFarAhead", f"a road runs at most {STEPS_AHEAD} steps ahead of the clock, which is at {now}: `to` must be "
+                          f"at most {now + STEPS_AHEAD}, not {to}")
 
     # Rows
 
@@ -255,8 +255,8 @@ class Questions:
         limit, slowing = plan["zones"][cell // plan["zone"]]
         beside = sorted((plan["inlets"][one][0], chance_of) for one, chance_of in before if chance_of)
         entry = find_entry(plan, cell) if beside else 0
-        return await self._admissions.find_curve({"limit": limit, "slowing": slowing, "start": start, "entry": entry, "cell": cell if beside else 0,
-                                             "before": beside}, self._keeper.path)
+        return await self._admissions.find_curve({"limit": limit, "slowing": slowing, "start": start, "entry": entry,
+                                                  "cell": cell if beside else 0, "before": beside}, self._keeper.path)
 
     # What would be
 

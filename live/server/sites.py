@@ -123,9 +123,11 @@ class Sites:
         if self._seal.key is None:
             yield "Anybody who can connect to the broker can send changes: start all sites with --site-key"
         for folder in self._floods.ignored_senders():
-            yield f"{SENDERS.get(folder) or self._peers.describe_site(folder)} sends too many messages: they are ignored for {FLOOD:.0f} seconds"
+            sender = SENDERS.get(folder) or self._peers.describe_site(folder)
+            yield f"{sender} sends too many messages: they are ignored for {FLOOD:.0f} seconds"
         if self._early:
-            yield f"{len(self._early)} changes are stamped more than a day ahead of this server's clock: they take effect when that day comes"
+            yield (f"{len(self._early)} changes are stamped more than a day ahead of this server's clock: they take effect when that day "
+                   f"comes")
         if self._left_out:
             yield f"{self._left_out} messages were ignored: they are not sealed with this site's --site-key"
         yield from self._peers.their_state()

@@ -314,7 +314,8 @@ VERBS: dict[str, Verb] = {
     "again": Verb(OWN, put_again),
     "site": Verb(OWN, exclude_site),
     "send": Verb(OWN, share),
-    "take": Verb(OWN, reader_of_one_part(lambda asked: require_shared(asked, "message"), lambda call, _: call.lab.take(call.index, call.times))),
+    "take": Verb(OWN, reader_of_one_part(
+        lambda asked: require_shared(asked, "message"), lambda call, _: call.lab.take(call.index, call.times))),
     "leave": Verb(OWN, no_fields(leave)),
     # Queries of roads
     "advance": Verb(ROADS, reader_of_one_part(lambda asked: asked.whole("to"), lambda call, to: call.questions.advance(call.road, to))),
@@ -328,10 +329,12 @@ VERBS: dict[str, Verb] = {
     # Lists and previews
     "layers": Verb(KEPT_ROADS, reader_of_one_part(lambda asked: asked.version("from"), lambda call, version: call.questions.layers(
         call.index, call.replica, version)), SHARED_ROAD),
-    "operations": Verb(KEPT_ROADS, reader_of_one_part(lambda asked: asked.whole("from", default=0), lambda call, first: call.questions.operations(
-        call.index, call.replica, first)), SHARED_ROAD),
+    "operations": Verb(KEPT_ROADS, reader_of_one_part(
+        lambda asked: asked.whole("from", default=0), lambda call, first: call.questions.operations(call.index, call.replica, first)),
+        SHARED_ROAD),
     "preview": Verb(OWN, preview),  # (`Questions.preview` waits for the disk itself, before it keeps the two roads)
-    "figures": Verb(OWN, reader_of_one_part(read_comparison, lambda call, asked: call.questions.figures(call.index, call.replica, *asked)), OWN),
+    "figures": Verb(OWN, reader_of_one_part(
+        read_comparison, lambda call, asked: call.questions.figures(call.index, call.replica, *asked)), OWN),
     "days": Verb(OWN, days, OWN),
     # Files
     "transcript": Verb(KEPT_ROADS, transcript, SHARED_ROAD),

@@ -32,7 +32,7 @@ class InvalidWords(ValueError):
 
 @dataclass(frozen=True)
 class WrittenChange:
-    """A change: its shape; the demand in cars per hour, or None; and a sentence that describes it. The shape of a demand has the value 0."""
+    """A change: its shape, the demand in cars per hour or None, and a sentence that describes it. The shape of a demand has the value 0."""
 
     shape: Shape
     demand: float | None

@@ -41,7 +41,8 @@ def read_former_gesture(value: Json) -> Operation | None:
 
 def read_about(value: Mapping[str, Json]) -> About:
     shape = read_optional(value, "shape", read_shape)
-    return About(read_former_text(value, "who", LONGEST_NAME), read_former_text(value, "note", LONGEST_NOTE), read_time(value.get("when")), shape)
+    return About(read_former_text(value, "who", LONGEST_NAME), read_former_text(value, "note", LONGEST_NOTE), read_time(value.get("when")),
+                 shape)
 
 
 def read_former_text(value: Mapping[str, Json], name: str, most: int) -> str:
