@@ -20,7 +20,7 @@ const READ_MEANS = "each day has its own drivers, the same on both roads. \u00b1
   + "of the 95 % interval. If the interval of a difference contains 0, the difference may be chance.";
 /** @param {DaysFigures} said */
 const readText = ({days}) => (days > 1 ? `Means of ${days} days: ${READ_MEANS}`
-  : "One day alone does not say what is chance.");
+  : "One day alone cannot show what is due to chance.");
 /** @type {Record<string, string>} */
 const FIGURE_NAMES = {vehicle_hours: "Vehicle hours", lost: "Lost demand, cars",
                delay: "Delay, vehicle hours"};

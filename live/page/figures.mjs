@@ -143,9 +143,9 @@ function delayRow(exact) {
 function noteText(exact) {
   if (!exact && store.clock.rate) return messages.PAUSE_FOR_FIGURES;
   const scatter = exact ? Math.hypot(...exact.after.scatter) : 0;
-  return "Lost: demand minus cars that entered"
+  return "Lost demand: demand minus cars that entered"
     + (scatter >= 1 ? ` (\u00b1 ${whole(scatter)} by chance)` : "")
-    + ". Seconds: from the inlet; on the right, delay.";
+    + ". Seconds: travel time from the inlet; in the last column, delay.";
 }
 
 /** Show the figures that are wanted, as far as they are there; while the clock runs only all. */
@@ -233,7 +233,7 @@ function speedText(sums, other, box) {
   const closed = sums.closed[box] ? " (closed in part)" : "";
   if (!other) return (one === null ? "no car" : String(Math.round(one))) + closed;
   if (one === null && beside === null) return "no car";
-  if (one === null || beside === null) return one === null ? "no car of mine" : "no car of theirs";
+  if (one === null || beside === null) return `no car (${whoseShown()[one === null ? 0 : 1]})`;
   return signedText(one - beside) + closed;
 }
 

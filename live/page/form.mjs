@@ -23,7 +23,7 @@ const VERBS = {look: "Close cells", block: "Close", limit: "Limit", inflow: "Set
                slow: "Set slowing", start: "Set slow to start", watch: "Switch detector"};
 /** @type {Partial<Record<Store["tool"], string>>} */
 const HINTS = {look: "moves the diagram; edges of your frames can be dragged",
-               block: "closes the lane; cars inside stand until it opens"};
+               block: "closes the lane; cars inside it stop until it opens"};
 
 /** Fill the form's choices by the plan. */
 function showPlan() {
@@ -61,7 +61,7 @@ function showForm() {
 function showToolHint() {
   const kind = store.tool;
   const zones = store.plan && zonesText(store.plan, kind);
-  $("toolHint").textContent = store.changeInForm ? `changes ${words().text(store.changeInForm)}`
+  $("toolHint").textContent = store.changeInForm ? `changing: ${words().text(store.changeInForm)}`
     : kind === "inflow" ? demandText() : HINTS[kind] ?? zones ?? "";
 }
 
@@ -69,7 +69,7 @@ function showToolHint() {
 function showChangeInForm() {
   const {changeInForm} = store;
   $("dropChange").hidden = !changeInForm;
-  $("exactTitle").textContent = changeInForm ? "change it:" : "or in figures:";
+  $("exactTitle").textContent = changeInForm ? "new values:" : "or type values:";
   if (!changeInForm?.shape) return;
   $(OF_ONE.includes(changeInForm.shape.kind) ? "timeFrom" : "kmFrom").focus();
 }

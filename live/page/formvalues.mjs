@@ -53,15 +53,15 @@ export function demandText() {
   const value = valueOfTool("inflow", inlet, from);
   if (Number.isNaN(value)) return faultOfValue("inflow", inlet, from);
   const most = layersOf("mine").curveAt(inlet, from)?.capacity ?? NaN;
-  return `inflow chance ${(value / ALWAYS).toFixed(3)}; this inlet admits up to ${whole(most)} `
-    + "cars/h here";
+  return `inflow chance ${(value / ALWAYS).toFixed(3)}; this inlet then admits up to `
+    + `${whole(most)} cars/h`;
 }
 
 /** Say what is wrong with a written time.
  * @param {string} text
  */
 const faultOfTime = (text) => (store.day.isSkipped(text) ? messages.skippedTime(text.trim())
-  : messages.timeHint(store.day.begin === null ? null : store.day.timeText(0)));
+  : messages.notATime(text.trim(), store.day.begin === null ? null : store.day.timeText(0)));
 
 /** Return the shape that the form has, or a sentence of what is wrong with it.
  * @returns {Shape | string}
@@ -110,7 +110,7 @@ export function takenText({kind, first, last}) {
   const written = readPlaces().map((km) => String(roundedKm(km)));
   if (taken.join() === written.join()) return "";
   const isRounded = cells.some((cell, index) => Math.abs(kmOf(cell) - Number(taken[index])) > 1e-9);
-  return ` In whole ${OF_ZONES.includes(kind) ? "zones" : "cells of 7.5 m"}: `
+  return ` Rounded to whole ${OF_ZONES.includes(kind) ? "zones" : "cells of 7.5 m"}: `
     + `${isRounded ? "about " : ""}${taken.join("\u2013")} km.`;
 }
 

@@ -31,7 +31,7 @@ function showConnection() {
  */
 function calmItem(text) {
   const means = text.includes("not proved") ? "Results are tested, not proved"
-    : "Results are of an earlier text of the program";
+    : "Results come from an earlier version of the program";
   const said = `${means}: ${text}`;
   return {key: text, sign: text, make: () => element("li", "", {className: "calm", title: said},
     element("span", said), button("Close", closeNote, "this note"))};
@@ -50,7 +50,7 @@ function showFaults() {
 function showSites() {
   $("sites").hidden = !store.sites.length;
   showList($("siteList"), store.sites.map(({site, when: at}) => ({key: String(site),
-    sign: String(at), make: () => element("li", `Site ${site}, heard ${store.day.dateText(at)} `, {},
+    sign: String(at), make: () => element("li", `Site ${site}, last heard ${store.day.dateText(at)} `, {},
       button("Exclude", () => excludeSite(site), `site ${site}`))})));
 }
 

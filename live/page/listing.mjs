@@ -25,7 +25,7 @@ const DONE = {put: "put", change: "changed", withdraw: "withdrawn", top: "put on
               include: "included again"};
 /** @type {Record<Deed, string>} */
 const DID = {put: "put it", change: "changed it", withdraw: "withdrew it", top: "put it on top",
-              undo: "undid a change of it", redo: "redid a change of it", edits: "edited there",
+              undo: "undid a change to it", redo: "redid a change to it", edits: "edited there",
               exclude: "excluded it", include: "included it again"};
 
 /** Return what a withdrawn change was, as text.
@@ -169,7 +169,7 @@ export class Words {
     if (!found) return "";
     const {stamp, who, does} = found.theirs;
     const name = stamp.number === this.number ? "You" : who || "Somebody";
-    return `${name} ${DID[does] ?? "changed it"} at the same time, and that counts.`;
+    return `${name} ${DID[does] ?? "changed it"} at the same time, and that takes precedence.`;
   }
 
   /** Return what others did to a change that would have no effect when it is taken, and who won, as
@@ -187,7 +187,7 @@ export class Words {
     const name = won.number === this.number ? "you" : winner?.who || "somebody";
     const text = last.shape ? shapeText(this.layers, last.shape) : last.note || DONE[last.does];
     return [text, `${last.who || "somebody"}: no effect, ${name} `
-      + `${DID[winner?.does ?? "change"]} at the same time, and that counts`];
+      + `${DID[winner?.does ?? "change"]} at the same time, and that takes precedence`];
   }
 
   /** Return what the preview would do to a change, as text: "then ..".

@@ -98,7 +98,7 @@ function showHistory() {
   const all = historyOf(layersOf("mine"), store.me.number);
   showList($("history"), all.slice(0, MOST_PAST).map(pastItem));
   const rest = all.length - MOST_PAST;
-  $("pastRest").textContent = rest > 0 ? `And ${plural(rest, "earlier one")}, which Save has.` : "";
+  $("pastRest").textContent = rest > 0 ? `And ${plural(rest, "earlier one")}: \u201cChanges as CSV\u201d in the Save menu has all.` : "";
 }
 
 /** Show the demand of the road's file, in cars per hour over time. */

@@ -136,7 +136,7 @@ function drawAhead(context, view, width, height) {
   context.stroke();
   context.setLineDash([]);
   if (store.ahead > now()) {
-    write(context, "forecast, seen by you alone", width - 12, top + 2, "right");
+    write(context, "forecast, visible only to you", width - 12, top + 2, "right");
   }
 }
 

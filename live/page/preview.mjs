@@ -17,9 +17,9 @@ import {kmText, plural, signedText, sum} from "./units.mjs";
 /** @typedef {import("./types.mjs").RoadFigures} RoadFigures */
 /** @typedef {import("./types.mjs").Span} Span */
 
-const READ_BOTH = "Lost demand is the number of cars that wanted to enter minus those that "
-  + "entered; a lost car spends no vehicle hours. Seconds count from the inlet; their change is the "
-  + "delay of the cars that both roads have.";
+const READ_BOTH = "Lost demand is the number of cars that wanted to enter minus the number that "
+  + "entered; a car that did not enter adds no vehicle hours. Seconds are counted from the inlet; "
+  + "their change is the mean delay of the cars that both roads have.";
 
 /** @param {[text: string, hint: string]} item */
 const changeItem = ([text, hint]) => element("li", text, {},
@@ -55,8 +55,8 @@ function showPreview() {
       button(takes ? "Take now" : "Share now", confirmPreview), button("Not now", closePreview),
       element("span", "", {id: "previewDays", className: "days"})),
     element("div", "", {id: "previewCovers"}),
-    element("h3", takes ? "What it would change on your road"
-      : "What it would change on the shared road"),
+    element("h3", takes ? "What this would change on your road"
+      : "What this would change on the shared road"),
     element("div", "", {id: "previewOver"}), element("div", "", {id: "previewFigures"}));
   $("preview").hidden = false;
   $("preview").focus();
@@ -93,7 +93,7 @@ function coversOf(changes, said) {
     .map((change) => said.effect(change));
   const all = [...affected, ...below];
   if (!all.length) return [element("p", messages.NOTHING_COVERED)];
-  return [element("h3", "What would be covered"),
+  return [element("h3", "What would be covered or uncovered"),
           element("ul", "", {}, ...all.map((text) => element("li", text)))];
 }
 

@@ -97,7 +97,7 @@ export function editsText(road, edits) {
  * @param {unknown} kind
  */
 export const zonesText = (plan, kind) => (OF_ZONES.includes(kind)
-  ? `in whole zones of ${metresText(plan.zone)}; with Shift also where less than half is covered`
+  ? `sets whole zones of ${metresText(plan.zone)}; with Shift, also zones less than half covered`
   : "");
 
 /** Return how many whole zones are taken, as text; "" for other kinds.

@@ -232,7 +232,7 @@ test("the list names who won at the same time, until the change is put again", (
     {stamp: [5, 67], who: "Cleo", note: "", when: 0, does: "withdraw", shared: true, lost: null}];
   Object.assign(mine, {standing: false, shape: null});
   const [one] = listChanges(road(mine), BEN);
-  assert.equal(one.lost, "Cleo withdrew it at the same time, and that counts.");
+  assert.equal(one.lost, "Cleo withdrew it at the same time, and that takes precedence.");
   assert.deepEqual(lostOf(decodeChange(mine), BEN).mine.stamp, nameOf(5, BEN));
   assert.equal(lostOf(decodeChange(mine), ADA), null);
   mine.operations.push({stamp: [6, BEN], who: "Ben", note: "", when: 0, does: "put", shared: true,
@@ -275,7 +275,7 @@ test("a change that is lost when it is taken is described as it was, with who wo
   const [, ben, own] = then.operations;
   const said = (number, ...fresh) => new Words(layers, number).losing(then, fresh);
   assert.deepEqual(said(ADA, ben), ["81 km/h, 1.5\u20132.25 km, 0:25:00\u20130:30:00",
-    "Ben: no effect, you changed it at the same time, and that counts"]);
+    "Ben: no effect, you changed it at the same time, and that takes precedence"]);
   assert.match(said(67, ben)[1], /no effect, Ada changed it/);
   assert.deepEqual([said(ADA, own), said(ADA)], [null, null]);
 });

@@ -149,7 +149,7 @@ class OneFreeway(BrowserCase):
         tab, = self.open(FREEWAY)
         tab.run_an_hour()
         tab.tool("limit")
-        self.assertTrue(tab.text("toolHint").startswith("in whole zones of 375 m"))
+        self.assertTrue(tab.text("toolHint").startswith("sets whole zones of 375 m"))
         tab.begin_drag((360, 1200), (430, 1500))
         # 360 to 430 lie in the zones of the cells 350 to 449: the readout says so before the button is released.
         self.assertEqual(tab.text("readout"), "54 km/h, 2.625–3.375 km, 2 whole zones of 375 m, 0:20:00–0:25:00")

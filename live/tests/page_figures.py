@@ -86,8 +86,8 @@ class OneFreeway(BrowserCase):
         tab.tool("inflow")
         tab.choose("inlet", "1")
         tab.fill(timeFrom="1:00")
-        tab.until(lambda: "is being measured, " in tab.text("toolHint"), "how far it is")
-        self.assertRegex(tab.text("toolHint"), r"^What this inlet admits is being measured, \d+ of \d+\. Try again")
+        tab.until(lambda: "is measuring" in tab.text("toolHint"), "how far it is")
+        self.assertRegex(tab.text("toolHint"), r"^The server is measuring what this inlet admits, \d+ of \d+\. Try again")
 
     def test_a_demand_is_shown_as_it_was_asked_for(self) -> None:
         """Show the demand of the road's file as a table, and not as lines of the lists and the report; that of a person as it was typed."""
@@ -137,7 +137,7 @@ class OneFreeway(BrowserCase):
                                          ("3.36", "3.41", 9, "3.375–3.75"), ("5.8", "6", 15, "5.625–6")):
             tab.in_figures(kmFrom=first, kmTo=last, timeFrom="0:20", timeTo="")
             self.assertEqual(shapes_of(operations_of(self.server)[-1]), [["limit", zone, zone, 1200, None, 2]])
-            self.assertEqual(tab.text("said"), f"54 km/h, {taken} km, from 0:20:00 on: done. In whole zones: {taken} km.")
+            self.assertEqual(tab.text("said"), f"54 km/h, {taken} km, from 0:20:00 on: done. Rounded to whole zones: {taken} km.")
             tab.keys("z")
             tab.settled()
         tab.in_figures(kmFrom="3", kmTo="3.375")
@@ -146,7 +146,7 @@ class OneFreeway(BrowserCase):
         self.assertEqual(tab.text("apply"), "Close cells")  # what it does
         tab.tool("block")
         tab.in_figures(kmFrom="3.3", kmTo="3.32")
-        self.assertEqual(tab.text("said"), "Closed 3.3–3.323 km, from 0:20:00 on: done. In whole cells of 7.5 m: about 3.3–3.323 km.")
+        self.assertEqual(tab.text("said"), "Closed 3.3–3.323 km, from 0:20:00 on: done. Rounded to whole cells of 7.5 m: about 3.3–3.323 km.")
         tab.keys("z")
         tab.settled()
         tab.in_figures(kmFrom="3.3", kmTo="3.3")
@@ -156,9 +156,9 @@ class OneFreeway(BrowserCase):
         tab, = self.open(FREEWAY)
         tab.tool("block")
         for fields, said in (
-                ({"kmFrom": "3", "kmTo": "2", "timeFrom": "7", "timeTo": "9"}, "Give two places from 0 to 6 km"),
+                ({"kmFrom": "3", "kmTo": "2", "timeFrom": "7", "timeTo": "9"}, "Type two places from 0 to 6 km"),
                 ({"kmFrom": "3", "kmTo": "3.1", "timeFrom": "9", "timeTo": "7"}, "The end must be later"),
-                ({"kmFrom": "3", "kmTo": "3.1", "timeFrom": "soon", "timeTo": "7"}, "A time is written as")):
+                ({"kmFrom": "3", "kmTo": "3.1", "timeFrom": "soon", "timeTo": "7"}, "“soon” is not a time. Type 0:20,")):
             tab.in_figures(**fields)
             self.assertIn(said, tab.text("said"))
         tab.tool("inflow")
@@ -384,7 +384,7 @@ class OneFreeway(BrowserCase):
             tab.in_figures(kmFrom="0.18", kmTo="0.187", timeFrom=time, timeTo="07:10")
             self.assertEqual(tab.lines("own")[0], f"Closed 0.18–0.188 km, {wanted}–07:10 private")
         tab.in_figures(timeFrom="soon")
-        self.assertEqual(tab.text("said"), "A time is written as 7:00, 07:00:30 or, in minutes after 06:30, 20.")
+        self.assertEqual(tab.text("said"), "“soon” is not a time. Type 7:00, 07:00:30 or, in minutes after 06:30, 20.")
         path = tab.save("Counts", "counts.csv")
         self.assertEqual(path.name, "counts-plan-Ada-0630-0730.csv")
         head, names, first, *_ = path.read_text(encoding="utf-8").splitlines()

@@ -115,7 +115,7 @@ class OneTab(BrowserCase):
         tab.press("Change: 54 km/h")
         tab.press_in("#apply")
         tab.settled()
-        self.assertEqual(tab.text("said"), "54 km/h, 0.75–4.5 km, 0:20:00–0:30:00: nothing is changed.")
+        self.assertEqual(tab.text("said"), "54 km/h, 0.75–4.5 km, 0:20:00–0:30:00: it is so already, nothing was changed.")
         self.assertEqual(len(operations_of(self.server)), 1)
         tab.keys("z")
         tab.settled()
@@ -181,7 +181,7 @@ class OneForm(BrowserCase):
         for begin in ("0:49:59", "0:50", ""):
             tab.fill(timeFrom=begin)
             tab.until(lambda: tab.text("toolHint").startswith("inflow chance"), "it is measured")
-            said = re.fullmatch(r"inflow chance (0\.\d+); this inlet admits up to [\d,]+ cars/h here", tab.text("toolHint"))
+            said = re.fullmatch(r"inflow chance (0\.\d+); this inlet then admits up to [\d,]+ cars/h", tab.text("toolHint"))
             found.append(float(said[1]) if said else math.nan)
         beside, alone, now = found
         # Where nobody passes, a chance q lets in some q / (1 + q q) cars a step; beside the cars of the main road fewer.

@@ -20,7 +20,7 @@ class Sharing(BrowserCase):
         self.assertFalse(ben.part("news").is_displayed())
         ada.press("Share all")
         ada.settled()
-        self.assertIn("Nothing would be covered.", ada.text("previewBody"))
+        self.assertIn("Nothing would be covered or uncovered.", ada.text("previewBody"))
         self.assertIn("slower afteras fastfaster after", ada.text("legend"))
         jam = ada.pixel(17.5, 22.5)
         ada.press("Share now")
@@ -37,7 +37,7 @@ class Sharing(BrowserCase):
         self.assertEqual((red, green, blue), jam)
         self.assertIn("slower afteras fastfaster after", ben.text("legend"))
         ben.press("Take now")
-        ben.until(lambda: ben.text("said") == "Took 1 change from Ada. They cover nothing of yours.", "taken")
+        ben.until(lambda: ben.text("said") == "Took 1 change from Ada. They cover none of your changes.", "taken")
         ben.settled()
         ben.script("store.layers.mine.frames = []; draw()")
         ben.settled()
@@ -108,7 +108,7 @@ class Sharing(BrowserCase):
         ada.until(lambda: ada.script("return store.news.text") == "Ben shared 2 changes.", "more news")
         self.assertTrue(ada.text("news").startswith("Ben shared 1 change."))
         ActionChains(ada.driver, duration=0).release().perform()
-        ada.until(lambda: ada.text("said") == "Took 2 changes from Ben. They cover nothing of yours.", "taken")
+        ada.until(lambda: ada.text("said") == "Took 2 changes from Ben. They cover none of your changes.", "taken")
 
     def test_a_double_click_does_not_press_a_button_that_appears_there(self) -> None:
         ada, _ = self.open(FREE_ROAD)
@@ -146,7 +146,7 @@ class Sharing(BrowserCase):
         ada.take()
         # Ben's is the later one.
         self.assertEqual(ada.value_at("limit", 0, 1200, 2000), [3, 3])
-        self.assertEqual(ada.covers("held"), ["Ben withdrew it at the same time, and that counts."])
+        self.assertEqual(ada.covers("held"), ["Ben withdrew it at the same time, and that takes precedence."])
         ada.press("Put mine again")
         ada.settled()
         self.assertEqual(ada.value_at("limit", 0, 1200, 2000, 2100), [1, 1, 3])
@@ -265,7 +265,7 @@ class Sharing(BrowserCase):
         ben.share_all()
         ada.take()
         self.assertEqual((ada.text("said"), ada.lines("held"), ben.lines("own")),
-                         ("Took 1 change from Ben. They cover nothing of yours.", [], []))
+                         ("Took 1 change from Ben. They cover none of your changes.", [], []))
 
     def test_a_part_is_previewed_before_it_is_shared(self) -> None:
         ada, _ = self.open(FREE_ROAD)

@@ -322,7 +322,7 @@ class TwoTabs(BrowserCase):
         broker.kill()
         ada.limit("1", "0:20", "0:30")
         ada.share_all()
-        ada.until(lambda: ada.text("line") == "connected; the broker is unreachable, 1 change to be sent", "it is away")
+        ada.until(lambda: ada.text("line") == "connected; the broker is unreachable, 1 change not sent yet", "it is away")
         self.assertEqual(ada.part("line").get_attribute("class"), "away")
         broker.start()
         ada.until(lambda: ada.text("line") == "connected, with 1 other site (messages are not authenticated)", "it is back")
@@ -341,7 +341,7 @@ class TwoTabs(BrowserCase):
         self.assertEqual([one.text for one in ada.part("seatList").find_elements(By.TAG_NAME, "button")],
                          ["Ada, seat 1, 1 change not shared"])
         ada.press("Ada, seat 1")
-        ada.until(lambda: "uses the seat of Ada now, a person or a script, loses it" in ada.text("seatList"), "it asks first")
+        ada.until(lambda: "is using the seat of Ada, a person or a script, will lose it" in ada.text("seatList"), "it asks first")
         self.assertEqual([entry["seat"]["seat"] for entry in self.server.journal() if "seat" in entry], [1, 2])
         ada.press("Take over Ada, seat 1")
         ada.until(lambda: ada.lines("own") == ["27 km/h, 0–0.3 km, 0:20:00–0:30:00 private"], "her changes")
