@@ -35,7 +35,7 @@ class ForAll(BrowserCase):
         self.assertEqual(nameless, [])
         for wanted in (("application", "Space-time diagram"), ("complementary", "Figures and changes"), ("timer", ""),
                        ("radio", "close C"), ("radio", "difference D"), ("spinbutton", None), ("list", "Not shared yet"),
-                       ("button", "Withdraw: 54 km/h, 0–0.375 km, 0:20:00–0:30:00"), ("checkbox", "follow clock"),
+                       ("button", "Withdraw: 54 km/h, 0–0.375 km, 0:20:00–0:30:00"), ("checkbox", "follow"),
                        ("textbox", "from km"), ("columnheader", "mine −\u00a0shared"), ("status", ""), ("banner", ""), ("main", "")):
             role, name = wanted
             if wanted == ("spinbutton", None):
