@@ -143,9 +143,9 @@ function delayRow(exact) {
 function noteText(exact) {
   if (!exact && store.clock.rate) return messages.PAUSE_FOR_FIGURES;
   const scatter = exact ? Math.hypot(...exact.after.scatter) : 0;
-  return "Lost demand: demand minus cars that entered"
+  return "Lost: demand minus cars that entered"
     + (scatter >= 1 ? ` (\u00b1 ${whole(scatter)} by chance)` : "")
-    + ". Seconds: travel time from the inlet; in the last column, delay.";
+    + ". Seconds: travel time; on the right, delay.";
 }
 
 /** Show the figures that are wanted, as far as they are there; while the clock runs only all. */
