@@ -1,9 +1,9 @@
-// The sentences in which the page says that something is wrong, refused, done or under way: what it
-// is, where, and what to do. All of them stand here. What changes are called is in sentences.mjs.
+// All sentences in which the page says that something is wrong, refused, done or under way: what it
+// is, where, and what to do. What changes are called is in sentences.mjs.
 
 import {plural, whole} from "./units.mjs";
 
-/** Return one of two words, by a count.
+/** Return one of two words: the first if a count is 1.
  * @param {number} count
  * @param {string} one
  * @param {string} more
@@ -32,7 +32,7 @@ export const connectionLost = (isPersisted) => "There is no connection; the page
 
 /**
  * @param {string} reason    of the server
- * @param {boolean} isTakenOver      somebody took the seat over
+ * @param {boolean} isTakenOver      somebody has taken over the seat
  */
 export const connectionClosed = (reason, isTakenOver) =>
   `The server closed the connection: ${ended(reason)}`
@@ -126,7 +126,7 @@ export const nothingChanged = (note) => `${note}: it is so already, nothing was 
 /**
  * @param {string} note      of the change, or "Undone: .."
  * @param {boolean} isUndo   or a redo
- * @param {boolean} isUnseen     the shared road is shown
+ * @param {boolean} isUnseen     the page shows the shared road, which it does not change
  */
 export const done = (note, isUndo, isUnseen) =>
   `${note}${isUndo ? "" : ": done"}${isUnseen ? ", on your own road" : ""}.`;
@@ -219,7 +219,7 @@ export const demandLost = (place, asked, lost) =>
 /**
  * @param {number} cars
  * @param {string} places
- * @param {string | null} end     null: it does not open
+ * @param {string | null} end     when it opens; null: never
  */
 export const carsTrapped = (cars, places, end) =>
   `${plural(cars, "car is", "cars are")} stuck in the closure at ${places}`

@@ -1,4 +1,4 @@
-// View: what sharing or taking would change, before it is done. Picture, sentences and table are of
+// View: what sharing or taking would change, before it is done. Picture, sentences and table describe
 // the same two roads: before, and after.
 
 import {EMPTY_OUTCOME, closePreview, confirmPreview} from "./acting.mjs";
@@ -25,10 +25,10 @@ const READ_BOTH = "Lost demand is the number of cars that wanted to enter minus 
 const changeItem = ([text, hint]) => element("li", text, {},
   element("span", ` ${hint}`, {className: "hint"}));
 
-/** Return what would be shared or taken: what each change is, and who made it when. Of a change that
- * is lost when it is taken, what it was, and who won.
+/** Return what would be shared or taken: what each change is, and who made it when; or, if it would
+ * have no effect when it is taken, what it was, and who won.
  * @param {Preview} preview
- * @param {import("./layers.mjs").Layers | null} layers  of the road that it would be
+ * @param {import("./layers.mjs").Layers | null} layers  of the road after sharing or taking
  * @returns {[text: string, hint: string][]}
  */
 function changesOf({takes, changes}, layers) {
@@ -97,7 +97,6 @@ function coversOf(changes, said) {
           element("ul", "", {}, ...all.map((text) => element("li", text)))];
 }
 
-
 /** Return the table of figures.
  * @param {Figures} figures
  */
@@ -133,7 +132,7 @@ function placeLines(before, after, later) {
   return [...flows, ...times];
 }
 
-/** Return what is lost at each inlet, if there are several.
+/** Return the lost demand of each inlet, if there are several.
  * @param {number[]} before
  * @param {number[]} after
  * @returns {FigureLine[]}

@@ -6,7 +6,7 @@ import {test} from "node:test";
 
 import {decodeShape} from "../page/decoding.mjs";
 import {cellsOf, edgeNear, isTooLate, nearestIn, objectsIn, objectsNearest, rectangleBetween,
-        shapeWithEdge, snapped, zonesIn} from "../page/geometry.mjs";
+        shapeWithEdge, snap, zonesIn} from "../page/geometry.mjs";
 
 const shapeOf = (...told) => decodeShape(told);
 const PLAN = JSON.parse(readFileSync(new URL("../plan.json", import.meta.url), "utf8"));
@@ -73,10 +73,10 @@ test("a drag takes zones that it covers at least by half; with a key held, all t
 
 test("places snap to 25 m and to round seconds, unless they are to be exact", () => {
   const place = [401.4, 1213];
-  assert.deepEqual(snapped(place, {span: 3600, scale: 1, exact: false}), [400, 1200]);
-  assert.deepEqual(snapped(place, {span: 900, scale: 1, exact: false}), [400, 1210]);
-  assert.deepEqual(snapped(place, {span: 150, scale: 9, exact: false}), [401, 1213]);
-  assert.deepEqual(snapped([401.6, 1213.4], {span: 3600, scale: 1, exact: true}), [402, 1213]);
+  assert.deepEqual(snap(place, {span: 3600, scale: 1, exact: false}), [400, 1200]);
+  assert.deepEqual(snap(place, {span: 900, scale: 1, exact: false}), [400, 1210]);
+  assert.deepEqual(snap(place, {span: 150, scale: 9, exact: false}), [401, 1213]);
+  assert.deepEqual(snap([401.6, 1213.4], {span: 3600, scale: 1, exact: true}), [402, 1213]);
 });
 
 test("an edge is drawn to a place, at least one cell and one step from the other", () => {

@@ -3,7 +3,7 @@
 import assert from "node:assert/strict";
 import {test} from "node:test";
 
-import {onceEach, placeOfLabel} from "../page/labels.mjs";
+import {dropDuplicates, placeOfLabel} from "../page/labels.mjs";
 
 const BOUNDS = [60, 50, 960, 550];
 const SIZE = [180, 17];
@@ -54,14 +54,14 @@ test("three pieces of one change have one label, at the largest of them", () => 
   const piece = (top, bottom) => ({text: "54 km/h", box: [100, top, 300, bottom], change: "7,65"});
   const other = {text: "27 km/h", box: [100, 140, 300, 160], change: "8,65"};
   const labels = [piece(100, 140), piece(160, 220), piece(260, 280)];
-  assert.deepEqual(onceEach([labels[0], other, labels[1], labels[2]]).map(({box}) => box),
+  assert.deepEqual(dropDuplicates([labels[0], other, labels[1], labels[2]]).map(({box}) => box),
                    [labels[1].box, other.box]);
 });
 
 test("three changes side by side that say the same have one label, others their own", () => {
   const zone = (number, text = "54 km/h") =>
     ({text, box: [100 + 50 * number, 100, 150 + 50 * number, 200], change: String(number)});
-  assert.equal(onceEach([zone(0), zone(1), zone(2)]).length, 1);
-  assert.equal(onceEach([zone(0), zone(2)]).length, 2);
-  assert.equal(onceEach([zone(0), zone(1, "27 km/h"), zone(2)]).length, 3);
+  assert.equal(dropDuplicates([zone(0), zone(1), zone(2)]).length, 1);
+  assert.equal(dropDuplicates([zone(0), zone(2)]).length, 2);
+  assert.equal(dropDuplicates([zone(0), zone(1, "27 km/h"), zone(2)]).length, 3);
 });
