@@ -1,4 +1,4 @@
-"""`live/serve` on a disk that does not answer as long as a file `stalled` stands in the folder, for the file that it names or
+"""`live/serve` on a disk that does not answer while a file `stalled` stands in the folder, for the file that it names or
 for all, unless it is empty; and fails as long as a file `failing` does."""
 from __future__ import annotations
 
