@@ -116,7 +116,7 @@ class Brokers(Case):
             self.assertEqual([one["title"] for one in news["shares"]], ["night works", "by day"])
 
     async def has_title(self, seat: Seat, title: str) -> bool:
-        """Return whether the seat was told of one share: by Ada, with this title."""
+        """Return whether the server announced a single share to the seat: by Ada, with this title."""
         shares = [share for one in seat.told if "news" in one for share in one["news"]["shares"]]
         return bool(shares) and (shares[-1]["who"], shares[-1]["title"]) == ("Ada", title)
 

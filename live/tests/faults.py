@@ -1,5 +1,5 @@
 """Test a fault at each call to the disk, each line of the program and each message, in turn, while people put, undo, share and
-take, others' changes arrive and the journal is compacted. What was confirmed is there, nobody was told of anything else, and
+take, others' changes arrive and the journal is compacted. What was confirmed is there, the server announces nothing else, and
 nothing hangs. The gate tries some of the faults, `live/test --all` each.
 """
 from __future__ import annotations
@@ -41,7 +41,7 @@ class Story:
         self.durable = b""  # the part of the journal that is durable on the disk
         self.confirmed: list[tuple[Any, ...]] = []
         self.refused: list[str] = []
-        self.told: list[tuple[int, int]] = []  # the stamps that others were told of
+        self.told: list[tuple[int, int]] = []  # the stamps that the server announced to others
         self.untrue: list[str] = []
 
     @property
@@ -70,7 +70,7 @@ class Story:
     async def __aexit__(self, *fault: Any) -> None:
         await self._all.__aexit__(*fault)
 
-    # What others are told
+    # What the server announces to others
 
     def _hears(self, message: Message) -> None:
         for stamp in stamps_in(message):

@@ -1,4 +1,4 @@
-"""Test that everything that was confirmed is on the disk, and that nobody is told of anything else, whatever the disk does."""
+"""Test that everything that was confirmed is on the disk, and that the server announces nothing else, whatever the disk does."""
 from __future__ import annotations
 
 import asyncio
