@@ -21,7 +21,7 @@ async def put_edits(seat: Seat, key: str, *edits: list[Any], **more: Any) -> Sta
     return (await seat.ask("gesture", key=key, edits=list(edits), **more))["stamp"]
 
 
-async def put_shape(seat: Seat, key: str, shape: list[Any] | None, **more: Any) -> Stamp:
+async def put_layer(seat: Seat, key: str, shape: list[Any] | None, **more: Any) -> Stamp:
     """Put, change or withdraw a shape. Return the stamp."""
     return (await seat.ask("gesture", key=key, shape=shape, **more))["stamp"]
 
@@ -78,17 +78,17 @@ class Acts(Case):
         self.assertEqual(await numbers(self.ada), closed(60, 69, 30, 60))
 
     async def test_each_of_two_overlapping_closures_can_be_withdrawn(self) -> None:
-        first = await put_shape(self.ada, "1", ["block", 60, 60, 30, 60, 1])
-        second = await put_shape(self.ada, "2", ["block", 60, 60, 20, 40, 1])
+        first = await put_layer(self.ada, "1", ["block", 60, 60, 30, 60, 1])
+        second = await put_layer(self.ada, "2", ["block", 60, 60, 20, 40, 1])
         self.assertEqual(await numbers(self.ada), closed(60, 60, 20, 60))
-        await put_shape(self.ada, "3", None, layer=first)
+        await put_layer(self.ada, "3", None, layer=first)
         self.assertEqual(await numbers(self.ada), closed(60, 60, 20, 40))
-        await put_shape(self.ada, "4", None, layer=second)
+        await put_layer(self.ada, "4", None, layer=second)
         self.assertEqual(await numbers(self.ada), {})
         self.assertEqual(await lines(self.ada), {})  # it was private: nothing of it is left to list
 
     async def test_a_replaced_preview_leaves_no_program(self) -> None:
-        await put_shape(self.ada, "1", CLOSED)
+        await put_layer(self.ada, "1", CLOSED)
         asked = []
         for count in range(30):
             await self.ada.ask("preview", what="share")
@@ -104,14 +104,14 @@ class Acts(Case):
         self.assertNotIn("` failed", self.a6.said())  # no question failed (asyncio may log a broken pipe)
 
     async def test_shown_lists_which_layer_covers_which_and_when(self) -> None:
-        old = await put_shape(self.ada, "old", ["limit", 2, 2, 20, 80, 1], note="long")
+        old = await put_layer(self.ada, "old", ["limit", 2, 2, 20, 80, 1], note="long")
         said = await self.ada.ask("gesture", key="new", shape=["limit", 2, 2, 40, 50, 3])
         new = said["stamp"]
         self.assertEqual({tuple(one["name"]) for one in said["layers"]}, {tuple(old), tuple(new)})  # those that changed
         shown = next(one["shown"] for one in said["layers"] if one["name"] == old)
         self.assertEqual(shown, [["limit", 2, 2, 20, 40, 1, None], ["limit", 2, 2, 40, 50, 1, new],
                                  ["limit", 2, 2, 50, 80, 1, None]])
-        changed = await put_shape(self.ada, "change", ["limit", 2, 2, 20, 90, 2], layer=old)  # a change keeps its height
+        changed = await put_layer(self.ada, "change", ["limit", 2, 2, 20, 90, 2], layer=old)  # a change keeps its height
         self.assertEqual(await numbers(self.ada), {("limit", 2, 20): 2, ("limit", 2, 40): 3, ("limit", 2, 50): 2,
                                                    ("limit", 2, 90): 5})
         top = await self.ada.ask("gesture", key="top", layer=old, top=True)
@@ -124,8 +124,8 @@ class Acts(Case):
         self.assertEqual((gone["touched"], gone["layers"]), (None, [{"name": new, "gone": True}]))
 
     async def test_undo_restores_exactly_what_was_there(self) -> None:
-        old = await put_shape(self.ada, "old", ["limit", 2, 2, 20, 80, 1])
-        await put_shape(self.ada, "new", ["limit", 2, 2, 40, 50, 3])
+        old = await put_layer(self.ada, "old", ["limit", 2, 2, 20, 80, 1])
+        await put_layer(self.ada, "new", ["limit", 2, 2, 40, 50, 3])
         before = await numbers(self.ada), await lines(self.ada)
         gone = await self.ada.ask("gesture", key="gone", layer=old, shape=None)
         self.assertEqual((gone["undo"], gone["redo"]), (gone["stamp"], None))
@@ -158,7 +158,7 @@ class Acts(Case):
         self.assertEqual(await numbers(self.ada), states[3])
 
     async def test_z_undoes_every_change_of_one_line(self) -> None:
-        line = await put_shape(self.ada, "under", ["limit", 2, 2, 40, 90, 1])
+        line = await put_layer(self.ada, "under", ["limit", 2, 2, 40, 90, 1])
         states = [await numbers(self.ada)]
         gestures: list[tuple[str, dict[str, Any]]] = [
             ("put", {"shape": ["limit", 2, 3, 20, 50, 2]}), ("change", {"shape": ["limit", 2, 3, 20, 70, 2]}),
@@ -176,10 +176,10 @@ class Acts(Case):
             self.assertEqual(said[walk], line if walk == "undo" else None)
 
     async def test_a_change_that_somebody_undid_again_blocks_nobody(self) -> None:
-        mine = await put_shape(self.ada, "1", CLOSED)
+        mine = await put_layer(self.ada, "1", CLOSED)
         await self.ada.ask("send", name="shared")
         await self.ben.ask("take", message="shared")
-        change = await put_shape(self.ben, "1", ["block", 60, 69, 30, 70, 1], layer=mine)
+        change = await put_layer(self.ben, "1", ["block", 60, 69, 30, 70, 1], layer=mine)
         await self.ben.ask("send", name="shared")
         await self.ada.ask("take", message="shared")
         with self.assertRaisesRegex(RefusedReply, "Ben changed it since"):
@@ -233,7 +233,7 @@ class Acts(Case):
             said = await ada.reply("gesture", at=ada.at, key="k", shape=["block", 0, 600, 5, 9, 1])
             self.assertEqual(said["refused"], "TooManyObjects")
             for count in range(4):  # which is more edits than an import may have
-                await put_shape(ada, f"k{count}", ["block", 0, 599, 10 * count, 10 * count + 5, 1])
+                await put_layer(ada, f"k{count}", ["block", 0, 599, 10 * count, 10 * count + 5, 1])
             said = await ada.ask("gesture", key="all", shape=["block", 0, 599, 0, 100, 1])
             self.assertEqual(await numbers(ada), closed(0, 599, 0, 100))
             await ada.ask("undo", key="u", stamp=said["stamp"])
@@ -255,13 +255,13 @@ class Acts(Case):
     async def test_a_shape_takes_the_place_of_raw_edits(self) -> None:
         line = await put_edits(self.ada, "1", ["limit", 2, 50, 1], ["limit", 2, 60, 5], shape=["limit", 2, 2, 50, 60, 1])
         self.assertEqual((await lines(self.ada))[tuple(line)]["shape"], ["limit", 2, 2, 50, 60, 1])
-        stamp = await put_shape(self.ada, "2", ["limit", 2, 2, 50, 70, 1], layer=line)
+        stamp = await put_layer(self.ada, "2", ["limit", 2, 2, 50, 70, 1], layer=line)
         self.assertEqual(await numbers(self.ada), {("limit", 2, 50): 1, ("limit", 2, 70): 5})
         self.assertEqual({name: one["shape"] for name, one in (await lines(self.ada)).items() if one["standing"]},
                          {tuple(line): ["limit", 2, 2, 50, 70, 1]})  # the line's stamp still names one layer
         await self.ada.ask("undo", key="3", stamp=stamp)
         self.assertEqual(await numbers(self.ada), {("limit", 2, 50): 1, ("limit", 2, 60): 5})
-        await put_shape(self.ada, "4", None, layer=line)
+        await put_layer(self.ada, "4", None, layer=line)
         self.assertEqual(await numbers(self.ada), {})
 
     async def test_the_commands_edit_and_withdraw_of_the_format_work(self) -> None:
@@ -301,9 +301,9 @@ class Acts(Case):
     # Sharing and taking
 
     async def test_shared_changes_are_taken_and_the_later_one_is_on_top(self) -> None:
-        mine = await put_shape(self.ada, "1", ["limit", 2, 2, 50, 70, 1], note="mine")
-        one = await put_shape(self.ben, "1", ["limit", 0, 0, 5, None, 4])
-        other = await put_shape(self.ben, "2", ["limit", 2, 3, 50, 60, 3], note="his")
+        mine = await put_layer(self.ada, "1", ["limit", 2, 2, 50, 70, 1], note="mine")
+        one = await put_layer(self.ben, "1", ["limit", 0, 0, 5, None, 4])
+        other = await put_layer(self.ben, "2", ["limit", 2, 3, 50, 60, 3], note="his")
         said = await self.ben.ask("send", name="shared", title="two")
         self.assertEqual((said["size"], said["stamps"], said["touched"]), (2, [one, other], 5))
         self.assertEqual(await limit_at(self.ada), 1)
@@ -317,11 +317,11 @@ class Acts(Case):
         self.assertEqual(await numbers(self.ada), {("limit", 0, 5): 4, ("limit", 2, 50): 3, ("limit", 2, 60): 1,
                                                    ("limit", 2, 70): 5, ("limit", 3, 50): 3, ("limit", 3, 60): 5})
         self.assertEqual((await self.ada.ask("take", message="shared"))["size"], 0)
-        self.assertGreater(await put_shape(self.ada, "2", SLOW), other)  # above all that it holds
+        self.assertGreater(await put_layer(self.ada, "2", SLOW), other)  # above all that it holds
 
     async def test_an_operation_has_one_time_at_all_seats(self) -> None:
         """It is the time at which it was made, and not that at which it was shared or taken."""
-        mine = await put_shape(self.ada, "1", CLOSED)
+        mine = await put_layer(self.ada, "1", CLOSED)
         made = (await lines(self.ada))[tuple(mine)]["operations"][0]["when"]
         await asyncio.sleep(1.1)
         await self.ada.ask("send", name="shared")
@@ -331,10 +331,10 @@ class Acts(Case):
         self.assertEqual([*found, took["changes"][0]["when"]], [made] * 3)
 
     async def test_a_shared_change_of_another_seat_is_withdrawn_and_that_is_undone(self) -> None:
-        mine = await put_shape(self.ada, "1", CLOSED, note="mine")
+        mine = await put_layer(self.ada, "1", CLOSED, note="mine")
         await self.ada.ask("send", name="shared")
         await self.ben.ask("take", message="shared")
-        gone = await put_shape(self.ben, "1", None, layer=mine, note="open")
+        gone = await put_layer(self.ben, "1", None, layer=mine, note="open")
         line = (await lines(self.ben))[tuple(mine)]
         self.assertEqual((line["who"], line["standing"], line["shared"]), ("Ada", False, False))
         self.assertEqual((await self.ben.ask("send", name="shared"))["stamps"], [gone])
@@ -349,12 +349,12 @@ class Acts(Case):
     async def test_an_operation_on_a_line_that_its_seat_had_seen_does_not_compete(self) -> None:
         """A seat has seen an operation if it held it when it made its own, however often the line was changed; this also holds
         for an undo."""
-        line = tuple(await put_shape(self.ada, "1", CLOSED))
+        line = tuple(await put_layer(self.ada, "1", CLOSED))
         await self.ada.ask("send", name="shared")
         await self.ben.ask("take", message="shared")
-        await put_shape(self.ben, "1", ["block", 60, 69, 30, 70, 1], layer=list(line))
-        await put_shape(self.ben, "2", ["block", 60, 69, 30, 80, 1], layer=list(line))
-        gone = await put_shape(self.ben, "3", None, layer=list(line))
+        await put_layer(self.ben, "1", ["block", 60, 69, 30, 70, 1], layer=list(line))
+        await put_layer(self.ben, "2", ["block", 60, 69, 30, 80, 1], layer=list(line))
+        gone = await put_layer(self.ben, "3", None, layer=list(line))
         await self.ben.ask("undo", key="4", stamp=gone)
         await self.ben.ask("send", name="shared")
         await self.ada.ask("take", message="shared")
@@ -362,11 +362,11 @@ class Acts(Case):
             self.assertEqual({one["lost"] for one in (await lines(seat))[line]["operations"]}, {None})
 
     async def test_of_two_changes_of_one_line_at_once_the_later_one_wins(self) -> None:
-        line = tuple(await put_shape(self.ada, "1", CLOSED))
+        line = tuple(await put_layer(self.ada, "1", CLOSED))
         await self.ada.ask("send", name="shared")
         await self.ben.ask("take", message="shared")
-        change = await put_shape(self.ada, "2", ["block", 60, 69, 30, 70, 1], layer=list(line))
-        gone = await put_shape(self.ben, "2", None, layer=list(line))
+        change = await put_layer(self.ada, "2", ["block", 60, 69, 30, 70, 1], layer=list(line))
+        gone = await put_layer(self.ben, "2", None, layer=list(line))
         self.assertGreater(gone, change)  # neither knew of the other: the later one wins
         await self.ben.ask("send", name="shared")
         await self.ada.ask("take", message="shared")
@@ -380,8 +380,8 @@ class Acts(Case):
         self.assertEqual(await numbers(self.ben), closed(60, 69, 30, 70))
 
     async def test_some_operations_can_be_shared_without_the_others(self) -> None:
-        first = await put_shape(self.ada, "1", CLOSED)
-        second = await put_shape(self.ada, "2", ["block", 65, 74, 40, 80, 1])
+        first = await put_layer(self.ada, "1", CLOSED)
+        second = await put_layer(self.ada, "2", ["block", 65, 74, 40, 80, 1])
         self.assertEqual((await self.ada.ask("send", name="shared", stamps=[second]))["stamps"], [second])
         self.assertEqual(await numbers(self.ada, "shared"), closed(65, 74, 40, 80))
         self.assertEqual((await self.ada.ask("send", name="shared"))["stamps"], [first])
@@ -391,8 +391,8 @@ class Acts(Case):
         self.assertTrue(all(one["shared"] for one in (await lines(self.ada)).values()))
 
     async def test_a_change_is_shared_without_its_put(self) -> None:
-        line = await put_shape(self.ada, "1", CLOSED)
-        change = await put_shape(self.ada, "2", ["block", 60, 69, 30, 70, 1], layer=line)
+        line = await put_layer(self.ada, "1", CLOSED)
+        change = await put_layer(self.ada, "2", ["block", 60, 69, 30, 70, 1], layer=line)
         await self.ada.ask("send", name="shared", stamps=[change])
         await self.ben.ask("take", message="shared")
         self.assertEqual(await numbers(self.ben), closed(60, 69, 30, 70))
@@ -401,13 +401,13 @@ class Acts(Case):
         self.assertEqual(await numbers(self.ada, "shared"), closed(60, 69, 30, 70))
 
     async def test_privately_undone_changes_are_not_shared_and_hide_nothing(self) -> None:
-        his = await put_shape(self.ben, "1", ["limit", 2, 2, 50, 80, 4])
+        his = await put_layer(self.ben, "1", ["limit", 2, 2, 50, 80, 4])
         for count in range(3):
-            await put_shape(self.ada, f"a{count}", ["limit", 0, 0, 5 + 10 * count, 10 + 10 * count, 3])
-        stamp = await put_shape(self.ada, "b", ["limit", 2, 2, 40, 70, 1])
+            await put_layer(self.ada, f"a{count}", ["limit", 0, 0, 5 + 10 * count, 10 + 10 * count, 3])
+        stamp = await put_layer(self.ada, "b", ["limit", 2, 2, 40, 70, 1])
         await self.ada.ask("undo", key="u", stamp=stamp)
-        gone = await put_shape(self.ada, "c", CLOSED)
-        await put_shape(self.ada, "d", None, layer=gone)
+        gone = await put_layer(self.ada, "c", CLOSED)
+        await put_layer(self.ada, "d", None, layer=gone)
         self.assertEqual((await self.ada.ask("send", name="shared"))["size"], 3)
         self.assertEqual([edit for edit in (await self.ada.ask("scenario", at="shared"))["edits"] if edit[1] != 0], [])
         await self.ben.ask("send", name="shared")
@@ -421,13 +421,13 @@ class Acts(Case):
     async def test_changes_undone_long_ago_are_forgotten_and_never_come_back(self) -> None:
         server = self.server(LIVE_MOST_UNDONE="70")
         async with server.seat() as ada, server.seat("Ben") as ben:
-            first = await put_shape(ada, "first", ["limit", 2, 2, 20, 60, 1])
+            first = await put_layer(ada, "first", ["limit", 2, 2, 20, 60, 1])
             for count in range(30):
-                await put_shape(ben, f"b{count}", ["limit", 2, 3, 3 * count, 3 * count + 2, 3])
+                await put_layer(ben, f"b{count}", ["limit", 2, 3, 3 * count, 3 * count + 2, 3])
             for count in range(80):
-                stamp = await put_shape(ada, f"g{count}", ["limit", 1, 3, count, count + 30, 2])
+                stamp = await put_layer(ada, f"g{count}", ["limit", 1, 3, count, count + 30, 2])
                 await ada.ask("undo", key=f"u{count}", stamp=stamp)
-            last = await put_shape(ada, "last", ["limit", 1, 1, 7, None, 3])
+            last = await put_layer(ada, "last", ["limit", 1, 1, 7, None, 3])
 
             async def is_shorter() -> bool:
                 await ada.reply("cells", at=ada.at, step=0)
@@ -451,11 +451,11 @@ class Acts(Case):
     async def test_a_change_that_names_a_change_belongs_to_its_line(self) -> None:
         """So does one that names it by its key, before it is confirmed: three drags give one shape."""
         line, change, last = await asyncio.gather(
-            put_shape(self.ada, "a", CLOSED), put_shape(self.ada, "b", ["block", 60, 70, 30, 60, 1], layer="a"),
-            put_shape(self.ada, "c", ["block", 60, 71, 30, 60, 1], layer="b"))
+            put_layer(self.ada, "a", CLOSED), put_layer(self.ada, "b", ["block", 60, 70, 30, 60, 1], layer="a"),
+            put_layer(self.ada, "c", ["block", 60, 71, 30, 60, 1], layer="b"))
         undo = (await self.ada.ask("undo", key="u", stamp=last))["stamp"]
         for key, name, cells in (("d", change, 72), ("e", undo, 73)):
-            await put_shape(self.ada, key, ["block", 60, cells, 30, 60, 1], layer=name)
+            await put_layer(self.ada, key, ["block", 60, cells, 30, 60, 1], layer=name)
         self.assertEqual([(name, one["shape"][2]) for name, one in (await lines(self.ada)).items()], [(tuple(line), 73)])
 
     async def test_a_line_that_excludes_a_site_gets_no_shape(self) -> None:
@@ -468,11 +468,11 @@ class Acts(Case):
     async def test_forgotten_changes_are_no_longer_listed(self) -> None:
         server = self.server(LIVE_MOST_UNDONE="30")
         async with server.seat() as ada:
-            gone = await put_shape(ada, "gone", ["limit", 2, 2, 20, 60, 1])
-            await put_shape(ada, "withdrawn", None, layer=gone)
-            line = tuple(await put_shape(ada, "line", CLOSED))
+            gone = await put_layer(ada, "gone", ["limit", 2, 2, 20, 60, 1])
+            await put_layer(ada, "withdrawn", None, layer=gone)
+            line = tuple(await put_layer(ada, "line", CLOSED))
             for count in range(29):
-                stamp = await put_shape(ada, f"c{count}", ["block", 60, 69, 30, 70 + count, 1], layer=list(line))
+                stamp = await put_layer(ada, f"c{count}", ["block", 60, 69, 30, 70 + count, 1], layer=list(line))
                 said = await ada.ask("undo", key=f"u{count}", stamp=stamp)
 
             async def is_shorter() -> bool:
@@ -497,7 +497,7 @@ class Acts(Case):
             listed: dict[tuple[int, ...], Any] = {}
             after = 0
             for count in range(11):
-                stamp = await put_shape(ada, f"g{count}", SLOW)
+                stamp = await put_layer(ada, f"g{count}", SLOW)
                 await ada.ask("undo", key=f"u{count}", stamp=stamp)
                 said = await ada.ask("layers", **{"from": after})
                 after, changed = said["next"], {tuple(one["name"]): one for one in said["layers"]}
@@ -513,12 +513,12 @@ class Acts(Case):
 
     async def test_z_undoes_the_same_operations_after_a_start_that_forgets_some(self) -> None:
         """One of the operations that are kept undoes an older one."""
-        line = await put_shape(self.ada, "line", CLOSED)
-        stamp = await put_shape(self.ada, "change", ["block", 60, 69, 30, 70, 1], layer=line)
+        line = await put_layer(self.ada, "line", CLOSED)
+        stamp = await put_layer(self.ada, "change", ["block", 60, 69, 30, 70, 1], layer=line)
         await self.ada.ask("undo", key="undo", stamp=stamp)
         undo: Stamp | None = None
         for count in range(19):
-            undo = await put_shape(self.ada, f"g{count}", ["limit", 2, 2, 20 + count, 60, 1])
+            undo = await put_layer(self.ada, f"g{count}", ["limit", 2, 2, 20 + count, 60, 1])
         self.a6.restart()
         async with self.a6.seat(key=self.ada.key) as ada:
             for count in range(20):
@@ -528,10 +528,10 @@ class Acts(Case):
             self.assertEqual((undo, await numbers(ada)), (None, {}))
 
     async def test_a_withdrawn_line_comes_back_whole_after_a_restart(self) -> None:
-        line = await put_shape(self.ada, "line", CLOSED, note="works")
+        line = await put_layer(self.ada, "line", CLOSED, note="works")
         for count in range(20):
-            await put_shape(self.ada, f"g{count}", ["limit", 2, 2, 20 + count, 60, 1])
-        gone = await put_shape(self.ada, "gone", None, layer=line, note="open")
+            await put_layer(self.ada, f"g{count}", ["limit", 2, 2, 20 + count, 60, 1])
+        gone = await put_layer(self.ada, "gone", None, layer=line, note="open")
         self.a6.restart()
         async with self.a6.seat(key=self.ada.key) as ada:
             back = await ada.ask("undo", key="back", stamp=gone)
@@ -543,7 +543,7 @@ class Acts(Case):
 
     async def test_the_list_has_only_what_changed_since_a_version(self) -> None:
         for count in range(3):
-            await put_shape(self.ada, str(count), ["limit", count, count, 20, 40, 1])
+            await put_layer(self.ada, str(count), ["limit", count, count, 20, 40, 1])
         said = await self.ada.ask("layers")
         self.assertEqual((len(said["layers"]), said["more"]), (3, False))
         again = await self.ada.ask("layers", **{"from": said["next"]})
@@ -564,10 +564,10 @@ class Previews(Case):
         self.ada = await self.enterAsyncContext(self.a6.seat("Ada"))
         self.ben = await self.enterAsyncContext(self.a6.seat("Ben"))
         await self.ada.say("clock", to=200)
-        self.his = await put_shape(self.ben, "1", ["block", 60, 60, 30, 90, 1], note="works")
+        self.his = await put_layer(self.ben, "1", ["block", 60, 60, 30, 90, 1], note="works")
         await self.ben.ask("send", name="shared")
-        self.slow = await put_shape(self.ada, "1", ["limit", 0, 1, 1, None, 2], note="slow")
-        self.mine = await put_shape(self.ada, "2", ["block", 60, 62, 50, 70, 0], note="open")
+        self.slow = await put_layer(self.ada, "1", ["limit", 0, 1, 1, None, 2], note="slow")
+        self.mine = await put_layer(self.ada, "2", ["block", 60, 62, 50, 70, 0], note="open")
 
     async def picture(self, at: str, to: int = 200) -> Any:
         """Return the rows, counts and sums of a road, each from a question of its own."""
@@ -630,9 +630,9 @@ class Previews(Case):
     async def test_a_change_that_would_be_lost_is_listed_with_its_shape_and_the_winner(self) -> None:
         """It is listed although the road would stay the same."""
         await self.ada.ask("take", message="shared")
-        theirs = await put_shape(self.ben, "3", ["block", 60, 60, 30, 95, 1], layer=self.his)
+        theirs = await put_layer(self.ben, "3", ["block", 60, 60, 30, 95, 1], layer=self.his)
         await self.ben.ask("send", name="shared")
-        mine = await put_shape(self.ada, "4", ["block", 60, 60, 30, 99, 1], layer=self.his)
+        mine = await put_layer(self.ada, "4", ["block", 60, 60, 30, 99, 1], layer=self.his)
         for is_shared in (False, True):
             said = await self.ada.ask("preview", what="take")
             line: Any
@@ -672,9 +672,9 @@ class Previews(Case):
         server = self.server(plan=plan)
         async with server.seat() as ada:
             await ada.say("clock", to=300)
-            await put_shape(ada, "1", ["block", 50, 50, 60, 200, 1])  # its jam reaches both inlets
-            await put_shape(ada, "2", ["inflow", 1, 1, 100, 250, 65_536])
-            await put_shape(ada, "3", ["inflow", 0, 0, 200, None, 0])
+            await put_layer(ada, "1", ["block", 50, 50, 60, 200, 1])  # its jam reaches both inlets
+            await put_layer(ada, "2", ["inflow", 1, 1, 100, 250, 65_536])
+            await put_layer(ada, "3", ["inflow", 0, 0, 200, None, 0])
             said: Any = await ada.ask("figures", of="mine", **{"from": 30, "to": 290})
             self.assertEqual(said["before"]["asked"], [(290 - 30) / 2, 0])
             self.assertEqual(said["before"]["lost"], [0, 0])
@@ -729,7 +729,7 @@ class Seats(Case):
             async with server.seat("one more"):
                 pass
         for seat in seats:
-            await put_shape(seat, "1", ["limit", 0, 0, seat.welcome["seat"], seat.welcome["seat"] + 1, 1])
+            await put_layer(seat, "1", ["limit", 0, 0, seat.welcome["seat"], seat.welcome["seat"] + 1, 1])
             await seat.ask("send", name="shared")
         await seats[62].ask("take", message="shared")
         self.assertEqual({name[1] for name in await lines(seats[62])}, set(range(65, 128)))
