@@ -69,7 +69,7 @@ export function putOnTop(change) {
   act({gesture}, {note, first: change.shape?.from});
 }
 
-/** Put an operation of one's own again that lost to another one.
+/** Repeat an own operation that lost to another one.
  * @param {Change} change
  * @param {Operation} operation
  */
@@ -221,8 +221,8 @@ export async function send(key) {
 const withFields = (command, more) => Object.fromEntries(
   Object.entries(command).map(([verb, fields]) => [verb, {...more, ...fields}]));
 
-/** Apply the list news that came with an answer. Ask for what lies between the page's version and
- * these news, or follows them, if there is anything.
+/** Apply the news of the list that came with an answer. If the page lacks changes before or after
+ * them, ask for these.
  * @param {"mine" | "shared"} whose
  * @param {ListNews} said
  */

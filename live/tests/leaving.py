@@ -116,7 +116,7 @@ class LeftOut(Case):
         await self.everywhere(self.road(limit, later, extra))
 
     async def test_a_seat_that_excluded_a_site_has_the_road_without_it_after_a_restart(self) -> None:
-        """The seat took that site's changes, and not yet the exclusion on the shared road."""
+        """The seat took that site's changes, but has not yet taken the exclusion that is on the shared road."""
         await self.shape(2, "block", 52, 53, 30, 45, 1)
         await self.here[1].take(1)
         await self.here[1].ask(1, "site", key="out", site=3, out=True)
@@ -219,7 +219,7 @@ class LeftOut(Case):
             self.assertNotIn((9, 70), self.here[0].lab.state.by_stamp)
 
     async def test_all_sites_choose_the_same_one_of_two_twins(self) -> None:
-        """One twin excludes a site, the other includes it; they arrive in either order."""
+        """One twin excludes a site, and the other includes it. They arrive in either order."""
         await self.shape(2, "block", 60, 60, 30, None, 1)
         stamp = [stamps.next_count(0, stamps.milliseconds(), 0), 70 * 64 + 1]
         twins = [message_of(self.sites[0], exclude((stamp[0], stamp[1]), 3, out)) for out in (True, False)]
