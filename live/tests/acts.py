@@ -182,7 +182,7 @@ class Acts(Case):
         change = await put_layer(self.ben, "1", ["block", 60, 69, 30, 70, 1], layer=mine)
         await self.ben.ask("send", name="shared")
         await self.ada.ask("take", message="shared")
-        with self.assertRaisesRegex(RefusedReply, "Ben changed it since"):
+        with self.assertRaisesRegex(RefusedReply, "Ben changed its line since"):
             await self.ada.ask("undo", key="2", stamp=mine)
         await self.ben.ask("undo", key="2", stamp=change)
         await self.ben.ask("send", name="shared")
@@ -201,7 +201,7 @@ class Acts(Case):
             ("undo", {"key": "e", "stamp": "c"}), ("undo", {"key": "f", "stamp": "b"})]
         said = await asyncio.gather(*(self.ada.reply(verb, at=self.ada.at, **fields) for verb, fields in asked))
         self.assertEqual([one.get("refused") for one in said], [None, None, None, None, None, "NothingToUndo"])
-        self.assertIn("Ada undid it already", said[-1]["why"])
+        self.assertIn("Ada undid this change already", said[-1]["why"])
         self.assertEqual(await numbers(self.ada), closed(60, 69, 30, 60))
         self.a6.restart()
         async with self.a6.seat(key=self.ada.key) as ada:  # keys are known after a restart, too
@@ -212,7 +212,7 @@ class Acts(Case):
         for refusal, why, shape in (
                 ("NoObject", "no zone 6", ["limit", 5, 6, 0, None, 1]), ("NoObject", "before its first", ["limit", 3, 2, 0, 9, 1]),
                 ("NoObject", "no cell 120", ["block", 119, 120, 0, 9, 1]), ("Step", "at most", ["limit", 1, 1, 1_048_576, None, 1]),
-                ("Step", "must end at step", ["limit", 1, 1, 5, 1_048_576, 1]), ("Range", "after its beginning", ["limit", 1, 1, 5, 5, 1]),
+                ("Step", "must end at step", ["limit", 1, 1, 5, 1_048_576, 1]), ("Range", "must end after step", ["limit", 1, 1, 5, 5, 1]),
                 ("ValueOutOfRange", "0 to 9", ["limit", 1, 1, 5, 6, 10]), ("not a command", "not a number", ["limit", 1, 1, 5, 6, None]),
                 ("not a command", "is not [kind", ["limit", 1, 1, 5, 6]), ("not a command", "is not [kind", None),
                 ("not a command", "does not exist", ["lane", 1, 1, 5, 6, 1])):
@@ -307,7 +307,7 @@ class Acts(Case):
         said = await self.ben.ask("send", name="shared", title="two")
         self.assertEqual((said["size"], said["stamps"], said["touched"]), (2, [one, other], 5))
         self.assertEqual(await limit_at(self.ada), 1)
-        news = [one["news"] for one in self.ada.told if "news" in one][-1]
+        news = [one["news"] for one in self.ada.received if "news" in one][-1]
         self.assertEqual((news["size"], news["from"], news["touched"], news["shares"][0]["title"]), (2, ["Ben"], 5, "two"))
         self.assertEqual([one["note"] for one in news["changes"]], ["", "his"])
         took = await self.ada.ask("take", message="shared")
@@ -343,7 +343,7 @@ class Acts(Case):
         self.assertEqual([(one["who"], one["does"], one["note"], one["lost"]) for one in line["operations"]],
                          [("Ada", "put", "mine", None), ("Ben", "withdraw", "open", None)])
         self.assertEqual(await numbers(self.ada), {})
-        with self.assertRaisesRegex(RefusedReply, "Ben changed it since"):
+        with self.assertRaisesRegex(RefusedReply, "Ben changed its line since"):
             await self.ada.ask("undo", key="2", stamp=mine)
 
     async def test_an_operation_on_a_line_that_its_seat_had_seen_does_not_compete(self) -> None:
@@ -481,7 +481,7 @@ class Acts(Case):
             fresh = (await lines(ada))[line]
             self.assertEqual([one["does"] for one in fresh["operations"]], ["put", *["change", "undo"] * 10])
             self.assertEqual((await ada.ask("layers", **{"from": said["next"]}))["layers"], [fresh])
-            with self.assertRaisesRegex(RefusedReply, "you hold no change with the name"):
+            with self.assertRaisesRegex(RefusedReply, "this seat holds no change with the name"):
                 await ada.ask("gesture", key="late", layer=gone, top=True)
 
     async def test_a_list_loses_the_line_of_an_own_raw_edit_that_is_forgotten_after_another_replaced_it(self) -> None:

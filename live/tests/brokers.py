@@ -32,7 +32,7 @@ async def shared(seat: Seat) -> list[Any]:
 
 def broker_of(seat: Seat) -> BrokerState:
     """Return the latest state of the broker that a seat was sent."""
-    told = [seat.welcome["broker"], *(one["broker"] for one in seat.told if "broker" in one)]
+    told = [seat.welcome["broker"], *(one["broker"] for one in seat.received if "broker" in one)]
     assert told[-1] is not None
     return told[-1]
 
@@ -77,7 +77,7 @@ class Brokers(Case):
                     await put(ada, ["limit", 2, 80, 1])
                     await put(sam, ["limit", 2, 80, 2])  # a tie: the greater number wins
                     self.assertEqual(await self.same(ada, sam, edits=1), [["limit", 2, 80, 1, 64, 2]])
-                    news = next(one["news"] for one in reversed(ada.told) if "news" in one)
+                    news = next(one["news"] for one in reversed(ada.received) if "news" in one)
                     self.assertIn("Sam", news["from"])
                     key = sam.key
                 second.kill()  # a site is away
@@ -112,12 +112,12 @@ class Brokers(Case):
                     first.restart()
                     broker.start()
                 await until(lambda: self.has_title(sam, title), title)
-            news = next(one["news"] for one in reversed(sam.told) if "news" in one)
+            news = next(one["news"] for one in reversed(sam.received) if "news" in one)
             self.assertEqual([one["title"] for one in news["shares"]], ["night works", "by day"])
 
     async def has_title(self, seat: Seat, title: str) -> bool:
         """Return whether the server announced a single share to the seat: by Ada, with this title."""
-        shares = [share for one in seat.told if "news" in one for share in one["news"]["shares"]]
+        shares = [share for one in seat.received if "news" in one for share in one["news"]["shares"]]
         return bool(shares) and (shares[-1]["who"], shares[-1]["title"]) == ("Ada", title)
 
     async def test_garbage_is_ignored_and_reported(self) -> None:
@@ -136,7 +136,7 @@ class Brokers(Case):
             for text, why in (
                     ("good morning", "not JSON"), ("", "not JSON"), ("[" * 3_000, "not JSON"), ("[1]", "no list"),
                     ('{"operations":7}', "no list"), ('{"operations":[],"form":2}', "no list"),
-                    (said(7), "an operation is an object"), (said({"stamp": [1, 70]}), "does nothing"),
+                    (said(7), "an operation must be a JSON object"), (said({"stamp": [1, 70]}), "the operation does nothing"),
                     (said(limit([1, 70], 99, 8)), "no zone 99"), (said(limit([1, 3], 1, 8)), "belongs to a replica"),
                     (said(limit([281474976710656, 70], 1, 20)), "[281474976710656, 70] of number 70 is more than a day"),
                     (said(limit([2764800001, 70], 1, 21)), "[2764800001, 70] of number 70 is more than a day ahead"),
@@ -214,7 +214,7 @@ class Brokers(Case):
         return (now["state"], now["unsent"]) == (state, unsent)
 
     async def test_a_broker_on_another_host_requires_a_password(self) -> None:
-        with self.assertRaisesRegex(RuntimeError, "requires --broker-user, --broker-password"):
+        with self.assertRaisesRegex(RuntimeError, "give --broker-user and --broker-password"):
             self.server("--broker", "192.0.2.1:8883")
 
 

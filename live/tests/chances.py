@@ -177,9 +177,9 @@ class Days(Case):
 
     async def test_it_ends_when_the_asking_tab_leaves(self) -> None:
         question, processes = await self.asks(self.ada)
-        self.here.questions.left(self.ben)
+        self.here.questions.drop_seat(self.ben)
         self.assertFalse(question.done())
-        self.here.questions.left(self.ada)
+        self.here.questions.drop_seat(self.ada)
         await self.ended(question, processes)
         self.here.keeper.path = str(program())
         self.over(2)  # then somebody else may ask

@@ -183,7 +183,7 @@ class Crashes(Case):
             self.assertEqual(len((await ben.ask("scenario"))["edits"]), 2 + min(made, LAST))
 
     def changes(self, seat: Seat) -> int:
-        return max((one["program"]["changes"] for one in seat.told if "program" in one), default=0)
+        return max((one["program"]["changes"] for one in seat.received if "program" in one), default=0)
 
     async def test_an_interrupt_ends_the_server_with_tabs_open(self) -> None:
         """It does so even if one of the tabs does not read."""

@@ -91,9 +91,9 @@ class FairTurns(unittest.IsolatedAsyncioTestCase):
         class Counted(Turns):
             """Turns that count how often they wait for a seat that may ask next."""
 
-            async def _asked_within(self, seconds: float) -> bool:
+            async def _wait_for_job(self, seconds: float) -> bool:
                 test.waits += 1
-                return await super()._asked_within(seconds)
+                return await super()._wait_for_job(seconds)
         self.turns = Counted(self.around, lambda: self.now, 1.0)
         self.task = asyncio.create_task(self.turns.run())
 

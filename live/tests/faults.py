@@ -78,7 +78,7 @@ class Story:
 
     def _look(self) -> None:
         """Note what the server announces to Cleo, who takes no changes."""
-        for change in self.here.lab.news(self.cleo, 1_000)["changes"]:
+        for change in self.here.lab.unseen_shares(self.cleo, 1_000)["changes"]:
             self._tells(change["stamp"])
 
     def _tells(self, stamp: tuple[int, int]) -> None:
@@ -144,7 +144,7 @@ class Story:
 
     async def ends(self) -> None:
         """Without faults, exchange until both sites hold all that was shared."""
-        await soon(self.here.keeper.until_writable())
+        await soon(self.here.keeper.wait_until_writable())
         for number in range(12):
             self.site._sent.clear()
             self.other._sent.clear()
@@ -267,7 +267,7 @@ class Faults(Case):
             await self.whole()
         for number, way in each((number, way) for number in range(1, lines + 1) for way in LINES):
             async with Story() as story:
-                with mock.patch.object(Program, "ask_all", ends_at(number, way)), mock.patch("server.program.HANGS", 0.4):
+                with mock.patch.object(Program, "ask_all", ends_at(number, way)), mock.patch("server.program.IDLE_PATIENCE", 0.4):
                     await story.runs()
                 await story.ends()
                 self.look(story, f"line {number}, {way}", False)

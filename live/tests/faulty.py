@@ -15,7 +15,7 @@ from unittest import mock
 
 from running import PATIENCE, SMALL, new_folder, program
 from server import verbs
-from server.asked import Asked
+from server.asked import CommandFields
 from server.keeper import Keeper
 from server.lab import Lab
 from server.model.operations import Operation
@@ -109,7 +109,7 @@ class Here:
 
     async def ask(self, seat: int, verb: str, **fields: Any) -> Any:
         """Ask a question as a tab of the seat. Return the answer; raise `Refused` if it is refused."""
-        asked = Asked(verb, {"at": f"seat{seat}", **fields})
+        asked = CommandFields(verb, {"at": f"seat{seat}", **fields})
         reply = await verbs.answer(self.lab, self.questions, seat, asked, {})
         return json.loads(reply) if isinstance(reply, bytes) else reply
 

@@ -19,7 +19,7 @@ import running
 from oracle import by_rows, oracle_of
 from readers import LAST, PLAN
 from running import Case, Server
-from server.model.projection import timeline
+from server.model.projection import all_edits
 from server.screen import rows_of
 from server.state import State
 
@@ -31,7 +31,7 @@ ORACLE = oracle_of(ROADS, 44)
 
 def checksum(state: State, index: int) -> str:
     """Return the checksum of a road, computed as when the journals were written."""
-    values = ORACLE.by_the_program(by_rows(rows_of(timeline(state.replica(index).road))))
+    values = ORACLE.by_the_program(by_rows(rows_of(all_edits(state.replica(index).road))))
     told = [([kind, at, step], value) for (kind, at), line in values.items() for step, value in enumerate(line)]
     return hashlib.sha256(json.dumps(sorted(told)).encode()).hexdigest()[:16]
 

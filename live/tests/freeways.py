@@ -67,7 +67,7 @@ class Freeways(Case):
         server.stop()
         (server.folder / "plan.json").write_text(json.dumps({**KM, "main": 800}), encoding="utf-8")
         server.start()
-        self.assertIn("has another plan than", server.said())
+        self.assertIn("has another road than", server.said())
 
     async def test_demand_and_clock_are_those_of_the_file(self) -> None:
         """900 cars an hour, 600 from 7:05 on, and 200 at an on-ramp are admitted to within half a per cent, and the curve that
@@ -261,5 +261,5 @@ class Freeways(Case):
         (folder / "mine").write_text("kept", encoding="utf-8")
         ran = subprocess.run([LIVE / "serve", "--folder", folder, "--port", "0", folder / "none.json"],
                              stderr=subprocess.PIPE, text=True, timeout=100, check=False)
-        self.assertIn("no plan at", ran.stderr)
+        self.assertIn("cannot read the road from", ran.stderr)
         self.assertEqual((folder / "mine").read_text(encoding="utf-8"), "kept")

@@ -12,10 +12,10 @@ from unittest import mock
 import aiohttp
 
 from server import verbs
-from server.asked import Asked
+from server.asked import CommandFields
 from server.refusals import Refused
 from server.client import Seat
-from server.doors import Strangers, neighbourhood
+from server.doors import Strangers, address_group
 from server.tabs import Tab, parse_frame
 from running import PATIENCE, SMALL, Case, Server, transport_of, until
 from working import takes_at_most
@@ -111,7 +111,7 @@ class Frames(Case):
         self.enterContext(mock.patch("server.tabs.NAMED", 0.1))
         tab = Tab(mock.Mock(**{"lab.keeper.settings.hello": 0.1}), mock.Mock(), mock.Mock())
         tab.has_token = True
-        await asyncio.wait_for(tab._hello_in_time(), PATIENCE)
+        await asyncio.wait_for(tab._require_hello(), PATIENCE)
         self.assertEqual(tab.close_reason, (1008, "no hello"))
 
     async def test_malformed_frames_get_a_refusal(self) -> None:
@@ -231,14 +231,14 @@ class Long(Case):
                  json.dumps("limit" * 12_000), f'["{"limit " * 10_000}",1]', '[["' + "limit" * 12_000 + '",1,1,1]]',
                  "[" * 900 + "]" * 900, json.dumps("7" * 60_000), json.dumps(" " * 60_000 + "7"), json.dumps('"' * 30_000)]
         reads: dict[str, Any] = {
-            "edits": Asked.edits, "stamps": Asked.stamps, "shape": Asked.shape, "layer": lambda asked: asked.stamp_or_key("layer"),
-            "to": lambda asked: asked.whole("to"), "key": Asked.key, "note": lambda asked: asked.text("note", 200)}
+            "edits": CommandFields.edits, "stamps": CommandFields.stamps, "shape": CommandFields.shape, "layer": lambda asked: asked.stamp_or_key("layer"),
+            "to": lambda asked: asked.whole("to"), "key": CommandFields.key, "note": lambda asked: asked.text("note", 200)}
         frames = [(f'{{"id":1,"x":{{"{name}":{value}}}}}', read) for name, read in reads.items() for value in wrong]
         frames += [(f'{{"id":1,"x":{{"object":{value},"step":1}}}}', verbs.read_edit) for value in wrong]
         for frame, read in frames:
             with takes_at_most(0.05, frame[:40]), contextlib.suppress(Refused, RecursionError):
                 _, verb, fields = parse_frame(frame)
-                read(Asked(verb, fields))
+                read(CommandFields(verb, fields))
 
 
 class Connection(asyncio.Transport):
@@ -261,7 +261,7 @@ class Crowds(Case):
         for one, other, is_one in (("1.2.3.4", "1.2.3.5", False), ("2001:db8::1", "2001:db8::ffff:2", True), ("::1", "::1", True),
                                    ("2001:db8::1", "2001:db8:0:1::1", False), ("fe80::1%eth0", "fe80::2%eth0", True),
                                    ("::ffff:1.2.3.4", "1.2.3.4", True), ("::ffff:1.2.3.4", "::ffff:1.2.3.5", False)):
-            self.assertEqual(neighbourhood(one) == neighbourhood(other), is_one, (one, other))
+            self.assertEqual(address_group(one) == address_group(other), is_one, (one, other))
 
     def test_strangers_are_at_most_64_of_an_address_and_512_in_all_for_a_minute(self) -> None:
         """Beyond these numbers the oldest are cut. A tab with the token does not count as a stranger."""

@@ -21,7 +21,7 @@ from unittest import mock
 import running
 from faulty import Disk
 from server.client import Seat
-from server.journal import Broken, Entries, Journal, NotWritten, lock, put_in_place, read_entries
+from server.journal import CannotStart, Entries, Journal, NotWritten, lock, put_in_place, read_entries
 from server.keeper import Keeper
 from server.settings import Settings
 from crashes import numbers
@@ -64,7 +64,7 @@ class Reading(unittest.TestCase):
             # A last line with zeros is a write that was cut off, and no fault.
             for rest in (good, line_of(GESTURES[1], None), *([] if 0 in broken else [b""])):
                 self.path.write_bytes(self.lines[0] + broken + rest)
-                with self.assertRaisesRegex(Broken, "line 2"):
+                with self.assertRaisesRegex(CannotStart, "line 2"):
                     read_entries(self.path)
 
     def test_older_lines_have_no_checksum(self) -> None:
@@ -85,7 +85,7 @@ class Reading(unittest.TestCase):
                 kept = 1 + (begin >= len(line_of(GESTURES[1])))
                 self.assertEqual((entries, size), (GESTURES[:kept], sum(map(len, self.lines[:kept]))), (begin, end))
         self.path.write_bytes(whole + bytes(len(last)) + self.lines[2])  # a later line follows: the zeros were confirmed
-        with self.assertRaisesRegex(Broken, "line 2"):
+        with self.assertRaisesRegex(CannotStart, "line 2"):
             read_entries(self.path)
 
     def test_10_000_operations_are_read_in_a_second(self) -> None:
@@ -101,7 +101,7 @@ class Reading(unittest.TestCase):
             self.assertEqual(len(state.shared.road.layers), size)
 
     def test_only_one_server_locks_a_folder(self) -> None:
-        with lock(self.path.parent), self.assertRaisesRegex(Broken, "another server"), lock(self.path.parent):
+        with lock(self.path.parent), self.assertRaisesRegex(CannotStart, "another server"), lock(self.path.parent):
             self.fail("held twice")
         with lock(self.path.parent):
             pass
@@ -124,17 +124,17 @@ class Writing(unittest.IsolatedAsyncioTestCase):
         resource.setrlimit(resource.RLIMIT_FSIZE, (journal.size + 20, old[1]))
         try:
             waiting = [journal.write(entry) for entry in GESTURES[1:]]
-            results = await asyncio.gather(*waiting, journal.settled(), return_exceptions=True)
+            results = await asyncio.gather(*waiting, journal.wait_until_written(), return_exceptions=True)
             with self.assertRaises(OSError):
-                await journal.mend(GESTURES[1])
+                await journal.probe_disk(GESTURES[1])
         finally:
             resource.setrlimit(resource.RLIMIT_FSIZE, old)
         self.assertEqual([type(one) for one in results], [NotWritten] * 3)
         self.assertEqual(self.path.read_bytes(), line_of(GESTURES[0]))
         with self.assertRaises(NotWritten):  # the entry before it may be missing
             await journal.write(GESTURES[1])
-        self.assertEqual(journal.confirmed(), GESTURES[:1])
-        await journal.mend(GESTURES[1])
+        self.assertEqual(journal.read_confirmed(), GESTURES[:1])
+        await journal.probe_disk(GESTURES[1])
         await journal.write(GESTURES[2])
         self.assertEqual(read_entries(self.path)[0], GESTURES)
 
@@ -217,8 +217,8 @@ class Writing(unittest.IsolatedAsyncioTestCase):
             with self.assertRaises(NotWritten):
                 await journal.write(GESTURES[2])
             disk.fault = lambda *_: None
-            await journal.mend(GESTURES[2])
-        self.assertEqual(journal.confirmed(), GESTURES[1:])
+            await journal.probe_disk(GESTURES[2])
+        self.assertEqual(journal.read_confirmed(), GESTURES[1:])
 
     async def test_no_line_goes_to_a_strangers_socket_if_the_old_file_cannot_be_closed(self) -> None:
         """The file's descriptor is free nevertheless, and the next socket gets it."""
@@ -236,7 +236,7 @@ class Writing(unittest.IsolatedAsyncioTestCase):
         sockets = [socket.socketpair() for _ in range(4)]
         with contextlib.suppress(NotWritten):
             await journal.write(GESTURES[2])
-        self.assertEqual(journal.confirmed(), read_entries(self.path)[0])
+        self.assertEqual(journal.read_confirmed(), read_entries(self.path)[0])
         for one in (one for pair in sockets for one in pair):
             self.addCleanup(one.close)
             one.setblocking(False)
@@ -314,7 +314,7 @@ class Folders(Case):
         self.assertEqual((len(token), path.stat().st_mode & 0o777), (24, 0o600))
         for short in ("", "\n", token[:15]):
             path.write_text(short)
-            with self.assertRaisesRegex(RuntimeError, "token has [0-9]+ signs.*nobody is let in"):
+            with self.assertRaisesRegex(RuntimeError, "token has [0-9]+ characters.*makes a new token"):
                 server.start()
             self.assertEqual(path.read_text(), short)
         path.unlink()
@@ -346,7 +346,7 @@ class Folders(Case):
 
     async def test_a_plan_that_is_refused_leaves_a_folder_that_can_be_used(self) -> None:
         folder = running.new_folder()
-        for plan, why in (({**SMALL, "length": 7}, "the program refuses the plan: Length"), ({"a": 1}, "refuses the plan")):
+        for plan, why in (({**SMALL, "length": 7}, r"the program refuses the plan line \(Length\)"), ({"a": 1}, "refuses the plan")):
             with self.assertRaisesRegex(RuntimeError, why):
                 running.Server(folder, plan)
             self.assertEqual(read_entries(folder / "journal.jsonl"), ([], 0))
@@ -361,7 +361,7 @@ class Folders(Case):
         ran = subprocess.run([sys.executable, LIVE / "serve", "--folder", server.folder, "--port", "0"],
                              capture_output=True, text=True, timeout=running.PATIENCE, check=False)
         self.assertEqual((ran.returncode, ran.stdout), (1, ""))
-        self.assertIn("another server runs in", ran.stderr)
+        self.assertIn("another server is running in", ran.stderr)
         self.assertNotIn("Traceback", ran.stderr)
 
     async def test_a_second_server_says_so_even_if_the_lock_file_was_removed(self) -> None:
@@ -382,7 +382,7 @@ class Folders(Case):
                 ran = subprocess.run([sys.executable, LIVE / "serve", "--folder", server.folder, "--port", "0"],
                                      capture_output=True, text=True, timeout=running.PATIENCE, check=False)
                 self.assertEqual((ran.returncode, ran.stdout), (1, ""))
-                self.assertIn("another server runs in", ran.stderr)
+                self.assertIn("another server is running in", ran.stderr)
             await self.shared(ada, 5)
 
     async def test_a_server_starts_on_a_read_only_disk(self) -> None:
@@ -401,7 +401,7 @@ class Folders(Case):
             said = await ada.reply("gesture", at=ada.at, key="x", edits=[["limit", 2, 50, 1]])
             self.assertEqual(said["refused"], "NotWritten")
             self.assertIn("Read-only file system", said["why"])
-            trouble = ada.welcome["trouble"] or next(one["trouble"] for one in reversed(ada.told) if "trouble" in one)
+            trouble = ada.welcome["trouble"] or next(one["trouble"] for one in reversed(ada.received) if "trouble" in one)
             self.assertIn("Read-only file system", str(trouble))
             async with server.seat("Ben") as ben:  # somebody who joins now can look, too
                 self.assertEqual((await ben.ask("scenario"))["edits"], [])
@@ -435,7 +435,7 @@ class Folders(Case):
                                                      edits=[["block", 60, step, 1], ["limit", 0, step, 0]])
                                           for step in range(10, 13) for seat in (ada, ben)))
             self.assertEqual({one.get("refused") for one in said}, {"NotWritten"})
-            self.assertTrue(all("could not be kept" in one["why"] for one in said))
+            self.assertTrue(all("was not saved, so it was not made" in one["why"] for one in said))
             self.assertEqual((server.folder / "journal.jsonl").stat().st_size, size)
             after = await ada.ask("diagram", **{"from": 0, "to": 60}), await ada.ask("scenario")
             self.assertEqual([one.get("rows") or one["edits"] for one in before], [one.get("rows") or one["edits"] for one in after])
@@ -443,7 +443,7 @@ class Folders(Case):
             resource.prlimit(server.process.pid, resource.RLIMIT_FSIZE, (resource.RLIM_INFINITY, resource.RLIM_INFINITY))
             self.assertEqual((await ada.ask("gesture", key="full 10", edits=[["block", 60, 10, 1]]))["stamp"], [2, 65])
             await ada.reply("ping")  # pushed messages come after the reply
-            troubles = [one["trouble"] for one in ada.told if "trouble" in one]
+            troubles = [one["trouble"] for one in ada.received if "trouble" in one]
             self.assertEqual([bool(one) for one in troubles][-2:], [True, False])
             held = numbers((await ada.ask("scenario"))["edits"])
         server.restart()

@@ -15,7 +15,7 @@ from running import ALL, SMALL, Case
 from server import stamps
 from server.refusals import Refused
 from server.model.operations import Operation, Shape, exclude, put
-from server.model.projection import timeline
+from server.model.projection import all_edits
 from server.screen import rows_of
 from server.state import State
 from server.records import read_plan_line
@@ -159,7 +159,7 @@ class LeftOut(Case):
         for entry in here.entries():
             state.read(entry)
         for seat in (state.shared, state.seats[1]):
-            self.assertEqual(closed(rows_of(timeline(seat.road))), by_shapes(seat.places), f"{what} {seat.at}")
+            self.assertEqual(closed(rows_of(all_edits(seat.road))), by_shapes(seat.places), f"{what} {seat.at}")
 
     async def act(self, here: Here, chance: random.Random, key: str) -> None:
         what, first, begin = chance.random(), chance.choice(CELLS), chance.choice(STEPS)

@@ -9,7 +9,7 @@ from painted import EMPTY
 from working import takes_at_most
 from server.model import changes, choices, seen
 from server.model.operations import About, Json, Operation, Shape, Stamp, edit, exclude, lift, put, undo
-from server.model.projection import difference, timeline
+from server.model.projection import difference, all_edits
 from server.model.reading import Malformed, read_operation
 from server.model.road import Road, change, repeat, stands
 
@@ -40,7 +40,7 @@ class Cases(unittest.TestCase):
             bens = change(BASE, (changed, BEN), LINE, LONGER)
             road = in_every_order([CLOSURE, withdrawal, back, bens])
             self.assertEqual(road.layers, BASE.adding([bens]).layers)
-            self.assertEqual(seen.lost(road, LINE), {})
+            self.assertEqual(seen.find_overruled(road, LINE), {})
 
     def test_a_private_undone_pair_is_not_shared_and_has_no_effect(self) -> None:
         withdrawal = change(BASE, (2, ADA), LINE, None)
@@ -58,7 +58,7 @@ class Cases(unittest.TestCase):
         bens = change(BASE, (2, BEN), LINE, LONGER)
         road = BASE.adding([bens])
         self.assertFalse(choices.would_change(road, CLOSURE))
-        self.assertEqual(choices.overruling(road, CLOSURE), [bens])
+        self.assertEqual(choices.find_overruling(road, CLOSURE), [bens])
         self.assertEqual(road.layers, road.adding([undo((3, ADA), CLOSURE)]).layers)
 
     def test_a_change_that_is_undone_while_another_builds_on_it_leaves_his_shape(self) -> None:
@@ -66,19 +66,19 @@ class Cases(unittest.TestCase):
         taken, on_it = undo((3, ADA), adas), change(BASE.adding([adas]), (4, BEN), LINE, SHAPE)
         road = in_every_order([CLOSURE, adas, taken, on_it])
         self.assertEqual(road.layers[LINE].end, 15)
-        self.assertEqual(seen.lost(road, LINE), {taken: on_it})
+        self.assertEqual(seen.find_overruled(road, LINE), {taken: on_it})
 
     def test_one_of_two_changes_at_once_wins_and_its_undo_shows_the_other(self) -> None:
         adas, bens = change(BASE, (2, ADA), LINE, WIDE), change(BASE, (2, BEN), LINE, LONGER)
         road = in_every_order([CLOSURE, adas, bens])
-        self.assertEqual((seen.lost(road, LINE), road.layers[LINE].end), ({adas: bens}, 25))
+        self.assertEqual((seen.find_overruled(road, LINE), road.layers[LINE].end), ({adas: bens}, 25))
         self.assertEqual(road.adding([undo((3, BEN), bens)]).layers, BASE.adding([adas]).layers)
 
     def test_a_change_and_put_on_top_at_once_both_take_effect(self) -> None:
         bens, adas = change(BASE, (2, BEN), LINE, LONGER), lift((2, ADA), LINE)
         road = in_every_order([CLOSURE, bens, adas])
         self.assertEqual((road.layers[LINE].end, road.layers[LINE].height), (25, (2, ADA)))
-        self.assertEqual(seen.lost(road, LINE), {})
+        self.assertEqual(seen.find_overruled(road, LINE), {})
 
     def test_z_goes_back_and_redo_goes_forward(self) -> None:
         road, past = BASE, [{}, BASE.layers]
@@ -87,16 +87,16 @@ class Cases(unittest.TestCase):
             past.append(road.layers)
         for count in range(5, 9):
             past.pop()
-            undone = choices.undoable(road, ADA).undo
+            undone = choices.find_undoable(road, ADA).undo
             assert undone is not None
             road = road.adding([undo((count, ADA), undone)])
             self.assertEqual(road.layers, past[-1])
-        self.assertIsNone(choices.undoable(road, ADA).undo)
+        self.assertIsNone(choices.find_undoable(road, ADA).undo)
         for count in range(9, 13):
-            redone = choices.undoable(road, ADA).redo
+            redone = choices.find_undoable(road, ADA).redo
             assert redone is not None
             road = road.adding([undo((count, ADA), redone)])
-        self.assertIsNone(choices.undoable(road, ADA).redo)
+        self.assertIsNone(choices.find_undoable(road, ADA).redo)
         self.assertEqual((road.layers[LINE].first, road.layers[LINE].last), (1, 6))
 
     def test_z_names_who_has_changed_the_last_own_change(self) -> None:
@@ -105,33 +105,33 @@ class Cases(unittest.TestCase):
         first, bens = change(BASE, (2, ADA), LINE, LONGER), None
         road = BASE.adding([first, other])
         bens = change(road, (3, BEN), LINE, SHAPE)
-        found = choices.undoable(road.adding([bens]), ADA)
+        found = choices.find_undoable(road.adding([bens]), ADA)
         self.assertEqual((found.undo, found.blocked), (None, [first, CLOSURE]))
-        self.assertEqual(choices.overruling(road.adding([bens]), first), [bens])
+        self.assertEqual(choices.find_overruling(road.adding([bens]), first), [bens])
 
     def test_z_does_not_undo_an_older_change_by_somebody_else(self) -> None:
         """Z restores the shape of the other's change, which is not undone itself."""
         bens = change(BASE, (2, BEN), LINE, WIDE)
         last = change(BASE, (3, ADA), LINE, LONGER)
         road = BASE.adding([last, bens])
-        self.assertEqual(choices.undoable(road, ADA).undo, last)
+        self.assertEqual(choices.find_undoable(road, ADA).undo, last)
         road = road.adding([undo((4, ADA), last)])
         self.assertEqual(road.layers, BASE.adding([bens]).layers)
-        self.assertEqual((choices.undoable(road, ADA).undo, choices.undoable(road, ADA).blocked), (None, [CLOSURE]))
+        self.assertEqual((choices.find_undoable(road, ADA).undo, choices.find_undoable(road, ADA).blocked), (None, [CLOSURE]))
 
     def test_two_who_undo_one_operation_must_both_redo(self) -> None:
         adas, bens = undo((2, ADA), CLOSURE), undo((2, BEN), CLOSURE)
         road = BASE.adding([adas, bens])
-        self.assertIsNone(choices.undoable(road, ADA).redo)
+        self.assertIsNone(choices.find_undoable(road, ADA).redo)
         road = road.adding([undo((3, BEN), bens)])
-        self.assertEqual((road.layers, choices.undoable(road, ADA).redo), ({}, adas))
+        self.assertEqual((road.layers, choices.find_undoable(road, ADA).redo), ({}, adas))
 
     def test_of_two_withdrawals_at_once_undoing_one_restores_nothing(self) -> None:
         """The closure stays withdrawn, since the other withdrawal is still active; Z says so."""
         adas, bens = change(BASE, (2, ADA), LINE, None), change(BASE, (2, BEN), LINE, None)
         road = in_every_order([CLOSURE, adas, bens])
-        self.assertEqual(seen.lost(road, LINE), {adas: bens})
-        self.assertEqual(choices.undoable(road, ADA).blocked, [adas, CLOSURE])
+        self.assertEqual(seen.find_overruled(road, LINE), {adas: bens})
+        self.assertEqual(choices.find_undoable(road, ADA).blocked, [adas, CLOSURE])
         self.assertEqual(road.adding([undo((3, ADA), adas)]).layers, {})
 
     def test_a_late_undo_of_an_old_operation_changes_the_old_road(self) -> None:
@@ -184,7 +184,7 @@ class Cases(unittest.TestCase):
     def test_a_line_that_was_changed_very_often_is_shown_just_as_fast(self) -> None:
         many = [Operation((count, ADA), {LINE: LONGER}, seen=(count - 1, ADA)) for count in range(2, 20_002)]
         with takes_at_most(5):
-            self.assertEqual(seen.lost(BASE.adding(many), LINE), {})
+            self.assertEqual(seen.find_overruled(BASE.adding(many), LINE), {})
 
     def test_the_difference_of_two_roads_is_that_of_all_their_operations(self) -> None:
         road = BASE.adding([put((2, ADA), WIDE)])
@@ -238,12 +238,12 @@ class Raw(unittest.TestCase):
         adas, bens = (change(self.base, (2, number), self.line, shape) for number, shape in ((ADA, WIDE), (BEN, LONGER)))
         road = in_every_order([self.edits, adas, bens])
         self.assertEqual(road.layers.keys(), {self.line})
-        self.assertEqual((road.layers[self.line].end, seen.lost(road, self.line)), (25, {adas: bens}))
+        self.assertEqual((road.layers[self.line].end, seen.find_overruled(road, self.line)), (25, {adas: bens}))
 
     def test_a_change_does_not_beat_a_later_withdrawal(self) -> None:
         adas, bens = change(self.base, (2, ADA), self.line, WIDE), change(self.base, (3, BEN), self.line, None)
         road = in_every_order([self.edits, adas, bens])
-        self.assertEqual((road.layers, seen.lost(road, self.line)), ({}, {adas: bens}))
+        self.assertEqual((road.layers, seen.find_overruled(road, self.line)), ({}, {adas: bens}))
 
     def test_two_drags_before_the_first_is_confirmed_give_one_shape(self) -> None:
         first = change(self.base, (2, ADA), self.line, WIDE)
@@ -260,7 +260,7 @@ class Raw(unittest.TestCase):
         road = self.base.adding([lid, lift((3, ADA), self.line)])
         self.assertEqual({layer.height for name, layer in road.layers.items() if name != lid.stamp}, {(3, ADA)})
         self.assertEqual(changes.all_lines(road), {self.line, lid.stamp})
-        self.assertEqual([one[:6] for one in seen.shown(road, self.line)],
+        self.assertEqual([one[:6] for one in seen.visible_rectangles(road, self.line)],
                          [("block", 3, 4, 5, 15, 1), ("block", 3, 4, 15, None, 0)])
 
     def test_the_line_has_both_of_two_withdrawals_at_once(self) -> None:
@@ -309,7 +309,7 @@ class Raw(unittest.TestCase):
         shape = change(road, (3, ADA), self.line, Shape("limit", 1, 2, 5, 25, 3))
         road = road.adding([shape, undo((4, BEN), bens)])
         self.assertEqual(road.layers.keys(), {self.line, ("block", 3, 5)})
-        self.assertEqual([one[:6] for one in seen.shown(road, self.line)],
+        self.assertEqual([one[:6] for one in seen.visible_rectangles(road, self.line)],
                          [("limit", 1, 2, 5, 25, 3), ("block", 3, 3, 5, None, 1)])
 
     def test_the_largest_line_can_be_dragged(self) -> None:
@@ -330,17 +330,17 @@ class Lists(unittest.TestCase):
         base = EMPTY.adding([below, above])
         lifted, withdrawn = lift((3, ADA), above.stamp), change(base, (3, BEN), above.stamp, None)
         road = base.adding([lifted])
-        self.assertEqual([one.by for one in seen.shown(road, below.stamp)], [above.stamp])
+        self.assertEqual([one.by for one in seen.visible_rectangles(road, below.stamp)], [above.stamp])
         then = road.adding([withdrawn])
-        self.assertIn(below.stamp, changes.altered(road, then))
-        self.assertEqual([one.by for one in seen.shown(then, below.stamp)], [None])
+        self.assertIn(below.stamp, changes.find_altered_lines(road, then))
+        self.assertEqual([one.by for one in seen.visible_rectangles(then, below.stamp)], [None])
 
     def test_putting_the_same_raw_edits_very_often_keeps_nobody_waiting(self) -> None:
         road = EMPTY
         for count in range(1, 42):
             before, road = road, road.adding([edit((count, ADA), {("block", cell, 5): count % 2 for cell in range(1_200)})])
         with takes_at_most(0.1):
-            self.assertEqual(changes.altered(before, road), {(40, ADA), (41, ADA)})
+            self.assertEqual(changes.find_altered_lines(before, road), {(40, ADA), (41, ADA)})
 
     def test_an_undo_of_twins_belongs_to_the_lines_of_both(self) -> None:
         first, second = put((1, ADA), SHAPE), put((2, ADA), WIDE)
@@ -348,7 +348,7 @@ class Lists(unittest.TestCase):
         twins = [change(base, (3, ADA), one.stamp, LONGER) for one in (first, second)]
         road = base.adding(twins)
         back = undo((4, BEN), twins[0])
-        self.assertEqual(changes.altered(road, road.adding([back])), {first.stamp, second.stamp})
+        self.assertEqual(changes.find_altered_lines(road, road.adding([back])), {first.stamp, second.stamp})
         self.assertEqual(changes.lines_of(road.adding([back]), back), {first.stamp, second.stamp})
 
     def test_an_older_exclusion_of_a_site_renames_its_line(self) -> None:
@@ -357,7 +357,7 @@ class Lists(unittest.TestCase):
         older = exclude((4, CLEO), 2, False)
         after = before.adding([older])
         self.assertEqual((changes.all_lines(before), changes.all_lines(after)), ({(8, ADA)}, {(4, CLEO)}))
-        self.assertEqual(changes.altered(before, after), {(8, ADA), (4, CLEO)})
+        self.assertEqual(changes.find_altered_lines(before, after), {(8, ADA), (4, CLEO)})
         self.assertEqual(changes.operations_on(after, (8, ADA)), [])
 
 
@@ -379,7 +379,7 @@ class Reading(unittest.TestCase):
         one = read_operation({**value, "colour": "red"})
         self.assertEqual(one.written()["colour"], "red")
         self.assertFalse(one.is_same(CLOSURE))
-        with self.assertRaisesRegex(Malformed, "more than 1000 bytes"):
+        with self.assertRaisesRegex(Malformed, "at most 1000 bytes"):
             read_operation({**value, "colour": "r" * 1_000})
 
     def test_a_changed_operation_is_read_or_refused_whatever_was_changed(self) -> None:
@@ -393,13 +393,13 @@ class Reading(unittest.TestCase):
                     except Malformed as fault:
                         self.assertTrue(str(fault))
                     else:
-                        timeline(EMPTY.adding([found]) if name == "who" else EMPTY)
+                        all_edits(EMPTY.adding([found]) if name == "who" else EMPTY)
 
     def test_an_operation_refers_only_to_older_ones(self) -> None:
         cases: list[dict[str, Json]] = [
             {"undoes": [2, ADA]}, {"seen": [3, ADA]}, {"heights": [[[1, ADA], [3, ADA]]]}, {"sets": [[[3, ADA], None]]}]
         for more in cases:
-            with self.assertRaisesRegex(Malformed, "older ones"):
+            with self.assertRaisesRegex(Malformed, "older operations"):
                 read_operation({"stamp": [2, ADA], **more})
 
     def test_an_operation_without_effect_is_refused(self) -> None:

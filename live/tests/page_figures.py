@@ -308,7 +308,7 @@ class OneFreeway(BrowserCase):
         tab, = self.open(FREEWAY)
         tab.script("sessionStorage.clear()")
         tab.driver.get(tab.driver.current_url)  # as if it was copied from the address bar
-        said = "The server closed the connection: the address lacks the right token: open it as live/serve printed it."
+        said = "The server closed the connection: the address has a wrong token: open the address that live/serve printed."
         tab.until(lambda: tab.part("helloSaid").text == said, "the form that asks for a name says so")
         tab.script("$('helloSaid').textContent = ''")
         tab.part("name").send_keys("Ben", Keys.ENTER)

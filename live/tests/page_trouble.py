@@ -34,7 +34,7 @@ class OneTab(BrowserCase):
         began = time.monotonic()
         os.kill(self.server.program, signal.SIGSTOP)
         self.begin_limit(ada, "1")
-        sentence = f"The program was restarted: the program owed an answer and used no processor for {HANGS} seconds"
+        sentence = f"The program was restarted: the program did not answer and used no processor time for {HANGS} seconds"
         ada.until(lambda: ada.text("said").endswith(": done."), "it is confirmed, whatever the program does")
         ada.until(lambda: sentence in ada.text("stays"), "the page says so")
         self.assertGreater(time.monotonic() - began, HANGS * 0.8)
@@ -78,7 +78,7 @@ class OneTab(BrowserCase):
         ada.until(lambda: ada.lines("own") and "1" in self.signs_at_35(ada), "it is seen")
         failing.touch()
         stalled.unlink()
-        ada.until(lambda: "the disk does not accept it" in ada.text("stays"), "the page says so")
+        ada.until(lambda: "the disk does not accept writes" in ada.text("stays"), "the page says so")
         ada.until(lambda: not ada.lines("own") and set(self.signs_at_35(ada)) == {"3", "."}, "it is gone")
         failing.unlink()
         ada.until(lambda: "disk" not in ada.text("stays"), "the trouble is over")

@@ -51,7 +51,7 @@ class Replica:
         before, self.road = self.road, road
         wanted, said = ORACLE.painted(road.record.operations()), ORACLE.by_the_program(self.program)
         assert wanted == said, {thing: (wanted[thing], said[thing]) for thing in wanted if wanted[thing] != said[thing]}
-        self.check_list(changes.altered(before, road))
+        self.check_list(changes.find_altered_lines(before, road))
         self.counted["roads"] += 1
 
     def check_list(self, altered: set[Stamp]) -> None:
@@ -67,8 +67,8 @@ class Replica:
 
 def entry(road: Road, line: Stamp) -> Any:
     """Return what the list shows of a line."""
-    losses = seen.lost(road, line)
-    return {"shown": seen.shown(road, line), "standing": stands(road, line), "operations": [
+    losses = seen.find_overruled(road, line)
+    return {"shown": seen.visible_rectangles(road, line), "standing": stands(road, line), "operations": [
         (one.text(), road.record.counts(one), losses[one].stamp if one in losses else None)
         for one in changes.operations_on(road, line)]}
 
@@ -195,7 +195,7 @@ class History:
 
     def press(self, seat: Seat) -> None:
         for redo in (False, True):
-            found = choices.undoable(seat.road, seat.number)
+            found = choices.find_undoable(seat.road, seat.number)
             one = found.redo if redo else found.undo
             if one is not None and self.chance.random() < 0.7:
                 self.make(seat, undo(stamp_of(seat, self.chance), one))
@@ -261,20 +261,20 @@ class History:
     def check_seat(self, site: Site, seat: Seat) -> None:
         """Check that Z and Redo change something, and that the shareable operations are active and make the shared road the seat's."""
         road, shared, chance = seat.road, site.shared.road, self.chance
-        found = choices.undoable(road, seat.number)
+        found = choices.find_undoable(road, seat.number)
         for one in (found.undo, found.redo):
             if one is not None:
                 then = road.adding([undo(stamp_of(seat, chance), one)])
                 assert then.layers != road.layers or then.record.excluded != road.record.excluded, "Z does nothing"
         for one in found.blocked:
             assert road.adding([undo(stamp_of(seat, chance), one)]).layers == road.layers
-            assert any(other.stamp[1] != seat.number for other in choices.overruling(road, one)), "somebody else is named"
+            assert any(other.stamp[1] != seat.number for other in choices.find_overruling(road, one)), "somebody else is named"
         some = choices.shareable(road, shared, seat.number)
         assert all(map(road.record.counts, some)), "what is undone is not shared"
         everything = road.adding(site.order)
         then = shared.adding(choices.shareable(everything, shared, seat.number))
         assert then.layers == everything.layers and then.record.excluded == everything.record.excluded
-        gone = choices.forgettable(road, shared, seat.number, chance.randrange(4))
+        gone = choices.find_forgettable(road, shared, seat.number, chance.randrange(4))
         left = EMPTY.adding(one for one in road.record.operations() if one not in gone)
         assert left.layers == road.layers and left.record.excluded == road.record.excluded
         self.counted["forgettable"] += len(gone)

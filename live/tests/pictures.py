@@ -84,7 +84,7 @@ class Pictures(Case):
                   for span, pairs in enumerate(counts) for detector, (cars, speeds) in enumerate(pairs)]
         self.assertEqual(table[2:], [[str(cell) for cell in line] for line in wanted])
         for text in ("=a", "+a", "-a", "@a", " =a", "\t=a"):
-            self.assertEqual(saving.harmless(text), "'" + text)
-        self.assertEqual([saving.harmless(cell) for cell in ("a=", 7, "")], ["a=", 7, ""])
+            self.assertEqual(saving.escape_formula(text), "'" + text)
+        self.assertEqual([saving.escape_formula(cell) for cell in ("a=", 7, "")], ["a=", 7, ""])
         with self.assertRaises(RefusedReply):
             await self.ada.ask("csv", what="all")

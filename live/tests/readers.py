@@ -248,5 +248,5 @@ class Readers(Case):
         await until(is_one_road, "one road")
 
     async def unsent(self, reader: Reader) -> int:
-        told = [one["broker"] for one in reader.seat.told if one.get("broker")]
+        told = [one["broker"] for one in reader.seat.received if one.get("broker")]
         return int(told[-1]["unsent"]) if told else int((reader.seat.welcome["broker"] or {"unsent": 1})["unsent"])

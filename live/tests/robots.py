@@ -141,7 +141,7 @@ class Robots(Acts):
         """Return whether all sites hold the same operations and nothing is unsent."""
         # One seat of each site
         held = [{tuple(one["stamp"]) for one in (await seat.ask("operations", at="shared"))["operations"]} for seat in seats[::2]]
-        states = [next((one["broker"] for one in reversed(seat.told) if "broker" in one), {"unsent": 1})
+        states = [next((one["broker"] for one in reversed(seat.received) if "broker" in one), {"unsent": 1})
                   for seat in seats[::2]]
         return all(one == held[0] for one in held) and not any(one["unsent"] for one in states)
 

@@ -301,7 +301,7 @@ def program() -> Path:
     return program_path()
 
 
-def told(what: str, values: list[float], goal: float | None = None, least: float | None = None, unit: str = "ms") -> None:
+def report(what: str, values: list[float], goal: float | None = None, least: float | None = None, unit: str = "ms") -> None:
     """Print a figure of live/measure or live/measure_page: the median, the goal, and the limit that it must meet."""
     median = statistics.median(values)
     largest = f", largest {max(values):.0f}" if len(values) > 1 else ""

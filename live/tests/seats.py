@@ -10,7 +10,7 @@ from unittest import mock
 from faulty import Here, soon
 from running import Case, new_folder
 from server import verbs
-from server.asked import Asked
+from server.asked import CommandFields
 from server.model.operations import edit
 from server.refusals import Refused
 from server.seating import SteadyClock
@@ -37,8 +37,8 @@ class Seats(Case):
         self.assertEqual(sorted(seats), list(range(1, 61)))
         self.assertEqual(sorted(map(str, await self.together("Ada", "Ada", "Ada"))), ["61", "NameTaken", "NameTaken"])
         for seat in (3, 5):
-            await self.here.lab.seating.give_back(seat)
-            self.here.keeper.here.discard(seat)
+            await self.here.lab.seating.release_seat(seat)
+            self.here.keeper.connected.discard(seat)
         # Each free seat but 62 and 63 was used before, and the program still holds what was put in it.
         self.assertEqual(len(set(await self.together("Ben", "Cleo", "Dan", "Eve"))), 4)
         self.assertEqual(await self.together("Fay"), ["AllSeatsTaken"])
@@ -62,7 +62,7 @@ class Seats(Case):
 
     async def test_one_of_two_tabs_that_take_a_seat_over_gets_it(self) -> None:
         index, = await self.here.join("Ada")
-        self.here.keeper.here.discard(index)
+        self.here.keeper.connected.discard(index)
         lab = self.here.lab
         said = await asyncio.gather(*(lab.seating.join("", "", index) for _ in range(2)), return_exceptions=True)
         self.assertEqual([getattr(one, "text", "seat") for one in said], ["seat", "SeatConnected"])
@@ -77,7 +77,7 @@ class Seats(Case):
             for _ in range(2 * 24 * 6):
                 now[0] += 600
                 self.here.lab.seating.free_unused()
-            await self.here.keeper.journal.settled()
+            await self.here.keeper.journal.wait_until_written()
             self.assertLess(len(self.here.entries()), 60)
             again = await self.enterAsyncContext(Here(copied(self.here.folder)))  # as the folder is when the server is killed
             again.lab.seating.steady = SteadyClock(3_600, lambda: now[0], lambda: now[0])
@@ -116,8 +116,8 @@ class Seats(Case):
         ada, = await self.here.join("Ada")
         await self.here.put(ada, ["limit", 2, 50, 3])
         await self.here.share(ada)
-        await self.here.lab.seating.give_back(ada)
-        self.here.keeper.here.discard(ada)
+        await self.here.lab.seating.release_seat(ada)
+        self.here.keeper.connected.discard(ada)
         others = await self.here.join(*(f"n{number}" for number in range(63)))  # one of them has her seat
         self.assertIn(ada, others)
         for keeper in (self.here.keeper, None):
@@ -133,7 +133,7 @@ class Seats(Case):
         ada, ben = await self.here.join("Ada", "Ben")
         busy = keeper.turns.ask(ada, is_free.wait)
         asked = [asyncio.create_task(self.here.ask(ada, verb)) for verb in ("layers", "operations", "scenario")]
-        asked.append(asyncio.create_task(verbs.answer(self.here.lab, self.here.questions, ada, Asked("seats", {}), {})))
+        asked.append(asyncio.create_task(verbs.answer(self.here.lab, self.here.questions, ada, CommandFields("seats", {}), {})))
         await asyncio.sleep(0.2)
         self.assertEqual([one for one in asked if one.done()], [])
         is_free.set()
@@ -156,12 +156,12 @@ class Seats(Case):
         """Return how many steps a clock of this rate advances in some seconds."""
         keeper, lab = self.here.keeper, self.here.lab
         with mock.patch("server.keeper.time.monotonic", lambda: self.time):
-            await verbs.answer(lab, self.here.questions, 1, Asked("clock", {"rate": rate}), {})
+            await verbs.answer(lab, self.here.questions, 1, CommandFields("clock", {"rate": rate}), {})
             before = keeper.now()
             for _ in range(int(seconds)):
                 self.time += 1
                 lab.timing.keep()
-                await keeper.journal.settled()
+                await keeper.journal.wait_until_written()
                 await asyncio.sleep(0)
             return keeper.now() - before
 

@@ -15,10 +15,10 @@ from crashes import numbers
 from faulty import Bus, Here, Message, message_of, told
 from running import SMALL, Case, new_folder
 from server import seals, stamps, verbs
-from server.asked import Asked
+from server.asked import CommandFields
 from server.refusals import Refused
 from server.floods import Floods
-from server.journal import Broken
+from server.journal import CannotStart
 from server.model.operations import About, Shape, edit, is_raw, put
 from server.records import Came, Folder, read_plan_line
 from server.sites import Sites
@@ -71,7 +71,7 @@ class Strangers(Case):
         stamp = await self.put(again, "limit", 2, 50, 3)
         await self.bus.rounds(3)
         self.assertEqual((await self.shared(one), len(other.state()["sites"])), ([], 1))
-        self.assertIn("This site's number, 2, belongs to another folder: nothing is sent", " ".join(other.state()["stays"]))
+        self.assertIn("This site's number, 2, belongs to another folder, so nothing is sent", " ".join(other.state()["stays"]))
         self.assertEqual(first.state()["sites"], [])
         self.leave(other)
         await again.keeper.close()
@@ -123,7 +123,7 @@ class Strangers(Case):
 
     async def ask(self, here: Here, verb: str, **fields: Any) -> Any:
         """Ask a question as a tab. Return the answer."""
-        return await verbs.answer(here.lab, here.questions, 1, Asked(verb, fields), {})
+        return await verbs.answer(here.lab, here.questions, 1, CommandFields(verb, fields), {})
 
     async def announce(self, site: Sites, folder: str, number: int, **more: Any) -> None:
         value = {"folder": folder, "run": "r", "site": number, "road": site._road, "form": 3, **more}
@@ -187,7 +187,7 @@ class Strangers(Case):
         for form, update in cases:
             older = {"folder": f"{two.lab.state.folder}-12345678", "site": 2, "road": first._road, **form}
             await self.bus.give(first, Message("road/sites", json.dumps(older).encode()))
-            self.assertIn(f"Nothing is exchanged with site 2, whose server has another version: update {update}", told(first))
+            self.assertIn(f"Nothing is exchanged with site 2, whose server has a different version: update {update}", told(first))
             self.assertEqual(first.state()["sites"], [])
         await self.bus.rounds(2)
         self.assertNotIn("another folder", told(second))
@@ -207,7 +207,7 @@ class Strangers(Case):
         roads = [numbers(await self.shared(here)) for here, _ in sites]
         self.assertEqual(roads, [roads[0]] * 3)
         for here, site in sites:
-            self.assertIn(f"Two changes have the same stamp, {stamp}: of Eva and of Eve, slow", told(site))
+            self.assertIn(f"Two changes have the same stamp, {stamp}, probably from a copied folder: of Eva and of Eve, slow", told(site))
             self.assertEqual(sorted(one.about.who for one in here.lab.state.shared.places), ["Eva", "Eve"])
 
     async def test_a_gesture_is_sent_in_one_message_and_no_other(self) -> None:
@@ -291,14 +291,14 @@ class Strangers(Case):
             self.assertEqual([here.lab.state.shared.size for here in (one, two)], [2, 2])
             for site in (first, second):
                 self.assertIn("of number 70 is more than a day ahead of the clock", told(site))
-                self.assertIn("1 changes are dated more than a day ahead", told(site))
+                self.assertIn("1 changes are stamped more than a day ahead", told(site))
             clock[0] += 1_000
             await self.bus.rounds()
             self.assertEqual([here.lab.state.shared.size for here in (one, two)], [2, 2])
             clock[0] += 2_000
             await self.bus.rounds()
             self.assertEqual([here.lab.state.shared.size for here in (one, two)], [3, 3])
-            self.assertNotIn("1 changes are dated more than a day ahead", told(first))
+            self.assertNotIn("1 changes are stamped more than a day ahead", told(first))
 
     async def test_early_operations_hold_up_no_others_and_wait_once(self) -> None:
         """Another change in the same message is taken at once. An operation that is sent again and again waits once, and only a
@@ -315,17 +315,17 @@ class Strangers(Case):
             for _ in range(3):
                 await comes((0, 1), (DAY + 1_000, 2), (DAY + 2_000, 3))
             self.assertEqual(steps(here), [1])
-            self.assertIn("2 changes are dated more than a day ahead", told(site))
+            self.assertIn("2 changes are stamped more than a day ahead", told(site))
             await comes((DAY + 1_000, 1 << 20))
-            self.assertIn("2 changes are dated more than a day ahead", told(site))  # an operation that does not fit the plan does not wait
+            self.assertIn("2 changes are stamped more than a day ahead", told(site))  # an operation that does not fit the plan does not wait
             with mock.patch("server.sites.MOST_EARLY", 9), mock.patch("server.sites.LONGEST_EARLY", 650):
                 await comes(*((DAY + 3_000, step) for step in range(4, 30)))
-                self.assertIn("8 changes are dated more than a day ahead", told(site))
+                self.assertIn("8 changes are stamped more than a day ahead", told(site))
             await comes((DAY + 1_000, 2), (DAY + 2_000, 3))
             clock[0] += 1_500
             await self.bus.rounds()
             self.assertEqual(steps(here), [1, 2])
-            self.assertIn("9 changes are dated more than a day ahead", told(site))
+            self.assertIn("9 changes are stamped more than a day ahead", told(site))
 
     async def test_private_operations_stamped_by_a_wrong_clock_get_new_stamps(self) -> None:
         """The clock is three days ahead for one gesture. Everything goes on, and other sites take the gesture as soon as it is
@@ -362,11 +362,11 @@ class Strangers(Case):
             """Return whether a site whose clock is this far ahead reports it, and no other site does."""
             self.bus.sites.remove(site)
             for other in self.bus.sites:
-                other._present()
+                other._announce_site()
             with mock.patch("server.peers.time.time", lambda: real() + seconds):
                 for message in self.bus.sent:
                     await self.bus.give(site, message)
-                site._present()
+                site._announce_site()
                 said = told(site)
             self.bus.sites.append(site)
             await self.bus.carry()
@@ -453,7 +453,7 @@ class Keys(Case):
         edits = next(one for one in self.bus.seen if one.topic.endswith("/operations"))
         head, _, body = edits.payload.partition(b"\n")
         fields = json.loads(head)
-        other = seals.Seal("x", b"another secret of others").sealed(edits.topic, body)
+        other = seals.Seal("x", b"another secret of others").seal(edits.topic, body)
         changed = body.replace(b"50]", b"51]")
         for number, payload in enumerate((
                 body, changed, head + b"\n" + changed, other,
@@ -466,13 +466,13 @@ class Keys(Case):
             self.assertEqual((self.held(self.two), self.second.state()["left_out"]), (1, number), payload)
         await self.bus.give(self.second, Message("road/sites", edits.payload))  # at another topic
         self.assertEqual(self.second.state()["left_out"], 10)
-        self.assertIn("10 messages were ignored: they have no seal of this site's --site-key", " ".join(self.second.state()["stays"]))
+        self.assertIn("10 messages were ignored: they are not sealed with this site's --site-key", " ".join(self.second.state()["stays"]))
 
     async def test_a_flood_without_a_seal_is_ignored_and_reported(self) -> None:
         """It costs the event loop nothing, and sealed messages are heard."""
         now = [0.0]
         await self.bus.rounds()
-        with mock.patch("server.floods.BURST", 20), mock.patch("server.floods.A_SECOND", 1):
+        with mock.patch("server.floods.MESSAGE_BURST", 20), mock.patch("server.floods.MESSAGES_PER_SECOND", 1):
             self.second._floods = Floods(lambda: now[0])
             said: list[str] = []
             with mock.patch.object(self.second, "_say", said.append):
@@ -492,9 +492,9 @@ class Keys(Case):
         bus, now, came = Bus(), [0.0], []
         site, _ = bus.site(here), bus.site(self.one)
         await bus.rounds()
-        with mock.patch("server.floods.BURST", 20), mock.patch("server.floods.A_SECOND", 1):
+        with mock.patch("server.floods.MESSAGE_BURST", 20), mock.patch("server.floods.MESSAGES_PER_SECOND", 1):
             site._floods = Floods(lambda: now[0])
-            with mock.patch.object(Sites, "_came", lambda _, topic, folder, body: came_in(folder)):
+            with mock.patch.object(Sites, "_receive", lambda _, topic, folder, body: came_in(folder)):
                 async def came_in(folder: str) -> None:
                     came.append(folder)
                 for number in range(300):
@@ -510,7 +510,7 @@ class Keys(Case):
     async def test_replayed_messages_are_ignored(self) -> None:
         await self.share(50)
         seen = []
-        with mock.patch.object(Sites, "_came", lambda _, topic, folder, body: came(body)):
+        with mock.patch.object(Sites, "_receive", lambda _, topic, folder, body: came(body)):
             async def came(body: bytes) -> None:
                 seen.append(body)
             for message in list(self.bus.seen):
@@ -519,7 +519,7 @@ class Keys(Case):
 
     async def test_messages_replayed_after_a_restart_are_ignored(self) -> None:
         """Otherwise a replayed announcement, of this folder or of another one with its number, would stop it from sending."""
-        with mock.patch("server.seals.AHEAD", 1):
+        with mock.patch("server.seals.NUMBERS_RESERVED", 1):
             await self.bus.rounds(2)
             await self.share(50)
             caught = list(self.bus.seen)
@@ -538,7 +538,7 @@ class Keys(Case):
     async def test_messages_sent_after_a_restart_are_read_at_once(self) -> None:
         """Here the server ended, or was killed. Messages from before that are ignored."""
         for is_killed in (True, False):
-            with mock.patch("server.seals.AHEAD", 200 if is_killed else 3_600_000):
+            with mock.patch("server.seals.NUMBERS_RESERVED", 200 if is_killed else 3_600_000):
                 await self.bus.rounds(2)
                 await self.share(50 + is_killed)
                 caught, held = list(self.bus.seen), self.held(self.two)
@@ -589,7 +589,7 @@ class Keys(Case):
         self.assertIn("more than 10 minutes old by this site's clock", told(self.second))
 
     async def test_a_clock_days_ahead_is_reported_even_though_others_messages_look_old_there(self) -> None:
-        self.first._present()
+        self.first._announce_site()
         clock = time.time
         with mock.patch("server.peers.time.time", lambda: clock() + 86_400), \
                 mock.patch.object(self.second._seal, "_clock", lambda: clock() + 86_400):
@@ -601,12 +601,12 @@ class Keys(Case):
         here = await self.enterAsyncContext(Here(site=3))
         site = Bus().site(here)
         self.assertFalse(site.state()["sealed"])
-        self.assertIn("Anybody who reaches the broker can send changes", " ".join(site.state()["stays"]))
+        self.assertIn("Anybody who can connect to the broker can send changes", " ".join(site.state()["stays"]))
         self.assertNotIn("trust", " ".join(self.first.state()["stays"]))
 
     def test_a_key_that_is_too_short_is_refused(self) -> None:
         self.key.write_text(" 15 bytes, here \n")
-        with self.assertRaisesRegex(Broken, "has 14 bytes, but the key of the sites must have at least 16"):
+        with self.assertRaisesRegex(CannotStart, "has 14 bytes, but the key of the sites must have at least 16"):
             seals.key_of(self.key)
 
 

@@ -136,8 +136,8 @@ class Pieces(Case):
             some = list(operations)
             added.append(len([one for one in some if one not in road]))
             return adding(road, some)
-        with mock.patch("server.state.AT_ONCE", 7), mock.patch.object(Road, "adding", counted):
-            await here.lab.came(many, "", {})
+        with mock.patch("server.state.APPLIED_AT_ONCE", 7), mock.patch.object(Road, "adding", counted):
+            await here.lab.receive(many, "", {})
             self.assertEqual((await here.take(ada))["size"], 60)
         self.assertEqual((max(added), sum(added)), (7, 120))
         with mock.patch("server.lab.LIST_AT_ONCE", 60):
@@ -159,15 +159,15 @@ class Pieces(Case):
         for tab in several:
             tab.index = index
         tabs._all.update(several)
-        news = here.lab.news
+        news = here.lab.unseen_shares
 
         def slowly(*given: Any) -> Any:
             works(0.005)
             return news(*given)
-        with mock.patch.object(here.lab, "news", slowly):
+        with mock.patch.object(here.lab, "unseen_shares", slowly):
             with takes_at_most(0.1):
                 for step in (70, 50, 60):
-                    here.keeper.listeners.shared.tell(step)
+                    here.keeper.listeners.shared.notify(step)
             writers = [asyncio.create_task(tab._writer()) for tab in several]
 
             async def all_are_told() -> bool:

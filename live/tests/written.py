@@ -107,7 +107,7 @@ class Written(Case):
             self.release_disk(errno.EIO)
             await asyncio.wait([keeper.record(SeatUsed(1, 0))])
             self.release_disk()
-            await keeper.writable()
+            await keeper.require_writable()
         self.assertEqual(await self.refused(keeper.ask(self.ben, (), body)), "NotWritten")
         await self.here.put(self.ben, [*LIMIT, 3])
 
@@ -159,12 +159,12 @@ class Written(Case):
         await self.here.share(self.ben)
         for fault, edits in ((errno.EIO, 1), (None, 2)):
             self.release_disk()
-            await keeper.until_writable()
+            await keeper.wait_until_writable()
             self.here.heard.clear()
             share = await self.start(self.here.share(self.ada))
             questions: list[tuple[str, dict[str, Any]]] = [("layers", {}), ("operations", {}), ("transcript", {"from": 0, "to": 0})]
             looks = [asyncio.create_task(self.here.ask(cleo, verb, at="shared", **more)) for verb, more in questions]
-            self.assertEqual((lab.news(cleo, 9)["size"], lab.news(cleo, 9)["shares"][1:]), (1, []))
+            self.assertEqual((lab.unseen_shares(cleo, 9)["size"], lab.unseen_shares(cleo, 9)["shares"][1:]), (1, []))
             first = asyncio.create_task(self.first(cleo))
             self.assertEqual(await self.edits(cleo), 1)  # questions about the road are answered with what is on the disk
             await asyncio.sleep(0.2)
@@ -178,7 +178,7 @@ class Written(Case):
                 self.assertEqual(await self.refused(share), "NotWritten")
             else:
                 await soon(share)
-            self.assertEqual((lab.news(cleo, 9)["size"], (await soon(first))["size"], await self.edits(cleo)), (edits,) * 3)
+            self.assertEqual((lab.unseen_shares(cleo, 9)["size"], (await soon(first))["size"], await self.edits(cleo)), (edits,) * 3)
 
     async def test_a_tab_that_leaves_while_it_gets_a_seat_harms_nobody(self) -> None:
         """Other tabs that wait for the same write are answered, and the seat can be taken over."""
@@ -212,14 +212,14 @@ class Written(Case):
         """A tab that asks while the journal is read again after a failed write gets what is on the disk."""
         await self.here.put(self.ada, [*LIMIT, 3])
         share = await self.start(self.here.share(self.ada))
-        reads, is_read, may_read = Journal.confirmed, threading.Event(), threading.Event()
+        reads, is_read, may_read = Journal.read_confirmed, threading.Event(), threading.Event()
         self.addCleanup(may_read.set)
 
         def held_up(journal: Journal) -> list[Any]:
             is_read.set()
             may_read.wait()
             return reads(journal)
-        with mock.patch.object(Journal, "confirmed", held_up):
+        with mock.patch.object(Journal, "read_confirmed", held_up):
             self.release_disk(errno.EIO)
             await asyncio.get_running_loop().run_in_executor(None, is_read.wait)
             asked: list[tuple[str, dict[str, Any]]] = [
@@ -238,12 +238,12 @@ class Written(Case):
         lab = self.here.lab
         for fault, size in ((errno.EIO, 0), (None, 1)):
             self.release_disk()
-            await self.here.keeper.until_writable()
+            await self.here.keeper.wait_until_writable()
             self.here.heard.clear()
             operations = [new_operation()]
-            came = await self.start(lab.came(operations, "", {}))
-            again = asyncio.create_task(lab.came(operations, "", {}))
-            self.assertEqual((lab.news(self.ben, 9)["size"], lab.news(self.ben, 9)["shares"], self.here.heard), (0, [], []))
+            came = await self.start(lab.receive(operations, "", {}))
+            again = asyncio.create_task(lab.receive(operations, "", {}))
+            self.assertEqual((lab.unseen_shares(self.ben, 9)["size"], lab.unseen_shares(self.ben, 9)["shares"], self.here.heard), (0, [], []))
             self.assertEqual(await self.edits(self.ben), 0)
             self.assertEqual((await soon(self.here.take(self.ben)))["size"], 0)
             look = asyncio.create_task(self.first(self.ben))
@@ -252,7 +252,7 @@ class Written(Case):
             self.release_disk(fault)
             said = await soon(asyncio.gather(came, again, return_exceptions=True))
             self.assertEqual([getattr(one, "text", one) for one in said], ["NotWritten"] * 2 if fault else [True, False])
-            seen = (await soon(look))["size"], lab.news(self.ben, 9)["size"], await self.edits(self.ben)
+            seen = (await soon(look))["size"], lab.unseen_shares(self.ben, 9)["size"], await self.edits(self.ben)
             self.assertEqual(seen, (size,) * 3)
 
     async def test_figures_are_those_of_the_road_on_the_disk(self) -> None:
@@ -262,7 +262,7 @@ class Written(Case):
         await self.here.put(self.ada, ["inflow", 0, 0, 0])
         for fault in (errno.EIO, None):
             self.release_disk()
-            await self.here.keeper.until_writable()
+            await self.here.keeper.wait_until_writable()
             share = await self.start(self.here.share(self.ada))
             with counted() as computed:
                 looks = [asyncio.create_task(self.here.ask(self.ben, verb, of="mine", **span)) for verb in ("figures", "days")]
@@ -288,7 +288,7 @@ class Written(Case):
         await self.here.put(self.ada, [*LIMIT, 3])
         for fault, size in ((errno.EIO, 0), (None, 1)):
             self.release_disk()
-            await self.here.keeper.until_writable()
+            await self.here.keeper.wait_until_writable()
             share = await self.start(self.here.share(self.ada))
             preview = asyncio.create_task(self.first(self.ben))
             await asyncio.sleep(0.2)
@@ -382,8 +382,8 @@ class Written(Case):
                 self.assertEqual(await self.refused(there.lab.seating.join("", other, None)), "UnknownKey")
             self.assertEqual(await soon(there.lab.seating.join("", key, None)), (index, key))
             self.assertEqual(there.lab.state.seats[index].name, "Zoé Ü")
-        await there.lab.seating.give_back(index)
-        there.keeper.here.discard(index)
+        await there.lab.seating.release_seat(index)
+        there.keeper.connected.discard(index)
         await there.join("Zoe U", "Zoé ü")
         self.assertEqual(await self.refused(there.lab.seating.join("", key, None)), "UnknownKey")
 
@@ -530,7 +530,7 @@ class Stalled(Case):
                 await soon(self.here.put(self.ada, [*LIMIT, 3]))
             await self.looks(1)
         self.held.set()
-        await soon(self.keeper.until_writable())
+        await soon(self.keeper.wait_until_writable())
         await soon(self.here.put(self.ada, [*LIMIT, 3], key="k"))
         for name in ("rename", "fsync"):
             await self.stalls(name)
