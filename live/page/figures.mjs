@@ -143,7 +143,7 @@ function noteText(exact) {
   const scatter = exact ? Math.hypot(...exact.after.scatter) : 0;
   return "Lost: demand minus cars that entered"
     + (scatter >= 1 ? ` (\u00b1 ${whole(scatter)} by chance)` : "")
-    + ". Seconds: travel time; on the right, delay.";
+    + ". Seconds: travel time from the inlet; on the right, delay.";
 }
 
 /** Show the known figures of the wanted period; while the clock runs, only once all are known. */
