@@ -27,7 +27,7 @@ CALLS = ("write", "fsync", "rename", "ftruncate")
 
 
 class Disk:
-    """A replacement of `os` in the journal: counts the calls that change a folder, and asks before each."""
+    """Replaces `os` in the journal: counts the calls that change a folder, and calls a function before each."""
 
     def __init__(self, folder: Path | None = None) -> None:
         self.folder = folder  # None: all folders
