@@ -1,4 +1,4 @@
-"""A laboratory in this process whose disk and program can be held up, fail, or end at any call."""
+"""Run a laboratory in this process whose disk and program can be held up, fail, or end at any call."""
 from __future__ import annotations
 
 import argparse
@@ -27,15 +27,15 @@ CALLS = ("write", "fsync", "rename", "ftruncate")
 
 
 class Disk:
-    """A replacement of `os` in the journal: counts the calls that change a folder, and asks before each."""
+    """Replaces `os` in the journal: counts the calls that change a folder, and calls a function before each."""
 
     def __init__(self, folder: Path | None = None) -> None:
         self.folder = folder  # None: all folders
         self.calls: list[str] = []
-        self.fault: Callable[[int, str], int | None] = lambda number, name: None  # the number of an error, or none
+        self.fault: Callable[[int, str], int | None] = lambda number, name: None  # the number of the error, or None
         self.before: Callable[[str, Any], None] = lambda name, given: None
         self.after: Callable[[str, Any], None] = lambda name, given: None
-        self.free = multiprocessing.Event()  # else each call waits, also in the process that shortens the journal
+        self.free = multiprocessing.Event()  # if it is not set, each call waits, also in the process that compacts the journal
         self.free.set()
         self.is_asked = threading.Event()  # by a call of this process
 
@@ -60,7 +60,7 @@ class Disk:
         return call
 
     def is_full(self, is_so: bool = True) -> None:
-        """Refuse every write, but let files be cut."""
+        """Refuse every write, but let files be truncated."""
         self.fault = lambda _, name: errno.ENOSPC if is_so and name == "write" else None
 
     def is_read_only(self, is_so: bool = True) -> None:
@@ -77,7 +77,7 @@ class Disk:
 
 
 class Here:
-    """A laboratory without sockets."""
+    """A laboratory in this process, without sockets."""
 
     def __init__(self, folder: Path | None = None, plan: dict[str, Any] | None = None, site: int | None = None) -> None:
         self.folder, self.plan, self.site = folder or new_folder(), plan or SMALL, site
@@ -130,7 +130,7 @@ class Here:
 
 
 async def soon(waited_for: Any) -> Any:
-    """Wait for a result that nothing should delay. Return it; the test fails if it takes too long."""
+    """Wait for a result that nothing should delay, and return it. The test fails if that takes too long."""
     return await asyncio.wait_for(waited_for, PATIENCE)
 
 
@@ -183,7 +183,7 @@ class Bus:
                 await self.give(site, message)
 
     async def give(self, site: Sites, message: Message) -> None:
-        """Give a message to a site, as the broker's thread does."""
+        """Hand a message to a site, as the broker's thread does."""
         await asyncio.get_running_loop().run_in_executor(None, site._on_message, None, None, message)
         await asyncio.sleep(0)
 

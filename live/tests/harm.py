@@ -1,4 +1,4 @@
-"""Test hostile sites and tabs: what they send is checked and bounded, and a flood is ignored."""
+"""Test hostile sites and tabs: what they send is checked and bounded, and floods are ignored."""
 from __future__ import annotations
 
 import json
@@ -24,7 +24,7 @@ JUNK: list[Any] = [None, True, -1, 0, 1, 5, 119, 1 << 20, 1 << 48, 10 ** 30, 0.5
 
 
 def asked_well(number: int) -> list[tuple[str, dict[str, Any]]]:
-    """Return valid questions of a tab."""
+    """Return valid questions that a tab may ask."""
     made = {"key": f"{number}", "note": ""}
     former = f"{number - 1}"
     return [
@@ -78,8 +78,8 @@ class Bounds(Case):
             self.assertEqual(one.lab.state.shared.size, 1)
             self.assertNotIn("too much", " ".join(first.state()["stays"]))
 
-    async def test_a_site_that_makes_much_work_is_ignored_for_a_while_too(self) -> None:
-        """The limit is 6 seconds of work at once, and half of the time: a second counts as 1,000 messages."""
+    async def test_a_site_whose_messages_take_much_work_is_ignored_for_a_while(self) -> None:
+        """The limit is 6 seconds of work in a burst, and half of the time in the long run; a second counts as 1,000 messages."""
         bus = Bus()
         one, two = [await self.enterAsyncContext(Here(site=number)) for number in (1, 2)]
         first, second = bus.site(one), bus.site(two)
@@ -92,17 +92,18 @@ class Bounds(Case):
             work[0] += 2.9  # once before, and once after
             return work[0]
         with mock.patch("server.lab.time.thread_time", worked):
-            for step, seconds in ((50, 0), (51, 6), (52, 0), (53, 0), (54, 0)):  # 9 seconds may be worked in all
+            for step, seconds in ((50, 0), (51, 6), (52, 0), (53, 0), (54, 0)):  # 9 seconds of work are allowed in all
                 await two.put(1, ["limit", 2, step, 3])
                 await two.share(1)
                 await bus.carry()
                 now[0] += seconds
         self.assertEqual(one.lab.state.shared.size, 4)
         self.assertIn("Site 2 sends too many messages: they are ignored for 30 seconds", " ".join(first.state()["stays"]))
-        self.assertEqual(second._floods.ignored_senders(), [])  # not by its own
+        self.assertEqual(second._floods.ignored_senders(), [])  # the site does not ignore its own messages
 
     async def test_every_site_accepts_exactly_the_operations_that_a_tab_may_make(self) -> None:
-        """One gate for all: a closure of 600 cells in raw edits, and the drag of its end, which withdraws them all."""
+        """Sites and tabs have the same limits: here a closure of 600 cells in raw edits, and a drag of its end, which withdraws
+        them all."""
         bus, plan = Bus(), {**SMALL, "length": 1_300, "zone": 100, "zones": [[5, 0]] * 13, "detectors": []}
         one, two = [await self.enterAsyncContext(Here(site=number, plan=plan)) for number in (1, 2)]
         first, _ = bus.site(one), bus.site(two)
@@ -120,7 +121,7 @@ class Bounds(Case):
         message = message_of(first, large, good)
         await first._receive(message.topic, "f", message.payload)
         self.assertIn("at most 600 objects, not 602", told(first))
-        self.assertIn(good.stamp, [each.stamp for each in one.lab.state.shared.places])  # the others of the message came
+        self.assertIn(good.stamp, [each.stamp for each in one.lab.state.shared.places])  # valid operations of the message came
         self.assertEqual(first._early, {})
 
     async def test_an_undo_that_does_something_else_is_refused(self) -> None:
@@ -186,8 +187,8 @@ class Bounds(Case):
         await site._receive(f"road/{site._road}/operations", "", body)
         self.assertEqual([one.about.who for one in here.lab.state.shared.places], ["Eve"])
 
-    async def test_whatever_is_changed_in_a_message_is_taken_or_reported(self) -> None:
-        """The program accepts all that the server accepted."""
+    async def test_a_changed_message_is_taken_or_reported_whatever_was_changed(self) -> None:
+        """The program accepts everything that the server accepted."""
         here = await self.enterAsyncContext(Here(site=1))
         site, chance = Bus().site(here), random.Random(1)
         with mock.patch("logging.error") as error, mock.patch("logging.exception", error):
@@ -209,7 +210,7 @@ class Bounds(Case):
         self.assertGreater(here.lab.state.shared.size, 10)
 
     async def test_missing_operations_are_sent_after_a_hash_is_heard_twice(self) -> None:
-        """A site that is missing operations gets them once; a site with another version of the protocol gets nothing."""
+        """A site that lacks operations gets them once. A site with another version of the protocol gets nothing."""
         bus = Bus()
         here = await self.enterAsyncContext(Here(site=1))
         site = bus.site(here)
@@ -237,7 +238,7 @@ class Bounds(Case):
         self.assertEqual(bus.sent, [])
 
 
-    async def test_announcements_of_strangers_are_bounded(self) -> None:
+    async def test_announcements_of_unknown_sites_are_bounded(self) -> None:
         bus = Bus()
         here = await self.enterAsyncContext(Here(site=1))
         site = bus.site(here)
@@ -275,7 +276,7 @@ class Bounds(Case):
         self.assertEqual(gaps[:4], [3, 6, 12, 24])
         self.assertEqual((max(gaps), gaps), (300, sorted(gaps)))
 
-    async def test_a_site_that_lacks_much_is_told_piece_by_piece(self) -> None:
+    async def test_a_site_that_lacks_many_operations_gets_them_in_pieces(self) -> None:
         bus = Bus()
         one, two = [await self.enterAsyncContext(Here(site=number)) for number in (1, 2)]
         bus.site(one)
@@ -296,17 +297,17 @@ class Bounds(Case):
 
 
 class Refusals(unittest.TestCase):
-    """One table of names, which is the same in PROTOCOL.md, the server and FORMAT.md."""
+    """The table of refusals is the same in PROTOCOL.md, the server and FORMAT.md."""
 
     def rows(self, page: str) -> dict[str, str]:
         text = (LIVE.parent / page).read_text().partition("## Refusals\n")[2].partition("\n## ")[0]
         return dict(re.findall(r"^\| `([^`]+)` \| (.+) \|$", text, re.MULTILINE))
 
-    def test_the_pages_have_the_same_names(self) -> None:
+    def test_the_pages_name_the_same_refusals(self) -> None:
         self.assertEqual(self.rows("live/PROTOCOL.md"), MEANINGS)
         self.assertEqual(set(self.rows("docs/FORMAT.md")), OF_THE_FORMAT)
 
-    def test_each_name_is_used_and_no_other(self) -> None:
+    def test_each_refusal_is_used_and_no_other(self) -> None:
         texts = [path.read_text() for path in (LIVE / "server").rglob("*.py")]
         used = {name for text in texts for name in re.findall(r'(?:[rR]efused|super\(\).__init__)\(\s*"([^"]+)"', text)}
         self.assertEqual(used - OF_THE_FORMAT, MEANINGS.keys() - OF_THE_FORMAT)
@@ -317,8 +318,8 @@ class Refusals(unittest.TestCase):
 
 
 class Tabs(Case):
-    async def test_whatever_a_tab_asks_is_answered_or_refused(self) -> None:
-        """A refusal has a sentence, and the program accepts all that the server accepted."""
+    async def test_every_question_of_a_tab_is_answered_or_refused(self) -> None:
+        """A refusal has a sentence, and the program accepts everything that the server accepted."""
         here = await self.enterAsyncContext(Here(site=1))
         chance = random.Random(1)
         await here.join("Eve")

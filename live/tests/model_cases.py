@@ -1,4 +1,4 @@
-"""Test surprising cases of the model. A rule decides each case, and gives it its name."""
+"""Test surprising cases of the model. Each test is named after the rule that decides its case."""
 from __future__ import annotations
 
 import itertools
@@ -74,7 +74,7 @@ class Cases(unittest.TestCase):
         self.assertEqual((seen.find_overruled(road, LINE), road.layers[LINE].end), ({adas: bens}, 25))
         self.assertEqual(road.adding([undo((3, BEN), bens)]).layers, BASE.adding([adas]).layers)
 
-    def test_a_change_and_a_lift_at_once_both_take_effect(self) -> None:
+    def test_a_change_and_put_on_top_at_once_both_take_effect(self) -> None:
         bens, adas = change(BASE, (2, BEN), LINE, LONGER), lift((2, ADA), LINE)
         road = in_every_order([CLOSURE, bens, adas])
         self.assertEqual((road.layers[LINE].end, road.layers[LINE].height), (25, (2, ADA)))
@@ -109,8 +109,8 @@ class Cases(unittest.TestCase):
         self.assertEqual((found.undo, found.blocked), (None, [first, CLOSURE]))
         self.assertEqual(choices.find_overruling(road.adding([bens]), first), [bens])
 
-    def test_z_where_an_older_change_by_another_lies_between(self) -> None:
-        """Z restores the other's shape, which is not undone."""
+    def test_z_does_not_undo_an_older_change_by_somebody_else(self) -> None:
+        """Z restores the shape of the other's change, which is not undone itself."""
         bens = change(BASE, (2, BEN), LINE, WIDE)
         last = change(BASE, (3, ADA), LINE, LONGER)
         road = BASE.adding([last, bens])
@@ -126,7 +126,7 @@ class Cases(unittest.TestCase):
         road = road.adding([undo((3, BEN), bens)])
         self.assertEqual((road.layers, choices.find_undoable(road, ADA).redo), ({}, adas))
 
-    def test_two_withdraw_at_once_and_one_undoes_it(self) -> None:
+    def test_of_two_withdrawals_at_once_undoing_one_restores_nothing(self) -> None:
         """The closure stays withdrawn, since the other withdrawal is still active; Z says so."""
         adas, bens = change(BASE, (2, ADA), LINE, None), change(BASE, (2, BEN), LINE, None)
         road = in_every_order([CLOSURE, adas, bens])
@@ -167,7 +167,7 @@ class Cases(unittest.TestCase):
         self.assertEqual(choices.sendable(road, BASE, ADA), [change_of_it])
         self.assertEqual(BASE.adding([change_of_it]).layers, road.layers)
 
-    def test_a_very_long_chain_of_undos_and_twins(self) -> None:
+    def test_a_very_long_chain_of_undos_is_worked_out_and_twins_have_one_winner(self) -> None:
         chain = [CLOSURE]
         for count in range(2, 5_002):
             chain.append(undo((count, ADA), chain[-1]))
@@ -186,7 +186,7 @@ class Cases(unittest.TestCase):
         with takes_at_most(5):
             self.assertEqual(seen.find_overruled(BASE.adding(many), LINE), {})
 
-    def test_only_what_a_step_changed_is_compared(self) -> None:
+    def test_the_difference_of_two_roads_is_that_of_all_their_operations(self) -> None:
         road = BASE.adding([put((2, ADA), WIDE)])
         self.assertEqual(difference(BASE, road), difference(BASE, EMPTY.adding(road.record.operations())))
         self.assertEqual(difference(road, road), {})
@@ -205,7 +205,7 @@ class Exclusions(unittest.TestCase):
         self.assertEqual(road.adding([undo((3, CLEO), out)]).record.excluded, {2})
         self.assertEqual(road.adding([exclude((3, CLEO), 2, False)]).layers.keys(), {(1, BEN)})
 
-    def test_an_exclusion_by_an_excluded_site_that_arrives_after_its_undo(self) -> None:
+    def test_an_exclusion_may_arrive_after_its_undo(self) -> None:
         late = exclude((2, BEN), 1, True)
         some = [undo((3, BEN), late), exclude((4, CLEO), 2, True)]
         self.assertEqual(EMPTY.adding(some).adding([late]).record.excluded, EMPTY.adding([late, *some]).record.excluded)
@@ -215,7 +215,7 @@ class Exclusions(unittest.TestCase):
         road = in_every_order([exclude((2, ADA), 2, True), exclude((3, BEN), 1, True), CLOSURE])
         self.assertEqual(road.record.excluded, {2})
 
-    def test_very_many_exclusions_are_soon_worked_out(self) -> None:
+    def test_very_many_exclusions_are_worked_out_quickly(self) -> None:
         road = EMPTY
         flips = [exclude((count, ADA), 2, count % 2 == 0) for count in range(2, 2_002)]
         with takes_at_most(5):
@@ -225,7 +225,7 @@ class Exclusions(unittest.TestCase):
 
 
 class Raw(unittest.TestCase):
-    """A line of raw edits is one line, whatever is done to it."""
+    """Raw edits that were made together are one line of the list, whatever is done to it."""
 
     VALUES = {("block", cell, step): value for cell in (3, 4) for step, value in ((5, 1), (15, 0))}
 
@@ -245,7 +245,7 @@ class Raw(unittest.TestCase):
         road = in_every_order([self.edits, adas, bens])
         self.assertEqual((road.layers, seen.find_overruled(road, self.line)), ({}, {adas: bens}))
 
-    def test_one_who_drags_twice_before_the_first_is_confirmed_gets_one_shape(self) -> None:
+    def test_two_drags_before_the_first_is_confirmed_give_one_shape(self) -> None:
         first = change(self.base, (2, ADA), self.line, WIDE)
         second = change(self.base.adding([first]), (3, ADA), self.line, LONGER)
         road = self.base.adding([first, second])
@@ -255,7 +255,7 @@ class Raw(unittest.TestCase):
         back = road.adding([undo((4, ADA), second), undo((5, ADA), first)])
         self.assertEqual(back.layers, self.base.layers)
 
-    def test_they_are_lifted_and_stay_one_line(self) -> None:
+    def test_raw_edits_that_are_put_on_top_stay_one_line(self) -> None:
         lid = put((2, BEN), Shape("block", 0, 9, 0, None, 0))
         road = self.base.adding([lid, lift((3, ADA), self.line)])
         self.assertEqual({layer.height for name, layer in road.layers.items() if name != lid.stamp}, {(3, ADA)})
@@ -263,7 +263,7 @@ class Raw(unittest.TestCase):
         self.assertEqual([one[:6] for one in seen.visible_rectangles(road, self.line)],
                          [("block", 3, 4, 5, 15, 1), ("block", 3, 4, 15, None, 0)])
 
-    def test_both_withdrawals_at_once_are_in_the_line(self) -> None:
+    def test_the_line_has_both_of_two_withdrawals_at_once(self) -> None:
         adas, bens = (change(self.base, (2, number), self.line, None) for number in (ADA, BEN))
         road = in_every_order([self.edits, adas, bens])
         self.assertEqual(changes.operations_on(road, self.line), [self.edits, adas, bens])
@@ -281,8 +281,8 @@ class Raw(unittest.TestCase):
         self.assertEqual(changes.lines_of(road, bens), {self.line, bens.stamp})
         self.assertEqual(changes.operations_on(road, self.line), [self.edits, bens])
 
-    def test_an_act_on_an_empty_line(self) -> None:
-        """Others' raw edits have replaced all of it: a change puts a shape on top, and *put on top* changes nothing."""
+    def test_a_line_whose_edits_were_all_replaced_can_be_changed(self) -> None:
+        """Others' raw edits have replaced all of its edits. Changing it puts a shape on top, and *put on top* changes nothing."""
         others = edit((2, BEN), {**self.VALUES})
         road = self.base.adding([others])
         self.assertFalse(is_standing(road, self.line))
@@ -292,7 +292,7 @@ class Raw(unittest.TestCase):
         self.assertEqual(len(changed.layers), 5)
 
     def test_repeated_raw_edits_take_the_place_of_their_shape(self) -> None:
-        """Also if somebody withdraws the shape, or gives the line another one, at the same time."""
+        """They do so even if somebody gives the line another shape at the same time."""
         changed = change(self.base, (2, BEN), self.line, WIDE)
         road = self.base.adding([changed])
         again = repeat(road, (4, ADA), self.edits)
@@ -324,7 +324,7 @@ class Raw(unittest.TestCase):
 
 
 class Lists(unittest.TestCase):
-    def test_a_line_is_listed_again_when_its_cover_goes_by_a_change_that_was_never_taken(self) -> None:
+    def test_a_line_is_listed_again_when_a_change_of_its_cover_uncovers_it(self) -> None:
         """A puts P on top and shares; B, who has not taken that, withdraws P and shares: Q is no longer covered."""
         below, above = put((1, ADA), SHAPE), put((2, ADA), WIDE)
         base = EMPTY.adding([below, above])
@@ -335,7 +335,7 @@ class Lists(unittest.TestCase):
         self.assertIn(below.stamp, changes.find_altered_lines(road, then))
         self.assertEqual([one.by for one in seen.visible_rectangles(then, below.stamp)], [None])
 
-    def test_who_puts_the_same_raw_edits_very_often_keeps_nobody_waiting(self) -> None:
+    def test_putting_the_same_raw_edits_very_often_keeps_nobody_waiting(self) -> None:
         road = EMPTY
         for count in range(1, 42):
             before, road = road, road.adding([edit((count, ADA), {("block", cell, 5): count % 2 for cell in range(1_200)})])
@@ -352,7 +352,7 @@ class Lists(unittest.TestCase):
         self.assertEqual(changes.lines_of(road.adding([back]), back), {first.stamp, second.stamp})
 
     def test_an_older_exclusion_of_a_site_renames_its_line(self) -> None:
-        """The line loses its old name."""
+        """The line of the site is named after the older exclusion, and no longer after the newer one."""
         before = EMPTY.adding([exclude((8, ADA), 2, False)])
         older = exclude((4, CLEO), 2, False)
         after = before.adding([older])
@@ -362,7 +362,7 @@ class Lists(unittest.TestCase):
 
 
 class Reading(unittest.TestCase):
-    """Written operations are read, and all else is refused with a sentence."""
+    """Written operations are read, and everything else is refused with a sentence."""
 
     def some(self) -> list[Operation]:
         return [CLOSURE, change(BASE, (2, ADA), LINE, None), lift((3, ADA), LINE), undo((4, BEN), CLOSURE),
@@ -382,7 +382,7 @@ class Reading(unittest.TestCase):
         with self.assertRaisesRegex(Malformed, "at most 1000 bytes"):
             read_operation({**value, "colour": "r" * 1_000})
 
-    def test_whatever_is_changed_in_one_is_read_or_refused(self) -> None:
+    def test_a_changed_operation_is_read_or_refused_whatever_was_changed(self) -> None:
         strange: list[Json] = [None, True, -1, 1 << 60, "x", "x" * 300, [], [1], {}, 0.5, [[1, 2], 3], [[1, ADA], "x"]]
         for one in self.some():
             value = json.loads(json.dumps(one.written()))

@@ -1,7 +1,8 @@
-"""Compare the model with a painted oracle, on random histories of sites and seats, with messages late, twice and in any order.
+"""Compare the model with an oracle, on random histories of sites and seats, with messages that are late, doubled and in any
+order.
 
-The oracle paints what operations mean, object by object and step by step, from their definition alone. After each act the
-differences that a program was given, by its rule that the latest edit wins, must give the oracle's road.
+The oracle computes what operations mean, object by object and step by step, from their definition alone. After each act, the
+edits that a program was given must give the oracle's road, by the program's rule that the latest edit wins.
 """
 from __future__ import annotations
 
@@ -65,7 +66,7 @@ class Replica:
 
 
 def entry(road: Road, line: Stamp) -> Any:
-    """Return what a line of the list shows."""
+    """Return what the list shows of a line."""
     losses = seen.find_overruled(road, line)
     return {"shown": seen.visible_rectangles(road, line), "standing": is_standing(road, line), "operations": [
         (one.text(), road.record.counts(one), losses[one].stamp if one in losses else None)
@@ -107,7 +108,7 @@ class Site:
 
 
 def stamp_of(seat: Seat, chance: random.Random) -> Stamp:
-    """Return a stamp above all that are held, sometimes far above, as from clocks of other sites."""
+    """Return a stamp above all that are held; sometimes far above, as if from the clock of another site."""
     return max([0, *(stamp[0] for stamp in seat.road.record.held)]) + chance.choice([1, 1, 1, 2, 9]), seat.number
 
 
@@ -208,7 +209,7 @@ class History:
             site.shares(some, self.chance)
 
     def twin(self, site: Site, seat: Seat) -> None:
-        """Let a copied folder use a stamp again."""
+        """Make an operation whose stamp was used before, as a copied folder does."""
         old = self.chance.choice(list(seat.road.record.operations()))
         if old.stamp[1] == seat.number and old.sets and not any(map(is_raw, old.sets)):
             site.shares([Operation(old.stamp, {next(iter(old.sets)): random_shape(self.chance)}, old.heights, seen=old.seen,
@@ -216,7 +217,7 @@ class History:
             self.counted["twins"] += 1
 
     def deliver(self, to: Site, likely: float = 0.5) -> None:
-        """Deliver messages of others in any order, some twice; many are late."""
+        """Deliver messages of others in any order, some twice, and many late."""
         some = [(other, at) for other in self.sites if other is not to for at in range(len(other.sent))
                 if (to.number, other.number, at) not in self.heard or self.chance.random() < 0.1]
         some = [one for one in some if self.chance.random() < likely]
@@ -281,7 +282,8 @@ class History:
             seat.becomes(left, chance)
 
     def end(self) -> None:
-        """Share and deliver everything: all sites have one road, and no message was sent in reply to another."""
+        """Share and deliver everything. Check that all sites have the same road, and that no message was sent in reply to
+        another."""
         for site in self.sites:
             for seat in site.seats:
                 some = choices.shareable(seat.road, site.shared.road, seat.number)
@@ -295,13 +297,13 @@ class History:
             same(site.shared.road, self.sites[0].shared.road)
             for seat in site.seats:
                 site.takes(seat, len(site.order), self.chance)
-                # Another's undo may have uncovered something of the seat's that needed no sharing before.
+                # Somebody else's undo may have uncovered an operation of the seat that did not need to be shared before.
                 if not choices.shareable(seat.road, site.shared.road, seat.number):
                     assert seat.road.layers == site.shared.road.layers
 
 
 class Painted(unittest.TestCase):
-    def test_random_histories(self) -> None:
+    def test_random_histories_give_the_roads_of_the_oracle(self) -> None:
         counted: Counter[str] = Counter()
         for seed in range(HISTORIES):
             with self.subTest(seed=seed):

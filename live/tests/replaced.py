@@ -44,7 +44,7 @@ class Programs(Case):
             self.assertEqual((keeper.changes, keeper.why_changed), (1, "the program ended with status -9"))
 
     async def test_a_busy_program_is_not_replaced(self) -> None:
-        """It works for much longer than the server waits for one that hangs."""
+        """It works for much longer than the server waits for a program that hangs."""
         here = await start([str(program())], json.dumps({**LONG, "replicas": ["A"]}).encode())
         self.addAsyncCleanup(here.close)
         with mock.patch("server.program.IDLE_PATIENCE", 0.2):

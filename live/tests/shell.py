@@ -1,4 +1,4 @@
-"""Test `live/road`, the command for the shell: what scripts do with it, six at once, and its error messages."""
+"""Test `live/road`, the command for the shell: in scripts, six at once, and its error messages."""
 from __future__ import annotations
 
 import asyncio
@@ -20,7 +20,7 @@ PLAN = read_plan_line(SMALL)
 
 
 class Written(unittest.TestCase):
-    """Changes in words; zones of this road have 20 cells, 150 m."""
+    """Changes as words of a command. Zones of this road have 20 cells, 150 m."""
 
     def test_changes_in_km_and_clock_times(self) -> None:
         clock = Clock.read("06:30")
@@ -73,7 +73,7 @@ class Shell(Case):
 
     async def test_names_of_64_characters_in_any_script_have_their_own_seats(self) -> None:
         names = ["a b", "a_b", "a/b", "../a", "\U00013000" * 64, "\U00013000" * 63 + "b", "語" * 64]
-        for _ in range(2):  # the second time by the key that was kept
+        for _ in range(2):  # the second time with the stored key
             said = await asyncio.gather(*(self.road(name, "ask", '{"scenario":{}}') for name in names))
             self.assertEqual([status for status, _, _ in said], [0] * len(names))
         self.assertEqual([path.is_file() for path in (self.a6.folder / "keys").iterdir()], [True] * len(names))
@@ -126,12 +126,12 @@ class Shell(Case):
         async with self.a6.seat("Ada") as ada:
             self.assertEqual(ada.welcome["now"], 700)
 
-    async def test_six_at_once_get_six_stamps(self) -> None:
+    async def test_six_commands_at_once_get_six_stamps(self) -> None:
         said = await asyncio.gather(*(self.road("cron", "edit", "limit", "2", str(step), "1") for step in range(6)))
         self.assertEqual(sorted(json.loads(out) for _, out, _ in said), [[count, 65] for count in range(1, 7)])
 
     async def test_two_hundred_edits_after_an_advance_take_seconds(self) -> None:
-        """The program does not rerun a long log for each command."""
+        """The program does not run a long log again for each command."""
         await self.road("cron", "ask", '{"clock":{"to":200}}')
         await self.road("cron", "ask", '{"advance":{"to":200}}')
         async with self.a6.seat("Ada") as ada:
