@@ -5,7 +5,7 @@ import {assign} from "./assign.mjs";
 import {makers, next, unshared, untaken, words} from "./changes.mjs";
 import {daysShown, dropDays} from "./days.mjs";
 import {encodeShape, encodeStamp} from "./decoding.mjs";
-import {keep, kept} from "./kept.mjs";
+import {loadPending, storePending} from "./kept.mjs";
 import {isCovered, privateOf} from "./layers.mjs";
 import {askSeries} from "./fetching.mjs";
 import {listChanges} from "./listing.mjs";
@@ -30,11 +30,11 @@ export const EMPTY_OUTCOME = {why: "", layers: null, names: [], figures: null};
  * @type {("before" | "after")[]}
  */
 const PREVIEWED = ["before", "after"];
-const TIMINGS = 50;             // that are kept
-const LOOKS = 500;              // milliseconds: who shares sooner wants no figures
+const TIMINGS = 50;             // timings of gestures that are kept
+const FIGURES_AFTER = 500;      // milliseconds: who confirms a preview sooner does not wait for its figures
 const LONGEST_NOTE = 200;
 
-/** Put a shape, or give it to a change.
+/** Put a shape, or change an existing change to it.
  * @param {Area} area
  */
 export function put({shape, note, taken = "", old}) {
@@ -47,7 +47,7 @@ export function put({shape, note, taken = "", old}) {
 /** @type {(what: string, change: Change) => string} */
 const noted = (what, change) => `${what}: ${words().text(change)}`.slice(0, LONGEST_NOTE);
 
-/** Withdraw a change, or let in the site that it excludes.
+/** Withdraw a change. If it excludes a site, include the site again instead.
  * @param {Change} change
  */
 export function withdraw(change) {
@@ -69,7 +69,7 @@ export function putOnTop(change) {
   act({gesture}, {note, first: change.shape?.from});
 }
 
-/** Repeat an operation that lost to another one.
+/** Repeat an own operation that lost to another one.
  * @param {Change} change
  * @param {Operation} operation
  */
@@ -77,13 +77,13 @@ export function putAgain(change, {stamp}) {
   act({again: {stamp: encodeStamp(stamp)}}, {note: noted("Put again", change)});
 }
 
-/** Exclude a site, for all once that is shared; or let it in again.
+/** Exclude a site, or include it again. Others exclude it, too, once that is shared.
  * @param {number} site
- * @param {boolean} [out]
+ * @param {boolean} [isExcluded]
  */
-export function excludeSite(site, out = true) {
-  const note = `Site ${site} is ${out ? "excluded" : "included again"}`;
-  act({site: {site, out, note}}, {note});
+export function excludeSite(site, isExcluded = true) {
+  const note = `Site ${site} is ${isExcluded ? "excluded" : "included again"}`;
+  act({site: {site, out: isExcluded, note}}, {note});
 }
 
 /** Undo the last own operation, pending or not. */
@@ -95,18 +95,17 @@ export const redoNewest = () => queuePress("redo");
 const NOTHING = {undo: messages.NOTHING_TO_UNDO, redo: messages.NOTHING_TO_REDO};
 const UNDO_NOTES = {undo: "Undone", redo: "Redone"};
 
-/** Return what an operation was first called, by its stamp, or by its key while it is pending; ""
- * if that is not known any more.
- * @param {Stamp | string} called
+/** Return the original note of an operation; "" if it is no longer known.
+ * @param {Stamp | string} target    its stamp, or its key while it is pending
  */
-function noteOf(called) {
-  const note = typeof called === "string" ? store.pending.get(called)?.note ?? ""
-    : findNote(called);
+function noteOf(target) {
+  const note = typeof target === "string" ? store.pending.get(target)?.note ?? ""
+    : findNote(target);
   return note.replace(/^(Undone|Redone)(: |$)/, "")
     .replace(/^On top: /, "the place on top of ");
 }
 
-/** Return the note of an operation; that of its change if nothing else is known.
+/** Return the note of an operation, or that of its change if no other is known.
  * @param {Stamp} stamp
  */
 function findNote(stamp) {
@@ -123,7 +122,7 @@ function queuePress(does) {
   runPresses();
 }
 
-/** Do the presses whose target is known. */
+/** Run queued presses, in their order, as long as it is known what they undo or redo. */
 function runPresses() {
   while (store.undoPresses.length) {
     const [does] = store.undoPresses;
@@ -134,15 +133,15 @@ function runPresses() {
     if (stamp === null) tell(NOTHING[does], true);
     else {
       const note = [UNDO_NOTES[does], noteOf(stamp)].filter(Boolean).join(": ");
-      const called = typeof stamp === "string" ? stamp : encodeStamp(stamp);
-      act({undo: {stamp: called}}, {note, does, undoes: stamp});
+      const target = typeof stamp === "string" ? stamp : encodeStamp(stamp);
+      act({undo: {stamp: target}}, {note, does, undoes: stamp});
     }
   }
 }
 
-/** Say once who has changed the last own change since: Undo does not silently take back the one
- * before it. Return whether that was said now.
- * @param {Stamp | string | null} stamp      what Undo would take back
+/** If others have changed the latest own change since, say so once, so that Undo does not silently
+ * undo the change before it. Return whether it was said now.
+ * @param {Stamp | string | null} stamp      what Undo would undo
  */
 function warnOfBlocked(stamp) {
   const [blocked] = store.pending.size ? [] : layersOf("mine").blocked;
@@ -152,8 +151,8 @@ function warnOfBlocked(stamp) {
   return true;
 }
 
-/** Send a command that changes something. It is pending until it is confirmed; rows are asked for
- * at once if it is known from which step on they differ.
+/** Send a command that changes something, and note it as pending until it is confirmed. If the first
+ * step that it changes is known, ask for rows at once.
  * @param {Pending["command"]} command
  * @param {{note: string} & Partial<Pending>} about
  */
@@ -169,9 +168,9 @@ function act(command, {note, shape, first, does = "apply", undoes, taken = ""}) 
   refreshDiagram();
 }
 
-/** Keep what is pending in the tab's storage, or say that it is not kept. */
+/** Store what is pending in the tab's storage. If that fails without a connection, say so. */
 export function persistPending() {
-  store.isPersisted = keep(sessionStorage, need("me").at, store.pending);
+  store.isPersisted = storePending(sessionStorage, need("me").at, store.pending);
   if (!store.isPersisted && store.isAway && store.pending.size) {
     tell(messages.NOT_PERSISTED, true);
   }
@@ -179,7 +178,7 @@ export function persistPending() {
 
 /** Restore what was pending when this tab was reloaded, if it has the same seat again. */
 export function restorePending() {
-  const {at, acts} = kept(sessionStorage);
+  const {at, acts} = loadPending(sessionStorage);
   if (acts.length && at === need("me").at) {
     store.pending = new Map([...acts, ...store.pending]);
   } else if (acts.length) {
@@ -188,7 +187,7 @@ export function restorePending() {
   }
 }
 
-/** Send a pending command, once more after the connection broke.
+/** Send a pending command, or send it again after the connection broke.
  * @param {string} key
  */
 export async function send(key) {
@@ -222,8 +221,8 @@ export async function send(key) {
 const withFields = (command, more) => Object.fromEntries(
   Object.entries(command).map(([verb, fields]) => [verb, {...more, ...fields}]));
 
-/** Take changes that came with an answer, and ask for those before and after them, if there are
- * any.
+/** Apply the news of the list that came with an answer. If the page lacks changes before or after
+ * them, ask for these.
  * @param {"mine" | "shared"} whose
  * @param {ListNews} said
  */
@@ -234,7 +233,8 @@ async function takeLayers(whose, said) {
   if (!isNext || said.more) await refreshChanges(whose);
 }
 
-/** Ask for what a road has got since. If several want that at once, one asks.
+/** Ask for the changes of a road that are new to the page. Calls at the same time share a request.
+ * Return a promise that is resolved when the list is up to date.
  * @param {"mine" | "shared"} whose
  */
 export function refreshChanges(whose) {
@@ -249,7 +249,7 @@ export function refreshChanges(whose) {
   return refresh.done;
 }
 
-/** Ask for what a road has got since, as often as that is wanted meanwhile.
+/** Ask for the new changes of a road, and again as long as another call has asked for them meanwhile.
  * @param {"mine" | "shared"} whose
  * @param {{again: boolean}} refresh
  */
@@ -266,8 +266,8 @@ async function refreshUntilDone(whose, refresh) {
   }
 }
 
-/** Ask for the changes of a road, piece by piece; for all if the server has started its list again.
- * Ignore a piece that is older than what came with another answer. Return whether all is there.
+/** Ask for the new changes of a road, piece by piece, or for all if the server has restarted its
+ * list. Ignore a piece if another answer has brought a newer version. Return whether all arrived.
  * @param {"mine" | "shared"} whose
  */
 async function askLayers(whose) {
@@ -325,7 +325,7 @@ export async function take() {
   refreshDiagram();
 }
 
-/** Return what covers each own change that is covered, by name.
+/** Return, for each own change that is covered, by its name, the text of what covers it.
  * @returns {Map<string, string>}
  */
 const coveredOwn = () => new Map([...layersOf("mine").changes.values()].filter(isOwn)
@@ -361,7 +361,7 @@ export function openPreview(what, changes = null) {
 /** Open a preview of sharing all. */
 export const shareAll = () => openPreview("share");
 
-/** Return what sharing the changes of these names, or all, shares now.
+/** Return the changes of these names, or all, that are not shared, and the stamps of their operations.
  * @param {string[] | undefined} names
  */
 function sharedBy(names) {
@@ -396,7 +396,7 @@ export async function askPreview() {
     for (const name of PREVIEWED) store.roads[name] = new Road(name, need("plan").length);
     store.outcome = {why: "", layers, names: said.layers.map(({name}) => name), figures: null};
     clearTimeout(preview.soon);
-    preview.soon = setTimeout(askPreviewFigures, LOOKS);
+    preview.soon = setTimeout(askPreviewFigures, FIGURES_AFTER);
   }
   notify("outcome");
   refreshDiagram();
@@ -407,12 +407,12 @@ async function askPreviewFigures() {
   const {preview, outcome} = store;
   const [from, to] = periodShown();
   if (!preview || !outcome || to <= from) return;
-  const stands = () => store.outcome === outcome;
+  const isWanted = () => store.outcome === outcome;
   const said = await ask({figures: {at: need("me").at, of: "preview", from, to}},
-    {quiet: ["Busy"], stands});
-  if (!said || !stands()) return;
+    {quiet: ["Busy"], isWanted});
+  if (!said || !isWanted()) return;
   if ("refused" in said && said.refused === "Busy") {
-    preview.soon = setTimeout(askPreviewFigures, LOOKS);
+    preview.soon = setTimeout(askPreviewFigures, FIGURES_AFTER);
     return;
   }
   outcome.figures = "refused" in said ? {why: said.why ?? ""} : said;

@@ -1,5 +1,4 @@
-// What a rectangle would do, in words, before it is done, and why it cannot be done. It reads the
-// store.
+// What a rectangle would do, in words, or why it cannot be put. It reads the store.
 
 import {MOST_OBJECTS, isTooLate} from "./geometry.mjs";
 import * as messages from "./messages.mjs";
@@ -12,7 +11,7 @@ import {LAST_STEP, chanceText, kmText, limitText} from "./units.mjs";
 /** @typedef {import("./types.mjs").Kind} Kind */
 /** @typedef {import("./types.mjs").Shape} Shape */
 
-/** Return how many curves of inlets are measured, of how many that were asked for.
+/** Return how many curves of inlets have been measured, and how many were asked for.
  * @returns {[done: number, all: number]}
  */
 export const countCurves = () =>
@@ -33,10 +32,10 @@ export function faultOfValue(kind, first, from) {
   return messages.demandOutOfRange(curve.capacity, limitText(limit), chanceText(slowing), isPassed);
 }
 
-/** Return a shape with words for it, and why it cannot be put, if so.
+/** Return the area of a shape: its texts, and a fault if it cannot be put.
  * @param {Shape} shape
  * @param {Change | null} [old]  the change that it alters
- * @param {boolean} [few]        less than half of each zone that it touches is covered
+ * @param {boolean} [few]        it covers less than half of each zone that it touches
  * @returns {Area}
  */
 export function areaOfShape(shape, old = null, few = false) {

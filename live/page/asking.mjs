@@ -5,7 +5,7 @@ import {Disconnected} from "./connection.mjs";
 import * as messages from "./messages.mjs";
 import {need, tell} from "./store.mjs";
 
-const BUSY = 1000;              // milliseconds until it is asked again of one who was busy
+const BUSY = 1000;              // milliseconds until a busy server is asked again
 
 /** @typedef {import("./types.mjs").Answers} Answers */
 /** @typedef {import("./types.mjs").Refusal} Refusal */
@@ -19,24 +19,24 @@ const isRefusal = (said) => "refused" in said;
 
 const always = () => true;
 
-/** Ask a question. Return its answer, or a refusal, after showing it; null if the connection broke.
+/** Ask a question. Return its answer, or the refusal, which is shown; null if the connection broke.
  * @template {keyof Answers} Verb
  * @param {Partial<Record<Verb, object>>} command
  * @param {object} how
  * @param {import("./connection.mjs").Turn} [how.turn]     when it is sent
  * @param {string[]} [how.quiet]        refusals not to show
- * @param {() => boolean} [how.stands]  whether a refusal is still worth showing
+ * @param {() => boolean} [how.isWanted]    whether a refusal is still worth showing
  * @param {string} [how.away]           the message if there is no connection
  * @returns {Promise<Answers[Verb] | Refusal | null>}
  */
-export async function ask(command, {turn = "usual", quiet = [], stands = always, away = ""} = {}) {
+export async function ask(command, {turn = "usual", quiet = [], isWanted = always, away = ""} = {}) {
   const connection = need("connection");
   const isAway = !connection.isAdmitted;
   const [verb] = /** @type {Verb[]} */ (Object.keys(command));
   try {
     const said = /** @type {WireAnswers[Verb] | Refusal} */ (await connection.ask(command, turn));
     if (!isRefusal(said)) return decodeAnswer(verb, said);
-    const isShown = !quiet.includes(said.refused) && stands();
+    const isShown = !quiet.includes(said.refused) && isWanted();
     if (isShown) tell(said.why ?? messages.refusedWithoutReason(said.refused), true);
     return said;
   } catch (fault) {
@@ -46,7 +46,7 @@ export async function ask(command, {turn = "usual", quiet = [], stands = always,
   }
 }
 
-/** Ask as `ask` does, again and again while the server is busy with what the page itself asked.
+/** Ask as `ask` does, but retry while the server is busy with another question of this page.
  * @template {keyof Answers} Verb
  * @param {Partial<Record<Verb, object>>} command
  */

@@ -1,17 +1,17 @@
-// What Z takes back, and what Redo puts again: the last operation, confirmed or pending, once for
-// each press. The server says which confirmed one it is; pending ones follow in their order.
+// What Undo undoes and Redo redoes: with each press the last operation, confirmed or pending. The
+// server says which confirmed operation that is; pending ones come after it, in their order.
 
 /** @typedef {import("./types.mjs").Stamp} Stamp */
 /**
- * A pending act, by its key; `undoes` is the key or the stamp of what it takes back.
+ * A pending act, by its key; `undoes` is the key or the stamp of what it undoes or redoes.
  * @typedef {{key: string, does: "apply" | "undo" | "redo", undoes?: string | Stamp}} PendingAct
  *
- * A stamp, or the key of a pending act; null: there is nothing; undefined: that is known once the
- * pending acts are confirmed.
+ * What to undo or redo: a stamp, or the key of a pending act; null: nothing; undefined: not known
+ * until the pending acts are confirmed.
  * @typedef {Stamp | string | null | undefined} Target
  */
 
-/** Return what Z would take back and Redo put again.
+/** Return what Undo would undo and Redo would redo.
  * @param {{undo: Stamp | null, redo: Stamp | null}} confirmed
  * @param {PendingAct[]} pending     the oldest first
  * @returns {{undo: Target, redo: Target}}
@@ -31,10 +31,10 @@ export function nextOf({undo, redo}, pending) {
   return {undo: undos.at(-1), redo: redos.at(-1)};
 }
 
-/** Return the keys of pending acts that other pending acts take back.
+/** Return the keys and stamps of what pending acts undo, unless these are undone themselves.
  * @param {PendingAct[]} pending
  */
-export function takenBack(pending) {
+export function findUndone(pending) {
   const gone = new Set();
   for (const {key, undoes} of [...pending].reverse()) if (!gone.has(key)) gone.add(undoes);
   return gone;

@@ -1,5 +1,5 @@
-// View: is it the change, or chance? What is compared is asked over many days: their progress, and
-// means with their intervals in the place of the figures of one day.
+// View: is a difference due to the change, or to chance? The two roads are compared over many days:
+// first their progress, then means with intervals, in the place of the figures of one day.
 
 import {assign} from "./assign.mjs";
 import {askDays, daysAsked, daysShown, dropDays, dropOldDays, stopDays} from "./days.mjs";
@@ -20,25 +20,25 @@ const READ_MEANS = "each day has its own drivers, the same on both roads. \u00b1
   + "of the 95 % interval. If the interval of a difference contains 0, the difference may be chance.";
 /** @param {DaysFigures} said */
 const readText = ({days}) => (days > 1 ? `Means of ${days} days: ${READ_MEANS}`
-  : "One day alone does not say what is chance.");
+  : "One day alone cannot show what is due to chance.");
 /** @type {Record<string, string>} */
 const FIGURE_NAMES = {vehicle_hours: "Vehicle hours", lost: "Lost demand, cars",
                delay: "Delay, vehicle hours"};
 
-/** Make a cell of a value, with how sure it is below it, and then the seconds from the inlet, if the
- * row has them.
+/** Make a cell: a value, below it its interval, and below that the travel time from the inlet, if the
+ * row has one.
  * @param {string} text
- * @param {string} small
+ * @param {string} interval
  * @param {string} seconds
  */
-const cell = (text, small, seconds = "") => element("td", text, {}, element("small", small),
+const cell = (text, interval, seconds = "") => element("td", text, {}, element("small", interval),
   ...(seconds ? [element("small", seconds, {className: "seconds"})] : []));
 
-/** Make a row of a figure, or of the cars at a detector with their seconds from the inlet.
+/** Make a row of a figure, or of the cars at a detector with their travel time from the inlet.
  * @param {string} name
- * @param {("before" | "after")[]} sides     in their order
+ * @param {("before" | "after")[]} sides     in the order of the columns
  * @param {DaysFigure} figure
- * @param {DaysFigure} [trip]
+ * @param {DaysFigure} [trip]     the travel time, in seconds
  */
 function rowOf(name, sides, figure, trip) {
   const {difference} = figure;
@@ -49,7 +49,7 @@ function rowOf(name, sides, figure, trip) {
     cell(changeText(difference), sureText(difference), later));
 }
 
-/** Make the rows of the figures: those of all, those of the detectors, the road's end.
+/** Make the rows: figures of the whole road, of each detector, and of the road's end.
  * @param {DaysFigure[]} figures
  * @param {("before" | "after")[]} sides
  */
@@ -66,7 +66,7 @@ function rowsOf(figures, sides) {
   return [...all, ...atDetectors, ...(end ? [rowOf("Seconds to the road's end", sides, end)] : [])];
 }
 
-/** Make the table, with the roads in the order of the one that it stands for.
+/** Make the table, with the roads in the same order as in the table that it replaces.
  * @param {DaysFigures} said
  * @param {boolean} isPreview
  */
@@ -82,7 +82,7 @@ function tableOf(said, isPreview) {
     element("tbody", "", {}, ...rowsOf(figures, sides)));
 }
 
-/** Ask, stop, or go back. */
+/** Start the comparison, stop it, or go back to the figures of one day. */
 function doNext() {
   const days = daysShown();
   if (!days) askDays();
@@ -90,7 +90,7 @@ function doNext() {
   else stopDays();
 }
 
-/** Show one button that does so, and beside it how far it is.
+/** Show the button that does this, and next to it the progress.
  * @param {HTMLElement} place
  */
 function showAsking(place) {
@@ -116,7 +116,7 @@ const OF_PREVIEW = ["previewDays", "previewOver", "previewFigures"];
 /** @type {Ids} */
 const OF_BOTH = ["days", "over", "oneDay"];
 
-/** Show the days of what is compared. */
+/** Show the comparison over many days. */
 function showDays() {
   const isPreview = Boolean(store.preview);
   const [asking, table, one] = isPreview ? OF_PREVIEW : OF_BOTH;

@@ -1,6 +1,6 @@
 // Which changes are own, which are not shared, which are not taken. It reads the store.
 
-import {nextOf, takenBack} from "./chain.mjs";
+import {findUndone, nextOf} from "./chain.mjs";
 import {privateOf} from "./layers.mjs";
 import {Words, newestFirst} from "./listing.mjs";
 import {keyOf} from "./stamps.mjs";
@@ -10,10 +10,10 @@ import {need, layersOf, layersShown, store} from "./store.mjs";
 /** @typedef {import("./types.mjs").Change} Change */
 /** @typedef {import("./types.mjs").Shape} Shape */
 
-/** Return words for the changes of the own road, or of another. */
+/** Return words for the changes of the own road, or of another road. */
 export const words = (layers = layersOf("mine")) => new Words(layers, need("me").number);
 
-/** Return words for the changes of the road that is seen. */
+/** Return words for the changes of the road that is shown. */
 export const wordsShown = () => words(layersShown());
 
 /** Return the changes that have something that is not shared. */
@@ -33,7 +33,7 @@ export function freshOf({name, operations}) {
 export const untaken = () => newestFirst([...layersOf("shared").changes.values()]
   .filter((change) => freshOf(change).length));
 
-/** Return who made what is not taken of changes.
+/** Return the names of those who made the operations of these changes that are not taken.
  * @param {Change[]} changes
  */
 export const makers = (changes) => [...new Set(changes.flatMap(freshOf)
@@ -42,13 +42,13 @@ export const makers = (changes) => [...new Set(changes.flatMap(freshOf)
 /** @returns {PendingAct[]} */
 const pendingActs = () => [...store.pending].map(([key, {does, undoes}]) => ({key, does, undoes}));
 
-/** Return what Z would take back and Redo put again: a stamp, a key, null or undefined. */
+/** Return what Undo would undo and Redo would redo: a stamp, a key, null or undefined. */
 export const next = () => nextOf(store.layers.mine ?? {undo: null, redo: null}, pendingActs());
 
-/** Return the shapes that are not confirmed yet, and not taken back.
+/** Return the shapes of pending acts that no pending act undoes.
  * @returns {Shape[]}
  */
 export function waitingShapes() {
-  const gone = takenBack(pendingActs());
+  const gone = findUndone(pendingActs());
   return [...store.pending].flatMap(([key, {shape}]) => (shape && !gone.has(key) ? [shape] : []));
 }

@@ -1,5 +1,4 @@
-// The connection to the server: numbered questions, their answers, and messages that nobody asked
-// for.
+// The connection to the server: numbered questions, their answers, and pushed messages.
 
 /** @typedef {import("./types.mjs").Answers} Answers */
 /** @typedef {Partial<Record<keyof Answers | "hello" | "seats", object>>} Command */
@@ -13,11 +12,12 @@
  * @property {Turn} turn
  */
 /**
- * When a question is sent: acts come before what is looked at, and what takes seconds comes last.
+ * When a question is sent: commands that change something come first, questions for what is shown
+ * next, and questions that take seconds last.
  * @typedef {"first" | "usual" | "last"} Turn
  */
 /**
- * What is used of a WebSocket.
+ * The part of a WebSocket that is used here.
  * @typedef {object} Socket
  * @property {number} readyState
  * @property {(text: string) => void} send
@@ -27,10 +27,10 @@
  * @property {((event: CloseEvent) => void) | null} onclose
  */
 
-const MOST_OPEN = 6;            // the server refuses a ninth question that waits
-const MOST_FIRST = 3;           // of these: a disk may take long, and looking goes on
+const MOST_OPEN = 6;            // open questions: the server refuses a ninth one
+const MOST_FIRST = 3;           // of these: while a slow disk holds them up, others are answered
 const MOST_LAST = 1;            // of these: each takes seconds, and would hold up all others
-const FIRST_WAIT = 200;         // milliseconds before it is tried again, doubled up to the last
+const FIRST_WAIT = 200;         // milliseconds before a retry, doubled for each one, up to LAST_WAIT
 const LAST_WAIT = 5000;
 const OPEN = 1;                 // the state of a socket that can be written to
 export const TAKEN_OVER = 4001; // somebody took the seat over
@@ -51,10 +51,9 @@ export class Connection {
    * @param {object} calls
    * @param {() => Socket} calls.open      makes a socket
    * @param {() => void} calls.onOpen    is called when the socket is open
-   * @param {(value: Pushed) => void} calls.onPush    is called with a message that nobody asked
-   *   for
+   * @param {(value: Pushed) => void} calls.onPush    is called with a message that the server pushes
    * @param {(again: boolean, reason: string, code: number) => void} calls.onLost    is called when
-   *   the connection breaks; `again`: it is tried again
+   *   the connection breaks; `again`: it will be tried again
    * @param {(act: () => void, wait: number) => void} [calls.later]    calls a function after some
    *   milliseconds
    */
@@ -66,15 +65,15 @@ export class Connection {
     this.later = later;
     this.number = 0;            // of the last question that was sent
     this.tries = 0;
-    this.isAdmitted = false;    // all may be asked
+    this.isAdmitted = false;    // the server has admitted this tab: it may ask everything
     /** @type {Map<number, Question>} */
     this.questions = new Map();      // questions whose answer is awaited, by number
     /** @type {Question[]} */
     this.queue = [];            // questions that are not sent yet
     /** @type {Question[]} */
-    this.first = [];            // those that go before them, in their own order
+    this.first = [];            // questions to send before these, in their own order
     /** @type {Question[]} */
-    this.last = [];             // those that go after them, one at a time
+    this.last = [];             // questions to send after these, one at a time
     /** @type {Socket | null} */
     this.socket = null;
   }
@@ -104,7 +103,7 @@ export class Connection {
     });
   }
 
-  /** Send what may be sent now. */
+  /** Send the questions that may be sent now. */
   sendNext() {
     while (this.questions.size < MOST_OPEN && this.socket?.readyState === OPEN) {
       const question = (this.countOpen("first") < MOST_FIRST && this.first.shift())
@@ -128,7 +127,7 @@ export class Connection {
     return this.first.length + this.queue.length + this.last.length;
   }
 
-  /** Take a message of the server.
+  /** Handle a message of the server.
    * @param {Answer | (Pushed & {id?: undefined})} value
    */
   receive(value) {
@@ -141,7 +140,7 @@ export class Connection {
     this.sendNext();
   }
 
-  /** Close the socket until it is connected again: the server soon closes one without a name. */
+  /** Close the socket without a retry: the server soon closes a connection that gives no name. */
   disconnect() {
     if (this.socket) {
       this.socket.onclose = null;
@@ -150,7 +149,7 @@ export class Connection {
     this.takeQuestions();
   }
 
-  /** Return the questions that have no answer, and forget them. */
+  /** Return the questions that have no answer yet, and forget them. */
   takeQuestions() {
     const asked = [...this.questions.values(), ...this.first, ...this.queue, ...this.last];
     this.questions.clear();

@@ -36,7 +36,7 @@ function makeOffsetAt(timeZone) {
   };
 }
 
-/** Return the instant of a local time, in seconds since 1970; of a time that comes twice the first.
+/** Return the instant of a local time, in seconds since 1970; the first one if the time occurs twice.
  * @param {number} local     seconds since 1970 by the local clock
  * @param {(instant: number) => number} offsetAt
  */
@@ -70,7 +70,7 @@ function findPeriods(start, offsetAt) {
 
 /** The clock of a road. */
 export class DayClock {
-  /** @param {Partial<WireDay>} wire     without a begin the clock counts from 0:00:00 */
+  /** @param {Partial<WireDay>} wire     if it has no `begin`, the clock counts from 0:00:00 */
   constructor({begin = null, date = null, zone = null} = {}) {
     this.begin = begin;         // seconds after midnight of step 0
     /** @type {Period[]} */
@@ -80,7 +80,7 @@ export class DayClock {
       this.periods = findPeriods(instantOf(Date.parse(`${date}T00:00Z`) / 1000 + begin, offsetAt), offsetAt);
     }
     const timeZone = zone ?? undefined;
-    // Formats are kept, since each takes long to make.
+    // Formats are kept, since making one takes long.
     this.formats = {
       time: new Intl.DateTimeFormat([], {hour: "2-digit", minute: "2-digit", hourCycle: "h23", timeZone}),
       whole: new Intl.DateTimeFormat("en", {year: "numeric", month: "2-digit", day: "2-digit", hour: "2-digit",
@@ -90,7 +90,7 @@ export class DayClock {
   }
 
   /** Return the steps at which the clock shows a number of seconds after the midnight before step 0,
-   * each with its period: none if a clock change skips that time, two if it comes twice.
+   * each with its period: none if a clock change skips that time, two if it occurs twice.
    * @param {number} seconds
    */
   findSteps(seconds) {
@@ -111,7 +111,7 @@ export class DayClock {
   }
 
   /** Return a step as a time: h:mm:ss from the beginning, or the time of the day, as 07:00 or
-   * 07:00:30. A time that comes twice has its offset from UTC, one of a later day its number.
+   * 07:00:30. A time that occurs twice has its offset from UTC, a time of a later day the day's number.
    * @param {number} step
    */
   timeText(step) {
@@ -159,8 +159,8 @@ export class DayClock {
   }
 
   /** Return the step of a written time: h:mm or h:mm:ss of this clock, or minutes from its
-   * beginning; NaN if it is not a time. A time of the day before the beginning is of the next day;
-   * of one that comes twice it is the first, unless its offset from UTC is written.
+   * beginning; NaN if it is not a time. A time of day before the beginning belongs to the next day.
+   * If a time occurs twice, return the first step, unless the offset from UTC says otherwise.
    * @param {string} text
    */
   readStep(text) {

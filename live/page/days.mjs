@@ -1,25 +1,25 @@
-// Actions: the two roads that are compared are asked over many days, and that is stopped.
+// Actions: ask for a comparison of two roads over many days, and stop it.
 
 import {ask} from "./asking.mjs";
 import * as messages from "./messages.mjs";
 import {notify, need, layersOf, store, tell} from "./store.mjs";
 import {periodShown} from "./view.mjs";
 
-/** Return how many days the server runs. */
+/** Return how many days the server simulates. */
 export const daysAsked = () => store.limits.days;
 
-/** Return a key that differs once one of the two roads has changed. */
+/** Return a key that changes whenever one of the two roads does. */
 const keyOfRoads = () => [layersOf("mine").next, layersOf("shared").next].join();
 
-/** Return what is compared: the roads of the preview if there is one, else mine and shared.
+/** Return which roads are compared: those of the preview if there is one, otherwise mine and shared.
  * @returns {"preview" | "mine"}
  */
 export const comparedNow = () => (store.preview ? "preview" : "mine");
 
-/** Return the question about what is compared; null if there is none. */
+/** Return the comparison over many days of the roads that are compared now; null if there is none. */
 export const daysShown = () => (store.days?.of === comparedNow() ? store.days : null);
 
-/** Ask what is compared over many days. */
+/** Ask for a comparison over many days. */
 export async function askDays() {
   const [from, to] = periodShown();
   if (to <= from) {
@@ -31,7 +31,7 @@ export async function askDays() {
   store.days = days;
   notify("days");
   const said = await ask({days: {at: need("me").at, of: days.of, from, to}},
-    {quiet: ["Stopped"], stands: () => store.days === days});
+    {quiet: ["Stopped"], isWanted: () => store.days === days});
   if (store.days !== days) return;
   if (said && !("refused" in said)) days.said = said;
   else store.days = null;
@@ -39,7 +39,7 @@ export async function askDays() {
 }
 
 /** Note how many days are done.
- * @param {{done: number}} told
+ * @param {{done: number}} message
  */
 export function hearDays({done}) {
   if (!store.days) return;
@@ -47,10 +47,10 @@ export function hearDays({done}) {
   notify("days");
 }
 
-/** Stop the question. Its answer is that of the days that are done. */
+/** Stop the comparison. The server then answers with the days that are done. */
 export const stopDays = () => ask({days: {at: need("me").at, of: null}});
 
-/** Forget the answer, or the question. */
+/** Forget the comparison, and stop it if it is under way. */
 export function dropDays() {
   if (!store.days) return;
   const {said} = store.days;
@@ -59,7 +59,7 @@ export function dropDays() {
   notify("days");
 }
 
-/** Forget what was asked about roads that have changed since. */
+/** Forget the comparison if one of its roads has changed since. */
 export function dropOldDays() {
   if (!store.days || store.days.key === keyOfRoads()) return;
   const {said} = store.days;

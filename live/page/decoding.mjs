@@ -1,5 +1,5 @@
-// What the server tells, as objects with named fields, and back: stamps, shapes, parts and edits of
-// changes, figures. Another site may have sent anything: what is malformed is left out.
+// What the server sends, as objects with named fields, and back: stamps, shapes, parts and edits of
+// changes, figures. Another site may have sent anything: malformed parts are left out.
 
 /** @typedef {import("./types.mjs").Answers} Answers */
 /** @typedef {import("./types.mjs").Edit} Edit */
@@ -125,7 +125,7 @@ const decodeOperation = ({stamp, undoes, lost, shape, demand, ...wire}) =>
   ({...wire, stamp: decodeStamp(stamp), undoes: decodeIfAny(undoes), lost: decodeIfAny(lost),
     ...(shape ? {shape: withDemand(decodeShape(shape), demand)} : {})});
 
-/** Return a change, or that one is gone.
+/** Return a change, or the entry that says that one is gone.
  * @param {WireChange | WireGone} wire
  * @returns {TaggedChange | Gone}
  */
@@ -142,7 +142,7 @@ export function decodeChange(wire) {
           ...(was === undefined ? {} : {was: was && decode(was)})};
 }
 
-/** Return the changes that differ from an earlier version of the list, and what Z and Redo would
+/** Return the changes that differ from an earlier version of the list, and what Undo and Redo would
  * do.
  * @param {WireLayers} wire
  * @returns {ListNews}
@@ -152,7 +152,7 @@ export const decodeList = ({layers, next, since, more = false, undo, redo, block
     redo: decodeIfAny(redo),
     blocked: blocked.map(({stamp, by}) => ({stamp: decodeStamp(stamp), by}))});
 
-/** Return the cars that arrived somewhere and their mean seconds.
+/** Return how many cars arrived at a place, and their mean travel time in seconds.
  * @param {WireTrip} wire
  * @returns {Trip}
  */
@@ -174,7 +174,7 @@ const decodeRoad = ({travel, travel_by_entry: byEntry = {}, ...wire}) => ({...wi
 export const decodeFigures = ({before, after, later, ...wire}) =>
   ({...wire, before: decodeRoad(before), after: decodeRoad(after), later: later.map(decodeTrip)});
 
-/** Return the mean of [mean, half].
+/** Return the mean of [mean, half-width of its interval].
  * @param {WireMean} wire
  * @returns {Mean}
  */
@@ -195,7 +195,7 @@ export const decodeDays = ({figures = [], ...wire}) => ({...wire,
 const decodeDone = (wire) => ({...decodeList(wire), stamp: decodeStamp(wire.stamp),
                                touched: wire.touched, us: wire.us});
 
-/** Return an answer that has no arrays of positions.
+/** Return an answer as it was sent: it needs no decoding.
  * @template Answer
  * @param {Answer} wire
  */

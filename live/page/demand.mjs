@@ -1,4 +1,4 @@
-// Actions: what inlets admit is asked for, once for each state of the road before them. Demand is in
+// Actions: ask what inlets admit, once for each state of the road upstream of them. Demands are in
 // cars per hour; the road has inflow chances.
 
 import {ask} from "./asking.mjs";
@@ -8,8 +8,8 @@ import {notify, store} from "./store.mjs";
 /** @typedef {import("./types.mjs").Curve} Curve */
 /** @typedef {ReturnType<typeof stateOf>} State */
 
-/** Return what the curve of an inlet depends on at a step: the chance of standing cars that its
- * zone has from the first step on, and the chances of the inlets before it.
+/** Return what the curve of an inlet depends on at a step: the slow-to-start chance that its zone
+ * has at step 0, and the inflow chances of the inlets upstream of it.
  * @param {Layers} road
  * @param {number} inlet
  * @param {number} step
@@ -24,7 +24,7 @@ function stateOf(road, inlet, step) {
   return {inlet, start: road.valueAt("start", Math.floor(cell / plan.zone), 0), before};
 }
 
-/** Ask for a curve. Return it, or null if the server does not say.
+/** Ask for a curve. Return it, or null if the server gives none.
  * @param {string} key
  * @param {State} state
  * @returns {Promise<Curve | null>}
@@ -52,8 +52,8 @@ function entryOf(road, inlet, step) {
   return store.curves.get(key) ?? null;
 }
 
-/** Return what an inlet admits at a step, by the drivers of the plan and beside the flow that
- * passes it; null while it is measured.
+/** Return what an inlet admits at a step, with the plan's drivers and the traffic that passes it;
+ * null while it is measured.
  * @param {Layers} road
  * @param {number} inlet
  * @param {number} step
@@ -63,22 +63,22 @@ export function curveAt(road, inlet, step) {
   return entry && "points" in entry ? entry : null;
 }
 
-/** Wait until what the inlets of a road admit is measured, as far as nobody has said for which
- * demand a chance is. Call a function before each.
+/** Wait until the server has measured what inlets admit, for all inflow chances of a road that were
+ * put without a demand.
  * @param {Layers} road
- * @param {(done: number, all: number) => void} progress
+ * @param {(done: number, all: number) => void} progress     is called before each measurement
  */
 export async function measureDemands(road, progress) {
-  const unsaid = [...road.changes.values()].filter(({standing}) => standing)
+  const unknown = [...road.changes.values()].filter(({standing}) => standing)
     .flatMap(({shape}) => (shape?.kind === "inflow" && shape.demand === undefined ? [shape] : []));
-  for (const [done, {first, from}] of unsaid.entries()) {
+  for (const [done, {first, from}] of unknown.entries()) {
     if (curveAt(road, first, from)) continue;
-    progress(done, unsaid.length);
+    progress(done, unknown.length);
     await curveSoon(road, first, from);
   }
 }
 
-/** Return the same once it is measured; null if the server does not say.
+/** Return what an inlet admits at a step, once it is measured; null if the server gives no curve.
  * @param {Layers} road
  * @param {number} inlet
  * @param {number} step

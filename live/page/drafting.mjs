@@ -1,12 +1,11 @@
-// Actions: the tool, the rectangle that is drawn, the cursor, and the change that is written in
-// figures.
+// Actions: the tool, the rectangle that is drawn, the cursor, and the form for typed values.
 
 import {put} from "./acting.mjs";
 import {areaOfShape} from "./area.mjs";
 import {assign} from "./assign.mjs";
 import {curveSoon} from "./demand.mjs";
 import {demandInForm, fieldsOf, readForm, takenText} from "./formvalues.mjs";
-import {sameShape, within} from "./geometry.mjs";
+import {clamp, sameShape} from "./geometry.mjs";
 import {moveBy} from "./looking.mjs";
 import * as messages from "./messages.mjs";
 import {layersOf, need, notify, store, tell} from "./store.mjs";
@@ -20,11 +19,11 @@ import {strideNow} from "./view.mjs";
 /** @typedef {import("./types.mjs").Change} Change */
 /** @typedef {import("./types.mjs").Place} Place */
 
-const TWICE = 500;              // milliseconds within which a click is the second one of two
-const AT_ONE_PLACE = 6;         // pixels
+const TWICE = 500;              // milliseconds between the clicks of a double click, at most
+const AT_ONE_PLACE = 6;         // pixels between them, at most
 
-/** Choose what a drag does. A change of another kind is no longer altered, and to look is to draw
- * nothing.
+/** Choose the tool. The form no longer edits a change of another kind, and the tool `look` discards
+ * the rectangle.
  * @param {Store["tool"]} kind
  */
 export function chooseTool(kind) {
@@ -43,7 +42,7 @@ export function writeField(field, text) {
   notify("form");
 }
 
-/** Put a change's figures into the form, to be altered; null: no longer.
+/** Edit a change in the form; null: stop editing.
  * @param {Change | null} change
  */
 export function editInForm(change) {
@@ -56,8 +55,8 @@ export function editInForm(change) {
   notify("tool", "form", "changeInForm");
 }
 
-/** Follow the change that the form alters: what nobody wrote over is as it is now. If it was
- * withdrawn, it is no longer altered.
+/** Keep the form up to date with the change that it edits: fields that the user has not overwritten
+ * get the change's present values. If the change was withdrawn, stop editing.
  */
 export function followChangeInForm() {
   const {changeInForm, form, formOfChange} = store;
@@ -75,7 +74,7 @@ export function followChangeInForm() {
   notify("form");
 }
 
-/** Do what the form says, or tell why not; a demand once what its inlet admits is measured. */
+/** Put what the form says, or say why not. For a demand, first wait until its inlet is measured. */
 export async function applyForm() {
   const {inlet, from} = demandInForm();
   if (store.tool === "inflow" && from >= 0) await curveSoon(layersOf("mine"), inlet, from);
@@ -88,13 +87,13 @@ export async function applyForm() {
   if (applyArea(area) && store.changeInForm) editInForm(null);
 }
 
-/** Ask whether an area is what its change is already, and nothing pending may alter that.
+/** Ask whether an area would leave its change as it is, and nothing is pending that may alter it.
  * @param {Area} area
  */
 const isAsItWas = ({shape, old}) => old && !old.isRaw && store.pending.size === 0
   && sameShape(old.shape, shape);
 
-/** Do what an area says, or tell why not. Return whether it was done.
+/** Put an area, or say why not. Return whether it had no fault.
  * @param {Area} area
  */
 export function applyArea(area) {
@@ -125,7 +124,7 @@ export function hasMoved([x, y]) {
   return drag.moved;
 }
 
-/** Show the rectangle that is drawn, with what it would do.
+/** Show the rectangle that is drawn, and what it would do.
  * @param {Area} area
  */
 export function showArea(area) {
@@ -133,7 +132,8 @@ export function showArea(area) {
   notify("area");
 }
 
-/** Show the rectangle that a drag draws. It holds until the drag ends, though the diagram may move.
+/** Show the rectangle that a drag draws, and note it for the end of the drag: the diagram may move
+ * before that.
  * @param {Area} area
  */
 export function showDrawn(area) {
@@ -141,7 +141,7 @@ export function showDrawn(area) {
   showArea(area);
 }
 
-/** End a drag. Return it, with the area that it drew. */
+/** End the drag. Return it, with the area that it drew; null if there is none. */
 export function endDrag() {
   const {drag} = store;
   assign(store, {drag: null, area: null});
@@ -149,7 +149,7 @@ export function endDrag() {
   return drag;
 }
 
-/** Note a click on the diagram. Return whether it is the second one of two at one place.
+/** Note a click on the diagram. Return whether it is the second click of a double click.
  * @param {{when: number, x: number, y: number}} click
  */
 export function noteClick(click) {
@@ -159,9 +159,9 @@ export function noteClick(click) {
     && Math.hypot(click.x - before.x, click.y - before.y) < AT_ONE_PLACE;
 }
 
-/** Read a place out.
+/** Choose the place that the readout describes.
  * @param {Place} place
- * @param {boolean} byKey    keys led there: it is announced
+ * @param {boolean} byKey    keys moved the cursor there: it is announced
  */
 export function readPlace(place, byKey) {
   store.reading = {place, byKey};
@@ -189,13 +189,13 @@ const cursorStart = () => [Math.round(store.extent.cell + store.extent.cells / 2
 export function moveCursor([across, down], far) {
   const [cells, steps] = strideNow();
   const [cell, step] = store.cursor ?? cursorStart();
-  store.cursor = [within(cell + across * cells * far, 0, need("plan").length),
-                  within(step + down * steps * far, 0, LAST_STEP)];
+  store.cursor = [clamp(cell + across * cells * far, 0, need("plan").length),
+                  clamp(step + down * steps * far, 0, LAST_STEP)];
   followCursor();
   notify("cursor");
 }
 
-/** Move the diagram to the cursor if that has left it. */
+/** Move the diagram to the cursor if the cursor has left it. */
 function followCursor() {
   const [part, [cell, step]] = [store.extent, need("cursor")];
   const [across, down] = [cell - part.cell, step - part.step];
@@ -210,13 +210,13 @@ export function beginCorner() {
   notify("cursor");
 }
 
-/** Drop the rectangle that is drawn. */
+/** Discard the rectangle that is drawn. */
 export function dropArea() {
   assign(store, {area: null, corner: null, drag: null});
   notify("area");
 }
 
-/** Do something with the diagram while it has no cursor and no rectangle.
+/** Call a function while the diagram has no cursor and no rectangle.
  * @param {() => void} does
  */
 export function withoutCursor(does) {

@@ -1,9 +1,9 @@
-// Elements of the page. Texts from outside (names, notes) become text nodes and nothing else.
+// Elements of the page. Texts from outside (names, notes) become text nodes, and never markup.
 
 import {assign} from "./assign.mjs";
 
 /**
- * The elements by their ids. A preview has those that begin with "preview" and follow the title.
+ * The elements by their ids. Those of a preview, apart from its title and body, are made by preview.mjs.
  * @typedef {Record<"me" | "clock" | "figuresPart" | "news" | "preview" | "hint", HTMLElement>
  *   & Record<"line" | "said" | "who" | "helloSaid" | "readout" | "days" | "figuresNote" | "emptyHint"
  *            | "pastRest" | "seriesRead" | "travelRead" | "previewTitles", HTMLParagraphElement>
@@ -61,28 +61,28 @@ export function on(id, type, act, how) {
   one.addEventListener(type, act, how);
 }
 
-/** Return the element at which an event was made that is of a selector or in one of it; null if
- * none is.
+/** Return the innermost element that matches a selector and contains the target of an event; null
+ * if there is none.
  * @param {Event} event
  * @param {string} selector
  */
 export const closest = ({target}, selector) =>
   (target instanceof Element ? target.closest(selector) : null);
 
-/** Return a value as one of some; undefined if it is none of them.
+/** Return a value, typed as one of a list; undefined if the list does not have it.
  * @template {string} Value
  * @param {readonly Value[]} values
  * @param {string} value
  */
 export const oneOf = (values, value) => values.find((one) => one === value);
 
-/** Return the value of the radio button of a name that is chosen; "" if none is.
+/** Return the value of the chosen radio button of a group; "" if none is chosen.
  * @param {string} name
  */
 export const chosen = (name) =>
   radios(name).find(({checked}) => checked)?.value ?? "";
 
-/** Choose one of the radio buttons of a name.
+/** Choose a radio button of a group.
  * @param {string} name
  * @param {string} value
  */
@@ -90,7 +90,7 @@ export function choose(name, value) {
   for (const one of radios(name)) one.checked = one.value === value;
 }
 
-/** Return the radio buttons of a name.
+/** Return the radio buttons of a group.
  * @param {string} name
  */
 const radios = (name) => [...document.querySelectorAll(`input[name=${name}]`)].flatMap((one) =>
@@ -111,7 +111,7 @@ export function element(tag, text, properties = {}, ...children) {
   return one;
 }
 
-/** Make a button; `about` says in its name what it is about.
+/** Make a button. Its accessible name says, too, what it is `about`.
  * @param {string} text
  * @param {() => void} act
  * @param {string} [about]
@@ -122,7 +122,7 @@ export function button(text, act, about = "") {
   return one;
 }
 
-/** Make a head cell of a column, or of a row.
+/** Make a header cell of a column, or of a row.
  * @param {string} text
  * @param {string} [scope]
  */
@@ -136,8 +136,9 @@ export function row(...cells) {
 }
 
 /**
- * An element of a list: which it is, what it shows, and how it is made.
- * @typedef {{key: string, sign: string, make: () => HTMLElement}} Item
+ * An entry of a list: its key, a text that differs whenever what it shows does, and a function that
+ * makes its element.
+ * @typedef {{key: string, version: string, make: () => HTMLElement}} Item
  */
 
 /** Return the elements in an element.
@@ -154,7 +155,7 @@ export function activeIn(place) {
   return active instanceof HTMLElement && place.contains(active) ? active : null;
 }
 
-/** Show items in a list. What has not changed stays, and the focus too.
+/** Show items in a list. Elements that have not changed stay, and so does the focus.
  * @param {HTMLElement} list
  * @param {Item[]} items
  */
@@ -164,11 +165,11 @@ export function showList(list, items) {
   const lines = childrenOf(list);
   const place = at ? lines.indexOf(at) : 0;
   const before = new Map(lines.map((one) => [one.dataset.key, one]));
-  const now = items.map(({key, sign, make}) => {
+  const now = items.map(({key, version, make}) => {
     const there = before.get(key);
-    if (there && there.dataset.sign === sign) return there;
+    if (there && there.dataset.version === version) return there;
     const made = make();
-    assign(made.dataset, {key, sign});
+    assign(made.dataset, {key, version});
     return made;
   });
   arrange(list, now);
@@ -176,7 +177,7 @@ export function showList(list, items) {
   else if (active && document.activeElement !== active) active.focus();
 }
 
-/** Let a list have these children. Those that stay where they are, are not touched.
+/** Give a list these children. Do not touch those that stay where they are.
  * @param {HTMLElement} list
  * @param {HTMLElement[]} children
  */
@@ -191,8 +192,8 @@ function arrange(list, children) {
   }
 }
 
-/** Give the focus to the same button of the same line, else to the line itself, to the one in its
- * place, or to the list: there a key that is pressed once more does nothing.
+/** Focus the same button of the same line. If it is gone, focus the line, the line now in its place,
+ * or the list: pressing the key again does nothing there.
  * @param {HTMLElement} list
  * @param {string | undefined} key      of the line
  * @param {number} place                of the line
@@ -209,12 +210,12 @@ function refocus(list, key, place, text) {
 }
 
 /** Let the browser save a file.
- * @param {BlobPart[]} lines
+ * @param {BlobPart[]} parts
  * @param {string} name
  * @param {string} type
  */
-export function download(lines, name, type) {
-  const href = URL.createObjectURL(new Blob(lines, {type}));
+export function download(parts, name, type) {
+  const href = URL.createObjectURL(new Blob(parts, {type}));
   const link = element("a", "", {href, download: name});
   link.click();
   setTimeout(() => URL.revokeObjectURL(link.href), 60000);

@@ -1,5 +1,5 @@
-// Means of days: `half` is how far the 95 % interval reaches to both sides; it is null if there was
-// one day alone.
+// Means over days, as text. `half` is half the width of the 95 % interval; it is null if there was
+// only one day.
 
 import {signedText} from "./units.mjs";
 
@@ -13,7 +13,7 @@ const text = (value) => value.toLocaleString("en",
  * @param {Mean} mean
  */
 export const meanText = ({mean}) => text(mean);
-/** Return how far the interval reaches, as text; "" after one day.
+/** Return half the width of the interval, as text; "" after one day.
  * @param {Mean} mean
  */
 export const halfText = ({half}) => (half === null ? "" : `\u00b1 ${text(half)}`);
@@ -22,7 +22,7 @@ export const halfText = ({half}) => (half === null ? "" : `\u00b1 ${text(half)}`
  */
 export const changeText = ({mean}) => signedText(mean, 1);
 
-/** Return how sure a difference is, as text: if 0 lies in its interval, it may be chance.
+/** Return the interval of a difference, as text: if it contains 0, the difference may be chance.
  * @param {Mean} mean
  */
 export function sureText({mean, half}) {

@@ -1,4 +1,4 @@
-// Actions: rows, counts and sums are asked for where they are missing.
+// Actions: ask for the rows, counts and sums that are missing.
 
 import {ask} from "./asking.mjs";
 import {assign} from "./assign.mjs";
@@ -14,11 +14,11 @@ import {everyShown, periodShown} from "./view.mjs";
 const ASKING = 2;               // questions for rows at a time
 const IDLE = 120;               // milliseconds without news before figures are computed again
 const QUIET = 400;              // milliseconds without news before cars are counted one by one
-const BUSY = 1000;              // milliseconds until it is asked again of one who was busy
+const BUSY = 1000;              // milliseconds until a busy server is asked again
 const MINUTES_AT_ONCE = 60;     // of a question for sums
 
-/** Ask for the rows that are seen and not fresh, from above on; with `both` then for those of the
- * other road, whose figures are shown too.
+/** Ask for the visible rows that are not fresh, from the top on. With `both`, then ask for those of
+ * the other road, whose figures are shown too.
  * @param {boolean} [both]
  */
 export function fetchRows(both = !store.clock.rate) {
@@ -29,7 +29,7 @@ export function fetchRows(both = !store.clock.rate) {
   if (both) fetchOf(BOTH.filter((whose) => !seen.includes(whose)));
 }
 
-/** Ask for rows of these roads. Return whether nothing of them is missing.
+/** Ask for rows of these roads. Return whether none is missing.
  * @param {RoadName[]} names
  */
 function fetchOf(names) {
@@ -59,19 +59,19 @@ function mostRows() {
   return Math.max(1, Math.min(rows, Math.floor(bytes / (need("plan").length + 3))));
 }
 
-/** Ask whether a road is still there: those of a preview go with it.
+/** Ask whether the page still has a road: those of a preview are dropped when it closes.
  * @param {Road} road
  */
 const isKept = (road) => Object.values(store.roads).includes(road);
 
-/** Let a road be computed to a step.
+/** Ask the server to compute a road up to a step.
  * @param {Road} road
  * @param {number} to
  */
 async function advance(road, to) {
   if (road.isAdvancing) return;
   road.isAdvancing = true;
-  const said = await ask({advance: {at: road.at, to}}, {stands: () => isKept(road)});
+  const said = await ask({advance: {at: road.at, to}}, {isWanted: () => isKept(road)});
   road.isAdvancing = false;
   if (!said || "refused" in said) return;
   road.horizon = Math.max(road.horizon, said.horizon);
@@ -88,7 +88,7 @@ async function askRows(whose, level, {from, to, count}) {
   store.openRowQuestions++;
   level.mark(from, count, 1);
   const said = await ask({diagram: {at: road.at, from, to, ...(every > 1 ? {every} : {})}},
-    {stands: () => isKept(road)});
+    {isWanted: () => isKept(road)});
   store.openRowQuestions = Math.max(0, store.openRowQuestions - 1);
   if (!said || "refused" in said) {
     level.mark(from, count, 0);
@@ -102,23 +102,23 @@ async function askRows(whose, level, {from, to, count}) {
   fetchRows();
 }
 
-/** Note that all rows that are seen are there: gestures that are measured have their picture at the
- * next drawing. */
+/** Note that all visible rows have arrived, for the timings of gestures: the next drawing shows
+ * them. */
 function noteRowsComplete() {
   const waiting = store.timings.filter((timing) => !timing.settled);
   for (const timing of waiting) timing.settled = performance.now();
   if (waiting.length) notify("timings");
 }
 
-/** Let the picture be drawn at the next frame of the screen. Return whether that is new. */
+/** Note that the picture is to be drawn at the next animation frame. Return whether that is new. */
 export function requestDrawing() {
   const draws = !store.isDrawing;
   store.isDrawing = true;
   return draws;
 }
 
-/** Note the time after each drawing. Refresh the figures once it is quiet, or each second while the
- * clock runs. */
+/** Note the time after a drawing. Refresh the figures once nothing is drawn for a moment, or each
+ * second while the clock runs. */
 export function finishDrawing() {
   store.isDrawing = false;
   for (const timing of store.timings) {
@@ -129,7 +129,8 @@ export function finishDrawing() {
   store.idleTimer = setTimeout(whenQuiet, store.clock.rate ? 1000 : IDLE);
 }
 
-/** Ask for what is not seen, and for figures; while the clock stands once no row is awaited. */
+/** Ask for the rows of the other road, and for figures. While the clock is paused, first wait until no
+ * row is awaited. */
 function whenQuiet() {
   const waits = store.openRowQuestions && !store.clock.rate;
   store.idleTimer = waits ? setTimeout(whenQuiet, IDLE) : null;
@@ -140,7 +141,7 @@ function whenQuiet() {
 
 // Figures.
 
-/** Show the figures of a period, as far as they are there, and ask for what is missing.
+/** Show the figures of a period that are known, and ask for those that are missing.
  * @param {Span} [period]    steps
  */
 export function refreshFigures(period = periodShown()) {
@@ -149,8 +150,8 @@ export function refreshFigures(period = periodShown()) {
   notify("figures");
 }
 
-/** Ask for what is missing of the figures of a period; while the clock stands, a moment later for
- * what is counted car by car, too.
+/** Ask for the missing figures of a period. While the clock is paused, ask a moment later for those
+ * that are counted car by car, too.
  * @param {Span} period
  */
 async function askFigures(period) {
@@ -182,12 +183,12 @@ const isOfSpan = (count) => Array.isArray(count);
  */
 const isOfPeriod = (count) => !Array.isArray(count);
 
-/** Return the steps per point of the series: at most some 150 points.
+/** Return the steps per point of the series, for some 150 points at most.
  * @param {number} steps     of the period
  */
-const eachOf = (steps) => [60, 300, 900, 3600].find((each) => steps / each <= 150) ?? 10_800;
+const stepsPerPoint = (steps) => [60, 300, 900, 3600].find((each) => steps / each <= 150) ?? 10_800;
 
-/** Return a key of the series of two roads, which differs once they have changed.
+/** Return a key of the series of two roads, which differs whenever they do.
  * @param {RoadName[]} sides
  * @param {Span} period
  */
@@ -195,8 +196,8 @@ const keyOfSeries = (sides, period) => [
   ...sides, ...BOTH.map((whose) => roadOf(whose).version), ...period,
   ...(store.outcome && store.preview ? store.preview.stamps.map(keyOf) : [])].join();
 
-/** Ask for flow and speed by time of the two roads that are compared, if those that are shown are
- * of other ones.
+/** Ask for flow and speed by time of the two roads that are compared, unless those that are shown are
+ * up to date.
  * @param {Span} [period]
  */
 export async function askSeries(period = periodShown()) {
@@ -207,11 +208,11 @@ export async function askSeries(period = periodShown()) {
   const sides = outcome?.layers ? ["before", "after"] : ["shared", "mine"];
   const key = keyOfSeries(sides, period);
   if (key === series.key) return;
-  const roads = sides.map(roadOf);      // those of a preview may go while answers are awaited
+  const roads = sides.map(roadOf);      // a preview may close while answers are awaited
   series.asking = true;
   try {
-    for (const road of roads) if (!await computed(road, to)) return;
-    const each = eachOf(to - from);
+    for (const road of roads) if (!await computeTo(road, to)) return;
+    const each = stepsPerPoint(to - from);
     const said = await Promise.all(roads.map(({at}) =>
       ask({counts: {at, from, to, each}}, {quiet: ["Busy", "NoPreview"]})));
     const flows = said.flatMap((one) => (one && "flows" in one ? [one.flows.filter(isOfSpan)] : []));
@@ -241,7 +242,7 @@ export function chooseEnd(end) {
   notify("series");
 }
 
-/** Read a point of the series, or a minute of entry; null: none.
+/** Select a point of the series, or a minute of entry; null: none.
  * @param {"point" | "minute"} what
  * @param {number | null} index
  */
@@ -250,7 +251,7 @@ export function readPoint(what, index) {
   notify("series");
 }
 
-/** Ask for what is counted car by car a moment later, once no change waits for its picture.
+/** A moment later, once no change waits for its picture, ask for what is counted car by car.
  * @param {Span} period
  */
 function askExactSoon(period) {
@@ -262,13 +263,13 @@ function askExactSoon(period) {
   }, QUIET);
 }
 
-/** Return a key of a period's figures, which differs once a road has changed.
+/** Return a key of a period's figures, which differs whenever a road has changed.
  * @param {Span} period
  */
 const keyOfPeriod = (period) => [...period, ...BOTH.map((whose) => roadOf(whose).version)].join();
 
 /** Ask for the counts of both roads, if they may differ from those that are shown. Return whether
- * they came.
+ * new ones arrived.
  * @param {Span} period
  */
 async function askCounts(period) {
@@ -276,7 +277,7 @@ async function askCounts(period) {
   const {figures} = store;
   const key = keyOfPeriod(period);
   if (key === figures.key) return false;
-  for (const whose of BOTH) if (!await computed(roadOf(whose), to)) return false;
+  for (const whose of BOTH) if (!await computeTo(roadOf(whose), to)) return false;
   const said = await Promise.all([need("me").at, "shared"].map((at) =>
     ask({counts: {at, from, to}}, {quiet: ["Busy"]})));
   const counts = said.flatMap((one) => (one && "flows" in one ? [one.flows.filter(isOfPeriod)] : []));
@@ -285,14 +286,14 @@ async function askCounts(period) {
   return true;
 }
 
-/** Ask for the vehicle hours of a part of the minutes that are missing. Return whether they came.
+/** Ask for the vehicle hours of the first missing minutes of a period. Return whether they arrived.
  * @param {RoadName} whose
  * @param {Span} period
  */
 async function askSums(whose, period) {
   const road = roadOf(whose);
   const wanted = road.minutes.findMissing(period, MINUTES_AT_ONCE);
-  if (!wanted || !await computed(road, wanted[1])) return false;
+  if (!wanted || !await computeTo(road, wanted[1])) return false;
   const {version, at} = road;
   const said = await ask({sums: {at, from: wanted[0], to: wanted[1]}}, {quiet: ["Busy"]});
   if (!said || "refused" in said) return false;
@@ -300,7 +301,7 @@ async function askSums(whose, period) {
   return true;
 }
 
-/** Ask for what is counted car by car: lost demand, travel times, and the delay of mine beside
+/** Ask for what is counted car by car: lost demand, travel times, and the delay on mine compared with
  * shared.
  * @param {Span} period
  */
@@ -318,17 +319,17 @@ async function askExact(period) {
   refreshFigures();
 }
 
-/** Return what is counted car by car of a period; null if it is not known yet, or of other edits.
+/** Return what is counted car by car in a period; null if it is not known for the present edits.
  * @param {Span} period
  */
 export const exactOf = (period) =>
   (store.figures.exactKey === keyOfPeriod(period) ? store.figures.exact : null);
 
-/** Let a road run to a step. Return whether it has; if not, refresh the figures later.
+/** Compute a road up to a step. Return whether that succeeded; if not, refresh the figures later.
  * @param {Road} road
  * @param {number} to
  */
-async function computed(road, to) {
+async function computeTo(road, to) {
   if (road.horizon < to) await advance(road, to);
   if (road.horizon < to) setTimeout(refreshFigures, IDLE);
   return road.horizon >= to;

@@ -1,7 +1,6 @@
-// View: figures of the minutes that are shown, mine beside shared: vehicle hours, the demand that
-// was lost, delay, cars and mean speeds at the detectors; what is to be warned of; the diagram as a
-// table. They come from all rows of these minutes, so that one change has the same figures at each
-// zoom.
+// View: figures of the minutes that are shown, mine next to shared: vehicle hours, lost demand,
+// delay, cars and mean speeds at the detectors; warnings; the diagram as a table. The figures are
+// computed from all rows of these minutes, so they are the same at each zoom.
 
 import {boxSums} from "../../viewer/drawing.mjs";
 import {$, element, headCell, on, row, showList} from "./elements.mjs";
@@ -22,12 +21,12 @@ import {everyShown} from "./view.mjs";
 /** @typedef {ReturnType<typeof boxSums>} BoxSums */
 
 const AWAITED = "\u2026";
-/** Return what is counted car by car, and is not known, as text: nothing while the clock runs. */
+/** Return the text for a figure that is counted car by car and not known: "" while the clock runs. */
 const unknownText = () => (store.clock.rate ? "" : AWAITED);
-const AS_WIDE = "0,000/h, 000 km/h";    // as what is awaited, and not seen
-const NO_CAR = "\u2013";         // of a travel time that no car has
-const LOST = 0.05;              // of the demand of an inlet: more that is lost is warned of
-const CAUGHT = 120;             // steps of a closure at whose end it is looked who stands in it
+const AS_WIDE = "0,000/h, 000 km/h";    // an invisible text, as wide as an awaited one
+const NO_CAR = "\u2013";         // the travel time if no car arrived
+const LOST = 0.05;              // of an inlet's demand: a larger loss gives a warning
+const TRAPPED = 120;            // steps of a closure after which, at most, the cars in it are counted
 
 // The table.
 
@@ -40,13 +39,13 @@ function offText({on: steps}, seconds) {
   return steps ? `, on for ${durationText(steps)} of ${durationText(seconds)}` : "off";
 }
 
-/** Make the seconds from the inlet, at the left of a cell.
+/** Make the travel time from the inlet, at the left of a cell.
  * @param {string} text
  */
 const tripElement = (text) => element("span", text && ` ${text}`, {className: "trip"});
 
-/** Make a cell of the cars that passed, with their seconds from the inlet if these are known; below
- * them how many an hour, and how fast.
+/** Make a cell of the cars that passed, with their travel time from the inlet if it is known; below
+ * it, flow and speed.
  * @param {DetectorFigures} one
  * @param {number} seconds           of the period
  * @param {number | null} travel     seconds
@@ -59,18 +58,18 @@ function flowCell(one, seconds, travel) {
     element("small", parts + offText(one, seconds)));
 }
 
-/** Return how much later the cars that both roads have are at a place, in seconds, as text; "" if
- * that is not known.
+/** Return the mean delay at a place, in seconds, of the cars that both roads have, as text; "" if it
+ * is not known.
  * @param {Figures | null} exact
- * @param {number} place     the number of a detector, or behind them of the road's end
+ * @param {number} place     the index of a detector; after the last one, the road's end
  */
 function laterText(exact, place) {
   const later = exact ? exact.later[place].seconds : null;
   return later === null ? "" : `${signedText(later, 1)} s`;
 }
 
-/** Make the row of the seconds to the road's end, mine and shared, and how much later the cars on
- * both roads are.
+/** Make the row of travel times to the road's end: mine, shared, and the mean delay of the cars that
+ * both roads have.
  * @param {Figures | null} exact
  */
 function travelRow(exact) {
@@ -83,7 +82,7 @@ function travelRow(exact) {
   return row(headCell("Time to the road's end", "row"), ...cells.map((cell) => element("td", cell)));
 }
 
-/** Make a row for each detector, as wide and high before its figures are there.
+/** Make a row for each detector, with the same size before and after its figures arrive.
  * @param {Span} period
  * @param {Figures | null} exact
  */
@@ -103,7 +102,6 @@ function detectorRows(period, exact) {
       element("td", signedText(mine.cars - shared.cars), {}, tripElement(laterText(exact, index))));
   });
 }
-
 
 /** Return the vehicle hours of the minutes of a period; null if one is missing.
  * @param {RoadName} whose
@@ -128,7 +126,7 @@ function sumRow(name, [one, other], digits, unknown) {
     element("td", difference));
 }
 
-/** Return the row of the delay on mine against shared, of the cars that both roads have.
+/** Make the row of the delay on mine compared with shared, of the cars that both roads have.
  * @param {Figures | null} exact
  */
 function delayRow(exact) {
@@ -137,7 +135,7 @@ function delayRow(exact) {
     element("td", text));
 }
 
-/** Say how the figures are to be read, or why some are not there.
+/** Return how to read the figures, or why some are missing.
  * @param {Figures | null} exact
  */
 function noteText(exact) {
@@ -145,10 +143,10 @@ function noteText(exact) {
   const scatter = exact ? Math.hypot(...exact.after.scatter) : 0;
   return "Lost: demand minus cars that entered"
     + (scatter >= 1 ? ` (\u00b1 ${whole(scatter)} by chance)` : "")
-    + ". Seconds: from the inlet; on the right, delay.";
+    + ". Seconds: travel time from the inlet; on the right, delay.";
 }
 
-/** Show the figures that are wanted, as far as they are there; while the clock runs only all. */
+/** Show the known figures of the wanted period; while the clock runs, only once all are known. */
 function showFigures() {
   const period = store.figures.wanted;
   const hours = [hoursOf("mine", period), hoursOf("shared", period)];
@@ -170,8 +168,8 @@ function showFigures() {
 
 // Warnings.
 
-/** Return warnings of inlets that admit clearly less than they were asked for, and than on the
- * shared road. Arrivals are random: what may be so by chance is not warned of.
+/** Return warnings of inlets that admit clearly fewer cars than the demand, and fewer than on the
+ * shared road. Arrivals are random: a loss that may be due to chance gives no warning.
  * @param {Figures} exact
  */
 function lostWarnings({after, before}) {
@@ -183,20 +181,20 @@ function lostWarnings({after, before}) {
   });
 }
 
-/** Return how many cars stand in a closure near its end, as far as it is computed.
+/** Return how many cars are trapped in a closure, as far as it is computed.
  * @param {Frame} frame
  */
 function countTrappedIn(frame) {
   const {from, to} = frame;
   const mine = roadOf("mine");
   const level = mine.level(everyShown());
-  const end = Math.min(to ?? Infinity, mine.horizon, from + CAUGHT);
+  const end = Math.min(to ?? Infinity, mine.horizon, from + TRAPPED);
   const at = Math.floor((end - 1) / level.every);
   const text = at * level.every > from && level.fresh[at] ? level.rows[at] : undefined;
   return countTrapped(layersOf("mine"), frame, text ?? "");
 }
 
-/** Return warnings of cars that stand in closures. */
+/** Return warnings of cars that are trapped in closures. */
 function closureWarnings() {
   return layersOf("mine").frames.flatMap((frame) => {
     const cars = frame.kind === "block" && frame.value ? countTrappedIn(frame) : 0;
@@ -206,13 +204,13 @@ function closureWarnings() {
   });
 }
 
-/** Show what is to be warned of.
+/** Show the warnings.
  * @param {Figures | null} exact
  */
 function showWarnings(exact) {
   const texts = [...(exact ? lostWarnings(exact) : []), ...closureWarnings()];
   showList($("warnings"), texts.map((text) =>
-    ({key: text, sign: text, make: () => element("li", text)})));
+    ({key: text, version: text, make: () => element("li", text)})));
 }
 
 // The diagram as a table: mean speeds of stretches of road and time.
@@ -229,12 +227,12 @@ function speedText(sums, other, box) {
   const mean = (/** @type {BoxSums} */ {cars, speeds}) =>
     (cars[box] ? speeds[box] / cars[box] * KMH_A_CELL : null);
   if (!sums.rows || (other && !other.rows)) return "not computed";
-  const [one, beside] = [mean(sums), other ? mean(other) : null];
+  const [one, second] = [mean(sums), other ? mean(other) : null];
   const closed = sums.closed[box] ? " (closed in part)" : "";
   if (!other) return (one === null ? "no car" : String(Math.round(one))) + closed;
-  if (one === null && beside === null) return "no car";
-  if (one === null || beside === null) return one === null ? "no car of mine" : "no car of theirs";
-  return signedText(one - beside) + closed;
+  if (one === null && second === null) return "no car";
+  if (one === null || second === null) return `no car (${whoseShown()[one === null ? 0 : 1]})`;
+  return signedText(one - second) + closed;
 }
 
 /** Show the diagram as a table of mean speeds.
@@ -252,9 +250,9 @@ function showSpeeds([from, to]) {
   const body = [];
   for (let start = Math.floor(from / high) * high; start < to; start += high) {
     const sums = boxSums(picture, start, start + high, wide);
-    const beside = other ? boxSums(other, start, start + high, wide) : null;
+    const others = other ? boxSums(other, start, start + high, wide) : null;
     body.push(row(headCell(`from ${store.day.timeText(start)}`, "row"),
-      ...heads.map((_, box) => element("td", speedText(sums, beside, box)))));
+      ...heads.map((_, box) => element("td", speedText(sums, others, box)))));
   }
   const caption = other ? `Mean speeds in km/h, ${whoseShown()[0] === "after" ? "after minus before"
     : "mine minus shared"}` : "Mean speeds in km/h";

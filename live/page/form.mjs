@@ -1,4 +1,4 @@
-// View: the tool with its values, and the form in figures, which does all that a drag does.
+// View: the tool with its values, and the form for typed values, which can do all that a drag does.
 
 import {words} from "./changes.mjs";
 import {applyForm, chooseTool, editInForm, followChangeInForm, writeField} from "./drafting.mjs";
@@ -12,7 +12,7 @@ import {kmText, limitText} from "./units.mjs";
 /** @typedef {import("./store.mjs").Field} Field */
 /** @typedef {import("./store.mjs").Store} Store */
 
-const FASTEST = 9;              // cells a step of a limit
+const FASTEST = 9;              // the highest limit, in cells a step
 /** @type {Field[]} */
 const FIELDS = ["limit", "watch", "demand", "inlet", "site", "slow", "start", "kmFrom", "kmTo",
                 "timeFrom", "timeTo"];
@@ -23,9 +23,9 @@ const VERBS = {look: "Close cells", block: "Close", limit: "Limit", inflow: "Set
                slow: "Set slowing", start: "Set slow to start", watch: "Switch detector"};
 /** @type {Partial<Record<Store["tool"], string>>} */
 const HINTS = {look: "moves the diagram; edges of your frames can be dragged",
-               block: "closes the lane; cars inside stand until it opens"};
+               block: "closes the lane; cars inside it stop until it opens"};
 
-/** Fill the form's choices by the plan. */
+/** Fill the form's choices from the plan. */
 function showPlan() {
   const plan = need("plan");
   const limits = Array.from({length: FASTEST + 1}, (_, limit) => limit);
@@ -51,30 +51,30 @@ function showTool() {
   showToolHint();
 }
 
-/** Show what is written. A field that has it already is not touched: its caret stays. */
+/** Show what is typed. Do not touch a field that shows it already, so that its caret stays. */
 function showForm() {
   for (const id of FIELDS) if ($(id).value !== store.form[id]) $(id).value = store.form[id];
   showToolHint();
 }
 
-/** Say what is changed, or what the tool does. */
+/** Say which change is edited, or what the tool does. */
 function showToolHint() {
   const kind = store.tool;
   const zones = store.plan && zonesText(store.plan, kind);
-  $("toolHint").textContent = store.changeInForm ? `changes ${words().text(store.changeInForm)}`
+  $("toolHint").textContent = store.changeInForm ? `changing: ${words().text(store.changeInForm)}`
     : kind === "inflow" ? demandText() : HINTS[kind] ?? zones ?? "";
 }
 
-/** Show that the form alters a change, and go to its first field. */
+/** Show that the form edits a change, and focus its first field. */
 function showChangeInForm() {
   const {changeInForm} = store;
   $("dropChange").hidden = !changeInForm;
-  $("exactTitle").textContent = changeInForm ? "change it:" : "or in figures:";
+  $("exactTitle").textContent = changeInForm ? "new values:" : "or type values:";
   if (!changeInForm?.shape) return;
   $(OF_ONE.includes(changeInForm.shape.kind) ? "timeFrom" : "kmFrom").focus();
 }
 
-/** Note what is written in a field.
+/** Note what is typed in a field.
  * @param {Event} event
  */
 function onInput({target}) {

@@ -1,5 +1,5 @@
-// What is written in the form, as shapes and values of the program, and what a shape would write
-// there. It reads the store.
+// What is typed in the form, as shapes and values of the program, and shapes as the texts of its
+// fields. It reads the store.
 
 import {faultOfValue} from "./area.mjs";
 import {OF_ONE, OF_ZONES, cellsOf, objectsNearest} from "./geometry.mjs";
@@ -12,12 +12,12 @@ import {ALWAYS, LAST_STEP, cellOfKm, chanceOfDemand, demandOfChance, kmOf, kmTex
 /** @typedef {import("./types.mjs").Kind} Kind */
 /** @typedef {import("./types.mjs").Shape} Shape */
 
-/** Return a written number; NaN if it is not a number.
+/** Return a typed number; NaN if the text is not a number.
  * @param {string} text
  */
 const numberOf = (text) => (text.trim() === "" ? NaN : Number(text));
 
-/** Return the value that a tool puts, in the program's units; NaN if what is written is not valid.
+/** Return the value that a tool puts, in the program's units; NaN if what is typed is invalid.
  * @param {Kind} kind
  * @param {number} first     the object
  * @param {number} from      the step
@@ -34,36 +34,36 @@ export function valueOfTool(kind, first, from) {
   return percent >= 0 && percent <= 100 ? Math.round(percent / 100 * ALWAYS) : NaN;
 }
 
-/** Return the demand that is written, as a part of a shape of a kind; nothing of other kinds.
+/** Return the typed demand as a field of a shape; no field if the kind is not `inflow`.
  * @param {Kind} kind
  * @returns {{demand?: number}}
  */
 export const demandOfTool = (kind) =>
   (kind === "inflow" ? {demand: numberOf(store.form.demand)} : {});
 
-/** Return the chosen inlet and the written step; NaN if that is not a time. */
+/** Return the chosen inlet and the typed beginning, a step; NaN if it is not a time. */
 export const demandInForm = () =>
   ({inlet: Number(store.form.inlet), from: store.day.readStep(store.form.timeFrom)});
 
-/** Say which inflow chance the demand is, or why it is not valid. */
+/** Return which inflow chance admits the typed demand, or why the demand is invalid. */
 export function demandText() {
   if (!store.layers.mine || !need("plan").inlets.length) return "";
-  const {inlet, from: written} = demandInForm();
-  const from = Math.min(LAST_STEP, Number.isNaN(written) ? now() : written);
+  const {inlet, from: typed} = demandInForm();
+  const from = Math.min(LAST_STEP, Number.isNaN(typed) ? now() : typed);
   const value = valueOfTool("inflow", inlet, from);
   if (Number.isNaN(value)) return faultOfValue("inflow", inlet, from);
   const most = layersOf("mine").curveAt(inlet, from)?.capacity ?? NaN;
-  return `inflow chance ${(value / ALWAYS).toFixed(3)}; this inlet admits up to ${whole(most)} `
-    + "cars/h here";
+  return `inflow chance ${(value / ALWAYS).toFixed(3)}; this inlet then admits up to `
+    + `${whole(most)} cars/h`;
 }
 
-/** Say what is wrong with a written time.
+/** Return what is wrong with a typed time.
  * @param {string} text
  */
 const faultOfTime = (text) => (store.day.isSkipped(text) ? messages.skippedTime(text.trim())
-  : messages.timeHint(store.day.begin === null ? null : store.day.timeText(0)));
+  : messages.notATime(text.trim(), store.day.begin === null ? null : store.day.timeText(0)));
 
-/** Return the shape that the form has, or a sentence of what is wrong with it.
+/** Return the shape that is typed in the form, or a sentence that says what is wrong.
  * @returns {Shape | string}
  */
 export function readForm() {
@@ -80,7 +80,7 @@ export function readForm() {
   return {kind, first, last, from, to, value: valueOfTool(kind, first, from), ...demandOfTool(kind)};
 }
 
-/** Return the first and the last object of the form, or a sentence of what is wrong.
+/** Return the first and the last object that are typed, or a sentence that says what is wrong.
  * @param {Kind} kind
  * @returns {[first: number, last: number] | string}
  */
@@ -96,25 +96,25 @@ function readRange(kind) {
   return objectsNearest(need("plan"), kind, [from, to]);
 }
 
-/** Return the two places that are written, in km; NaN if one is not a number. */
+/** Return the two typed places, in km; NaN for one that is not a number. */
 const readPlaces = () =>
   [store.form.kmFrom, store.form.kmTo].map((text) => numberOf(text.replace(",", ".")));
 
-/** Say which stretch is taken, if it is not the one that is written.
+/** Return a sentence on the stretch that is taken, if it is not the typed one; otherwise "".
  * @param {Shape} shape
  */
 export function takenText({kind, first, last}) {
   if (OF_ONE.includes(kind)) return "";
   const cells = cellsOf(need("plan"), kind, first, last);
   const taken = cells.map(kmText);
-  const written = readPlaces().map((km) => String(roundedKm(km)));
-  if (taken.join() === written.join()) return "";
+  const typed = readPlaces().map((km) => String(roundedKm(km)));
+  if (taken.join() === typed.join()) return "";
   const isRounded = cells.some((cell, index) => Math.abs(kmOf(cell) - Number(taken[index])) > 1e-9);
-  return ` In whole ${OF_ZONES.includes(kind) ? "zones" : "cells of 7.5 m"}: `
+  return ` Rounded to whole ${OF_ZONES.includes(kind) ? "zones" : "cells of 7.5 m"}: `
     + `${isRounded ? "about " : ""}${taken.join("\u2013")} km.`;
 }
 
-/** Return what the form has of a shape, by fields.
+/** Return the texts of the form's fields for a shape.
  * @param {Shape} shape
  * @returns {Partial<FormValues>}
  */
@@ -124,7 +124,7 @@ export function fieldsOf({kind, first, last, from, to, value, demand}) {
           timeTo: to === null ? "" : store.day.timeText(to), ...valuesOf(kind, first, from, value, demand)};
 }
 
-/** Return what the form has of a value, by fields.
+/** Return the texts of the form's fields for a value.
  * @param {Kind} kind
  * @param {number} first
  * @param {number} from

@@ -1,4 +1,4 @@
-// What of a road lies where: objects in cells, rectangles, edges.
+// Where things are on a road: objects and their cells, rectangles, edges.
 
 import {LAST_STEP, METRES_A_CELL} from "./units.mjs";
 
@@ -14,10 +14,14 @@ import {LAST_STEP, METRES_A_CELL} from "./units.mjs";
 const SNAP_CELLS = 25 / METRES_A_CELL;
 
 export const MOST_OBJECTS = 600; // of a shape
-/** @type {unknown[]} */
+/** The kinds whose objects are zones.
+ * @type {unknown[]}
+ */
 export const OF_ZONES = ["limit", "slow", "start"];
-/** @type {unknown[]} */
-export const OF_ONE = ["inflow", "watch"];   // a shape of these kinds has one object
+/** The kinds whose shapes have one object.
+ * @type {unknown[]}
+ */
+export const OF_ONE = ["inflow", "watch"];
 
 /** Return how many objects of a kind a road has; 0 of an unknown kind.
  * @param {Plan} plan
@@ -30,7 +34,7 @@ function countOf({length, zone, inlets, detectors}, kind) {
   return kind === "watch" ? detectors.length : 0;
 }
 
-/** Ask whether a shape, or a part of a change, is of this road: another site may tell anything.
+/** Ask whether a shape, or a part of a change, fits this road: another site may send anything.
  * @param {Plan} plan
  * @param {Omit<Shape, "value">} shape
  */
@@ -71,26 +75,26 @@ export function nearest(places, cell) {
   return far.indexOf(Math.min(...far));
 }
 
-/** Return the first and last object of a kind in a stretch of cells; of inlets and detectors the
- * one that is nearest to `begun`, a cell.
+/** Return the first and last object of a kind in a stretch of cells. Of inlets and detectors, return
+ * the one that is nearest to a cell.
  * @param {Plan} plan
  * @param {Kind} kind
  * @param {Span} cells
- * @param {number} [begun]
+ * @param {number} [near]    the cell
  * @returns {Objects}
  */
-export function objectsIn(plan, kind, [from, to], begun = from) {
+export function objectsIn(plan, kind, [from, to], near = from) {
   if (OF_ZONES.includes(kind)) {
     return [Math.floor(from / plan.zone), Math.ceil(Math.max(from + 1, to) / plan.zone) - 1];
   }
   if (kind === "block") return [from, Math.max(from, to - 1)];
   const places = kind === "inflow" ? plan.inlets.map(([cell]) => cell) : plan.detectors;
-  const index = nearest(places, begun);
+  const index = nearest(places, near);
   return [index, index];
 }
 
-/** Return the first and last zone that a stretch of cells covers at least by half, or with `all`
- * those that it touches; null if it covers no zone.
+/** Return the first and last zone that a stretch of cells covers at least by half or, with `all`, that
+ * it touches; null if there is none.
  * @param {Plan} plan
  * @param {Span} cells
  * @param {boolean} [all]
@@ -107,8 +111,8 @@ export function zonesIn({length, zone}, [from, to], all) {
   return begin <= end ? [begin, end] : null;
 }
 
-/** Return the first and last object in a stretch of cells that is written in figures: its ends go
- * to the nearest bounds of zones. If both go to one, return the zone in which its middle lies.
+/** Return the first and last object in a stretch of cells that is typed. For zones, round its ends to
+ * the nearest zone boundaries. If both are rounded to the same one, return the zone of its middle.
  * @param {Plan} plan
  * @param {Kind} kind
  * @param {Span} cells
@@ -128,27 +132,28 @@ export function objectsNearest(plan, kind, [from, to]) {
  * @param {number} least
  * @param {number} most
  */
-export const within = (value, least, most) => Math.max(least, Math.min(most, value));
+export const clamp = (value, least, most) => Math.max(least, Math.min(most, value));
 /** Return two numbers, the smaller first.
  * @type {(one: number, other: number) => [number, number]}
  */
-export const sorted = (one, other) => [Math.min(one, other), Math.max(one, other)];
+export const inOrder = (one, other) => [Math.min(one, other), Math.max(one, other)];
 
-/** Return the place where a drag begins or ends: on round metres and seconds, unless it is exact.
+/** Return the place where a drag begins or ends: rounded to 25 m (at a high zoom to a cell), and to 30,
+ * 10 or 1 s, by the zoom; if it is `exact`, to a cell and a step.
  * @param {Place} place
- * @param {{span: number, scale: number, exact: boolean}} seen   steps that are seen; pixels a cell
+ * @param {{span: number, scale: number, exact: boolean}} seen   visible steps; pixels a cell
  * @returns {Place}
  */
-export function snapped([cell, step], {span, scale, exact}) {
+export function snap([cell, step], {span, scale, exact}) {
   if (exact) return [Math.round(cell), Math.round(step)];
   const apart = span > 900 ? 30 : span > 150 ? 10 : 1;
   const across = scale > 8 ? 1 : SNAP_CELLS;
   return [Math.round(Math.round(cell / across) * across), Math.round(step / apart) * apart];
 }
 
-/** Return the objects and steps of a rectangle between two places: of zones those that it
- * covers at least by half, or with `all` those that it touches. `few`: there are none, and the ones
- * that it touches are returned. `open`: a click, without an end.
+/** Return the objects and steps of a rectangle between two places. It takes zones that are at least
+ * half covered or, with `all`, that it touches. If no zone is half covered, return those that it
+ * touches, with `few`. `open`: a click, which has no end.
  * @param {Plan} plan
  * @param {Kind} kind
  * @param {Place} place
@@ -157,18 +162,18 @@ export function snapped([cell, step], {span, scale, exact}) {
  */
 export function rectangleBetween(plan, kind, [cell, step], [otherCell, otherStep],
                                  {open = false, all = open} = {}) {
-  const [left, right] = sorted(cell, otherCell).map((one) => within(one, 0, plan.length));
+  const [left, right] = inOrder(cell, otherCell).map((one) => clamp(one, 0, plan.length));
   const start = Math.min(left, plan.length - 1);
   /** @type {Span} */
   const cells = [start, Math.max(start + 1, right)];
   const covered = OF_ZONES.includes(kind) ? zonesIn(plan, cells, all) : [];
   const [first, last] = covered?.length ? covered : objectsIn(plan, kind, cells, cell);
-  const [from, end] = sorted(step, otherStep).map((one) => Math.max(0, one));
+  const [from, end] = inOrder(step, otherStep).map((one) => Math.max(0, one));
   return {first, last, from, to: open ? null : Math.max(from + 1, end), few: covered === null};
 }
 
-/** Return a shape whose edge is drawn to a place: of zones to where at least half of one is
- * covered, with `all` to where one is touched.
+/** Return a shape with one edge moved to a place. It takes zones that are at least half covered or,
+ * with `all`, that it touches.
  * @param {Plan} plan
  * @param {Shape} shape
  * @param {Edge} edge
@@ -180,11 +185,11 @@ export function shapeWithEdge(plan, shape, edge, [cell, step], all = false) {
   const {kind, first, last, from, to} = shape;
   const [start, end] = cellsOf(plan, kind, first, last);
   if (edge === "bottom") return {...shape, to: Math.max(step, from + 1)};
-  if (edge === "top") return {...shape, from: within(step, 0, (to ?? Infinity) - 1)};
+  if (edge === "top") return {...shape, from: clamp(step, 0, (to ?? Infinity) - 1)};
   if (!OF_ZONES.includes(kind) && kind !== "block") return shape;
   /** @type {Span} */
-  const cells = edge === "left" ? [within(cell, 0, end - 1), end]
-    : [start, within(cell, start + 1, plan.length)];
+  const cells = edge === "left" ? [clamp(cell, 0, end - 1), end]
+    : [start, clamp(cell, start + 1, plan.length)];
   const [begin, until] = kind === "block" ? objectsIn(plan, kind, cells)
     : zonesIn(plan, cells, all) ?? (edge === "left" ? [last, last] : [first, first]);
   return {...shape, first: begin, last: until};
@@ -198,11 +203,11 @@ export function shapeWithEdge(plan, shape, edge, [cell, step], all = false) {
  */
 export function nearestIn({zone}, {kind, first, last, from, to}, [cell, step]) {
   const index = OF_ZONES.includes(kind) ? cell / zone : kind === "block" ? cell : first;
-  return [within(Math.floor(index), first, last),
-          within(Math.floor(step), from, (to ?? Infinity) - 1)];
+  return [clamp(Math.floor(index), first, last),
+          clamp(Math.floor(step), from, (to ?? Infinity) - 1)];
 }
 
-/** Return the edge of a box that is nearer to a point than `near` pixels; undefined if none is.
+/** Return an edge of a box that is nearer to a point than `near` pixels; undefined if none is.
  * An open box has no lower edge.
  * @param {Box} box
  * @param {[x: number, y: number]} point
@@ -219,7 +224,7 @@ export function edgeNear([left, top, right, bottom], [x, y], near, isOpen) {
   return Math.abs(x - left) < near ? "left" : undefined;
 }
 
-/** Ask whether a shape goes beyond the last step that a clock can show.
+/** Ask whether a shape begins or ends after the last step that a clock can show.
  * @param {Shape} shape
  */
 export const isTooLate = ({from, to}) => Math.max(from, to ?? 0) > LAST_STEP;

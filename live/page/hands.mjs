@@ -1,5 +1,5 @@
-// View: mouse, touch and keys on the diagram, which make the shapes of gestures; what is read out
-// of a place.
+// View: mouse, touch and keys on the diagram, which make shapes; the readout, a text about the place
+// at the pointer or the cursor.
 
 import {cellAt, rowAt, stepAt} from "../../viewer/drawing.mjs";
 import {redoNewest, undoNewest} from "./acting.mjs";
@@ -9,7 +9,7 @@ import {applyArea, beginCorner, beginDrag, chooseTool, dropArea, endDrag, hasMov
         noteClick, readPlace, showArea, showDrawn, useLetters} from "./drafting.mjs";
 import {$, closest, on} from "./elements.mjs";
 import {demandOfTool, valueOfTool} from "./formvalues.mjs";
-import {OF_ONE, edgeNear, nearestIn, rectangleBetween, sameShape, shapeWithEdge, snapped}
+import {OF_ONE, edgeNear, nearestIn, rectangleBetween, sameShape, shapeWithEdge, snap}
   from "./geometry.mjs";
 import {isInForce} from "./layers.mjs";
 import {moveBy, moveTo, setFollowing, showRoad, zoomBy} from "./looking.mjs";
@@ -30,15 +30,15 @@ import {everyShown, strideNow, viewNow} from "./view.mjs";
 /** @typedef {import("./types.mjs").Shape} Shape */
 
 const ROAD_NAMES = {mine: "mine", shared: "shared", before: "before", after: "after"};
-const AT_EDGE = 6;              // pixels from an edge at which it is taken
+const AT_EDGE = 6;              // pixels: a press this near to an edge drags the edge
 
 // Drags.
 
 /** @type {(place: Place, exact: boolean) => Place} */
-const snappedHere = (place, exact) =>
-  snapped(place, {span: store.extent.span, scale: viewNow().scale, exact});
+const snapHere = (place, exact) =>
+  snap(place, {span: store.extent.span, scale: viewNow().scale, exact});
 
-/** Return what a rectangle between two places would do by a tool.
+/** Return what a tool would do with a rectangle between two places.
  * @param {Kind} kind
  * @param {Place} one
  * @param {Place} other
@@ -59,8 +59,8 @@ const placeOf = ({offsetX, offsetY}) => {
   return [cellAt(view, offsetX), Math.max(0, stepAt(view, offsetY))];
 };
 
-/** Ask whether a change of the own road is the same on the road that is seen, and in force on an
- * object at a step there.
+/** Ask whether a change of the own road is the same on the road that is shown, and in force there, on
+ * an object at a step.
  * @param {Change} change
  * @param {[index: number, step: number]} place
  */
@@ -70,19 +70,19 @@ function isSeen({name, shape}, place) {
     && isInForce(there, ...place);
 }
 
-/** Ask whether the tool draws edges of a shape. A tool that puts another kind begins a rectangle.
+/** Ask whether the tool drags edges of a shape. A tool of another kind begins a rectangle instead.
  * @param {Shape} shape
  */
-const drawsEdges = ({kind}) => store.tool === "look" || store.tool === kind;
+const dragsEdges = ({kind}) => store.tool === "look" || store.tool === kind;
 
-/** Ask whether an edge of a shape can be drawn. What has one object has no sides.
+/** Ask whether an edge of a shape can be dragged. A shape of one object has no sides.
  * @param {Shape} shape
  * @param {Edge} edge
  */
-const canBeDrawn = ({kind}, edge) => !OF_ONE.includes(kind) || ["top", "bottom"].includes(edge);
+const canBeDragged = ({kind}, edge) => !OF_ONE.includes(kind) || ["top", "bottom"].includes(edge);
 
-/** Return the own change whose edge is seen at a pixel, with the edge; null if there is none, or
- * what lies above it is in force there.
+/** Return the own change whose edge is visible at a pixel, and the edge; null if there is none, or
+ * another change covers it there.
  * @param {number} x
  * @param {number} y
  * @returns {{change: Change, edge: Edge} | null}
@@ -91,10 +91,10 @@ function edgeAt(x, y) {
   const view = viewNow();
   for (const change of layersOf("mine").changes.values()) {
     const {shape} = change;
-    if (!shape || !change.standing || !isOwn(change) || !drawsEdges(shape)) continue;
+    if (!shape || !change.standing || !isOwn(change) || !dragsEdges(shape)) continue;
     const edge = edgeNear(cornersOf(view, shape), [x, y], AT_EDGE, shape.to === null);
     const inside = nearestIn(need("plan"), shape, [cellAt(view, x), stepAt(view, y)]);
-    if (edge && canBeDrawn(shape, edge) && isSeen(change, inside)) return {change, edge};
+    if (edge && canBeDragged(shape, edge) && isSeen(change, inside)) return {change, edge};
   }
   return null;
 }
@@ -124,20 +124,20 @@ function onMove(event) {
   showDrawn(area);
 }
 
-/** Return what a drag would do: it draws an edge of an own frame, or a rectangle; null if it moves
+/** Return what a drag would do: move an edge of an own frame, or draw a rectangle; null if it moves
  * the diagram.
  * @param {PointerEvent} event
  * @param {Drag} drag
  */
 function areaOfDrag(event, drag) {
-  const ends = snappedHere(placeOf(event), event.altKey);
+  const ends = snapHere(placeOf(event), event.altKey);
   const {change, edge} = drag.edge ?? {};
   if (change?.shape && edge) {
     const shape = shapeWithEdge(need("plan"), change.shape, edge, ends, event.shiftKey);
     return areaOfShape(shape, change);
   }
   if (store.tool === "look") return null;
-  const begun = snappedHere(drag.at, event.altKey);
+  const begun = snapHere(drag.at, event.altKey);
   return areaBetween(store.tool, begun, ends, {all: event.shiftKey});
 }
 
@@ -150,7 +150,8 @@ function dragDiagram(event, drag) {
   moveTo(drag.cell - (event.offsetX - drag.x) / scale, drag.step - (event.offsetY - drag.y) / tall);
 }
 
-/** Put what a click says, from there on; a demand once what its inlet admits is measured.
+/** Put the tool's value from the place of a click on. For a demand, first wait until its inlet is
+ * measured.
  * @param {Kind} kind
  * @param {Place} place
  */
@@ -166,7 +167,7 @@ function onUp(event) {
   if (drag?.area) applyArea(drag.area);
   else if (drag && !drag.moved && kind !== "look" && kind !== "block") {
     const click = {when: event.timeStamp, x: event.offsetX, y: event.offsetY};
-    if (!noteClick(click)) putAt(kind, snappedHere(drag.at, event.altKey));
+    if (!noteClick(click)) putAt(kind, snapHere(drag.at, event.altKey));
   }
   readPlace(placeOf(event), false);
 }
@@ -174,7 +175,7 @@ function onUp(event) {
 /** @type {Record<Edge, string>} */
 const RESIZES = {top: "ns-resize", bottom: "ns-resize", left: "ew-resize", right: "ew-resize"};
 
-/** Show by the pointer what a press would do there.
+/** Show, by the shape of the pointer, what a press would do there.
  * @param {PointerEvent} event
  */
 function showPointer({offsetX, offsetY}) {
@@ -196,9 +197,9 @@ function onWheel(event) {
   }
 }
 
-// What is read out: a place, or what the rectangle that is drawn would do.
+// The readout: a place, or what the rectangle that is drawn would do.
 
-/** Return what is read out; null if it is as it was, as long as a road is not there.
+/** Return the text of the readout; null if there is nothing to read, or a road is not loaded.
  * @returns {string | null}
  */
 function readoutText() {
@@ -208,7 +209,7 @@ function readoutText() {
   return reading && isThere ? textAt(reading.place) : null;
 }
 
-/** Show what is read out. It is announced if keys led there, and not if only the road has changed.
+/** Show the readout. Announce it if keys moved the cursor, but not if only the road has changed.
  * @param {boolean} [isAnnounced]
  */
 function showReadout(isAnnounced = false) {
@@ -218,7 +219,7 @@ function showReadout(isAnnounced = false) {
   $("readout").textContent = text;
 }
 
-/** Return what is read out of a place.
+/** Return the text about a place.
  * @param {Place} place
  */
 function textAt([cell, step]) {
@@ -226,7 +227,7 @@ function textAt([cell, step]) {
   const [at, moment] = [Math.max(0, Math.min(length - 1, Math.floor(cell))), Math.round(step)];
   const roads = whoseShown();
   const texts = roads.map((whose) =>
-    signText(rowAt(roadOf(whose).level(everyShown()), moment)?.[at]));
+    characterText(rowAt(roadOf(whose).level(everyShown()), moment)?.[at]));
   const limit = layersShown().valueAt("limit", Math.floor(at / zone), moment);
   const said = texts.length === 2
     ? roads.map((whose, which) => `${ROAD_NAMES[whose]}: ${texts[which]}`).join("; ") : texts[0];
@@ -234,13 +235,13 @@ function textAt([cell, step]) {
   return `${place}: ${said}; limit ${limitText(limit ?? 0)}`;
 }
 
-/** Return what a character of a row says.
- * @param {string | undefined} sign
+/** Return what a character of a row means, as text.
+ * @param {string | undefined} character
  */
-function signText(sign) {
-  if (sign === undefined) return "not computed";
-  if (sign === ".") return "no car";
-  return sign === "#" ? "closed" : `a car at ${Number(sign) * KMH_A_CELL} km/h`;
+function characterText(character) {
+  if (character === undefined) return "not computed";
+  if (character === ".") return "no car";
+  return character === "#" ? "closed" : `a car at ${Number(character) * KMH_A_CELL} km/h`;
 }
 
 // Keys.
@@ -250,7 +251,7 @@ const ARROWS = {ArrowLeft: [-1, 0], ArrowRight: [1, 0], ArrowUp: [0, -1], ArrowD
 /** @type {Record<string, Store["tool"]>} */
 const LETTERS = {v: "look", c: "block", l: "limit", i: "inflow", p: "slow", s: "start", t: "watch"};
 
-/** Say how far an arrow moves the cursor at this zoom. */
+/** Show how far an arrow key moves the cursor at this zoom. */
 function showStride() {
   const [cells, steps] = strideNow();
   const text = `by ${metresText(cells)} and ${durationText(steps)} at this zoom`;
@@ -267,8 +268,8 @@ function onArrow(direction, far) {
   if (store.corner) stretchArea();
 }
 
-/** Draw the rectangle to the cursor. Return what it would do; null with the tool that looks.
- * @param {boolean} [all]   zones that it touches are taken
+/** Draw the rectangle to the cursor. Return what it would do; null with the tool `look`.
+ * @param {boolean} [all]   it takes all zones that it touches
  */
 function stretchArea(all = false) {
   if (store.tool === "look") return null;
@@ -288,14 +289,14 @@ function onSpace() {
   stretchArea();
 }
 
-/** Drop what is drawn. */
+/** Discard the rectangle. */
 function drop() {
   dropArea();
   if (store.cursor) readPlace(store.cursor, true);
 }
 
-/** Do what the rectangle says that keys draw.
- * @param {boolean} all     zones that it touches are taken
+/** Put the rectangle that was drawn by keys.
+ * @param {boolean} all     it takes all zones that it touches
  */
 function onEnter(all) {
   const area = store.corner && stretchArea(all);

@@ -10,14 +10,14 @@ import {plural} from "./units.mjs";
 
 const RATES = [0, 1, 10, 60, 600];
 
-/** Show the sentence that was said last. */
+/** Show the latest message. */
 function showMessage() {
   const [text, bad] = store.message;
   $("said").textContent = text;
   $("said").className = bad ? "bad" : "";
 }
 
-/** Show how the connection is. */
+/** Show the state of the connection. */
 function showConnection() {
   const [text, isAway] = store.connectionText;
   $("line").textContent = text;
@@ -25,32 +25,32 @@ function showConnection() {
   $("line").title = text;
 }
 
-/** Make the note on the program: a calm line, which can be closed for this tab.
+/** Make the note about the program: a calm line, which can be closed for this tab.
  * @param {string} text
  * @returns {import("./elements.mjs").Item}
  */
 function calmItem(text) {
   const means = text.includes("not proved") ? "Results are tested, not proved"
-    : "Results are of an earlier text of the program";
+    : "Results come from an earlier version of the program";
   const said = `${means}: ${text}`;
-  return {key: text, sign: text, make: () => element("li", "", {className: "calm", title: said},
+  return {key: text, version: text, make: () => element("li", "", {className: "calm", title: said},
     element("span", said), button("Close", closeNote, "this note"))};
 }
 
-/** Show what is wrong, as long as it is, or for a while. */
+/** Show faults, until they are over or for a while. */
 function showFaults() {
   const {trouble, replaced, siteFaults, programNote, closedNote} = store;
   const texts = [trouble, replaced.why, ...siteFaults].filter(Boolean);
   const isClosed = !programNote || closedNote === programNote;
   showList($("stays"), [...(isClosed ? [] : [calmItem(programNote)]), ...texts.map((text) =>
-    ({key: text, sign: text, make: () => element("li", text)}))]);
+    ({key: text, version: text, make: () => element("li", text)}))]);
 }
 
 /** Show other sites, each with a button that excludes it. */
 function showSites() {
   $("sites").hidden = !store.sites.length;
   showList($("siteList"), store.sites.map(({site, when: at}) => ({key: String(site),
-    sign: String(at), make: () => element("li", `Site ${site}, heard ${store.day.dateText(at)} `, {},
+    version: String(at), make: () => element("li", `Site ${site}, last heard ${store.day.dateText(at)} `, {},
       button("Exclude", () => excludeSite(site), `site ${site}`))})));
 }
 
@@ -108,17 +108,18 @@ function showHello() {
   $("name").focus();
 }
 
-/** Let what is pressed stay where it is, and what it is, until it is let go. */
+/** Keep a pressed button where and as it is until it is released. */
 function holdPressed() {
   addEventListener("pointerdown", (event) => {
     if (event.button === 0 && closest(event, "button, summary")) holdButton();
   });
   for (const kind of ["pointerup", "pointercancel", "blur"]) {
-    addEventListener(kind, () => setTimeout(releaseButton));    // behind the click
+    addEventListener(kind, () => setTimeout(releaseButton));    // after the click
   }
 }
 
-/** Let the second click of two press what the first did, or nothing: not what has come there. */
+/** Let the second click of a double click press what the first one did, or nothing: never an element
+ * that has moved there. */
 function pressOnce() {
   /** @type {Element | null} */
   let pressed = null;

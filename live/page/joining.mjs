@@ -24,7 +24,7 @@ import {titlesOf} from "./listing.mjs";
 /** @typedef {import("./types.mjs").Pushed} Pushed */
 /** @typedef {{welcome: Welcome} | (Refusal & {seats?: Seat[]})} HelloAnswer */
 
-const FORM = 4;                 // of what is spoken with the server
+const FORM = 4;                 // version of the protocol with the server
 const REPLACED_SHOWN = 60_000;  // milliseconds for which the page shows that the program was restarted
 /** @type {(name: string) => string} */
 const stored = (name) => sessionStorage.getItem(name) ?? "";
@@ -43,14 +43,14 @@ export function connect() {
   store.connection.connect();
 }
 
-/** Join as was wished, or as the seat that this tab had, or ask who this is. */
+/** Join as the user wished, or in the seat that this tab had; otherwise ask for a name. */
 function greet() {
   if (store.wishes) hello(store.wishes);
   else if (stored("key")) hello({key: stored("key")});
   else askName();
 }
 
-/** Join, or ask who this is if that is refused.
+/** Join. If that is refused, ask for a name.
  * @param {Wishes} fields
  */
 async function hello(fields) {
@@ -65,7 +65,7 @@ async function hello(fields) {
   }
 }
 
-/** Join with a name, or as a seat that nobody has open.
+/** Join with a name, or in a seat that is not open in any tab.
  * @param {Wishes} fields
  */
 export function join(fields) {
@@ -73,8 +73,8 @@ export function join(fields) {
   need("connection").connect();
 }
 
-/** Ask who this is: a new name, or a seat that nobody has open.
- * @param {string} [why]     why it is asked
+/** Ask for a new name, or for a seat that is not open in any tab.
+ * @param {string} [why]     why the page asks
  * @param {Seat[]} [seats]
  */
 async function askName(why = "", seats) {
@@ -91,7 +91,7 @@ async function askName(why = "", seats) {
   notify("hello");
 }
 
-/** Choose a seat to take over; it is taken over when that is confirmed.
+/** Choose a seat to take over. It is taken over once the user confirms that.
  * @param {number} seat
  */
 export function chooseSeat(seat) {
@@ -99,7 +99,7 @@ export function chooseSeat(seat) {
   notify("hello");
 }
 
-/** Take a seat: ask for everything again, and send again what is pending.
+/** Take a seat: ask for everything again, and send pending commands again.
  * @param {Welcome} said
  */
 async function welcome(said) {
@@ -130,7 +130,7 @@ async function welcome(said) {
   HANDLERS.clock(store.clock);
 }
 
-/** Make roads by the plan, once.
+/** Make the roads of a plan, once.
  * @param {Plan} plan
  */
 function makeRoads(plan) {
@@ -142,7 +142,7 @@ function makeRoads(plan) {
   notify("plan");
 }
 
-/** Set what is said of the connection.
+/** Set the text about the connection.
  * @param {string} text
  * @param {boolean} isAway
  */
@@ -152,7 +152,7 @@ function setConnectionText(text, isAway) {
 }
 
 /** Note that the connection broke.
- * @param {boolean} again     it is tried again
+ * @param {boolean} again     the page tries again
  * @param {string} reason     of the server
  * @param {number} code       of the WebSocket
  */
@@ -222,7 +222,7 @@ const HANDLERS = {
   /** @param {{why?: string}} message */
   async program({why}) {
     if (why) tellReplaced(messages.programReplaced(why));
-    await refreshChanges("mine");  // the list may have had pending changes that the disk refused
+    await refreshChanges("mine");  // the list may have had pending changes that could not be stored
     refreshDiagram();
   },
 };
@@ -248,7 +248,7 @@ export function closeNote() {
   notify("siteFaults");
 }
 
-/** Note what others shared and this tab has not taken. Tell it once.
+/** Note what others shared and this tab has not taken, and say it once.
  * @param {News} news
  */
 function hearNews(news) {

@@ -5,12 +5,12 @@
 
 const NAME = "pending";
 
-/** Keep what is pending of a seat. Return whether this storage keeps anything.
+/** Store the pending acts of a seat. Return whether that succeeded.
  * @param {Storage} storage
  * @param {string} at        the seat
  * @param {Map<string, Pending>} pending     by key
  */
-export function keep(storage, at, pending) {
+export function storePending(storage, at, pending) {
   try {
     storage.setItem(NAME, JSON.stringify({at, acts: [...pending]}));
     return true;
@@ -19,19 +19,19 @@ export function keep(storage, at, pending) {
   }
 }
 
-/** Return an act that an older page kept as this page has it: its shape was an array, and what is
- * neither undone nor redone was called otherwise.
+/** Return an act that an older page may have stored, as this page has it: its shape was an array, and
+ * `does` had another word for "apply".
  * @param {Pending} act
  * @returns {Pending}
  */
 const modernize = (act) => ({...act, ...(Array.isArray(act.shape) ? {shape: null} : {}),
                              does: act.does === "undo" || act.does === "redo" ? act.does : "apply"});
 
-/** Return what is kept, and its seat; "" if nothing is kept.
+/** Return the stored acts, and their seat; "" if nothing is stored.
  * @param {Storage} storage
  * @returns {{at: string, acts: [string, Pending][]}}
  */
-export function kept(storage) {
+export function loadPending(storage) {
   try {
     /** @type {{at?: string, acts?: [string, Pending][]}} */
     const found = JSON.parse(storage.getItem(NAME) ?? "{}");

@@ -1,7 +1,7 @@
-// Where the labels of frames stand: not on a closure, not on each other, not on steps that are not
-// computed, and whole within the plot.
+// Where the labels of frames are placed: clear of closures, of each other and of steps that are not
+// computed, and entirely within the plot.
 
-import {within} from "./geometry.mjs";
+import {clamp} from "./geometry.mjs";
 
 /** @typedef {import("./types.mjs").Box} Box */
 /** @typedef {[wide: number, high: number]} Size     pixels */
@@ -11,23 +11,23 @@ import {within} from "./geometry.mjs";
  * @typedef {{text: string, box: Box, change: unknown, colour?: string}} Label
  */
 
-const APART = 4;                // pixels between a label and what it stands beside
-const FARTHEST = 200;           // pixels above or below its frame
-const TOUCH = 2;                // pixels between frames that touch
+const APART = 4;                // pixels between a label and its frame
+const FARTHEST = 200;           // pixels above or below its frame, at most
+const TOUCH = 2;                // pixels between frames that touch, at most
 
 /** @type {(box: Box, other: Box) => boolean} */
 const meet = ([left, top, right, bottom], other) =>
   left < other[2] && other[0] < right && top < other[3] && other[1] < bottom;
 
-/** Return places at which a label of a size may stand, the best first: in the frame's upper left
- * corner, beside it, above it, below it; then farther and farther from there.
+/** Return places for a label, the best first: in the frame's upper left corner, at its right and its
+ * left, above it, below it; then farther and farther up and down.
  * @param {Box} frame
  * @param {Size} size
  * @param {Box} bounds
  * @returns {Point[]}
  */
 function candidates([left, top, right, bottom], [wide, high], [, upper, , lowest]) {
-  const begun = within(top, upper, lowest - high);
+  const begun = clamp(top, upper, lowest - high);
   const across = [left + APART, right + APART, left - APART - wide];
   /** @type {Point[]} */
   const near = [[left + APART, begun + 1], [right + APART, begun],
@@ -50,13 +50,13 @@ const sizeOf = ({box: [left, top, right, bottom]}) => (right - left) * (bottom -
 const touch = ([left, top, right, bottom], other) =>
   meet([left - TOUCH, top - TOUCH, right + TOUCH, bottom + TOUCH], other);
 
-/** Return one of the labels that say the same of one change, or of frames that touch: that of the
- * largest frame.
+/** Return labels without duplicates: of those with the same text for one change, or for frames that
+ * touch, keep that of the largest frame.
  * @template {Label} Kept
  * @param {Kept[]} labels
  * @returns {Kept[]}
  */
-export function onceEach(labels) {
+export function dropDuplicates(labels) {
   /** @type {Map<string, {label: Kept, changes: Set<unknown>, boxes: Box[]}[]>} */
   const groups = new Map();     // by text
   for (const label of [...labels].sort((one, other) => sizeOf(other) - sizeOf(one))) {
@@ -87,7 +87,7 @@ export function placeOfLabel(frame, size, bounds, taken) {
   const [left, top, right, bottom] = bounds;
   if (bottom - top < high || right - left < wide) return null;
   for (const [x, y] of candidates(frame, size, bounds)) {
-    const [at, down] = [within(x, left, right - wide), y];
+    const [at, down] = [clamp(x, left, right - wide), y];
     /** @type {Box} */
     const box = [at, down, at + wide, down + high];
     const isInside = down >= top && down + high <= bottom;

@@ -1,4 +1,4 @@
-// The changes of a road, as the server tells them, and where each is in force. A change is named by
+// The changes of a road, as the server sends them, and where each is in force. A change is named by
 // the stamp of the operation that put it.
 
 import {DayClock} from "./dayclock.mjs";
@@ -17,7 +17,7 @@ import {keyOf} from "./stamps.mjs";
 
 const MOST_SHOWN = 1000;        // rectangles of a change
 
-/** Return the value of an object by the plan alone; null if the plan says nothing (slow to start).
+/** Return the value that the plan gives an object; null if it gives none (slow to start).
  * @param {Plan} plan
  * @param {Kind} kind
  * @param {number} index
@@ -31,24 +31,24 @@ export function plannedValue(plan, kind, index) {
   return kind === "watch" ? 1 : 0;
 }
 
-/** Return a change without what is not of this road. One of raw edits alone has a shape if what it
- * puts is one rectangle, apart from what the plan has.
+/** Return a change without the parts that do not fit this road. A change of raw edits alone has a
+ * shape if its parts, apart from those with the plan's value, are one rectangle.
  * @param {Plan} plan
- * @param {TaggedChange} told
+ * @param {TaggedChange} sent
  * @returns {Change}
  */
-function keepValid(plan, told) {
-  const shown = told.shown.slice(0, MOST_SHOWN).filter((part) => fits(plan, part));
-  const edits = told.edits.filter(({kind, index, step}) =>
+function keepValid(plan, sent) {
+  const shown = sent.shown.slice(0, MOST_SHOWN).filter((part) => fits(plan, part));
+  const edits = sent.edits.filter(({kind, index, step}) =>
     fits(plan, {kind, first: index, last: index, from: step, to: null}));
-  const isRaw = !told.shape || !fits(plan, told.shape);
+  const isRaw = !sent.shape || !fits(plan, sent.shape);
   const put = shown.filter(({kind, first, value}) => value !== plannedValue(plan, kind, first));
   const [{by, ...only}] = put.length === 1 ? put : [{by: null}];
   const isOne = "kind" in only && (only.first === only.last || !OF_ONE.includes(only.kind));
-  return {...told, shape: !isRaw ? told.shape : isOne ? only : null, shown, edits, isRaw};
+  return {...sent, shape: !isRaw ? sent.shape : isOne ? only : null, shown, edits, isRaw};
 }
 
-/** Return where changes are in force. An edit that sets what the plan has anyway needs no frame.
+/** Return where changes are in force. A raw edit that sets the plan's value needs no frame.
  * @param {Plan} plan
  * @param {Iterable<Change>} changes
  * @returns {Frame[]}
@@ -60,7 +60,7 @@ function framesOf(plan, changes) {
     !by.isRaw || value !== plannedValue(plan, kind, first));
 }
 
-/** How the curve of an inlet is found, by the road, the inlet and the step; null: there is none yet.
+/** Finds the curve of an inlet of a road at a step; null: it is not known yet.
  * @typedef {(road: Layers, inlet: number, step: number) => Curve | null} FindCurve
  */
 
@@ -77,18 +77,18 @@ export class Layers {
     this.day = day;
     this.findCurve = findCurve;
     this.changes = changes;
-    this.next = 0;              // the version of the list that is held
+    this.next = 0;              // the version of the list that the page has
     /** @type {Stamp | null} */
-    this.undo = null;           // what Z would take back
+    this.undo = null;           // what Undo would undo
     /** @type {Stamp | null} */
-    this.redo = null;           // what Redo would put again
+    this.redo = null;           // what Redo would redo
     /** @type {{stamp: Stamp, by: string[]}[]} */
-    this.blocked = [];          // what Z passes over, and who changed it
+    this.blocked = [];          // what Undo passes over, and who has changed it since
     this.frames = framesOf(plan, changes.values());
   }
 
-  /** Put changes that differ from before, each in the place of the one of its name.
-   * @param {Pick<ListNews, "layers" | "next"> & Partial<ListNews>} told
+  /** Apply news of the list: add, replace or remove changes, by their names.
+   * @param {Pick<ListNews, "layers" | "next"> & Partial<ListNews>} news
    */
   update({layers, next, undo = null, redo = null, blocked = []}) {
     for (const change of layers) {
@@ -99,7 +99,7 @@ export class Layers {
     this.frames = framesOf(this.plan, this.changes.values());
   }
 
-  /** Return another road: with these changes, and others in the place of some.
+  /** Return another road: this one, with these changes added or replaced.
    * @param {ListNews["layers"]} changes
    */
   with(changes) {
@@ -124,7 +124,7 @@ export class Layers {
     return [...this.changes.values()].find(isOn);
   }
 
-  /** Return the value of an object at a step; null if nobody says.
+  /** Return the value of an object at a step; null if neither a change nor the plan gives one.
    * @param {Kind} kind
    * @param {number} index
    * @param {number} step
@@ -136,7 +136,7 @@ export class Layers {
     return there ? there.value : plannedValue(this.plan, kind, index);
   }
 
-  /** Return what an inlet admits by each chance at a step; null: that is measured just now.
+  /** Return what an inlet admits at each chance at a step; null: it is being measured.
    * @param {number} inlet
    * @param {number} step
    */
@@ -145,14 +145,14 @@ export class Layers {
   }
 }
 
-/** Return how many cars of a row stand in a part of a closure, if the road opens at its end, or
- * never. If it stays closed, they stand in the next part.
+/** Return how many cars of a row are in a part of a closure. If a cell is still closed at the end of
+ * the part, its car is counted in the next part instead.
  * @param {Layers} layers
  * @param {Pick<Frame, "first" | "last" | "to">} part
  * @param {string} row
  */
 export const countTrapped = (layers, {first, last, to}, row) =>
-  [...row.slice(first, last + 1)].filter((sign, at) => sign !== "#" && sign !== "."
+  [...row.slice(first, last + 1)].filter((character, at) => character !== "#" && character !== "."
     && (to === null || !layers.valueAt("block", first + at, to))).length;
 
 // A change's operations.
@@ -164,14 +164,14 @@ export const countTrapped = (layers, {first, last, to}, row) =>
 export const lastOf = ({operations, name: stamp, when, note}) =>
   operations.at(-1) ?? {stamp, when, note};
 
-/** Return the operations on a change that are to be shared: not those that were taken back before
+/** Return the operations on a change that are to be shared, without those that were undone before
  * anybody else had them.
  * @param {Pick<Change, "operations">} change
  */
 export const privateOf = ({operations}) => operations.filter(({shared, idle}) => !shared && !idle);
 
-/** Return a seat's last operation on a change and the one that was made at the same time and won;
- * null if there is none.
+/** Return a seat's last operation on a change, and the one that was made at the same time and won
+ * over it; null if there is none.
  * @param {Pick<Change, "operations">} change
  * @param {number} number    the seat's, in stamps
  */

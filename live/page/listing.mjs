@@ -13,19 +13,19 @@ import {byStamp, keyOf} from "./stamps.mjs";
 /** @typedef {import("./types.mjs").Stamp} Stamp */
 /**
  * A change with its texts: whether it is shared, what covers it, who won over it, what it is, who
- * made it and when, and in which list it stands.
+ * made it and when, and which list has it.
  * @typedef {{change: Change, state: "private" | "shared", cover: string, lost: string, text: string,
  *            meta: string, where: "own" | "held"}} Listed
  */
 
-const MOST_PARTS = 4;           // of a change, that the list shows
+const MOST_PARTS = 4;           // of a change that the list shows
 /** @type {Record<Deed, string>} */
 const DONE = {put: "put", change: "changed", withdraw: "withdrawn", top: "put on top",
               undo: "undone", redo: "redone", edits: "edited", exclude: "excluded",
               include: "included again"};
 /** @type {Record<Deed, string>} */
 const DID = {put: "put it", change: "changed it", withdraw: "withdrew it", top: "put it on top",
-              undo: "undid a change of it", redo: "redid a change of it", edits: "edited there",
+              undo: "undid a change to it", redo: "redid a change to it", edits: "edited there",
               exclude: "excluded it", include: "included it again"};
 
 /** Return what a withdrawn change was, as text.
@@ -42,7 +42,7 @@ function goneText(change) {
 export class Words {
   /**
    * @param {Layers} layers
-   * @param {number | null} number    null: no seat reads it
+   * @param {number | null} number    the seat's, in stamps; null: no seat reads them
    */
   constructor(layers, number) {
     this.layers = layers;
@@ -169,11 +169,11 @@ export class Words {
     if (!found) return "";
     const {stamp, who, does} = found.theirs;
     const name = stamp.number === this.number ? "You" : who || "Somebody";
-    return `${name} ${DID[does] ?? "changed it"} at the same time, and that counts.`;
+    return `${name} ${DID[does] ?? "changed it"} at the same time, and that takes precedence.`;
   }
 
-  /** Return what others did to a change that would have no effect when it is taken, and who won, as
-   * text; null if nothing of theirs is lost.
+  /** Return, as text, what others did to a change that would have no effect when it is taken, and who
+   * won; null if there is nothing of the kind.
    * @param {Change} change  as it would be
    * @param {Operation[]} fresh  what would be taken of it
    * @returns {[text: string, hint: string] | null}
@@ -187,10 +187,10 @@ export class Words {
     const name = won.number === this.number ? "you" : winner?.who || "somebody";
     const text = last.shape ? shapeText(this.layers, last.shape) : last.note || DONE[last.does];
     return [text, `${last.who || "somebody"}: no effect, ${name} `
-      + `${DID[winner?.does ?? "change"]} at the same time, and that counts`];
+      + `${DID[winner?.does ?? "change"]} at the same time, and that takes precedence`];
   }
 
-  /** Return what the preview would do to a change, as text: "then ..".
+  /** Return what a preview would do to a change, as text: ".. then: ..".
    * @param {Change} change
    */
   effect(change) {
@@ -209,9 +209,9 @@ export class Words {
   }
 }
 
-/** Ask whether the lists have a change. They have no demand of the road's file. Of withdrawn ones they have those that are not shared yet,
- * and those that others withdrew while the seat changed them; but none of raw edits that a shape
- * has replaced.
+/** Ask whether the lists show a change. They do not show the demand of the road's file. They show a
+ * withdrawn change if that is not shared yet, or if others withdrew it while the seat changed it, but
+ * not if it consists of raw edits that a shape has replaced.
  * @param {Change} change
  * @param {Layers} layers
  * @param {number} number
@@ -223,7 +223,7 @@ function isListed(change, layers, number) {
   return privateOf(change).length > 0 || lostOf(change, number) !== null;
 }
 
-/** Return changes in the order of the lists: the newest first, since people look for it most.
+/** Return changes in the order of the lists: the newest first, which people look for most.
  * @param {Change[]} changes
  */
 export const newestFirst = (changes) => [...changes].sort((one, other) =>
@@ -243,8 +243,8 @@ export function listChanges(layers, number) {
     where: privateOf(change).length ? "own" : "held"}));
 }
 
-/** Return the demand of the road's file over time: from which step on each inlet is asked for how
- * many cars per hour. Inlets are those of the plan.
+/** Return the demand of the road's file over time: the steps at which it changes, each with the demand
+ * of each inlet of the plan from then on, in cars per hour.
  * @param {Layers} layers
  * @returns {{step: number, demands: number[]}[]}
  */
@@ -252,14 +252,14 @@ export function demandsOfFile(layers) {
   const planned = [...layers.changes.values()].flatMap(({planned: isPlanned, shape}) =>
     (isPlanned && shape?.kind === "inflow" ? [shape] : []));
   planned.sort((one, other) => one.from - other.from);
-  const now = layers.plan.inlets.map(() => 0);
+  const demands = layers.plan.inlets.map(() => 0);
   /** @type {{step: number, demands: number[]}[]} */
   const found = [];
   for (const {first, from, demand = 0} of planned) {
-    if (now[first] === demand) continue;
-    now[first] = demand;
+    if (demands[first] === demand) continue;
+    demands[first] = demand;
     if (found.at(-1)?.step === from) found.pop();
-    found.push({step: from, demands: [...now]});
+    found.push({step: from, demands: [...demands]});
   }
   return found;
 }

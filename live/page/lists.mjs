@@ -49,22 +49,22 @@ function changeElement(shown) {
     element("p", "", {className: "buttons"}, ...changeButtons(shown)));
 }
 
-/** Return what shows of a change, and which operations it has.
+/** Return a text that differs whenever the element of a change does, or its operations.
  * @param {Listed} listed
  */
-const signOf = ({change, text, state, cover, lost, meta}) =>
+const versionOf = ({change, text, state, cover, lost, meta}) =>
   JSON.stringify([text, state, cover, lost, meta, change.operations.map(({stamp}) => stamp)]);
 
 /** @type {(shown: Listed) => Item} */
-const listedItem = (shown) => ({key: keyOf(shown.change.name), sign: signOf(shown),
+const listedItem = (shown) => ({key: keyOf(shown.change.name), version: versionOf(shown),
                             make: () => changeElement(shown)});
 
 /** @type {(pending: [key: string, act: Pending]) => Item} */
-const pendingItem = ([key, {note}]) => ({key, sign: note, make: () => element("li", "", {},
+const pendingItem = ([key, {note}]) => ({key, version: note, make: () => element("li", "", {},
   element("p", note + " ", {className: "note"},
     element("span", "pending", {className: "state pending"})))});
 
-/** Give the focus to the first list that has something, else to the diagram. */
+/** Focus the first list that is not empty, otherwise the diagram. */
 export const focusOnLists = () =>
   ([$("own"), $("held")].find((list) => list.children.length) ?? $("diagram")).focus();
 
@@ -88,26 +88,26 @@ function showLists() {
 
 /** @type {(past: ReturnType<typeof historyOf>[0]) => Item} */
 const pastItem = ({stamp, text, meta, cover}) => ({key: keyOf(stamp),
-  sign: JSON.stringify([text, meta, cover]), make: () => element("li", "", {}, element("p", text),
+  version: JSON.stringify([text, meta, cover]), make: () => element("li", "", {}, element("p", text),
     element("p", meta, {className: "hint"}), element("p", cover, {hidden: !cover}))});
 
-/** Show all that was done, if that is open. */
+/** Show the history, if it is open. */
 function showHistory() {
   $("past").hidden = !store.changes.length && !store.layers.mine?.changes.size;
   if (!store.isOpen.past || !store.me) return;
   const all = historyOf(layersOf("mine"), store.me.number);
   showList($("history"), all.slice(0, MOST_PAST).map(pastItem));
   const rest = all.length - MOST_PAST;
-  $("pastRest").textContent = rest > 0 ? `And ${plural(rest, "earlier one")}, which Save has.` : "";
+  $("pastRest").textContent = rest > 0 ? `And ${plural(rest, "earlier one")}: \u201cChanges as CSV\u201d in the Save menu has all.` : "";
 }
 
 /** Show the demand of the road's file, in cars per hour over time. */
 function showFileDemand() {
   const lines = store.layers.mine ? demandsOfFile(store.layers.mine) : [];
   $("fileDemand").hidden = !lines.length;
-  const sign = JSON.stringify(lines);
-  if (!lines.length || $("fileDemandTable").dataset.sign === sign) return;
-  $("fileDemandTable").dataset.sign = sign;
+  const version = JSON.stringify(lines);
+  if (!lines.length || $("fileDemandTable").dataset.version === version) return;
+  $("fileDemandTable").dataset.version = version;
   const heads = need("plan").inlets.map(([cell]) => headCell(`at ${kmText(cell)} km`));
   $("fileDemandTable").replaceChildren(
     element("caption", "Cars per hour that want to enter"),
@@ -117,7 +117,7 @@ function showFileDemand() {
         ...demands.map((cars) => element("td", whole(cars)))))));
 }
 
-/** Say how to begin, until there are changes; that the road is empty only if it is. */
+/** Show how to begin, until there are changes, and that the road is empty, while it is. */
 function showFirstSteps() {
   $("emptyHint").hidden = now() > 0;
   $("hint").hidden = store.changes.length > 0 || store.pending.size > 0;

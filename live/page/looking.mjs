@@ -1,4 +1,4 @@
-// Actions: the road and the part of it that the diagram shows, moved and zoomed; its clock.
+// Actions: choose the road and the part of it that the diagram shows; move and zoom; run the clock.
 
 import {ask} from "./asking.mjs";
 import {assign} from "./assign.mjs";
@@ -51,7 +51,7 @@ export function paintBy(how) {
   refreshDiagram();
 }
 
-/** Follow the clock, or stay.
+/** Follow the clock, or stop following it.
  * @param {boolean} follows
  */
 export function setFollowing(follows) {
@@ -77,7 +77,7 @@ function setExtent(part) {
   refreshDiagram();
 }
 
-/** Keep the clock at the lower edge; by quarters if motion is to be reduced. */
+/** Keep the clock at the lower edge; if motion is to be reduced, by jumps of a quarter. */
 function followClock() {
   const part = store.extent;
   const wanted = Math.max(0, last() - part.span);
@@ -86,12 +86,12 @@ function followClock() {
   else if (isBehind) part.step = wanted && wanted + part.span / 4;
 }
 
-/** Follow the clock no longer. */
+/** Stop following the clock. */
 export function stopFollowing() {
   store.follows = false;
 }
 
-/** Show the road from a cell and a step on, and follow the clock no longer.
+/** Show the road from a cell and a step on, and stop following the clock.
  * @param {number} cell
  * @param {number} step
  */
@@ -132,7 +132,7 @@ export function zoomBy(closer, {cell, step} = {}, {places = true, times = true} 
   setExtent({});
 }
 
-/** Show so long a time, up to what is the end now.
+/** Show a number of steps, up to the present end.
  * @param {number} span      steps
  */
 export function chooseSpan(span) {
@@ -175,14 +175,14 @@ export function setOpen(fold, isOpen) {
 
 const away = messages.CLOCK_NOT_SET;
 
-/** Let the clock run at a number of steps a second; 0: it stands.
+/** Let the clock run at a number of steps a second; 0: pause it.
  * @param {number} rate
  */
 export const setRate = (rate) => ask({clock: {rate}}, {turn: "first", away});
 /** Let the clock run an hour. */
 export const runAnHour = () => ask({clock: {to: now() + HOUR}}, {turn: "first", away});
 
-/** Let the own road run half an hour further than it does now, as far as it may. */
+/** Show the own road half an hour further ahead of the clock, up to the limit. */
 export function lookAhead() {
   const {ahead} = need("me");
   const most = Math.min(LAST_STEP, now() + ahead);
@@ -195,7 +195,7 @@ export function lookAhead() {
   refreshDiagram();
 }
 
-/** Let the own road run no further than the clock. */
+/** Show the own road only up to the clock. */
 export function backToClock() {
   store.ahead = 0;
   notify("clock");

@@ -1,4 +1,4 @@
-// The start: each view listens and shows, then the line is made.
+// The start: each view listens and shows, then the page connects.
 
 import * as preview from "./preview.mjs";
 import * as chance from "./chance.mjs";

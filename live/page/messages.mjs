@@ -1,9 +1,9 @@
-// The sentences in which the page says that something is wrong, refused, done or under way: what it
-// is, where, and what to do. All of them stand here. What changes are called is in sentences.mjs.
+// All sentences in which the page says that something is wrong, refused, done or under way: what it
+// is, where, and what to do. What changes are called is in sentences.mjs.
 
 import {plural, whole} from "./units.mjs";
 
-/** Return one of two words, by a count.
+/** Return one of two words: the first if a count is 1.
  * @param {number} count
  * @param {string} one
  * @param {string} more
@@ -32,7 +32,7 @@ export const connectionLost = (isPersisted) => "There is no connection; the page
 
 /**
  * @param {string} reason    of the server
- * @param {boolean} isTakenOver      somebody took the seat over
+ * @param {boolean} isTakenOver      somebody has taken over the seat
  */
 export const connectionClosed = (reason, isTakenOver) =>
   `The server closed the connection: ${ended(reason)}`
@@ -44,15 +44,15 @@ export const otherSites = (count, isSealed = true) =>
 
 /** @param {number} unsent */
 export const brokerAway = (unsent) =>
-  `${CONNECTED}; the broker is unreachable, ${plural(unsent, "change")} to be sent`;
+  `${CONNECTED}; the broker is unreachable, ${plural(unsent, "change")} not sent yet`;
 
 /** @type {(seats: number) => string} */
 export const pendingOfOtherSeat = (count) => `${plural(count, "unsent change")} `
-  + `${byCount(count, "was", "were")} lost, since this tab joined under another name.`;
+  + `${byCount(count, "was", "were")} lost, because this tab joined in another seat.`;
 
 /** @param {string} owner */
 export const takeOver = (owner) =>
-  `Whoever uses the seat of ${owner} now, a person or a script, loses it. `;
+  `Whoever is using the seat of ${owner}, a person or a script, will lose it. `;
 
 export const TROUBLE_OVER = "The server is working again.";
 
@@ -73,32 +73,36 @@ export const farthestAhead = (hours) =>
   `Your road is already ${hours} hours ahead of the clock, which is the limit.`;
 
 /** @param {string} text */
-export const skippedTime = (text) => `${text} does not exist: a clock change skips it.`;
+export const skippedTime = (text) =>
+  `${text} does not exist: a clock change skips it. Type another time.`;
 
-/** @param {string | null} begin     the time of day of step 0 */
-export const timeHint = (begin) => (begin === null
-  ? "A time is written as 0:20, 0:20:30 or, in minutes, 20."
-  : `A time is written as 7:00, 07:00:30 or, in minutes after ${begin}, 20.`);
+/**
+ * @param {string} text      what was typed
+ * @param {string | null} begin     the time of day of step 0
+ */
+export const notATime = (text, begin) =>
+  `${text ? `\u201c${text}\u201d is not a time` : "The beginning is missing"}. Type ${begin === null
+    ? "0:20, 0:20:30 or, in minutes, 20." : `7:00, 07:00:30 or, in minutes after ${begin}, 20.`}`;
 
 // Drawing changes.
 
-export const CHOOSE_TOOL = "Choose a tool first: C closes, L limits, and so on.";
+export const CHOOSE_TOOL = "Choose a tool first, for example C to close or L to limit the speed.";
 export const TOO_FEW_ZONES =
-  "This covers less than half of a zone. Hold Shift to take every zone that it touches in full.";
+  "This covers less than half of a zone. Hold Shift to take every zone that it touches.";
 export const END_BEFORE_BEGIN = "The end must be later than the beginning.";
 export const CHANCE_OUT_OF_RANGE = "The chance is out of range: 0 to 100 %.";
 
 /** @type {(done: number, all: number) => string} */
-export const measuringInlet = (done, all) => "What this inlet admits is being measured"
+export const measuringInlet = (done, all) => "The server is measuring what this inlet admits"
   + `${all > 1 ? `, ${done + 1} of ${all}` : ""}. Try again in a few seconds.`;
 
 /** @type {(done: number, all: number) => string} */
 export const measuringDemands = (done, all) =>
-  `What inlets admit is being measured, ${done + 1} of ${all}.`;
+  `The server is measuring what inlets admit, ${done + 1} of ${all}.`;
 
 /** @param {string} length   of the road, in km */
 export const placesOutOfRange = (length) =>
-  `Give two places from 0 to ${length} km, the smaller first.`;
+  `Type two places from 0 to ${length} km, the smaller first.`;
 
 /** @param {string} end      of the clock */
 export const tooLate = (end) => `This is too late: the road's clock ends at ${end}.`;
@@ -117,12 +121,12 @@ export const demandOutOfRange = (capacity, limit, slowing, isPassed) =>
   + `${limit}, slowing ${slowing})${isPassed ? ", on top of the cars that already pass it" : ""}.`;
 
 /** @param {string} note     of the change */
-export const nothingChanged = (note) => `${note}: nothing is changed.`;
+export const nothingChanged = (note) => `${note}: it is so already, nothing was changed.`;
 
 /**
  * @param {string} note      of the change, or "Undone: .."
  * @param {boolean} isUndo   or a redo
- * @param {boolean} isUnseen     the shared road is shown
+ * @param {boolean} isUnseen     the page shows the shared road, which it does not change
  */
 export const done = (note, isUndo, isUnseen) =>
   `${note}${isUndo ? "" : ": done"}${isUnseen ? ", on your own road" : ""}.`;
@@ -147,7 +151,7 @@ export const undoBlocked = (others, note, isLast) =>
 export const NOT_SHARED = "Nothing was shared: there is no connection. Share again once it is back.";
 export const NOT_TAKEN = "Nothing was taken: there is no connection. Take again once it is back.";
 export const COMPUTING = "Computing: both roads are being simulated again.";
-export const NOTHING_COVERED = "Nothing would be covered.";
+export const NOTHING_COVERED = "Nothing would be covered or uncovered.";
 
 /** @param {number} count */
 export const shared = (count) => `Shared ${plural(count, "change")}.`;
@@ -160,7 +164,7 @@ export const shared = (count) => `Shared ${plural(count, "change")}.`;
 export const taken = (count, makers, covered) =>
   `Took ${plural(count, "change")}${makers.length ? ` from ${makers.join(", ")}` : ""}. ${covered
     ? `They cover ${covered} of your changes, wholly or in part.`
-    : "They cover nothing of yours."}`;
+    : "They cover none of your changes."}`;
 
 /**
  * @param {string[]} from    who
@@ -175,15 +179,15 @@ export const newlyShared = (from, count, titles) => `${from.join(", ") || "Someb
 export const NOTHING_COMPUTED =
   "There are no figures yet: run the clock for at least a minute, or show an earlier time.";
 export const NO_PICTURE =
-  "The browser made no picture of the diagram. Make the window smaller, and try again.";
+  "The browser could not make a picture of the diagram. Make the window smaller, and try again.";
 export const SAVING = "Saving \u2026";
-export const MAKING_REPORT = "Making the report: both roads are simulated on five days \u2026";
+export const MAKING_REPORT = "Making the report: both roads are simulated over five days \u2026";
 export const PAUSE_FOR_FIGURES =
-  "Lost demand, delay and times are counted car by car: pause the clock to see them.";
+  "Lost demand, delay and travel times are counted car by car: pause the clock to see them.";
 
 /** @param {number} days */
 export const daysStopped = (days) =>
-  `A road has changed, so the comparison over ${days} days was stopped. Start it again if you want.`;
+  `A road has changed, so the comparison over ${days} days was stopped. Start it again to compare the roads as they are now.`;
 
 /** @param {string} name */
 export const savedFile = (name) => `Saved ${name}.`;
@@ -210,13 +214,13 @@ export const savedScripts = (names) =>
  */
 export const demandLost = (place, asked, lost) =>
   `The inlet at ${place} km admits ${whole(asked - lost)} of ${plural(asked, "car")}. The other `
-  + `${whole(lost)} never enter, so counts and vehicle hours look better than they are.`;
+  + `${whole(lost)} never enter, so counts and vehicle hours do not include them.`;
 
 /**
  * @param {number} cars
  * @param {string} places
- * @param {string | null} end     null: it does not open
+ * @param {string | null} end     when it opens; null: never
  */
 export const carsTrapped = (cars, places, end) =>
   `${plural(cars, "car is", "cars are")} stuck in the closure at ${places}`
-  + `${end === null ? ", which does not open" : ` until it opens at ${end}`}.`;
+  + `${end === null ? ", which never opens" : ` until it opens at ${end}`}.`;

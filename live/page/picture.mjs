@@ -1,6 +1,6 @@
-// View: the diagram. Rows are painted by drawing.js on tiles that are kept until their rows change,
-// and over them the frames of what is in force, the clock, the rectangle that is dragged and the
-// cursor; below it what the colours mean.
+// View: the diagram. The functions of drawing.js paint rows on tiles, which are kept until their rows
+// change. Above these are the frames of what is in force, the clock, the rectangle that is drawn and
+// the cursor. The legend is below the diagram.
 
 import {BLOCKED, EMPTY, FASTER, FASTEST_COLOUR, INK, MARGIN, NO_ROW, OF_PLAN, SLOWER, Tiles, cleared,
         clip, drawAxes, drawDetails, drawFrame, drawPlan, drawWedge, inView, leftOf, paintCells,
@@ -11,7 +11,7 @@ import {waitingShapes, wordsShown} from "./changes.mjs";
 import {$, choose, chosen, element, on, oneOf} from "./elements.mjs";
 import {finishDrawing, requestDrawing} from "./fetching.mjs";
 import {cellsOf} from "./geometry.mjs";
-import {onceEach, placeOfLabel} from "./labels.mjs";
+import {dropDuplicates, placeOfLabel} from "./labels.mjs";
 import {SPANS, chooseSpan, paintBy, setPlotSize, showRoad, showWholeRoad, zoomBy} from "./looking.mjs";
 import {valueText} from "./sentences.mjs";
 import {keyOf} from "./stamps.mjs";
@@ -33,19 +33,19 @@ import {byMeans, everyShown, partShown, viewNow} from "./view.mjs";
  * @typedef {Omit<Frame, "by"> & {by: Pick<Change, "name" | "who">, pending?: boolean}} Drawn
  */
 
-const GREATEST = FASTEST_COLOUR;        // cells a step at the end of the colours, 135 km/h
+const FASTEST = FASTEST_COLOUR;        // cells a step of the last colour, 135 km/h
 /** @type {Record<Kind, string>} */
 const FRAME = {block: "#8f3a00", limit: "#004a9f", slow: "#5b2a86", start: "#5b2a86",
                inflow: "#0b5d2a", watch: "#333333"};
 const LABEL = "600 13px system-ui, sans-serif";
 const LABEL_HIGH = 17;          // pixels
-const HALO_FROM = 16;           // pixels of a frame that has a white line around it
-const LEAST = 6;                // pixels of a frame that is drawn
+const HALO_FROM = 16;           // pixels: larger frames have a white line around them
+const LEAST = 6;                // pixels: a smaller frame is drawn as large as this
 
-// A cache of what is painted, and nothing that the page knows: it may be cleared at any time.
+// A cache of painted tiles. The page stores nothing else in it, so it may be cleared at any time.
 const tilesKept = new Tiles();
 
-/** Draw at the next frame of the screen, once. */
+/** Draw at the next animation frame, once. */
 export function draw() {
   if (!store.plan || !requestDrawing()) return;
   requestAnimationFrame(() => {
@@ -68,7 +68,7 @@ export function drawDiagram() {
   const named = areOfSeveral(frames);
   const labels = frames.map((frame) => drawEdges(context, view, frame, named));
   if (store.area) drawArea(context, view, store.area);
-  else drawLabels(context, view, frames, onceEach(labels.flatMap((one) => one ?? [])));
+  else drawLabels(context, view, frames, dropDuplicates(labels.flatMap((one) => one ?? [])));
   if (store.cursor) drawFrame(context, view, store.cursor[1], store.cursor[0]);
   context.restore();
   const plan = need("plan");
@@ -77,14 +77,14 @@ export function drawDiagram() {
   drawWedge(context, view, now(), INK, height);
 }
 
-/** Return what a cell and a step are, with times as the road's clock writes them. */
+/** Return the units of a cell and a step, with times as the road's clock writes them. */
 function unitNow() {
   const {day} = store;
   return {...unitOf(METRES_A_CELL, 1, true, day.begin),
           textOf: (/** @type {number} */ step) => day.axisText(step)};
 }
 
-/** Draw the rows that are seen.
+/** Draw the visible rows.
  * @param {Context} context
  * @param {View} view
  * @param {number} width
@@ -96,7 +96,7 @@ function drawRows(context, view, width, height) {
   const [picture, other] = shown.map((whose) => roadOf(whose).level(every));
   const name = `${shown.join("-")} ${every}`;
   const part = inView(view, picture, width, height);
-  const how = {tiles: tilesKept, name, greatest: GREATEST};
+  const how = {tiles: tilesKept, name, greatest: FASTEST};
   if (other) {
     paintDifference(context, view, picture, other, part, how);
     return;
@@ -107,7 +107,7 @@ function drawRows(context, view, width, height) {
   }
   paintCells(context, view, picture, part, how);
   paintClosures(context, view, picture, part, how);
-  drawDetails(context, view, picture, null, part, GREATEST);
+  drawDetails(context, view, picture, null, part, FASTEST);
 }
 
 /** Forget the tiles in which rows of a road have changed. */
@@ -119,7 +119,7 @@ function repaint() {
   draw();
 }
 
-/** Draw the clock, and say below it that this is a forecast, if the road is ahead.
+/** Draw a line at the clock. If the road is shown ahead of it, write below that this is a forecast.
  * @param {Context} context
  * @param {View} view
  * @param {number} width
@@ -136,11 +136,11 @@ function drawAhead(context, view, width, height) {
   context.stroke();
   context.setLineDash([]);
   if (store.ahead > now()) {
-    write(context, "forecast, seen by you alone", width - 12, top + 2, "right");
+    write(context, "forecast, visible only to you", width - 12, top + 2, "right");
   }
 }
 
-/** Write a text on a white ground.
+/** Write a text on a white background.
  * @param {Context} context
  * @param {string} text
  * @param {number} left
@@ -158,8 +158,8 @@ export function write(context, text, left, top, align = "left", colour = "#00000
   context.fillText(text, from, top + 2);
 }
 
-/** Return the frames of the road that is shown, without the demand of its file, and of shapes that
- * are not confirmed yet.
+/** Return the frames of the road that is shown, without the demand of its file, and the frames of
+ * shapes that are not confirmed yet.
  * @returns {Drawn[]}
  */
 export function framesShown() {
@@ -185,8 +185,8 @@ export function cornersOf(view, {kind, first, last, from, to}) {
   return [left - thin, top - low, right + thin, bottom + low];
 }
 
-/** Paint closures whole if rows are left out or cells share a pixel: else a short one is not seen,
- * and a long one has stripes.
+/** Paint closures as boxes if rows are left out or cells share a pixel: otherwise a short closure
+ * would not be visible, and a long one would be striped.
  * @param {Context} context
  * @param {View} view
  * @param {Drawn[]} frames
@@ -215,7 +215,7 @@ export function labelOf({kind, first, from, value, demand, pending, by}, named) 
   return text + (pending ? " (pending)" : "") + (named ? `, ${wordsShown().name(by)}` : "");
 }
 
-/** Draw the edges of a frame. Return its label; null if it is not seen.
+/** Draw the edges of a frame. Return its label; null if it is not visible.
  * @param {Context} context
  * @param {View} view
  * @param {Drawn} frame
@@ -242,7 +242,7 @@ function drawEdges(context, view, frame, named) {
           colour: FRAME[frame.kind], change: frame.pending ? frame : keyOf(frame.by.name)};
 }
 
-/** Write what frames are, clear of closures and of each other, on what is computed.
+/** Write the labels of frames, clear of closures and of each other, on computed rows.
  * @param {Context} context
  * @param {View} view
  * @param {Drawn[]} frames
@@ -265,7 +265,7 @@ function drawLabels(context, view, frames, labels) {
   }
 }
 
-/** Draw the rectangle that is drawn, with what it would do; in red if it cannot be done.
+/** Draw the rectangle of a drag or of keys, and what it would do; in red if it cannot be put.
  * @param {Context} context
  * @param {View} view
  * @param {Area} area
@@ -285,17 +285,17 @@ function drawArea(context, view, area) {
   context.font = LABEL;
   const wide = Math.max(...said.map((text) => context.measureText(text).width)) + 14;
   const [plotWide] = store.plot;
-  const beside = right + 10 + wide < MARGIN.left + plotWide ? right + 10
+  const side = right + 10 + wide < MARGIN.left + plotWide ? right + 10
     : Math.max(MARGIN.left + 4, left - 10 - wide);
   const lowest = $("diagram").clientHeight - 24 - LABEL_HIGH * said.length;
   const upper = Math.max(MARGIN.top + 4, Math.min(top, lowest));
-  said.forEach((text, line) => write(context, text, beside, upper + LABEL_HIGH * line, "left",
+  said.forEach((text, line) => write(context, text, side, upper + LABEL_HIGH * line, "left",
     fault && line === said.length - 1 ? "#a00000" : "#000000"));
 }
 
-// What the colours mean, as a list beside the diagram.
+// What the colours mean, as a list below the diagram.
 
-/** Return what the colours mean. */
+/** Return the entries of the legend. */
 export function legendEntries() {
   return [...colourEntries(), {text: "inlet", colour: OF_PLAN.inlet},
           {text: "detector", colour: OF_PLAN.detector},
@@ -312,12 +312,12 @@ function colourEntries() {
     return [{text: slower, colour: SLOWER}, {text: "as fast", colour: EMPTY},
             {text: faster, colour: FASTER}, closed, unknown];
   }
-  const speeds = Array.from({length: GREATEST + 1}, (_, speed) =>
-    ({text: String(speed * KMH_A_CELL), colour: speedColour(speed, GREATEST)}));
+  const speeds = Array.from({length: FASTEST + 1}, (_, speed) =>
+    ({text: String(speed * KMH_A_CELL), colour: speedColour(speed, FASTEST)}));
   return ["km/h:", ...speeds, {text: "no car", colour: EMPTY}, closed, unknown];
 }
 
-/** Show what the colours mean. */
+/** Show the legend. */
 function showLegend() {
   const of = String(whoseShown());
   if ($("legend").dataset.of === of) return;
@@ -330,7 +330,7 @@ function showLegend() {
   }));
 }
 
-/** Show which road and how long a time are shown. */
+/** Show, in the choices above the diagram, which road and how long a time it shows. */
 function showChoices() {
   choose("whose", store.whose);
   $("span").value = String(store.extent.span);
@@ -355,7 +355,7 @@ export function begin() {
   on("wholeRoad", "click", showWholeRoad);
   watch(["changedRows"], repaint);
   watch(["preview", "outcome"], () => {
-    tilesKept.clear();          // the roads of a preview are others each time
+    tilesKept.clear();          // each preview has new roads
     draw();
   });
   watch(["me", "extent", "timings", "changes", "area", "cursor", "curves"], draw);

@@ -1,4 +1,4 @@
-// View: what sharing or taking would change, before it is done. Picture, sentences and table are of
+// View: what sharing or taking would change, before it is done. Picture, sentences and table describe
 // the same two roads: before, and after.
 
 import {EMPTY_OUTCOME, closePreview, confirmPreview} from "./acting.mjs";
@@ -17,18 +17,18 @@ import {kmText, plural, signedText, sum} from "./units.mjs";
 /** @typedef {import("./types.mjs").RoadFigures} RoadFigures */
 /** @typedef {import("./types.mjs").Span} Span */
 
-const READ_BOTH = "Lost demand is the number of cars that wanted to enter minus those that "
-  + "entered; a lost car spends no vehicle hours. Seconds count from the inlet; their change is the "
-  + "delay of the cars that both roads have.";
+const READ_BOTH = "Lost demand is the number of cars that wanted to enter minus the number that "
+  + "entered; a car that did not enter adds no vehicle hours. Seconds are counted from the inlet; "
+  + "their change is the mean delay of the cars that both roads have.";
 
 /** @param {[text: string, hint: string]} item */
 const changeItem = ([text, hint]) => element("li", text, {},
   element("span", ` ${hint}`, {className: "hint"}));
 
-/** Return what would be shared or taken: what each change is, and who made it when. Of a change that
- * is lost when it is taken, what it was, and who won.
+/** Return what would be shared or taken: what each change is, and who made it when; or, if it would
+ * have no effect when it is taken, what it was, and who won.
  * @param {Preview} preview
- * @param {import("./layers.mjs").Layers | null} layers  of the road that it would be
+ * @param {import("./layers.mjs").Layers | null} layers  of the road after sharing or taking
  * @returns {[text: string, hint: string][]}
  */
 function changesOf({takes, changes}, layers) {
@@ -55,8 +55,8 @@ function showPreview() {
       button(takes ? "Take now" : "Share now", confirmPreview), button("Not now", closePreview),
       element("span", "", {id: "previewDays", className: "days"})),
     element("div", "", {id: "previewCovers"}),
-    element("h3", takes ? "What it would change on your road"
-      : "What it would change on the shared road"),
+    element("h3", takes ? "What this would change on your road"
+      : "What this would change on the shared road"),
     element("div", "", {id: "previewOver"}), element("div", "", {id: "previewFigures"}));
   $("preview").hidden = false;
   $("preview").focus();
@@ -93,10 +93,9 @@ function coversOf(changes, said) {
     .map((change) => said.effect(change));
   const all = [...affected, ...below];
   if (!all.length) return [element("p", messages.NOTHING_COVERED)];
-  return [element("h3", "What would be covered"),
+  return [element("h3", "What would be covered or uncovered"),
           element("ul", "", {}, ...all.map((text) => element("li", text)))];
 }
-
 
 /** Return the table of figures.
  * @param {Figures} figures
@@ -133,7 +132,7 @@ function placeLines(before, after, later) {
   return [...flows, ...times];
 }
 
-/** Return what is lost at each inlet, if there are several.
+/** Return the lost demand of each inlet, if there are several.
  * @param {number[]} before
  * @param {number[]} after
  * @returns {FigureLine[]}

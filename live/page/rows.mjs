@@ -1,4 +1,4 @@
-// The rows that the page has of a road, every n-th one, and which of them are missing.
+// The rows of a road that the page has, of every n-th step, and which of them are missing.
 
 import {MINUTE} from "./units.mjs";
 
@@ -18,7 +18,7 @@ class Level {
     this.length = length;
     /** @type {(string | undefined)[]} */
     this.rows = [];
-    this.fresh = new Uint8Array(64);  // 1: of the present edits, or asked for
+    this.fresh = new Uint8Array(64);  // 1: computed with the present edits, or asked for
   }
 
   /** Make room for a number of rows.
@@ -31,7 +31,7 @@ class Level {
     this.fresh = more;
   }
 
-  /** Let the rows from a step on be asked for again. They stay in the picture until then.
+  /** Mark the rows from a step on as not fresh. They stay in the picture until new ones arrive.
    * @param {number} step
    */
   invalidate(step) {
@@ -49,7 +49,7 @@ class Level {
     this.fresh.fill(value, first, first + count);
   }
 
-  /** Return the first rows in steps `from` to `to` that are not fresh, at most `most`; null: none.
+  /** Return the first rows in steps `from` to `to` that are not fresh, at most `most`; null if all are.
    * @param {number} from
    * @param {number} to
    * @param {number} most     rows
@@ -65,7 +65,7 @@ class Level {
     return {from: first * this.every, to: last * this.every, count: last + 1 - first};
   }
 
-  /** Put rows from a step on. Return the steps of those that changed, or null.
+  /** Put rows from a step on. Return the steps from the first to the last row that changed, or null.
    * @param {number} from
    * @param {string[]} rows
    * @returns {Span | null}
@@ -83,7 +83,7 @@ class Level {
   }
 }
 
-/** The car seconds of each minute, as far as they are known. */
+/** The car seconds of each minute, if they are known. */
 class Minutes {
   constructor() {
     /** @type {(number | undefined)[]} */
@@ -97,7 +97,7 @@ class Minutes {
     this.sums.length = Math.min(this.sums.length, Math.floor(step / MINUTE));
   }
 
-  /** Return those of a period; null if one is missing.
+  /** Return the sums of the minutes of a period; null if one is missing.
    * @param {Span} period     steps
    */
   find([from, to]) {
@@ -105,7 +105,7 @@ class Minutes {
     return found.length === (to - from) / MINUTE ? found : null;
   }
 
-  /** Return the first missing part of a period, at most `most` minutes; null: none.
+  /** Return the first missing part of a period, at most `most` minutes; null if none is missing.
    * @param {Span} period     steps
    * @param {number} most     minutes
    * @returns {Span | null}
@@ -138,14 +138,14 @@ export class Road {
     this.at = at;
     this.length = length;
     this.horizon = 0;               // the last step that is computed
-    this.isAdvancing = false;       // the server is asked to compute more
+    this.isAdvancing = false;       // the server is computing more
     /** @type {Map<number, Level>} */
     this.levels = new Map();        // by the steps between rows
-    this.version = 0;               // differs once the edits do
+    this.version = 0;               // differs whenever the edits do
     this.minutes = new Minutes();
   }
 
-  /** Return the rows of every n-th step that are there: none if that level is not loaded.
+  /** Return the level of every n-th step; an empty one if it is not loaded.
    * @param {number} every    steps between rows
    * @returns {Level}
    */
@@ -153,8 +153,8 @@ export class Road {
     return this.levels.get(every) ?? new Level(every, this.length);
   }
 
-  /** Load the level of every n-th step, for its rows to be asked for. Those that were loaded longest
-   * ago make room. Only fetching.mjs does this.
+  /** Load the level of every n-th step, so that its rows can be asked for, and return it. If there are
+   * too many levels, drop the one that was loaded longest ago. Only fetching.mjs does this.
    * @param {number} every    steps between rows
    */
   load(every) {
@@ -166,7 +166,7 @@ export class Road {
     return level;
   }
 
-  /** Let what the page has from a step on be asked for again.
+  /** Mark all that the page has from a step on as not fresh.
    * @param {number} step
    */
   invalidate(step) {

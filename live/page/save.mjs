@@ -1,4 +1,4 @@
-// View: the menu that saves: the diagram as a picture, what the viewer opens and road_lab runs
+// View: the Save menu: the diagram as a picture, a report, what the viewer opens and road_lab runs
 // again, and tables for a spreadsheet.
 
 import {EMPTY, drawLegend, pen} from "../../viewer/drawing.mjs";
@@ -25,14 +25,14 @@ export const CAPTION_HIGH = 24;        // pixels of a picture that is saved, abo
 const LEGEND_HIGH = 28;
 const LEGEND_WIDE = 900;
 
-/** Return the road that is shown; of a difference the own one. */
+/** Return the road that is shown; if it is a difference, the own road. */
 const roadShown = () => (store.whose === "shared" ? "shared" : need("me").at);
 
 /** Return what a road is called in the name of a file. */
 const fileRoad = (at = roadShown()) => (at === "shared" ? "shared" : need("me").name);
 
-/** Return a name that no other save has: what it is, the road's file, whose road, and from when to
- * when.
+/** Return a name that no other saved file has: of what it is, the road's file, whose road it is, and
+ * from when to when.
  * @param {string} what      with an ending
  * @param {string} whose
  * @param {Span} period      steps
@@ -46,7 +46,7 @@ function nameFile(what, whose, period) {
   return claimFileName(parts.join("-"), ending);
 }
 
-/** Save a file under a name of its own. Return that name.
+/** Save a file under a name that no other saved file has. Return that name.
  * @param {string} what      with an ending
  * @param {BlobPart[]} lines
  * @param {string} type
@@ -59,7 +59,7 @@ function saveAs(what, lines, type, whose = fileRoad(), period = periodShown()) {
   return own;
 }
 
-/** Return what the diagram shows, for those who have the picture alone. */
+/** Return a caption that says what the diagram shows, for a reader who has only the picture. */
 export function captionText() {
   const {name} = need("me");
   const whose = {mine: `The road of ${name}`, shared: "The shared road",
@@ -132,7 +132,7 @@ async function saveTranscript() {
   tell(messages.savedTranscript(name, METRES_A_CELL));
 }
 
-/** Save the commands of both roads, up to the clock, a file each. */
+/** Save the commands of both roads, up to the clock, in a file each. */
 async function saveScripts() {
   const saved = [];
   for (const at of [need("me").at, "shared"]) {
@@ -143,7 +143,7 @@ async function saveScripts() {
   tell(messages.savedScripts(saved));
 }
 
-/** Write the name of the road's file and its date, as far as they are known. */
+/** Return the name of the road's file and its date, if they are known, as the end of a title. */
 const fileAndDate = () => [need("me").road, need("me").day?.date].filter(Boolean)
   .map((one) => `, ${one}`).join("");
 
@@ -205,17 +205,17 @@ function saveLines(title, lines, what, whose, period) {
 }
 
 const MOST_WORKS = 200;         // lines of a report
-const MOST_SIGNS = 200;         // of a line
+const MOST_CHARACTERS = 200;    // of a line
 
-/** Return the changes of a road that stand, in sentences, the oldest first.
+/** Return the changes of a road that are not withdrawn, in sentences, the oldest first.
  * @param {Layers} layers
  */
 const textsOf = (layers) => newestFirst([...layers.changes.values()]
   .filter(({standing, site, planned}) => standing && site === null && !planned)).reverse()
   .map((change) => new Words(layers, -1).text(change));
 
-/** Return what is in force on the roads that are compared, in sentences: on the later one, then
- * what the other one has alone.
+/** Return the changes of the roads that are compared, in sentences: those of the later road, then
+ * those that only the other one has.
  */
 async function worksText() {
   const isPreview = comparedNow() === "preview";
@@ -228,7 +228,7 @@ async function worksText() {
   const gone = before.filter((text) => !after.includes(text));
   const fresh = after.map((text) => (before.includes(text) ? text : `${text} (new)`));
   return [...fresh, ...gone.map((text) => `${text} (only before)`)].slice(0, MOST_WORKS)
-    .map((text) => text.slice(0, MOST_SIGNS));
+    .map((text) => text.slice(0, MOST_CHARACTERS));
 }
 
 /** Save the report of the roads that are compared: a page that prints. */
@@ -255,14 +255,14 @@ async function saveReport() {
 /** Return the name of the road that is shown, for the title of a table. */
 const roadText = () => (roadShown() === "shared" ? "the shared road" : `the road of ${need("me").name}`);
 
-/** Save all that was done: who did what and when, where it is in force, and what covers it. */
+/** Save the history: who did what and when, where it is in force, and what covers it. */
 function saveChanges() {
   const layers = layersOf(roadShown() === "shared" ? "shared" : "mine");
   saveLines(`changes of ${roadText()}${fileAndDate()}, up to ${store.day.timeText(now())}`, tableOfChanges(layers), "changes.csv",
     fileRoad(), [0, now()]);
 }
 
-/** Save the counts of the road that is shown, five minutes a line, over what is shown. */
+/** Save the counts of the road that is shown, in the period that is shown: a line for five minutes. */
 async function saveCounts() {
   const [from, to] = periodShown();
   if (to <= from) {
@@ -273,7 +273,7 @@ async function saveCounts() {
   if (said && !("refused" in said)) tell(messages.savedFile(saveAs("counts.csv", [said.csv], "text/csv")));
 }
 
-/** Close the menu, which would lie over what is said. A focus in it goes to its name. */
+/** Close the menu, which would cover the message. If it has the focus, focus its title. */
 function closeMenu() {
   const was = activeIn($("save"));
   $("save").open = false;

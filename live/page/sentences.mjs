@@ -1,6 +1,6 @@
 // Sentences about changes. A road here is {plan, day, curveAt(inlet, step)}: `day` writes times. A
-// demand is what was asked for; if nobody has said it, it is what the chance admits by the curve of
-// its inlet, once that is measured.
+// demand is what was asked for. If nobody asked for one, it is what the chance admits, by the curve
+// of its inlet, once that is measured.
 
 import {OF_ZONES, cellsOf} from "./geometry.mjs";
 import {chanceText, demandOfChance, kmText, limitText, metresText, plural, whole} from "./units.mjs";
@@ -11,7 +11,7 @@ import {chanceText, demandOfChance, kmText, limitText, metresText, plural, whole
 /** @typedef {import("./types.mjs").Shape} Shape */
 /** @typedef {import("./types.mjs").MeasuredRoad} MeasuredRoad */
 
-/** Return where objects lie, in km, as text.
+/** Return where objects are, in km, as text.
  * @param {Plan} plan
  * @param {Kind} kind
  * @param {number} first
@@ -29,7 +29,7 @@ export function placesText(plan, kind, first, last) {
  * @param {number} value
  * @param {number} index
  * @param {number} step
- * @param {number} [demand]     cars per hour that an inflow is for, if that is known
+ * @param {number} [demand]     of an inflow, in cars per hour, if it is known
  */
 export function valueText(road, kind, value, index, step, demand) {
   if (kind === "block") return value ? "Closed" : "Open";
@@ -92,12 +92,12 @@ export function editsText(road, edits) {
   return said < edits.length ? `${text}, and ${plural(edits.length - said, "more edit")}` : text;
 }
 
-/** Say that zones are taken whole; "" for other kinds.
+/** Return a hint that a tool sets whole zones; "" for kinds whose objects are not zones.
  * @param {Plan} plan
  * @param {unknown} kind
  */
 export const zonesText = (plan, kind) => (OF_ZONES.includes(kind)
-  ? `in whole zones of ${metresText(plan.zone)}; with Shift also where less than half is covered`
+  ? `sets whole zones of ${metresText(plan.zone)}; with Shift, also zones less than half covered`
   : "");
 
 /** Return how many whole zones are taken, as text; "" for other kinds.

@@ -167,7 +167,7 @@ const spanOf = ({from, to, each}, point) =>
  */
 function readingText([flows, speeds]) {
   const {point, names} = store.series;
-  if (point === null) return "Point at a chart, or use the arrow keys there, to read it.";
+  if (point === null) return "Point at a chart, or use its arrow keys, to read values.";
   return `${spanOf(flows, point)}: ` + [1, 0].map((side) =>
     `${names[side]} ${detectorText(flows.sides[side][point], speeds.sides[side][point])}`).join("; ");
 }

@@ -1,4 +1,4 @@
-// Stamps, the names of operations. The greater one is the later.
+// Stamps, the names of operations. Of two stamps the greater one is the later.
 
 /** @typedef {import("./types.mjs").Stamp} Stamp */
 

@@ -1,5 +1,5 @@
-// What the page knows. Every view reads it; only actions change it, and tell by `notify` which parts
-// they have changed. Nothing here touches the page.
+// What the page knows. Every view reads it. Only actions change it, and call `notify` with the parts
+// that they changed. Nothing here touches the page's elements.
 
 import {DayClock} from "./dayclock.mjs";
 import {HOUR} from "./units.mjs";
@@ -28,33 +28,33 @@ import {HOUR} from "./units.mjs";
 /** @typedef {import("./types.mjs").Timing} Timing */
 /** @typedef {import("./types.mjs").Welcome} Welcome */
 /** @typedef {import("./types.mjs").Wishes} Wishes */
-/** @typedef {"mine" | "shared" | "before" | "after"} RoadName     of a preview `before`, `after` */
+/** @typedef {"mine" | "shared" | "before" | "after"} RoadName     `before`, `after`: of a preview */
 /** @typedef {ReturnType<typeof setTimeout>} Timer */
 /** @typedef {"undo" | "redo"} Press */
 /** @typedef {"asTable" | "past" | "series"} Fold     a part of the page that can be folded, by its id */
 /** @typedef {"limit" | "watch" | "demand" | "inlet" | "site" | "slow" | "start" | "kmFrom" | "kmTo"
  *           | "timeFrom" | "timeTo"} Field     of the form, by its id */
-/** @typedef {Record<Field, string>} FormValues   as they are written */
+/** @typedef {Record<Field, string>} FormValues   as they are typed */
 /**
- * The question for a name, before joining: a sentence, the seats that nobody has open, the name that
- * was used last, whether the question is shown, and the seat that is to be taken over.
+ * The question for a name, before joining: why the page asks, the seats that are not open in any tab,
+ * the name that was used last, whether the question is shown, and the seat that is to be taken over.
  * @typedef {{why: string, free: Seat[], name?: string, asks?: boolean, takes?: number}} Hello
  *
- * A drag: the place and the pixel where it began, the edge of a change that it draws, what was in
- * the plot's corner, whether the pointer has moved, and the rectangle that it draws.
+ * A drag: the place and the pixel where it began, the edge of a change that it moves, the cell and
+ * step in the plot's corner, whether the pointer has moved, and the rectangle that it draws.
  * @typedef {{at: Place, x: number, y: number, edge: {change: Change, edge: Edge} | null,
  *            cell: number, step: number, moved: boolean, area?: Area}} Drag
  *
  * The part of the road and of time that the diagram shows, in cells and steps.
  * @typedef {{cell: number, cells: number, step: number, span: number}} Extent
  *
- * A question for the changes of a road: whether it is to be asked again, and when all is there.
+ * A question for the changes of a road: whether to ask again, and a promise of its end.
  * @typedef {{again: boolean, done: Promise<void>}} Refresh
  */
 /**
  * @typedef {object} Store
  *
- * The connection, and who is there.
+ * The connection, and who is here.
  * @property {Connection | null} connection
  * @property {[text: string, isAway: boolean]} connectionText
  * @property {boolean} isAway          the connection is lost
@@ -66,7 +66,7 @@ import {HOUR} from "./units.mjs";
  * @property {string} brokerText       the last sentence of the broker
  * @property {{site: number, when: number}[]} sites     other sites, and when each was heard last
  * @property {string[]} siteFaults     what is wrong with sites
- * @property {string} programNote      a warning that the program is not proved
+ * @property {string} programNote      a note that the program is not proved; "": it is
  * @property {string} closedNote       the note that this tab has closed
  * @property {string} trouble          what is wrong with the disk
  * @property {{why: string, timer: Timer | undefined}} replaced     why the program was replaced; ""
@@ -90,22 +90,22 @@ import {HOUR} from "./units.mjs";
  * @property {News & {text: string}} news    what others shared and is not taken
  * @property {Map<string, Pending>} pending  by key: sent again after a break
  * @property {boolean} isPersisted     the tab's storage has what is pending
- * @property {Press[]} undoPresses     of Undo and Redo, until it is known what they take back
- * @property {Map<string, string>} notes     of what this tab did, by stamps
- * @property {string} passedOver       the newest own change that Undo has refused to take back
+ * @property {Press[]} undoPresses     of Undo and Redo, until it is known what they undo or redo
+ * @property {Map<string, string>} notes     of this tab's operations, by stamps
+ * @property {string} passedOver       the latest own operation that Undo has refused to undo
  * @property {Preview | null} preview
  * @property {Outcome | null} outcome    what the preview would change
  * @property {Days | null} days
- * @property {Timing[]} timings        of the last gestures
+ * @property {Timing[]} timings        of the latest gestures
  *
  * The tool and the form.
  * @property {Kind | "look"} tool
  * @property {FormValues} form
- * @property {Change | null} changeInForm     the change that the form alters
- * @property {Partial<FormValues>} formOfChange   what it wrote into the form
+ * @property {Change | null} changeInForm     the change that the form edits
+ * @property {Partial<FormValues>} formOfChange   the texts that it put into the form
  * @property {boolean} hasLetters      single letters choose tools
  *
- * What is seen of the road.
+ * What is shown of the road.
  * @property {Extent} extent
  * @property {[wide: number, high: number]} plot     pixels of the diagram's plot
  * @property {"mine" | "shared" | "both"} whose
@@ -113,7 +113,7 @@ import {HOUR} from "./units.mjs";
  * @property {boolean} follows         the diagram follows the clock
  * @property {Record<Fold, boolean>} isOpen
  * @property {Area | null} area        the rectangle that is drawn
- * @property {Place | null} corner     where keys began it
+ * @property {Place | null} corner     the place where keys began the rectangle
  * @property {Place | null} cursor
  * @property {Drag | null} drag
  * @property {{when: number, x: number, y: number}} lastClick    on the diagram: milliseconds, pixels
@@ -125,15 +125,15 @@ import {HOUR} from "./units.mjs";
  * What is under way.
  * @property {number} openRowQuestions    questions for rows that have no answer yet
  * @property {Timer | null} idleTimer     until missing rows and figures are asked for
- * @property {boolean} isDrawing       the picture is drawn at the next frame of the screen
- * @property {{whose: RoadName, every: number, steps: Span} | null} changedRows
- * @property {Set<keyof Store> | null} held     while a button is held down, the parts that have
- *   changed and would move it
+ * @property {boolean} isDrawing       the picture will be drawn at the next animation frame
+ * @property {{whose: RoadName, every: number, steps: Span} | null} changedRows     the latest ones
+ * @property {Set<keyof Store> | null} held     while a button is held down, the changed parts whose
+ *   views would move it
  */
 /**
- * Flow and speed by time of two roads: what each is called, steps, steps of a point, and for each road
+ * Flow and speed by time of two roads: their names, the period, the steps per point, and for each road
  * what its detectors counted in each span; the detector that is shown, and the one to which travel
- * times are (null: the road's end); the point and the minute of entry that are read.
+ * times are shown (null: the road's end); the point and the minute of entry that are selected.
  * @typedef {{key: string, names: string[], from: number, to: number, each: number,
  *            flows: DetectorFigures[][][] | null, asking: boolean, site: number, end: number | null,
  *            point: number | null, minute: number | null}} Series
@@ -146,7 +146,7 @@ import {HOUR} from "./units.mjs";
  * @property {Span} wanted             the period to show
  * @property {string} key              of the roads and the period of the counts
  * @property {Figures | null} exact    what is counted car by car
- * @property {string} exactKey         of the roads and the period of these
+ * @property {string} exactKey         of the roads and the period of `exact`
  * @property {boolean} asking
  * @property {boolean} counting
  * @property {Timer | undefined} soon
@@ -229,22 +229,22 @@ export function watch(parts, show) {
   for (const part of parts) watchers.set(part, [...(watchers.get(part) ?? []), show]);
 }
 
-/** What moves buttons, or replaces them.
+/** The parts whose views move buttons, or replace them.
  * @type {(keyof Store)[]}
  */
 const MOVES = ["clock", "days", "figures", "connectionText", "changes", "news", "others", "outcome",
                "message", "sites", "siteFaults"];
 
-/** Show these parts in the views, since they have changed. Those that move buttons wait until no
- * button is held down, so that what is pressed stays where it is.
+/** Show parts that have changed in the views. Parts whose views move buttons wait until no button is
+ * held down, so that a pressed button stays where it is.
  * @param {(keyof Store)[]} parts
  */
 export function notify(...parts) {
   const {held} = store;
   const waits = held ? parts.filter((part) => MOVES.includes(part)) : [];
   for (const part of waits) held?.add(part);
-  const told = parts.filter((part) => !waits.includes(part));
-  for (const show of new Set(told.flatMap((part) => watchers.get(part) ?? []))) show();
+  const shown = parts.filter((part) => !waits.includes(part));
+  for (const show of new Set(shown.flatMap((part) => watchers.get(part) ?? []))) show();
 }
 
 /** Note that a button is held down. */
@@ -252,7 +252,7 @@ export function holdButton() {
   store.held ??= new Set();
 }
 
-/** Note that the button was released, and notify of what has waited. */
+/** Note that the button was released, and show the parts that have waited. */
 export function releaseButton() {
   const parts = store.held ?? [];
   store.held = null;
@@ -279,7 +279,7 @@ export const last = () => Math.max(store.clock.now, store.ahead);
  */
 export const isOwn = ({name}) => name.number === need("me").number;
 
-/** Return the roads that are seen: of two the difference is drawn, the first less the second.
+/** Return the road that is shown, or two: then their difference is drawn, the first minus the second.
  * @returns {RoadName[]}
  */
 export function whoseShown() {
@@ -287,5 +287,5 @@ export function whoseShown() {
   return store.outcome?.layers ? ["after", "before"] : ["mine", "shared"];
 }
 
-/** Return the changes of the road that is seen, the first of two. */
+/** Return the changes of the road that is shown, of two those of the first. */
 export const layersShown = () => layersOf(whoseShown()[0]);

@@ -17,25 +17,26 @@ import {MINUTE, kmOf, plural, roundedKm, sum} from "./units.mjs";
 /** @typedef {"mine" | "preview"} Comparison */
 /** @typedef {number | null | undefined} Figure     null: it is not known */
 
-/** Write the place of a cell's beginning in km, as all tables have it: a cell is 0.0075 km.
+/** Return the place of a cell's beginning in km, with four decimals as in all tables, as text.
  * @param {number} cell
  */
 const kmText = (cell) => String(roundedKm(kmOf(cell), 4));
 
 /** @param {Figure} value */
-const plain = (value) => (typeof value === "number" ? String(Number(value.toFixed(4))) : "");
+const figureText = (value) => (typeof value === "number" ? String(Number(value.toFixed(4))) : "");
 /** @type {(one: Figure, other: Figure) => Figure} */
-const less = (one, other) =>
+const difference = (one, other) =>
   (typeof one === "number" && typeof other === "number" ? one - other : null);
 
-/** Return a cell that no spreadsheet runs as a formula; numbers may begin with a sign.
+/** Return the text of a cell such that no spreadsheet runs it as a formula. Numbers may begin with a
+ * sign.
  * @param {string} text
  */
-const harmless = (text) => (/^\s*[=+@-]/.test(text) && !/^-?[\d.]+$/.test(text) ? `'${text}` : text);
+const withoutFormula = (text) => (/^\s*[=+@-]/.test(text) && !/^-?[\d.]+$/.test(text) ? `'${text}` : text);
 
 /** @param {Cell} value */
 function cellOf(value) {
-  const text = harmless(String(value));
+  const text = withoutFormula(String(value));
   return /[",\r\n]/.test(text) ? `"${text.replaceAll('"', '""')}"` : text;
 }
 
@@ -78,8 +79,8 @@ export function tableOfFigures({inlets, detectors}, of, said) {
   /** @type {(name: string, unit: string, valueOf: (side: RoadFigures) => Figure) => string[]} */
   const lineOf = (name, unit, valueOf) => {
     const [left, right] = [valueOf(said[one]), valueOf(said[other])];
-    const change = of === "mine" ? less(left, right) : less(right, left);
-    return [name, unit, plain(left), plain(right), plain(change)];
+    const change = of === "mine" ? difference(left, right) : difference(right, left);
+    return [name, unit, figureText(left), figureText(right), figureText(change)];
   };
   const atInlets = inlets.flatMap(([cell], inlet) => OF_INLETS.map(([name, cars]) =>
     lineOf(`${name} at ${kmText(cell)} km`, "cars", (side) => cars(side)[inlet])));
@@ -88,10 +89,10 @@ export function tableOfFigures({inlets, detectors}, of, said) {
   const places = [...detectors.map((cell) => `${kmText(cell)} km`), "the road's end"];
   const times = places.flatMap((place, index) => [
     lineOf(`travel time to ${place}`, "s", (side) => side.travel[index].seconds),
-    [`delay of the cars that both roads have to ${place}`, "s", "", "", plain(said.later[index].seconds)]]);
+    [`delay of the cars that both roads have to ${place}`, "s", "", "", figureText(said.later[index].seconds)]]);
   return [["figure", "unit", first, second, changeOf(of)],
           lineOf("vehicle hours", "h", (side) => side.vehicle_hours),
-          ["delay of the cars that both roads have", "vehicle hours", "", "", plain(said.delay_hours)],
+          ["delay of the cars that both roads have", "vehicle hours", "", "", figureText(said.delay_hours)],
           ...OF_INLETS.map(([name, cars]) => lineOf(name, "cars", (side) => sum(cars(side)))),
           ...atInlets, ...atDetectors, ...times];
 }
@@ -117,8 +118,8 @@ export function tableOfTravel({detectors}, of, said, day) {
           ...steps.flatMap((step) => places.map((place, index) => {
             const [cars, seconds] = cellsOf(one, step, index);
             const [others, theirs] = cellsOf(other, step, index);
-            const change = of === "mine" ? less(seconds, theirs) : less(theirs, seconds);
-            return [day.timeText(step), place, plain(cars), plain(seconds), plain(others), plain(theirs), plain(change)];
+            const change = of === "mine" ? difference(seconds, theirs) : difference(theirs, seconds);
+            return [day.timeText(step), place, ...[cars, seconds, others, theirs, change].map(figureText)];
           }))];
 }
 
@@ -137,7 +138,7 @@ function nameOfDays({detectors}, name) {
   return names[what];
 }
 
-/** Return the table of many days: each mean with how far its interval reaches.
+/** Return the table of many days: each mean with half the width of its interval.
  * @param {Plan} plan
  * @param {Comparison} of
  * @param {DaysFigures} said
@@ -147,11 +148,11 @@ export function tableOfDays(plan, of, {figures, days}) {
   return [[`mean of ${plural(days, "day")}`, "unit", first, "\u00b1", second, "\u00b1", changeOf(of),
            "\u00b1"],
           ...figures.map((figure) => [...nameOfDays(plan, figure.name),
-            ...[figure[one], figure[other], figure.difference].flatMap(({mean, half}) => [mean, half].map(plain))])];
+            ...[figure[one], figure[other], figure.difference].flatMap(({mean, half}) => [mean, half].map(figureText))])];
 }
 
-/** Return the table of all that was done on a road: who did what and when, where it is in force,
- * and what covers it. The demand of the road's file is left out.
+/** Return the table of the history of a road: who did what and when, where it is in force, and what
+ * covers it. The demand of the road's file is left out.
  * @param {Layers} layers
  * @returns {Cell[][]}
  */

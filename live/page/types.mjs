@@ -1,9 +1,9 @@
-// Types of what the server says and of what the page knows. There is no code here: `tsc` reads this
-// file, by tsconfig.json. Cells are 7.5 m long and steps take 1 s.
+// Types of what the server sends and of what the page knows. There is no code here: `tsc` reads this
+// file, as tsconfig.json says. Cells are 7.5 m long and steps take 1 s.
 
 /**
- * The name of an operation: a count, and the number of the seat that made it. The greater one is
- * later.
+ * The name of an operation: a count, and the number of the seat that made it. Of two stamps the
+ * greater one is the later.
  * @typedef {{count: number, number: number}} Stamp
  *
  * What a change sets: a closure, a speed limit, a slowing chance, a slow-to-start chance, a demand,
@@ -11,11 +11,11 @@
  * @typedef {"block" | "limit" | "slow" | "start" | "inflow" | "watch"} Kind
  *
  * Objects `first` to `last` have the value from step `from` until step `to`; `to` null: for ever.
- * `demand` is what an inflow is for, in cars per hour, if that was said.
+ * `demand` is the demand that an inflow was put for, in cars per hour, if there is one.
  * @typedef {{kind: Kind, first: number, last: number, from: number, to: number | null,
  *            value: number, demand?: number}} Shape
  *
- * A part of a change; `by` names the change that covers it there, null: it is in force.
+ * A part of a change. `by` names the change that covers it there; null: it is in force.
  * @typedef {Shape & {by: Stamp | null}} Rectangle
  *
  * One object has a value from a step on, until the next edit of it; null withdraws the edit.
@@ -56,7 +56,7 @@
  * @property {number} when            seconds since 1970; 0: not known
  * @property {Deed} does
  * @property {boolean} shared
- * @property {Stamp | null} [undoes]  the operation that it takes back
+ * @property {Stamp | null} [undoes]  the operation that it undoes
  * @property {Stamp | null} lost      the operation that was made at the same time and won
  * @property {Shape | null} [shape]   what a lost operation would have set
  * @property {boolean} [idle]         it need not be shared, since it changes nothing
@@ -84,7 +84,7 @@
  * @property {Rectangle[]} shown
  * @property {Operation[]} operations
  * @property {Edit[]} edits
- * @property {boolean} isRaw          it was made of raw edits alone
+ * @property {boolean} isRaw          it consists of raw edits alone
  * @property {number | null} site     the site that it excludes
  * @property {Rectangle[] | null} [was]
  * @property {boolean} [planned]      it is the demand of the road's file
@@ -97,9 +97,9 @@
  * @property {number} next            the version that they lead to
  * @property {number} [since]         the version from which they lead
  * @property {boolean} more           more changes follow them
- * @property {Stamp | null} undo      what Z would take back
- * @property {Stamp | null} redo      what Redo would put again
- * @property {{stamp: Stamp, by: string[]}[]} blocked     what Z passes over, and who changed it
+ * @property {Stamp | null} undo      what Undo would undo
+ * @property {Stamp | null} redo      what Redo would redo
+ * @property {{stamp: Stamp, by: string[]}[]} blocked     what Undo passes over, and who changed it
  */
 
 /**
@@ -108,14 +108,14 @@
  */
 
 /**
- * What an inlet admits at each inflow chance (1/65,536), in cars per hour; `points` by rising chances.
+ * What an inlet admits at each inflow chance (1/65,536), in cars per hour. Chances of `points` rise.
  * @typedef {object} Curve
  * @property {[chance: number, cars: number][]} points
  * @property {number} capacity
  */
 
 /**
- * A road that has the curves of its inlets at each step; null: the server is measuring it.
+ * A road that has the curve of each inlet at each step; null: the server is measuring it.
  * @typedef {object} MeasuredRoad
  * @property {Plan} plan
  * @property {import("./dayclock.mjs").DayClock} day
@@ -123,7 +123,7 @@
  */
 
 /**
- * What is counted of one road, in a period.
+ * What is counted on one road, in a period.
  * @typedef {object} RoadFigures
  * @property {number} vehicle_hours
  * @property {number[]} asked         cars that want to enter at each inlet
@@ -132,16 +132,16 @@
  * @property {number[]} scatter       the random variation of the demand of each inlet, in cars
  * @property {DetectorFigures[]} flows
  * @property {Trip[]} travel          to each detector, and last to the road's end
- * @property {Entry[]} entries        the same by the minute of entry, in their order
+ * @property {Entry[]} entries        travel times by the minute of entry, in the order of minutes
  */
 
 /**
- * What a detector counted: flow in cars per hour and speed in km/h, null: it was off, or no car came;
- * seconds for which it was on.
+ * What a detector counted: flow in cars per hour, null if it was off; speed in km/h, null if no car
+ * passed; and the seconds for which it was on.
  * @typedef {{cars: number, speeds: number, flow: number | null, speed: number | null, on: number}}
  *   DetectorFigures
  *
- * Cars, and the mean of their seconds; null: there was none.
+ * Cars, and their mean travel time in seconds; null: there was no car.
  * @typedef {{cars: number, seconds: number | null}} Trip
  *
  * Travel times of the cars that entered in the minute from a step on.
@@ -149,14 +149,14 @@
  */
 
 /**
- * What is counted of two roads, car by car.
+ * What is counted on two roads, car by car.
  * @typedef {object} Figures
  * @property {number} from            step
  * @property {number} to
  * @property {RoadFigures} before
  * @property {RoadFigures} after
  * @property {number} delay_hours     vehicle hours
- * @property {Trip[]} later           how much later the cars that both roads have are at each place
+ * @property {Trip[]} later           the delay at each place of the cars that both roads have
  */
 
 /**
@@ -169,9 +169,9 @@
  */
 
 /**
- * This tab's seat, and what the server describes when the tab joins.
+ * This tab's seat, and what the server sends when the tab joins.
  * @typedef {object} Welcome
- * @property {string} at              how the seat's road is named
+ * @property {string} at              the name of the seat's road
  * @property {number} seat
  * @property {number} number          the seat's, in stamps
  * @property {string} name
@@ -197,7 +197,7 @@
  * A seat, and how many of its changes are not shared.
  * @typedef {{seat: number, at: string, name: string, here: boolean, private: number}} Seat
  *
- * As whom to join: with a name, as a seat that nobody has open, or as the own seat.
+ * How to join: with a name, in a seat that is not open in any tab, or in the own seat.
  * @typedef {{name: string} | {take: number} | {key: string}} Wishes
  */
 
@@ -205,10 +205,10 @@
  * The state of the exchange with other sites.
  * @typedef {object} Broker
  * @property {string} state           "away": there is no broker
- * @property {number} [unsent]        changes to be sent
+ * @property {number} [unsent]        changes that are not sent yet
  * @property {{site: number, when: number}[]} [sites]
  * @property {string[]} [told]        sentences, the newest last
- * @property {string[]} [stays]       what is wrong, as long as it is
+ * @property {string[]} [stays]       what is wrong now
  * @property {boolean} [sealed]       false: messages of sites are not authenticated
  */
 
@@ -229,13 +229,13 @@
  * @property {string[]} lines
  * @property {string} fault           "": it can be done
  * @property {Change | null} old      the change that it alters
- * @property {string} [taken]         a sentence of the stretch that it takes
+ * @property {string} [taken]         a sentence on the stretch that it takes
  */
 
 /**
- * What is asked before sharing or taking.
+ * The question whether to share or take.
  * @typedef {object} Preview
- * @property {"mine" | "shared" | "both"} whose   the road that was seen before
+ * @property {"mine" | "shared" | "both"} whose   the road that was shown before
  * @property {boolean} takes
  * @property {string[] | undefined} names         of the changes to share; undefined: all
  * @property {Change[]} changes       what is shared
@@ -247,7 +247,7 @@
  * What sharing or taking would change. What is not known yet is null.
  * @typedef {object} Outcome
  * @property {string} why             why it cannot be said; "": it can
- * @property {import("./layers.mjs").Layers | null} layers    of the road that it would be
+ * @property {import("./layers.mjs").Layers | null} layers    of the road after it
  * @property {Stamp[]} names          of the changes that would look different
  * @property {Figures | {why: string} | null} figures
  */
@@ -269,13 +269,13 @@
  * @property {Shape | null} [shape]   what it puts
  * @property {number} [first]         the first step that it changes, if that is known
  * @property {"apply" | "undo" | "redo"} does
- * @property {Stamp | string} [undoes]    the stamp, or the key, of what it takes back
- * @property {string} taken           a sentence of the stretch that it takes
+ * @property {Stamp | string} [undoes]    the stamp, or the key, of what it undoes or redoes
+ * @property {string} taken           a sentence on the stretch that it takes
  */
 
 /**
- * The answer to an act: the operation's stamp, the first step at which the road differs, and what
- * the server took for it, in microseconds.
+ * The answer to an act: the operation's stamp, the first step at which the road differs, and how long
+ * the parts of the server's work took, in microseconds.
  * @typedef {ListNews & {stamp: Stamp, touched: number | null, us?: Record<string, number>}} Done
  *
  * The answers to the commands that are not refused, by the command's name.
@@ -292,7 +292,7 @@
  * @property {DaysFigures} days
  * @property {{horizon: number}} advance
  * @property {{rows: string[]}} diagram
- * @property {{flows: (DetectorFigures | DetectorFigures[])[]}} counts    with `each` a list of each span
+ * @property {{flows: (DetectorFigures | DetectorFigures[])[]}} counts    with `each`, lists by span
  * @property {Curve} admission
  * @property {{lines: string, to: number}} script
  * @property {{html: string}} report
@@ -323,7 +323,7 @@
  * @typedef {Partial<Record<Verb, object>>} Command
  */
 
-// As the server sends it: arrays of positions, which decoding.mjs reads.
+// Answers as the server sends them: positional arrays, which decoding.mjs reads.
 
 /**
  * @typedef {[count: number, number: number]} WireStamp

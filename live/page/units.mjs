@@ -79,14 +79,14 @@ export const limitText = (limit) => `${limit * KMH_A_CELL} km/h`;
  */
 export const chanceText = (chance) => `${Number((100 * chance / ALWAYS).toFixed(1))} %`;
 
-// What an inlet admits: a curve is {points, capacity}, `points` as [chance, cars per hour] in
-// rising chances; it is measured by the server.
+// What an inlet admits: a curve is {points, capacity}, `points` as [chance, cars per hour] with rising
+// chances. The server measures it.
 
-/** Return the value at a place on a line through points, whose places rise.
+/** Return the value at a place, interpolated between points in the order of their places.
  * @param {[place: number, value: number][]} points
  * @param {number} place
  */
-function along(points, place) {
+function interpolate(points, place) {
   const next = Math.max(1, points.findIndex(([at]) => at >= place));
   const [[from, low], [to, high]] = [points[next - 1], points[next]];
   return to > from ? low + (high - low) * (place - from) / (to - from) : low;
@@ -100,11 +100,11 @@ export function chanceOfDemand(cars, {points, capacity}) {
   if (!(cars >= 0 && cars <= capacity)) return NaN;
   /** @type {Point[]} */
   const inverse = points.map(([chance, flow]) => [flow, chance]);
-  return Math.round(along(inverse, cars));
+  return Math.round(interpolate(inverse, cars));
 }
 
 /** Return the cars per hour that an inflow chance (1/65,536) admits.
  * @param {number} chance
  * @param {Curve} curve
  */
-export const demandOfChance = (chance, {points}) => along(points, chance);
+export const demandOfChance = (chance, {points}) => interpolate(points, chance);

@@ -8,7 +8,7 @@ import {MINUTE} from "./units.mjs";
 /** @typedef {import("../../viewer/drawing.mjs").View} View */
 /** @typedef {import("./types.mjs").Span} Span */
 
-/** Return what stands in the plot's corner, and the pixels of a cell and of a step. */
+/** Return the cell and the step in the plot's upper left corner, and the pixels of a cell and a step. */
 export function viewNow() {
   const {extent, plot: [wide, high]} = store;
   return {cell: extent.cell, step: extent.step, scale: wide / extent.cells, tall: high / extent.span};
@@ -29,13 +29,13 @@ export function byMeans(view) {
   return store.paint === "zoom" ? meansAreSeen(view) : store.paint === "means";
 }
 
-/** Return the greatest power of two up to a number of steps; at least 1.
+/** Return the largest power of two up to a number of steps; at least 1.
  * @param {number} steps
  */
 const powerOfTwo = (steps) => 2 ** Math.max(0, Math.floor(Math.log2(steps)));
 
-/** Return how many steps apart the page asks for rows: some eight rows for a box of mean speeds (four
- * if the road is long), else one for a pixel. */
+/** Return how many steps apart the page asks for rows: about eight rows for a box of mean speeds (four
+ * if they would be too many bytes), otherwise about one for a pixel. */
 export function everyShown() {
   const view = viewNow();
   if (!byMeans(view) && store.whose !== "both") return powerOfTwo(1 / view.tall);
@@ -43,8 +43,8 @@ export function everyShown() {
   return every * (store.extent.span / every * need("plan").length > store.limits.bytes ? 2 : 1);
 }
 
-/** Return the steps whose figures are shown: the minutes that are seen, at least in part. In a
- * preview these are all minutes of the run.
+/** Return the steps whose figures are shown: those of the minutes that are visible, at least in part.
+ * In a preview these are all minutes of the run.
  * @returns {Span}
  */
 export function periodShown() {
@@ -55,8 +55,8 @@ export function periodShown() {
   return [from, Math.max(from, Math.min(end, most))];
 }
 
-/** Return how far an arrow moves the cursor, in cells and steps: about 5 pixels, by tens of steps
- * if these are as many.
+/** Return how far an arrow key moves the cursor, in cells and steps: about 5 pixels, rounded to tens of
+ * steps if that is not 0.
  * @returns {[cells: number, steps: number]}
  */
 export function strideNow() {

@@ -1,7 +1,6 @@
-"""Measure how many cars per hour an inlet admits with each inflow chance, as zegdrut.demand does.
+"""Measure how many cars per hour an inlet admits with each inflow chance, by the package zegdrut.demand.
 
-As a program this module reads questions {limit, slowing, start, entry, cell, before} line by line, and answers each in a line: the curve
-{points, capacity}, `points` as [chance in 1/65,536, cars per hour] in rising chances.
+As a program, this module reads an `Inflow` from each line of standard input, and prints a `Curve` in a line.
 """
 from __future__ import annotations
 
@@ -13,30 +12,32 @@ from pathlib import Path
 from typing import Sequence, TypedDict
 
 from . import figures
-from .journal import packed
+from .journal import to_json
 
 NICE = 8
-POINTS = 128  # of a curve: a straight line between two is off by less than 0.1 cars per hour
+POINTS = 128  # intervals of a curve; interpolation between two points is off by less than 0.1 cars per hour
 MOST_KEPT = 2_000  # curves
-KEPT = "admissions.jsonl"  # in a folder: the curves, a line each
-MEASURE = 1  # changes as soon as a curve is measured in another way
+CURVES_FILE = "admissions.jsonl"  # the file of a folder with its curves, one per line
+MEASURE = 1  # the version of the measurement: increase it if curves are measured in a different way
 Inflow = TypedDict("Inflow", {
     "limit": int, "slowing": int, "start": "int | None", "entry": int, "cell": int, "before": Sequence["tuple[int, int]"]})
+"""An inlet: its zone's limit and chances, its cell, and the cells and chances of the inlets upstream."""
 Curve = TypedDict("Curve", {"points": Sequence["tuple[int, float]"], "capacity": float})
+"""What an inlet admits: `points` are (chance in 1/65,536, cars per hour) in rising chances; `capacity` is the maximum."""
 
 
 class Admissions(figures.Beside[Inflow, Curve]):
-    """Measures curves one after the other, each once for all tabs and starts: a file of the folder keeps them."""
+    """Measures curves one at a time, each only once: a file of the folder keeps them over restarts."""
 
     def __init__(self, folder: Path) -> None:
         super().__init__(__name__, NICE)
-        self._file = folder / KEPT
+        self._file = folder / CURVES_FILE
         self._kept = read_kept(self._file)
         self._lock = asyncio.Lock()
 
-    async def curve(self, asked: Inflow, path: str) -> Curve:
-        """Return the curve of an inlet, in some seconds if it is not known yet."""
-        key = packed([MEASURE, asked])
+    async def find_curve(self, asked: Inflow, path: str) -> Curve:
+        """Return the curve of an inlet. A curve that is not known yet takes some seconds. `path` is that of road_lab."""
+        key = to_json([MEASURE, asked])
         if key not in self._kept:
             async with self._lock:
                 if key not in self._kept:
@@ -44,7 +45,7 @@ class Admissions(figures.Beside[Inflow, Curve]):
         return self._kept[key]
 
     def _keep(self, key: str, curve: Curve) -> None:
-        """Keep a curve; on a disk that does not accept it, until the server stops."""
+        """Keep a curve. If the disk does not accept it, it is kept in memory only."""
         mode = "a"
         if len(self._kept) >= MOST_KEPT:
             self._kept.clear()
@@ -55,7 +56,7 @@ class Admissions(figures.Beside[Inflow, Curve]):
 
 
 def read_kept(path: Path) -> dict[str, Curve]:
-    """Return the curves that a file keeps. A line that was not written whole is left out."""
+    """Return the curves in a file. Skip incomplete lines."""
     found: dict[str, Curve] = {}
     try:
         lines = path.read_bytes().splitlines()
@@ -72,8 +73,8 @@ def read_kept(path: Path) -> dict[str, Curve]:
 
 # The program
 
-def measured(asked: Inflow) -> Curve:
-    """Return the curve that a question asks for. Beside other inlets it takes fewer chances: it would take too long."""
+def measure_curve(asked: Inflow) -> Curve:
+    """Measure the curve of an inlet. If there are inlets upstream, measure at fewer chances, since each takes longer."""
     from zegdrut.demand import Drivers, Effort, Inlet, measure_admission
     from zegdrut.units import ALWAYS
     drivers = Drivers(asked["limit"], asked["slowing"], asked["start"], asked["entry"])
@@ -82,15 +83,15 @@ def measured(asked: Inflow) -> Curve:
     found = measure_admission(drivers, asked["cell"], before, effort)
     chances = [round(ALWAYS * place / POINTS) for place in range(POINTS + 1)]
     flows = [found.admitted(chance) for chance in chances]
-    points = [(chance, max(flows[:place + 1])) for place, chance in enumerate(chances)]  # (where it is full more chance admits no more)
+    points = [(chance, max(flows[:place + 1])) for place, chance in enumerate(chances)]  # flows never fall: the rest is noise
     return {"points": points, "capacity": max(flows)}
 
 
 def main() -> None:
-    """Answer questions until there are no more."""
+    """Measure a curve for each line of standard input."""
     figures.leave_one_free()
     for line in sys.stdin:
-        print(json.dumps(measured(json.loads(line))), flush=True)
+        print(json.dumps(measure_curve(json.loads(line))), flush=True)
 
 
 if __name__ == "__main__":

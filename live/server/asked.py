@@ -1,8 +1,8 @@
-"""Read what a tab asks, field by field.
+"""Read the fields of a tab's command, one by one.
 
-    with Asked(verb, fields) as asked:
+    with CommandFields(verb, fields) as asked:
         step = asked.whole("step")
-    .. a field of another shape, or one that nobody asked for, is `Refused`
+    .. raises `Refused` if a field is malformed, or if there is a field that was not read
 """
 from __future__ import annotations
 
@@ -14,19 +14,19 @@ from zegdrut.grammar import GREATEST, Part, kind, list_of, put, row_of, shown, v
 from zegdrut.refusals import Reasons
 from zegdrut.wire import PlanLine, ReplyFields
 
-from .journal import packed
+from .journal import to_json
 from .model.demands import INFLOW, MOST_DEMAND
-from .model.operations import Json, Shape, Stamp, same_int
+from .model.operations import Json, Shape, Stamp, intern_int
 from .refusals import NOT_A_COMMAND, Refused, not_a_command
 
-MOST_EDITS = 1_200  # of a gesture: its line is one import
+MOST_EDITS = 1_200  # raw edits of a gesture; the program gets them as one import
 LONGEST_NAME, LONGEST_NOTE, LONGEST_KEY = 64, 200, 40
 TOLD = 3  # faults of a list that a refusal names
-LONG = 2_000  # bytes of a field from which on it takes long to look how its numbers were written
+LONG = 2_000  # bytes of a field; in a longer one a refusal does not show numbers as they were written, since that takes long
 
 
 RawEdit = tuple[str, int, int, "int | None"]
-"""Kind, object, step, and value."""
+"""Kind, index, step, and value; the value None withdraws the edit."""
 
 
 def whole_or_none(value: object) -> Iterator[str]:
@@ -41,33 +41,33 @@ PAIR = row_of(("index", whole), ("chance", whole))
 
 
 def clean_text(value: object, most: int) -> str:
-    """Return a text for one line: without control characters, marks that turn its direction, and halves of pairs."""
+    """Return a text of at most `most` characters for one line: without control characters, direction marks and lone surrogates."""
     begin = " ".join(str(value)[:8 * most].split())
-    plain = "".join(sign for sign in begin if unicodedata.category(sign)[0] != "C")
+    plain = "".join(character for character in begin if unicodedata.category(character)[0] != "C")
     return plain.strip()[:most]
 
 
-# Letters of two other scripts, and rare Latin ones, that look like Latin ones, small or capital, and what is not seen.
+# Cyrillic, Greek and rare Latin letters that look like a common Latin letter, small or capital; and invisible characters.
 LOOK_ALIKE = str.maketrans("авесԁԍһіјкӏмнорԛѕтѵԝухαβεζηικμνορτυχıɑɡ", "abecdghijklmhopqstvwyxabezhikmnoptyxiag",
                            "\u034f\u115f\u1160\u2800\u3164" + "".join(map(chr, range(0xfe00, 0xfe10))))
 
 
-def folded(name: str) -> str:
-    """Return what is the same of names that look alike: without case, spaces, widths and styles of letters."""
+def fold_look_alikes(name: str) -> str:
+    """Return a form of a name that is the same for all names that look alike: without case, spaces, widths and styles of letters."""
     plain = unicodedata.normalize("NFKC", unicodedata.normalize("NFKC", name).casefold())
     return unicodedata.normalize("NFC", "".join(plain.split()).translate(LOOK_ALIKE))
 
 
-class Asked:
-    """The fields of a command; on leaving, those that were not asked for are refused."""
+class CommandFields:
+    """The fields of a command. As a context it refuses, at its end, a field that was not read."""
 
     def __init__(self, verb: str, fields: object) -> None:
         if not isinstance(fields, dict):
-            raise not_a_command(f"`{verb}` has an object of fields")
+            raise not_a_command(f"the fields of `{verb}` must be a JSON object")
         self.verb, self._known = verb, set[str]()
         self._fields: dict[str, Json] = fields
 
-    def __enter__(self) -> Asked:
+    def __enter__(self) -> CommandFields:
         return self
 
     def __exit__(self, kind_of_fault: object, *_: object) -> None:
@@ -81,19 +81,19 @@ class Asked:
 
     def require(self, name: str) -> Json:
         if not self.has(name):
-            raise not_a_command(f"`{self.verb}` lacks `{name}`")
+            raise not_a_command(f"`{self.verb}` requires the field `{name}`")
         return self._fields[name]
 
     def _checked(self, name: str, faults: Part) -> Json:
         value = self.require(name)
-        told = list(islice(faults(value), TOLD))
-        if told:
-            text = packed(value).encode()
+        named = list(islice(faults(value), TOLD))
+        if named:
+            text = to_json(value).encode()
             try:
-                told = list(islice(faults(value_of(text)), TOLD)) if len(text) < LONG else told  # numbers as they were written
+                named = list(islice(faults(value_of(text)), TOLD)) if len(text) < LONG else named  # numbers as they were written
             except ValueError as fault:
-                told = [str(fault)]
-            raise not_a_command(f"`{name}`: {'; '.join(told)}")
+                named = [str(fault)]
+            raise not_a_command(f"`{name}`: {'; '.join(named)}")
         return value
 
     def whole(self, name: str, least: int = 0, most: int = GREATEST, default: int | None = None) -> int:
@@ -105,12 +105,12 @@ class Asked:
         return value
 
     def version(self, name: str) -> int:
-        """Return a number that the server gave; 0 if there is none."""
+        """Return the version of a list, as the server gave it in `next`; 0 if the field is missing."""
         if not self.has(name):
             return 0
         value = self._fields[name]
         if type(value) is not int or not 0 <= value < 1 << 53:
-            raise not_a_command(f"`{name}` is what `next` was")
+            raise not_a_command(f"`{name}` must be the `next` of an earlier reply")
         return value
 
     def number(self, name: str, most: float) -> float:
@@ -120,11 +120,11 @@ class Asked:
         return float(value)
 
     def demand(self, shape: Shape) -> float | None:
-        """Return the cars per hour for which the chance of a shape is; None: that is not said."""
+        """Return the demand in cars per hour that the chance of a shape stands for; None if the command does not say."""
         if not self.has("demand") or self.is_null("demand"):
             return None
         if shape.kind != INFLOW:
-            raise not_a_command(f"`demand` is of a shape of the kind {INFLOW}, not {shape.kind}")
+            raise not_a_command(f"`demand` requires a shape of kind {INFLOW}, not {shape.kind}")
         return self.number("demand", MOST_DEMAND)
 
     def text(self, name: str, most: int, default: str | None = None) -> str:
@@ -132,25 +132,25 @@ class Asked:
             return default
         value = self.require(name)
         if type(value) is not str:
-            raise not_a_command(f"`{name}` is a string, not {shown(value)[:60]}")
+            raise not_a_command(f"`{name}` must be a string, not {shown(value)[:60]}")
         return clean_text(value, most)
 
     def texts(self, name: str, most: int, longest: int) -> list[str]:
-        """Texts that can be shown in a line each."""
+        """Return a list of texts, each fit for one line."""
         value = self.require(name)
         if not isinstance(value, list) or len(value) > most or any(type(one) is not str for one in value):
-            raise not_a_command(f"`{name}` is a list of at most {most} strings")
+            raise not_a_command(f"`{name}` must be a list of at most {most} strings")
         return [clean_text(one, longest) for one in value]
 
     def key(self, name: str = "key") -> str:
-        """Return the key of a gesture: one that is sent again has the same."""
+        """Return the key of a gesture. A gesture that is sent again has the same key."""
         value = self.require(name)
         if type(value) is not str or not (1 <= len(value) <= LONGEST_KEY and value.isascii() and value.isprintable()):
-            raise not_a_command(f"`{name}` is a string of 1 to {LONGEST_KEY} ASCII characters, a new one for each gesture")
+            raise not_a_command(f"`{name}` must be a string of 1 to {LONGEST_KEY} ASCII characters, a new one for each gesture")
         return value
 
     def stamp_or_key(self, name: str) -> Stamp | str:
-        """Return a stamp, or the key of a gesture that may not have one yet."""
+        """Return a stamp, or the key of a gesture whose stamp the tab may not know yet."""
         if type(self.require(name)) is str:
             return self.key(name)
         return self._pair(name, STAMP)
@@ -159,16 +159,16 @@ class Asked:
         return set(self._pairs("stamps", list_of(STAMP, "stamp"))) if self.has("stamps") else None
 
     def _pair(self, name: str, faults: Part) -> tuple[int, int]:
-        """Return two whole numbers, given the check of their list."""
+        """Return a field of two whole numbers; `faults` checks the list."""
         one, other = cast("list[int]", self._checked(name, faults))
         return one, other
 
     def _pairs(self, name: str, faults: Part) -> Iterable[tuple[int, int]]:
-        """Return pairs of whole numbers, given the check of their list."""
+        """Return a field of pairs of whole numbers; `faults` checks the list."""
         return ((one, other) for one, other in cast("list[list[int]]", self._checked(name, faults)))
 
     def pairs(self, name: str) -> list[tuple[int, int]]:
-        """Return pairs of whole numbers."""
+        """Return a field that is a list of pairs of whole numbers."""
         return list(self._pairs(name, list_of(PAIR, "pair")))
 
     def edits(self) -> list[RawEdit]:
@@ -177,41 +177,41 @@ class Asked:
             edits = cast("list[Json]", self._checked("edits", EDITS))
         if not 1 <= len(edits) <= MOST_EDITS:
             raise Refused("TooManyEdits" if edits else NOT_A_COMMAND,
-                          f"a gesture has 1 to {MOST_EDITS} edits, not {len(edits)}")
+                          f"a gesture must have 1 to {MOST_EDITS} edits, not {len(edits)}")
         found = [(kind_of, index, step, value) for kind_of, index, step, value in cast("list[RawEdit]", edits)]
         if len({edit[:3] for edit in found}) < len(edits):
-            raise not_a_command("an object and step stands twice in a gesture")
+            raise not_a_command("`edits` has two edits of one object at one step: leave one out")
         return found
 
     def shape(self) -> Shape:
         kind_of, first, last, begin, end, value = cast("tuple[str, int, int, int, int | None, int]", self._checked("shape", SHAPE))
-        return Shape(kind_of, same_int(first), same_int(last), same_int(begin), None if end is None else same_int(end), value)
+        return Shape(kind_of, intern_int(first), intern_int(last), intern_int(begin), None if end is None else intern_int(end), value)
 
     def is_null(self, name: str) -> bool:
         return self.has(name) and self._fields[name] is None
 
     def flag(self, name: str) -> bool:
-        """Return whether a field is true; false if it is missing."""
+        """Return the value of a boolean field; false if it is missing."""
         if self.has(name) and type(self._fields[name]) is not bool:
-            raise not_a_command(f"`{name}` is true or false")
+            raise not_a_command(f"`{name}` must be true or false")
         return bool(self.has(name) and self._fields[name])
 
     def stretch(self) -> tuple[int, int] | None:
-        """Return the cells a to b of `cells`; None: all."""
+        """Return the first and the last cell of `cells`; None if the field is missing, which means all cells."""
         if not self.has("cells"):
             return None
         return self._pair("cells", row_of(("first cell", whole), ("last cell", whole)))
 
     def remaining(self) -> Mapping[str, Json]:
-        """Return the fields that were not asked for, and count them as asked for."""
+        """Return the fields that were not read so far, which then count as read."""
         rest = {name: value for name, value in self._fields.items() if name not in self._known}
         self._known.update(rest)
         return rest
 
 
-def why_refused(plan: PlanLine, at: str, horizon: int, line: bytes, reply: ReplyFields) -> str:
-    """Return a sentence about a line that the program refused."""
+def explain_refusal(plan: PlanLine, at: str, horizon: int, line: bytes, reply: ReplyFields) -> str:
+    """Return a sentence that says why the program refused a line of the replica `at`, which has run to `horizon`."""
     reasons = Reasons()
-    reasons.hear(packed(plan).encode(), {"open": 1})
-    reasons.hear(packed({"advance": {"at": at, "to": horizon}}).encode(), {"horizon": horizon})
+    reasons.hear(to_json(plan).encode(), {"open": 1})
+    reasons.hear(to_json({"advance": {"at": at, "to": horizon}}).encode(), {"horizon": horizon})
     return reasons.hear(line, reply) or f"the program refused it: {reply['refused']}"

@@ -1,9 +1,10 @@
-"""Is it the change, or chance? Two roads over many days, which are seeds, each with drivers of its own: of what is
-figured the mean and its 95 % interval, before, after, and of what a day has more after than before. The figures are those of
-server.figures.
+"""Compare two roads over many days, to find out whether a difference is due to the change or to chance.
 
-As a program it reads a `DaysAsked` from standard input, and prints after each day a `DaysTold`: the figures of the days that are
-done, of the steps `first` to `last` - 1; or a fault.
+A day is a seed: it has drivers of its own. For each figure of `server.figures`, the result has the mean over all days and its 95 %
+interval: before the change, after it, and of the difference of each day.
+
+As a program, this module reads a `DaysAsked` from standard input, and prints a `DaysTold` after each day: the figures of the days
+that are done, over the steps `first` to `last` - 1; or a fault.
 """
 from __future__ import annotations
 
@@ -19,7 +20,7 @@ from concurrent.futures import ProcessPoolExecutor, as_completed
 from typing import TYPE_CHECKING, Callable, Iterator, Sequence, TypedDict
 
 from . import LIVE, figures
-from .journal import packed
+from .journal import to_json
 from .refusals import Refused
 
 if TYPE_CHECKING:
@@ -35,14 +36,14 @@ SIDES = "before", "after"
 HOURS, LOST, DELAY = "vehicle_hours", "lost", "delay"
 DaysAsked = TypedDict("DaysAsked", {"roads": figures.TwoRoads, "days": int})
 Mean = Sequence["float | None"]
-"""A mean, and how far its interval reaches to both sides; None: of one day that is not known."""
+"""A mean, and the half-width of its interval; None if there is only one day."""
 FigureTold = TypedDict("FigureTold", {"name": str, "before": Mean, "after": Mean, "difference": Mean, "others": int})
-"""A figure over all days; `others` is the number of days whose difference has the other sign."""
+"""A figure over all days; `others` is the number of days whose difference has the opposite sign."""
 DaysTold = TypedDict("DaysTold", {"done": int, "figures": Sequence[FigureTold], "fault": str}, total=False)
 
 
 class Question:
-    """Two roads over many days, of one seat: a process, until it has its answer or is stopped."""
+    """A seat's question about two roads over many days. A process works it out, until it is done or stopped."""
 
     def __init__(self, index: int, days: int) -> None:
         self.index, self.done, self.days = index, 0, days
@@ -50,22 +51,22 @@ class Question:
         self.is_stopped = False
 
     async def answer(self, roads: figures.TwoRoads, progress: Callable[[], None]) -> dict[str, object]:
-        """Return the figures; if it was stopped, those of the days that were done. `progress` is called after each day."""
+        """Return the figures; if the question was stopped, of the days that were done. Call `progress` after each day."""
         self._process = await asyncio.create_subprocess_exec(
-            *figures.gently(__name__, NICE), stdin=asyncio.subprocess.PIPE, stdout=asyncio.subprocess.PIPE,
+            *figures.command_at_low_priority(__name__, NICE), stdin=asyncio.subprocess.PIPE, stdout=asyncio.subprocess.PIPE,
             env=figures.environment(roads["program"]), start_new_session=True, cwd=LIVE)
         if self.is_stopped:
             self.stop()
         assert self._process.stdin is not None and self._process.stdout is not None
         asked: DaysAsked = {"roads": roads, "days": self.days}
-        told: DaysTold = {}
+        reply: DaysTold = {}
         try:
-            self._process.stdin.write(packed(asked).encode())
+            self._process.stdin.write(to_json(asked).encode())
             self._process.stdin.close()
             async for line in self._process.stdout:
-                told = json.loads(line)
-                if "done" in told:
-                    self.done = told["done"]
+                reply = json.loads(line)
+                if "done" in reply:
+                    self.done = reply["done"]
                     progress()
         except (OSError, ValueError):
             pass
@@ -74,29 +75,29 @@ class Question:
             await self._process.wait()
         if self.is_stopped and not self.done:
             raise Refused("Stopped", "the request was stopped before the first day was simulated")
-        if "fault" in told or self.done < self.days and not self.is_stopped:
-            raise Refused("Failed", told.get("fault", "the figures failed; the server's log says why"))
-        return {"days": self.done, "stopped": self.done < self.days, "figures": told["figures"]}
+        if "fault" in reply or self.done < self.days and not self.is_stopped:
+            raise Refused("Failed", reply.get("fault", "the figures could not be computed; the server's log says why"))
+        return {"days": self.done, "stopped": self.done < self.days, "figures": reply["figures"]}
 
     def stop(self, done: bool = False) -> None:
-        """End the process, with all that it has started."""
+        """End the process and all processes that it has started."""
         self.is_stopped = self.is_stopped or not done
         if self._process is not None:
             figures.kill(self._process)
 
 
 class DayQuestions:
-    """One such question at a time."""
+    """The question that is running: there is one at a time, for all seats."""
 
     def __init__(self) -> None:
         self.now: Question | None = None
 
     def begin(self, index: int, days: int, name: Callable[[int], str]) -> Question:
-        """Begin a question of a seat, in the place of the one that it had. Another seat's goes on."""
+        """Begin a question of a seat, and stop its former one. Raise `Refused` if another seat's question is running."""
         now = self.now
         if now is not None and now.index != index:
-            raise Refused("Busy", f"{name(now.index)} asks about {now.days} days just now ({now.done} done): one "
-                          "such question at a time")
+            raise Refused("Busy", f"{now.days} days are being simulated for {name(now.index)} ({now.done} done): try again when that "
+                          "is done")
         self.stop(index)
         self.now = Question(index, days)
         return self.now
@@ -106,7 +107,7 @@ class DayQuestions:
             self.now = None
 
     def stop(self, index: int | None = None) -> bool:
-        """Stop the question of a seat, or of any seat. Return whether there was one."""
+        """Stop the question of a seat, or of any seat if none is given. Return whether there was one."""
         now = self.now
         if now is None or index is not None and now.index != index:
             return False
@@ -118,40 +119,40 @@ class DayQuestions:
 # The program
 
 def main() -> None:
-    """Runs both roads by each seed, on all processors but one, and prints what it found."""
+    """Simulate both roads with each seed, on all processors but one, and print the figures."""
     asked: DaysAsked = json.load(sys.stdin)
     figures.leave_one_free()
     from zegdrut import Fault
     found: list[Day] = []
     try:
-        for day in days_of(asked):
+        for day in run_days(asked):
             found.append(day)
-            tell({"done": len(found), "figures": told(found)})
+            print_line({"done": len(found), "figures": describe_days(found)})
     except Fault as fault:
-        tell({"fault": str(fault)})
+        print_line({"fault": str(fault)})
 
 
-def days_of(asked: DaysAsked) -> Iterator[Day]:
+def run_days(asked: DaysAsked) -> Iterator[Day]:
     """Yield the days as they are done."""
     from zegdrut.days import SEEDS, run_day, unwrap_day
     from zegdrut.units import Units
     roads = asked["roads"]
     both = (roads["before"], roads["demands"]["before"]), (roads["after"], roads["demands"]["after"])
-    wanted = [demands(roads["plan"], figures.edits_of(edits), roads["last"], known) for edits, known in both]
+    wanted = [compute_all_demands(roads["plan"], figures.edits_of(edits), roads["last"], known) for edits, known in both]
     first = int(roads["plan"]["words"])
     seeds = [(first + one) % SEEDS for one in range(asked["days"])]
     with ProcessPoolExecutor(min(len(seeds), len(os.sched_getaffinity(0))), initializer=die_with_parent) as pool:
-        running = [pool.submit(run_day, [], None, seed, Units(), functools.partial(of_day, roads, wanted)) for seed in seeds]
+        running = [pool.submit(run_day, [], None, seed, Units(), functools.partial(compute_day, roads, wanted)) for seed in seeds]
         try:
             yield from (unwrap_day(ended.result()) for ended in as_completed(running))
         finally:
             pool.shutdown(cancel_futures=True)
 
 
-def demands(plan: PlanLine, edits: figures.Edits, last: int, known: Sequence[AskedRates]) -> list[Rates]:
-    """Return the demand of each inlet over time: it is the same on each day."""
+def compute_all_demands(plan: PlanLine, edits: figures.EditValues, last: int, known: Sequence[AskedRates]) -> list[Rates]:
+    """Return the demand of each inlet over time, which is the same on all days."""
     from zegdrut.lost import compute_demands
-    return compute_demands(plan, figures.given(edits), last, asked=known)
+    return compute_demands(plan, figures.to_edits(edits), last, asked=known)
 
 
 def die_with_parent() -> None:
@@ -159,12 +160,12 @@ def die_with_parent() -> None:
     ctypes.CDLL(None).prctl(1, signal.SIGKILL)  # PR_SET_PDEATHSIG
 
 
-def tell(value: DaysTold) -> None:
+def print_line(value: DaysTold) -> None:
     print(json.dumps(value), flush=True)
 
 
-def told(days: list[Day]) -> list[FigureTold]:
-    """Return the figures that each day has, each mean with how far its interval reaches to both sides: of one day that is not known."""
+def describe_days(days: list[Day]) -> list[FigureTold]:
+    """Return the figures that every day has, as means and half-widths of their intervals."""
     from zegdrut.days import Day, compare_days
     names = [name for name in days[0].before if all(name in side for day in days for side in (day.before, day.after))]
     if len(days) < 2:
@@ -176,9 +177,9 @@ def told(days: list[Day]) -> list[FigureTold]:
              "others": one.others} for one in compare_days(whole)]
 
 
-def of_day(asked: figures.TwoRoads, wanted: list[list[Rates]], _pairs: list[tuple[str, Script]], _at: str | None, seed: int,
+def compute_day(asked: figures.TwoRoads, wanted: list[list[Rates]], _pairs: list[tuple[str, Script]], _at: str | None, seed: int,
            _units: Units) -> Day:
-    """Return the figures of a day. Travel times that no car has are missing."""
+    """Return the figures of the day with this seed. A travel time is missing if no car arrived."""
     from zegdrut.days import Day
     from zegdrut.trips import Window, compare_trips
     window = Window(asked["first"], asked["last"])
@@ -189,7 +190,7 @@ def of_day(asked: figures.TwoRoads, wanted: list[list[Rates]], _pairs: list[tupl
         for road, edits in zip(roads, (asked["before"], asked["after"])):
             road.become(figures.edits_of(edits))
             road.read(window.last, math.inf)
-        both = [named_figures(figures.road_of(road, rates, window)) for road, rates in zip(roads, wanted)]
+        both = [name_figures(figures.compute_road_figures(road, rates, window)) for road, rates in zip(roads, wanted)]
         delay = compare_trips(roads[0].trips, roads[1].trips, window).delay_hours
         return Day(seed, *({HOURS: one[HOURS], LOST: one[LOST], DELAY: less, **one}
                            for one, less in zip(both, (0.0, delay))))
@@ -198,8 +199,8 @@ def of_day(asked: figures.TwoRoads, wanted: list[list[Rates]], _pairs: list[tupl
             road.lab.close()
 
 
-def named_figures(found: figures.RoadFigures) -> dict[str, float]:
-    """Return the figures of a road by their names: hours, lost demand, then of each detector the cars and the seconds from the inlet."""
+def name_figures(found: figures.RoadFigures) -> dict[str, float]:
+    """Return the figures of a road by name: vehicle hours, lost demand, cars at each detector, and mean seconds from entry to each site."""
     times = [mean for _, mean in found["travel"]]
     return {HOURS: found["vehicle_hours"], LOST: sum(found["lost"]),
             **{f"cars {detector}": float(passed) for detector, (passed, _) in enumerate(found["detectors"])},

@@ -1,4 +1,4 @@
-"""A seat without a browser: asks a running server, as a tab does.
+"""Use a running server as a tab does, from a script.
 
     async with Seat(address, name="Robot") as seat:
         reply = await seat.ask("advance", to=3600)
@@ -16,12 +16,12 @@ import aiohttp
 if TYPE_CHECKING:
     from .frames import Frame, Welcome
 
-LONGEST_REPLY = 1 << 26
-PATIENCE = 120.0
+LONGEST_REPLY = 1 << 26  # bytes
+PATIENCE = 120.0  # seconds
 
 
 class RefusedReply(Exception):
-    """The server refused; `reply` is what it said."""
+    """The server refused a command. `reply` is its reply."""
 
     def __init__(self, reply: Frame) -> None:
         super().__init__(f"{reply['refused']}: {reply.get('why', '')}")
@@ -29,25 +29,26 @@ class RefusedReply(Exception):
 
 
 class Closed(ConnectionError):
-    """The server closed the socket; `code` says why."""
+    """The server closed the connection. `code` is the close code of the WebSocket."""
 
     def __init__(self, code: int | None) -> None:
-        super().__init__(f"the server closed the socket with {code}")
+        super().__init__(f"the server closed the connection with code {code}")
         self.code = code
 
 
 class Seat:
-    """A socket, and the seat that it has."""
+    """A connection to a server, with a seat. To be used as a context."""
 
     def __init__(self, address: str, authority: str | None = None, **hello: object) -> None:
-        """Take the address with its token; `hello` has name, key or take."""
+        """`address` includes the token, `authority` is the path of the certificate that signed the server's. `hello` has name, key or
+        take."""
         self._base, _, self._token = address.strip().partition("/#")
         self._ssl = ssl.create_default_context(cafile=authority) if authority else None
         self._hello = hello
         self._number = 0
         self._open: dict[int, asyncio.Future[Frame]] = {}
-        self.told: list[Frame] = []
-        """All that came without being asked for."""
+        self.received: list[Frame] = []
+        """All news from the server so far."""
         self.welcome: Welcome = {}
 
     @property
@@ -81,7 +82,7 @@ class Seat:
             value: Frame = json.loads(message.data)
             waiting = self._open.pop(value["id"], None) if "id" in value else None
             if waiting is None:
-                self.told.append(value)
+                self.received.append(value)
             elif not waiting.done():
                 waiting.set_result(value)
         for waiting in self._open.values():
@@ -90,12 +91,12 @@ class Seat:
         self._open.clear()
 
     async def reply(self, verb: str, **fields: object) -> Frame:
-        """Return the reply to a command with these fields, a refusal too."""
+        """Send a command with these fields and return the reply, which may be a refusal. Raise ConnectionError if none comes."""
         if self._socket.closed or self._reader.done():
             raise Closed(self._socket.close_code)
         self._number += 1
         waiting: asyncio.Future[Frame] = asyncio.get_running_loop().create_future()
-        waiting.add_done_callback(lambda one: one.cancelled() or one.exception())  # if the send fails nobody asks
+        waiting.add_done_callback(lambda one: one.cancelled() or one.exception())  # else asyncio logs a fault that nobody awaits
         self._open[self._number] = waiting
         try:
             async with asyncio.timeout(PATIENCE):
@@ -105,13 +106,13 @@ class Seat:
             raise ConnectionError(f"the server has not answered `{verb}` for {PATIENCE:.0f} seconds") from None
 
     async def say(self, verb: str, **fields: object) -> Frame:
-        """Return the reply to a command; raise `RefusedReply` if it is refused."""
+        """Send a command and return the reply. Raise `RefusedReply` if the command is refused."""
         reply = await self.reply(verb, **fields)
         if "refused" in reply:
             raise RefusedReply(reply)
         return reply
 
     async def ask(self, verb: str, **fields: object) -> Frame:
-        """Return the reply about the own replica, or about `at`."""
+        """Send a command about the seat's own road, or about the road `at` if that is given, and return the reply."""
         asked: dict[str, object] = {"at": self.at, **fields}
         return await self.say(verb, **asked)

@@ -1,14 +1,14 @@
-"""Let connections in: those of each address in turn, so that no address locks the others out.
+"""Accept connections from each address in turn, so that no address locks the others out.
 
     doors = Doors(sockets, protocol, certificate)
     doors.open()
-    await doors.serve()             for ever
+    await doors.serve()             never returns
     doors.close()
     strangers = Strangers(connections, known)
-    await strangers.watch()         cuts those on which nobody shows the token
+    await strangers.watch()         closes connections that do not show the token in time
 
-Many connections of one address wait for each other, and of too many the oldest are closed. Those that have said nothing, or
-are still about their keys, are few: by TLS each takes a third of a megabyte.
+Each address has a queue of connections; if it grows too long, the oldest are closed. Only a few connections may be waiting for
+their first bytes or their TLS handshake, since each takes a third of a megabyte with TLS.
 """
 from __future__ import annotations
 
@@ -22,36 +22,36 @@ import ssl
 import time
 from typing import Callable, Container, Deque, Iterable, Protocol
 
-MOST_WAITING = 64  # connections of an address that wait to be let in
-MOST_ADDRESSES = 256  # that have some
-AT_ONCE, A_SECOND = 128, 100  # connections that are let in
-MOST_ENTERING = 64  # that have said nothing, or are about their keys
-HANDSHAKE = 10.0  # seconds for each of both
-FAREWELL = 5.0  # seconds in which the other end says that it goes, by TLS
-AT_A_TIME = 256  # that are accepted before others have their turn
-FEW, MANY = 64, 512  # connections on which nobody has shown the token, of an address, and of all
-SHORT = 60.0  # seconds
-EVERY = 0.2  # seconds between two looks at them
-TOO_MANY = 0.5  # seconds until it is tried again where the system has no more sockets
+MOST_WAITING = 64  # connections in the queue of an address
+MOST_ADDRESSES = 256  # that have a queue
+ENTRY_BURST, ENTRIES_PER_SECOND = 128, 100  # connections that may enter in a burst, and per second
+MOST_ENTERING = 64  # connections before their first bytes, or in their TLS handshake
+HANDSHAKE = 10.0  # seconds for the first bytes, and again for the handshake
+TLS_SHUTDOWN = 5.0  # seconds for the TLS shutdown
+AT_A_TIME = 256  # connections that are accepted before other work has its turn
+FEW, MANY = 64, 512  # connections without the token, of an address, and of all addresses
+SHORT = 60.0  # seconds in which a connection must show the token
+LOOK_EVERY = 0.2  # seconds between two looks at connections without the token
+TOO_MANY = 0.5  # seconds until the next try if the system has no more sockets
 
 
 class Connection(Protocol):
-    """A connection, as aiohttp has it. It has no transport once it is closed."""
+    """A connection of aiohttp. It has no transport once it is closed."""
 
     @property
     def transport(self) -> asyncio.Transport | None:
-        """Return what it goes through."""
+        """Return the transport; None if the connection is closed."""
 
 
 class Doors:
-    """Listening sockets, and who waits before them."""
+    """Listening sockets, and the queues of connections that wait to enter."""
 
     def __init__(self, sockets: list[socket.socket], protocol: Callable[[], asyncio.Protocol], certificate: ssl.SSLContext | None) -> None:
         self._sockets, self._protocol, self._certificate = sockets, protocol, certificate
-        self._waiting: collections.OrderedDict[str, Deque[socket.socket]] = collections.OrderedDict()  # by address
-        self._entering: dict[asyncio.Future[None], str] = {}  # the oldest first, and their addresses
+        self._waiting: collections.OrderedDict[str, Deque[socket.socket]] = collections.OrderedDict()  # queues by address
+        self._entering: dict[asyncio.Future[None], str] = {}  # tasks, the oldest first, and their addresses
         self._come = asyncio.Event()
-        self._left, self._at = float(AT_ONCE), time.monotonic()
+        self._left, self._at = float(ENTRY_BURST), time.monotonic()
 
     def open(self) -> None:
         """Accept connections from now on."""
@@ -67,33 +67,33 @@ class Doors:
             except (BlockingIOError, InterruptedError, ConnectionError):
                 return
             except OSError as fault:
-                logging.warning("no new connections for a moment: %s", fault)
+                logging.warning("new connections wait for a moment: %s", fault)
                 loop.remove_reader(door)
-                loop.call_later(TOO_MANY, self._again, door)
+                loop.call_later(TOO_MANY, self._resume, door)
                 return
-            self._put(connection, neighbourhood(address))
+            self._put(connection, address_group(address))
 
-    def _again(self, door: socket.socket) -> None:
+    def _resume(self, door: socket.socket) -> None:
         if door.fileno() >= 0:
             asyncio.get_running_loop().add_reader(door, self._accept, door)
 
     def _put(self, connection: socket.socket, address: str) -> None:
-        """Let a connection wait; the oldest of too many of its address is closed."""
+        """Put a connection into the queue of its address. Close the oldest one if the queue is full."""
         queue = self._waiting.setdefault(address, collections.deque())
         queue.append(connection)
         if len(queue) > MOST_WAITING:
             queue.popleft().close()
-        if len(self._waiting) > MOST_ADDRESSES:  # of one whose turn is last
+        if len(self._waiting) > MOST_ADDRESSES:  # drop the queue whose turn is last
             for one in self._waiting.popitem()[1]:
                 one.close()
         self._come.set()
 
     async def serve(self) -> None:
-        """Let those who wait in, an address after the other."""
+        """Let waiting connections enter, from one address after the other."""
         while True:
             self._come.clear()
             while self._waiting:
-                await self._pace()
+                await self._wait_to_enter()
                 address, queue = self._waiting.popitem(last=False)
                 connection = queue.popleft()
                 if queue:
@@ -101,12 +101,12 @@ class Doors:
                 self._enter(connection, address)
             await self._come.wait()
 
-    async def _pace(self) -> None:
-        """Wait until one more may be let in."""
+    async def _wait_to_enter(self) -> None:
+        """Wait until one more connection may enter."""
         now = time.monotonic()
-        self._left = min(AT_ONCE, self._left + A_SECOND * (now - self._at)) - 1
+        self._left = min(ENTRY_BURST, self._left + ENTRIES_PER_SECOND * (now - self._at)) - 1
         self._at = now
-        await asyncio.sleep(max(0.0, -self._left / A_SECOND))
+        await asyncio.sleep(max(0.0, -self._left / ENTRIES_PER_SECOND))
 
     def _enter(self, connection: socket.socket, address: str) -> None:
         task = asyncio.ensure_future(self._connect(connection))
@@ -121,11 +121,11 @@ class Doors:
         has_tls = self._certificate is not None
         try:
             async with asyncio.timeout(HANDSHAKE):
-                await says_something(connection)
+                await wait_for_first_bytes(connection)
             await asyncio.get_running_loop().connect_accepted_socket(
                 self._protocol, connection, ssl=self._certificate, ssl_handshake_timeout=HANDSHAKE if has_tls else None,
-                ssl_shutdown_timeout=FAREWELL if has_tls else None)
-        except (OSError, asyncio.TimeoutError):  # (what is wrong about keys is an OSError, too)
+                ssl_shutdown_timeout=TLS_SHUTDOWN if has_tls else None)
+        except (OSError, asyncio.TimeoutError):  # (errors of TLS are OSErrors, too)
             connection.close()
         except asyncio.CancelledError:
             with contextlib.suppress(OSError):
@@ -133,7 +133,7 @@ class Doors:
             raise
 
     def close(self) -> None:
-        """Let nobody in any more."""
+        """Close the listening sockets and all connections that have not entered."""
         for one in self._sockets:
             asyncio.get_running_loop().remove_reader(one)
             one.close()
@@ -145,8 +145,8 @@ class Doors:
         self._waiting.clear()
 
 
-async def says_something(connection: socket.socket) -> None:
-    """Wait until there is something to read: who is silent takes a socket, and nothing else."""
+async def wait_for_first_bytes(connection: socket.socket) -> None:
+    """Wait until there is something to read. A silent connection costs a socket, and nothing else."""
     loop, said = asyncio.get_running_loop(), asyncio.Event()
     connection.setblocking(False)
     loop.add_reader(connection, said.set)
@@ -156,8 +156,8 @@ async def says_something(connection: socket.socket) -> None:
         loop.remove_reader(connection)
 
 
-def neighbourhood(address: str) -> str:
-    """Return what counts as one address: for IPv6 a network of 64 bits, since one host may have all of it."""
+def address_group(address: str) -> str:
+    """Return the address, or for IPv6 its /64 network, since one host may have all addresses of such a network."""
     if ":" not in address:
         return address
     long = ipaddress.IPv6Address(address.partition("%")[0])
@@ -165,17 +165,17 @@ def neighbourhood(address: str) -> str:
 
 
 class Strangers:
-    """Looks after connections: of too many the oldest are cut, and those that last too long."""
+    """Closes connections that have not shown the token: the oldest if there are too many, and all after a time."""
 
     def __init__(self, connections: Callable[[], Iterable[Connection]], known: Callable[[], Container[Connection]]) -> None:
-        """Take the functions that give all connections, and those that have shown the token."""
+        """`connections` returns all connections, `known` those that have shown the token."""
         self._connections, self._known = connections, known
         self._since: dict[Connection, float] = {}
 
     async def watch(self) -> None:
-        """Look for ever."""
+        """Look at all connections again and again; never return."""
         while True:
-            await asyncio.sleep(EVERY)
+            await asyncio.sleep(LOOK_EVERY)
             self.look(time.monotonic())
 
     def look(self, now: float) -> None:
@@ -191,4 +191,4 @@ class Strangers:
 
 
 def address_of(transport: asyncio.Transport) -> str:
-    return neighbourhood(str((transport.get_extra_info("peername") or ("",))[0]))
+    return address_group(str((transport.get_extra_info("peername") or ("",))[0]))

@@ -11,8 +11,8 @@ from __future__ import annotations
 import time
 from typing import Callable, TypeVar
 
-MOST_SENDERS = 256  # that are remembered
-BURST, A_SECOND = 6_000, 500  # messages of a sender that are taken at once, and each second
+MOST_SENDERS = 256  # senders that are remembered
+MESSAGE_BURST, MESSAGES_PER_SECOND = 6_000, 500  # messages that a sender may send in a burst, and per second
 WORK = 1_000  # messages: a second of work counts as this many
 STRANGERS, UNSEALED = "", "unsealed"  # sender names for all unknown folders, and for unsealed messages
 FLOOD = 30.0  # seconds for which a sender over its limit is ignored
@@ -20,20 +20,20 @@ V = TypeVar("V")
 
 
 class Floods:
-    """Counts the messages of each sender. The limit is `BURST` at once and `A_SECOND` each second, or as much work."""
+    """Counts the messages of each sender. The limit is `BURST` messages at once and `A_SECOND` per second, or the same amount of work."""
 
     def __init__(self, clock: Callable[[], float] = time.monotonic) -> None:
         self._clock = clock
-        self._left: dict[str, tuple[float, float]] = {}  # by sender: messages that it may still send, and when that was so
-        self._until: dict[str, float] = {}
+        self._left: dict[str, tuple[float, float]] = {}  # by sender: messages that it may still send, and the time of this count
+        self._until: dict[str, float] = {}  # by sender: the time until which it is ignored
 
     def count_message(self, sender: str) -> bool:
         """Count one more message of a sender. Return whether the sender is over its limit."""
         now = self._clock()
         if now < self._until.get(sender, now):
             return True
-        left, when = self._left.pop(sender, (float(BURST), now))
-        left = min(BURST, left + A_SECOND * (now - when)) - 1
+        left, when = self._left.pop(sender, (float(MESSAGE_BURST), now))
+        left = min(MESSAGE_BURST, left + MESSAGES_PER_SECOND * (now - when)) - 1
         self._left[sender] = left, now
         drop_oldest(self._left)
         if left < 0:
@@ -43,11 +43,11 @@ class Floods:
 
     def add_work(self, sender: str, seconds: float) -> None:
         """Count a message that kept the server busy for some seconds as many messages."""
-        left, when = self._left.get(sender, (float(BURST), self._clock()))
+        left, when = self._left.get(sender, (float(MESSAGE_BURST), self._clock()))
         self._left[sender] = left - WORK * seconds, when
         drop_oldest(self._left)
 
-    def paused(self) -> list[str]:
+    def ignored_senders(self) -> list[str]:
         """Return the senders that are ignored now."""
         now = self._clock()
         return [sender for sender, until in list(self._until.items()) if now < until]

@@ -1,6 +1,6 @@
-"""A journal of form 1 or 2, read into a state: the same roads, by the rules of its time.
+"""Read a journal of form 1 or 2 into a state. The roads are those that the journal had, by the rules of its form.
 
-There the shared road also had repairs. They say nothing any more, so places in it are counted again.
+In these forms the shared road also had repairs. They have no effect any more, so places on the shared road are counted without them.
 """
 from __future__ import annotations
 
@@ -17,16 +17,17 @@ if TYPE_CHECKING:
 
 
 class Former:
-    """The state that is needed while such a journal is read."""
+    """Applies the entries of such a journal to a state."""
 
     def __init__(self, state: State) -> None:
         self._state = state
-        self._places = [0]  # how many operations the first N shared gestures are, by N
+        self._places = [0]  # by N: how many operations the first N shared gestures have become
 
     def apply(self, kind: str, value: Fields) -> bool:
-        """Apply an entry that differs from one of form 3; return whether it does."""
-        if kind in ("gesture", "share", "came", "answer"):
-            getattr(self, f"_{kind}")(value)
+        """Apply an entry if its kind differs from that of form 3. Return whether it does."""
+        appliers = {"gesture": self._apply_gesture, "share": self._share, "came": self._apply_received, "answer": self._ignore_repair}
+        if kind in appliers:
+            appliers[kind](value)
             if "mending" in value:
                 self._count([value["mending"]])
         elif kind == "take":
@@ -44,7 +45,7 @@ class Former:
     def _count(self, gestures: list[Json]) -> None:
         self._places += [self._state.shared.size] * len(gestures)
 
-    def _gesture(self, value: Fields) -> None:
+    def _apply_gesture(self, value: Fields) -> None:
         one = read_former_gesture(dict(value))
         is_shared = value.get("shared") is True
         if one is not None:
@@ -58,7 +59,7 @@ class Former:
         Share.read(value).apply(self._state)
         self._count([None] * (self._state.shared.size - before))
 
-    def _came(self, value: Fields) -> None:
+    def _apply_received(self, value: Fields) -> None:
         gestures = read_list(value["gestures"])
         operations = [one for one in map(read_former_gesture, gestures) if one is not None]
         titles = [one.get("title", "") for one in [value, *gestures] if isinstance(one, dict) and "known" not in one]
@@ -71,5 +72,5 @@ class Former:
             Came(operations, read_string(value.get("who", "")), title, read_time(value.get("when")),
                  value.get("unsent") is True).apply(self._state)
 
-    def _answer(self, value: Fields) -> None:
-        """Ignore a repair alone."""
+    def _ignore_repair(self, value: Fields) -> None:
+        """Ignore an entry that has a repair and nothing else."""

@@ -1,12 +1,12 @@
-"""Keep the journal of a folder: what a server has confirmed, a JSON object a line, on the disk before anybody hears of it.
+"""Keep the journal of a folder: all that a server has confirmed. An entry is on the disk before anybody hears of it.
 
-    entries, size = read_entries(path)         what stands there, without what was never confirmed; `Entries` one by one
-    with lock(folder): ..              one server a folder; its journal is locked, too
-    journal = Journal(path, size)      cuts that off, and appends
-    await journal.write({"clock": ..}) returns once the entry is on the disk; one sync serves all that wait
-    await journal.settled()            returns once all is that was written so far
+    entries, size = read_entries(path)     the confirmed entries, and their length in bytes
+    with lock(folder): ..                  lets no other server use the folder; locks the journal, too
+    journal = Journal(path, size)          removes what follows the confirmed entries, and appends
+    await journal.write({"clock": ..})     returns once the entry is on the disk; one sync serves all that wait
+    await journal.wait_until_written()     returns once all entries written so far are on the disk
 
-Its lines are those of `entries`.
+The module `entries` defines the lines.
 """
 from __future__ import annotations
 
@@ -25,27 +25,27 @@ import time
 from pathlib import Path
 from typing import Callable, Iterable, Iterator, ParamSpec, TypeVar
 
-from .entries import Broken as Broken, Entries as Entries, Entry as Entry
-from .entries import journal_line as journal_line, packed as packed, read_entries as read_entries
+from .entries import CannotStart as CannotStart, CorruptJournal as CorruptJournal, Entries as Entries, JournalLine as JournalLine
+from .entries import journal_line as journal_line, to_json as to_json, read_entries as read_entries
 
 JOURNAL = "journal.jsonl"
 LINES_AT_ONCE = 1_000
-ROOM = 262_144  # bytes
-NICE = 5  # less than who edits
-LAST_WAIT = 5.0  # seconds for the disk to answer when the server ends
+ROOM = 262_144  # bytes that must fit on the disk before it counts as writable; no gesture is longer
+NICE = 5  # the priority of the process that shortens a journal, below editing
+LAST_WAIT = 5.0  # seconds that the end of the server waits for the disk
 Then = Callable[[], None]
 P = ParamSpec("P")
 T = TypeVar("T")
 
 
 class NotWritten(Exception):
-    """An entry is not on the disk."""
+    """An entry could not be written to the disk."""
 
 
 @contextlib.contextmanager
 def lock(folder: Path) -> Iterator[None]:
-    """Hold a folder; two servers there would make one stamp twice. `Broken` if another server holds it, also where its
-    file `lock` was removed: each holds its journal, too."""
+    """Lock a folder, since two servers there would issue the same stamps. Raise `CannotStart` if another server has locked it. The
+    journal is locked, too, in case somebody removes the file `lock`."""
     with contextlib.ExitStack() as files:
         try:
             file = files.enter_context(open(folder / "lock", "a", encoding="ascii"))
@@ -53,34 +53,34 @@ def lock(folder: Path) -> Iterator[None]:
             if not is_read_only(fault):
                 raise
         else:
-            hold(file.fileno(), folder)
+            lock_file(file.fileno(), folder)
         with contextlib.suppress(FileNotFoundError):
-            os.close(held(folder / JOURNAL))  # the journal itself holds it from now on
+            os.close(open_locked(folder / JOURNAL))  # only a test: `Journal` locks it again
         yield
 
 
-def held(path: Path) -> int:
-    """Open a journal, and lock it until the file is closed; `Broken` if another server has it."""
+def open_locked(path: Path) -> int:
+    """Open a journal and lock it until the file is closed. Raise `CannotStart` if another server has locked it."""
     file = os.open(path, os.O_RDONLY)
     try:
-        hold(file, path.parent)
-        if os.fstat(file).st_ino != os.stat(path).st_ino:  # a server that has ended since put another in its place
-            raise Broken(f"another server ran in {path.parent} until just now: try again")
+        lock_file(file, path.parent)
+        if os.fstat(file).st_ino != os.stat(path).st_ino:  # another server has replaced the file in the meantime
+            raise CannotStart(f"another server was running in {path.parent} until a moment ago: try again")
     except BaseException:
         os.close(file)
         raise
     return file
 
 
-def hold(file: int, folder: Path) -> None:
+def lock_file(file: int, folder: Path) -> None:
     try:
         fcntl.flock(file, fcntl.LOCK_EX | fcntl.LOCK_NB)
     except BlockingIOError:
-        raise Broken(f"another server runs in {folder}") from None
+        raise CannotStart(f"another server is running in {folder}: stop it, or use another folder") from None
 
 
 def is_read_only(fault: OSError) -> bool:
-    """Return whether a call failed since nothing may be written there."""
+    """Return whether a call failed because the file or the file system is read-only."""
     return fault.errno in (errno.EROFS, errno.EACCES, errno.EPERM)
 
 
@@ -92,13 +92,13 @@ def sync_folder(folder: Path) -> None:
         os.close(handle)
 
 
-def appended(path: Path) -> int:
-    """Open a file to append to, for its owner alone."""
+def open_for_append(path: Path) -> int:
+    """Open a file to append to it. Only its owner may read and write it."""
     return os.open(path, os.O_WRONLY | os.O_CREAT | os.O_APPEND, 0o600)
 
 
 def write(file: int, pieces: Iterable[bytes]) -> None:
-    """Write all of it, and return when it is on the disk."""
+    """Write all pieces, and return when they are on the disk."""
     for piece in pieces:
         while piece:
             piece = piece[os.write(file, piece):]
@@ -106,50 +106,50 @@ def write(file: int, pieces: Iterable[bytes]) -> None:
 
 
 def put_in_place(path: Path, pieces: Iterable[bytes]) -> int:
-    """Make a file, or put another in its place, whole or not at all; it stays open, to append to."""
+    """Create or replace a file atomically. Return it, open to append to it."""
     file = put_beside(path, pieces)
     try:
-        os.rename(beside(path), path)
+        os.rename(successor_path(path), path)
     except OSError:
         close_all(file)
         with contextlib.suppress(OSError):
-            beside(path).unlink()
+            successor_path(path).unlink()
         raise
     return file
 
 
-def beside(path: Path) -> Path:
-    """Return where a file is written that takes the place of another."""
+def successor_path(path: Path) -> Path:
+    """Return the path at which the replacement of a file is written."""
     return path.with_name(path.name + ".new")
 
 
 def put_beside(path: Path, pieces: Iterable[bytes]) -> int:
-    """Write a file that will take the place of another, whole or not at all; it stays open, to append to."""
-    beside(path).unlink(missing_ok=True)
-    file = appended(beside(path))
+    """Write the replacement of a file, completely or not at all. Return it, open to append to it."""
+    successor_path(path).unlink(missing_ok=True)
+    file = open_for_append(successor_path(path))
     try:
         write(file, pieces)
     except OSError:
         close_all(file)
         with contextlib.suppress(OSError):
-            beside(path).unlink()
+            successor_path(path).unlink()
         raise
     return file
 
 
-def fork_writing(path: Path, entries: Callable[[], Iterable[Entry]]) -> int:
-    """Let a process that has this one's memory, as it is now, write `entries()` beside a journal. Return its number; its
-    status is 0 if they are on the disk."""
+def fork_writer(path: Path, entries: Callable[[], Iterable[JournalLine]]) -> int:
+    """Fork a process, which writes `entries()` to the replacement of a journal. Return its number. Its status is 0 if all of them are
+    on the disk."""
     process = os.fork()
     if process:
         return process
     status = 1
     try:
-        ctypes.CDLL(None).prctl(1, signal.SIGKILL)  # PR_SET_PDEATHSIG: it ends with its parent
+        ctypes.CDLL(None).prctl(1, signal.SIGKILL)  # PR_SET_PDEATHSIG: ends with its parent
         signal.set_wakeup_fd(-1)
         for one in (signal.SIGINT, signal.SIGTERM):
             signal.signal(one, signal.SIG_DFL)
-        os.closerange(3, os.sysconf("SC_OPEN_MAX"))  # a connection lasts as long as anybody has it open
+        os.closerange(3, os.sysconf("SC_OPEN_MAX"))  # else the connections of tabs would stay open as long as this process runs
         os.nice(NICE)
         gc.disable()
         put_beside(path, journal_lines(entries()))
@@ -158,16 +158,16 @@ def fork_writing(path: Path, entries: Callable[[], Iterable[Entry]]) -> int:
         os._exit(status)
 
 
-def journal_lines(entries: Iterable[Entry]) -> Iterator[bytes]:
-    """Yield the lines of entries, many at once."""
+def journal_lines(entries: Iterable[JournalLine]) -> Iterator[bytes]:
+    """Yield the lines of entries, in blocks of many lines."""
     several = iter(entries)
     while part := list(itertools.islice(several, LINES_AT_ONCE)):
-        yield b"".join(journal_line(packed(entry), True) for entry in part)
+        yield b"".join(journal_line(to_json(entry), True) for entry in part)
 
 
 class Journal:
-    """Appends entries. After a failed write all that wait are refused with `NotWritten`, and so is all that comes until
-    `mend`: what it would stand on may not be there. `failures` counts how often that was."""
+    """Appends entries. After a failed write, all waiting entries fail with `NotWritten`, and so do all new ones until `probe_disk`
+    succeeds, since they may depend on an entry that is not there. `failures` counts failed writes."""
 
     def __init__(self, path: Path, size: int) -> None:
         self.path, self.size = path, size
@@ -176,9 +176,9 @@ class Journal:
         self._waiting: list[tuple[str, Then, asyncio.Future[None]]] = []
         self._last: asyncio.Future[None] | None = None
         self._writer: asyncio.Future[None] | None = None
-        self._began: float | None = None  # when the disk was asked what it has not answered
+        self._began: float | None = None  # when the call began that the disk has not answered yet
         self._is_read_only = self._is_closed = False
-        self._file = self._opened()
+        self._file = self._open()
         self._held = -1
         try:
             self._begin(os.fstat(self._file).st_size - size)
@@ -187,46 +187,47 @@ class Journal:
             raise
 
     def _begin(self, torn: int) -> None:
-        """Lock the journal, and cut off what was never confirmed."""
-        self._held = held(self.path)
+        """Lock the journal, and remove the `torn` bytes at its end, which were never confirmed."""
+        self._held = open_locked(self.path)
         if torn > 0:
-            logging.warning("%s: %d bytes at its end were never confirmed, and are cut off", self.path, torn)
+            logging.warning("%s: the last %d bytes were never confirmed and are removed", self.path, torn)
         if not self._is_read_only:
             self._cut()
             sync_folder(self.path.parent)
 
-    def _opened(self) -> int:
-        """Open the journal to append to. A journal that is there and may not be written can be read; what is written is
-        refused until `mend` succeeds."""
+    def _open(self) -> int:
+        """Open the journal to append to it. If it exists but is read-only, open it to read; writes then fail until `probe_disk`
+        succeeds."""
         try:
-            return appended(self.path)
+            return open_for_append(self.path)
         except OSError as fault:
             if not is_read_only(fault) or not self.path.exists():
                 raise
-            logging.warning("%s is read-only (%s): everything can be viewed, and nothing changed", self.path, fault.strerror)
-            self._failed(fault)
+            logging.warning("%s is read-only (%s): everything can be viewed, but nothing can be changed", self.path, fault.strerror)
+            self._note_fault(fault)
             self._is_read_only = True
             return os.open(self.path, os.O_RDONLY)
 
-    def write(self, entry: Entry, then: Then = lambda: None) -> asyncio.Future[None]:
-        """Return a future that is done once the entry is on the disk, and `then` was called; or fails with `NotWritten`."""
+    def write(self, entry: JournalLine, then: Then = lambda: None) -> asyncio.Future[None]:
+        """Write an entry. Return a future that is done once the entry is on the disk and `then` was called, or that fails with
+        `NotWritten`."""
         done: asyncio.Future[None] = asyncio.get_running_loop().create_future()
-        done.add_done_callback(lambda one: one.cancelled() or one.exception())  # whoever asks gets the fault
+        done.add_done_callback(lambda one: one.cancelled() or one.exception())  # else asyncio logs a fault that nobody awaits
         if self.fault is not None:
             done.set_exception(NotWritten(self.fault))
             return done
-        self._waiting.append((packed(entry), then, done))
+        self._waiting.append((to_json(entry), then, done))
         self._last = done
         if self._writer is None:
             self._writer = asyncio.ensure_future(self._write_all())
         return done
 
-    def waits(self, seconds: float) -> bool:
-        """Return whether the disk has owed an answer for some seconds."""
+    def has_waited(self, seconds: float) -> bool:
+        """Return whether the disk has not answered for more than these seconds."""
         return self._began is not None and time.monotonic() - self._began > seconds
 
-    async def settled(self) -> None:
-        """Wait until all that was written so far is on the disk; `NotWritten` where it was not taken."""
+    async def wait_until_written(self) -> None:
+        """Wait until all entries written so far are on the disk. Raise `NotWritten` if the disk did not accept them."""
         if self._last is not None:
             await asyncio.shield(self._last)
 
@@ -236,31 +237,31 @@ class Journal:
                 batch, self._waiting = self._waiting, []
                 data = b"".join(journal_line(text, place == 0) for place, (text, _, _) in enumerate(batch))
                 try:
-                    await self._asks(self._append, data)
+                    await self._run_on_disk_thread(self._append, data)
                 except OSError as fault:
                     self._waiting = batch + self._waiting
-                    self._failed(fault)
+                    self._note_fault(fault)
                     return
                 for _, then, done in batch:
                     try:
                         then()
                     except Exception:  # pylint: disable=broad-except
-                        logging.exception("a callback after a write failed; the write is on the disk")
+                        logging.exception("a callback after a write failed; what was written is on the disk")
                     if not done.done():
                         done.set_result(None)
         finally:
             self._writer = None
 
-    async def _asks(self, does: Callable[P, None], *given: P.args, **named: P.kwargs) -> None:
-        """Let the disk do something, beside all else."""
+    async def _run_on_disk_thread(self, does: Callable[P, None], *given: P.args, **named: P.kwargs) -> None:
+        """Call a function that waits for the disk, on another thread."""
         self._began = time.monotonic()
         try:
             await asyncio.get_running_loop().run_in_executor(None, functools.partial(does, *given, **named))
         finally:
             self._began = None
 
-    def _failed(self, fault: OSError) -> None:
-        self.fault = f"the disk does not accept it ({fault.strerror})"
+    def _note_fault(self, fault: OSError) -> None:
+        self.fault = f"the disk does not accept writes ({fault.strerror})"
         self.failures += 1
         waiting, self._waiting, self._last = self._waiting, [], None
         for _, _, done in waiting:
@@ -271,7 +272,7 @@ class Journal:
         try:
             write(self._file, [data, more])
         except OSError:
-            with contextlib.suppress(OSError):  # else `mend` tries it again
+            with contextlib.suppress(OSError):  # `probe_disk` cuts again
                 self._cut()
             raise
         self.size += len(data)
@@ -280,41 +281,41 @@ class Journal:
         os.ftruncate(self._file, self.size)
         os.fsync(self._file)
 
-    def confirmed(self) -> list[Entry]:
-        """Return what was confirmed, from the disk, whether that can be written or not."""
+    def read_confirmed(self) -> list[JournalLine]:
+        """Read all confirmed entries from the disk, which need not be writable."""
         return read_entries(self.path, self.size)[0]
 
-    async def mend(self, entry: Entry) -> None:
-        """Try the disk by an entry, and as much more as a gesture may be: once that is there, and cut off again, all
-        else is taken. OSError where it is not."""
-        await self._asks(self._mend, entry)
+    async def probe_disk(self, entry: JournalLine) -> None:
+        """Try whether the disk accepts writes again: append an entry and as many bytes as a gesture can have, and remove these bytes.
+        From then on `write` works again. Raise OSError if the disk refuses."""
+        await self._run_on_disk_thread(self._write_probe, entry)
         self.fault = None
 
-    def _mend(self, entry: Entry) -> None:
+    def _write_probe(self, entry: JournalLine) -> None:
         if self._is_read_only:
-            file, old = appended(self.path), self._file
+            file, old = open_for_append(self.path), self._file
             self._file, self._is_read_only = file, False
             os.close(old)
         self._cut()
         sync_folder(self.path.parent)
-        self._append(journal_line(packed(entry), True), bytes(ROOM))
+        self._append(journal_line(to_json(entry), True), bytes(ROOM))
         self._cut()
 
-    async def compact(self, entries: Callable[[], Iterable[Entry]]) -> None:
-        """Put `entries()` into the place of all that was written so far, and what is written meanwhile behind them. Another
-        process writes them, as they are when nothing waits; nobody waits for it."""
+    async def compact(self, entries: Callable[[], Iterable[JournalLine]]) -> None:
+        """Replace all that was written so far by `entries()`, and append what is written meanwhile. A forked process writes the entries,
+        as they are at a moment when no write is waiting; other writes go on."""
         while self._writer is not None:
             await asyncio.wait([self._writer])
         if self.fault is not None:
             return
         copied, failures = self.size, self.failures
-        if not await self._is_written(fork_writing(self.path, entries)):
-            logging.warning("the journal was not compacted: the shorter one could not be written")
+        if not await self._is_written(fork_writer(self.path, entries)):
+            logging.warning("the journal was not compacted: the shorter one could not be written to the disk")
             return
-        file = appended(beside(self.path))
+        file = open_for_append(successor_path(self.path))
         try:
             while self.size - copied > ROOM and self.failures == failures:
-                copied = await self._asks_beside(self._copy, file, copied)
+                copied = await self._run_in_background(self._copy, file, copied)
             while self._writer is not None:
                 await asyncio.wait([self._writer])
             if self.failures == failures and not self._is_closed:
@@ -327,20 +328,20 @@ class Journal:
                 close_all(file)
 
     async def _is_written(self, process: int) -> bool:
-        """Wait for a process that writes; return whether all is on the disk."""
+        """Wait for the process that writes the entries. Return whether all of them are on the disk."""
         try:
-            _, status = await self._asks_beside(os.waitpid, process, 0)
+            _, status = await self._run_in_background(os.waitpid, process, 0)
         except asyncio.CancelledError:
             os.kill(process, signal.SIGKILL)
             raise
         return status == 0
 
-    async def _asks_beside(self, does: Callable[P, T], *given: P.args, **named: P.kwargs) -> T:
-        """Let the disk do something that nobody waits for."""
+    async def _run_in_background(self, does: Callable[P, T], *given: P.args, **named: P.kwargs) -> T:
+        """Call a function that waits for the disk, on another thread. Tabs do not wait for it, so it does not count as a slow disk."""
         return await asyncio.get_running_loop().run_in_executor(None, functools.partial(does, *given, **named))
 
     def _copy(self, file: int, begin: int) -> int:
-        """Append what was written from a byte on to another file. Return up to where."""
+        """Append what was written from the byte `begin` on to another file. Return the byte up to which it was copied."""
         end = self.size
         with open(self.path, "rb") as journal:
             journal.seek(begin)
@@ -349,42 +350,41 @@ class Journal:
 
     async def _replace(self, file: int, copied: int) -> None:
         try:
-            await self._asks(self._rename, file, copied)
+            await self._run_on_disk_thread(self._rename, file, copied)
         except OSError as fault:
             logging.warning("the journal was not compacted: %s", fault)
         else:
             try:
-                await self._asks(sync_folder, self.path.parent)
-            except OSError as fault:  # the old one may stand there again
-                self._failed(fault)
+                await self._run_on_disk_thread(sync_folder, self.path.parent)
+            except OSError as fault:  # after a crash the old journal may be there again
+                self._note_fault(fault)
         await self._write_all()
 
     def _rename(self, file: int, copied: int) -> None:
-        """Rename a new file over the old one: whoever reads sees the one or the other, and it is locked first."""
+        """Lock the new file, and rename it over the old one. A reader sees either file, complete."""
         self._copy(file, copied)
-        lock_of_new = held(beside(self.path))
+        lock_of_new = open_locked(successor_path(self.path))
         try:
-            os.rename(beside(self.path), self.path)
+            os.rename(successor_path(self.path), self.path)
         except OSError:
             close_all(lock_of_new)
             raise
-        # The old file is closed last: if `close` fails, its number may already be that of a socket.
+        # The old file is closed last: if `close` fails, its number may already belong to a socket.
         olds = self._file, self._held
         self._file, self._held, self.size = file, lock_of_new, os.fstat(file).st_size
         close_all(*olds)
 
     async def close(self) -> None:
-        """Close the files when the disk has answered. If it does not answer for some seconds, the end of the process closes
-        them."""
+        """Close the files when the disk has answered. If it does not answer for some seconds, leave that to the end of the process."""
         if self._writer is not None:
             await asyncio.wait([self._writer], timeout=LAST_WAIT)
         if self._writer is None and not self._is_closed:
-            self._is_closed, self.fault = True, self.fault or "the server has ended"
+            self._is_closed, self.fault = True, self.fault or "the server has stopped"
             close_all(self._file, self._held)
 
 
 def close_all(*files: int) -> None:
-    """Close files that nobody needs any more."""
+    """Close files; ignore errors."""
     for file in files:
         with contextlib.suppress(OSError):
             os.close(file)

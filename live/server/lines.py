@@ -1,5 +1,5 @@
-"""List the changes that a replica holds, for a page: a line for each, with where it is in force, who covers the rest, and all
-that was done to it."""
+"""List the changes that a replica holds, for the page. A line says where its change is in force, which lines cover it elsewhere, and
+which operations changed it."""
 from __future__ import annotations
 
 import time
@@ -8,34 +8,35 @@ from typing import AbstractSet, Sequence, TypedDict
 from .model.changes import operations_on
 from .model.demands import demand_of, is_planned, stated_demand
 from .model.operations import Name, Operation, Shape, Stamp, is_line, is_raw
-from .model.road import Road, parts_of, stands
-from .model.seen import Rectangle, lost, shown
+from .model.road import Road, parts_of, is_standing
+from .model.seen import Rectangle, find_overruled, visible_rectangles
 from .state import Replica, SeatReplica, State
 
-SITE = "site"  # the kind of a line that excludes one
+SITE = "site"  # the kind of a line that excludes a site
 NONE: frozenset[Operation] = frozenset()
 
 Act = TypedDict("Act", {
     "stamp": Stamp, "who": str, "note": str, "when": float, "does": str, "shared": bool, "undoes": "Stamp | None", "lost": "Stamp | None",
     "idle": bool, "void": bool, "shape": "Shape | None", "demand": "float | None"}, total=False)
-"""What an operation did to a line, as a tab gets it; `lost` is the operation that beat it."""
+"""What an operation did to a line, in the form of a reply. `lost` is the operation that won over this one."""
 Line = TypedDict("Line", {
     "name": Stamp, "gone": bool, "kind": "str | None", "shape": "Shape | None", "who": str, "note": str, "when": float, "height": Stamp,
     "standing": bool, "shared": bool, "shown": Sequence[Rectangle], "operations": Sequence[Act], "edits": Sequence[Sequence["str | int"]],
     "was": "Sequence[Rectangle] | None", "demand": float, "planned": bool}, total=False)
-"""A line of a list, as a tab gets it. One that is `gone` has only its name; `was` is what it shows without a preview. `demand` is what
-an inflow is for, in cars per hour, if that was said; `planned` is the demand of the road's file."""
+"""A line of a list, in the form of a reply. A line that is `gone` has only its name. `was` is what the line shows without the previewed
+change. `demand` is the demand that an inflow stands for, in cars per hour, if its author gave one; `planned` is true if that is the
+demand of the road's file."""
 
 
 class Lister:
-    """The list of a replica: as it is, or as it would be on another road."""
+    """Makes the lines of a replica's list, for the road of the replica or for another road."""
 
     def __init__(self, state: State, replica: Replica, road: Road | None = None) -> None:
         self._places, self._road = state.shared.places, road or replica.road
         self._idle: AbstractSet[Operation] = replica.idle if isinstance(replica, SeatReplica) else NONE
 
     def line(self, line: Stamp) -> Line:
-        """Return a line of the list. One that was put in private and withdrawn again is gone."""
+        """Return a line of the list. A line that was put and withdrawn again before it was shared is gone."""
         road = self._road
         done = operations_on(road, line)
         is_private = not any(one in self._places for one in done)
@@ -45,7 +46,7 @@ class Lister:
         order = {name: place for place, name in enumerate(first.sets)}
         parts = sorted(parts_of(road, line), key=lambda name: (order.get(name, len(order)), name))
         edits: list[list[str | int]] = [[*name, road.layers[name].value] for name in parts]
-        losses = lost(road, line)
+        losses = find_overruled(road, line)
         said: Line = {
             "name": line, "kind": self.kind(line, done), "shape": self.shape(line, done), "who": first.about.who,
             "note": first.about.note, "when": first.about.when, "height": road.height_of(line),
@@ -61,18 +62,18 @@ class Lister:
         return said
 
     def shown(self, line: Stamp) -> list[Rectangle]:
-        return shown(self._road, line)
+        return visible_rectangles(self._road, line)
 
     def _is_standing(self, line: Stamp, done: list[Operation]) -> bool:
         excludes = self._excluded_by(done)
-        return excludes in self._road.record.excluded if excludes is not None else stands(self._road, line)
+        return excludes in self._road.record.excluded if excludes is not None else is_standing(self._road, line)
 
     def _excluded_by(self, done: list[Operation]) -> int | None:
-        """Return the site that a line excludes; None: it excludes none."""
+        """Return the site that a line excludes; None if it excludes none."""
         return next((one.excludes[0] for one in done if one.excludes is not None), None)
 
     def kind(self, line: Stamp, done: list[Operation]) -> str | None:
-        """Return of what kind a line is; None of raw edits of several, or if nobody knows."""
+        """Return the kind of a line; None if its raw edits have several kinds, or if the kind is not known."""
         if self._excluded_by(done) is not None:
             return SITE
         kinds = {shape.kind for one in done for name, shape in one.sets.items() if shape is not None and (
@@ -80,7 +81,7 @@ class Lister:
         return kinds.pop() if len(kinds) == 1 else None
 
     def shape(self, line: Stamp, done: list[Operation]) -> Shape | None:
-        """Return the shape of a line; of raw edits how they were drawn, if all of them still stand."""
+        """Return the shape of a line; for raw edits the shape as which they were drawn, if all of them are still in force."""
         site = self._excluded_by(done)
         if site is not None:
             return Shape(SITE, site, site, 0, None, 1) if self._is_standing(line, done) else None
@@ -98,10 +99,10 @@ class Lister:
         return None if shape is None else shape.end
 
     def operation(self, one: Operation, line: Stamp | None, won: Operation | None = None) -> Act:
-        """Return what an operation did to a line, or to its lines, and who made it; `won` is the operation that beat it."""
+        """Return what an operation did to a line (None: to all of its lines), and who made it. `won` is the operation that won over it."""
         about = one.about
         said: Act = {
-            "stamp": one.stamp, "who": about.who, "note": about.note, "when": about.when, "does": self.does(one, line),
+            "stamp": one.stamp, "who": about.who, "note": about.note, "when": about.when, "does": self.describe_act(one, line),
             "shared": one in self._places, "undoes": one.undoes,
             "lost": None if won is None else won.stamp}
         if one in self._idle:
@@ -113,8 +114,8 @@ class Lister:
             said["demand"] = stated_demand(one, line)
         return said
 
-    def does(self, one: Operation, line: Stamp | None) -> str:
-        """Return what an operation did: put, change, withdraw, top, undo, redo, edits, exclude or include."""
+    def describe_act(self, one: Operation, line: Stamp | None) -> str:
+        """Return what an operation did, in a word: put, change, withdraw, top, undo, redo, edits, exclude or include."""
         if one.undoes is not None:
             return "redo" if any(undone.undoes is not None for undone in self._road.record.undone_by(one)) else "undo"
         if one.excludes is not None:
@@ -130,9 +131,9 @@ class Lister:
             return "edits" if any(one.sets.values()) else "withdraw"
         return "top" if at in one.heights else "change"
 
-    def since(self, marks: dict[Stamp, int], version: int, seconds: float) -> tuple[list[Line], int | None]:
-        """Return the lines that were altered behind a version, the newest last, as many as are worked out in about so long;
-        and the version of the last one, if there are more."""
+    def lines_since(self, marks: dict[Stamp, int], version: int, seconds: float) -> tuple[list[Line], int | None]:
+        """Return the lines that have changed since a version of the list, in the order of their changes, as many as can be made in about
+        `seconds`; and the version of the last one if there are more, else None."""
         found: list[Line] = []
         after = version
         until = time.perf_counter() + seconds

@@ -1,7 +1,7 @@
-"""Tell listeners when something has changed.
+"""Notify listeners when something has changed.
 
     listeners.shared.on(tell_tabs)
-    listeners.shared.tell(step)
+    listeners.shared.notify(step)
 """
 from __future__ import annotations
 
@@ -11,7 +11,7 @@ P = ParamSpec("P")
 
 
 class Topic(Generic[P]):
-    """One kind of news, and those who want to know it."""
+    """One kind of news, and its listeners."""
 
     def __init__(self) -> None:
         self._listeners: list[Callable[P, object]] = []
@@ -19,19 +19,19 @@ class Topic(Generic[P]):
     def on(self, listener: Callable[P, object]) -> None:
         self._listeners.append(listener)
 
-    def tell(self, *news: P.args, **named: P.kwargs) -> None:
+    def notify(self, *news: P.args, **named: P.kwargs) -> None:
         for listener in self._listeners:
             listener(*news, **named)
 
 
 class Listeners:
-    """All kinds of news."""
+    """A topic for each kind of news."""
 
     def __init__(self) -> None:
-        self.shared: Topic[[int | None]] = Topic()  # the shared road has changed from a step on; None: no step differs
+        self.shared: Topic[[int | None]] = Topic()  # others shared: the first step that has changed, None if no step has
         self.seats: Topic[[]] = Topic()
         self.clock: Topic[[]] = Topic()
         self.trouble: Topic[[]] = Topic()  # the disk fails, or works again
-        self.program: Topic[[]] = Topic()  # another program runs
-        self.ended: Topic[[str]] = Topic()  # a part of the server has ended, as the sentence says
-        self.days: Topic[[int, int, int]] = Topic()  # of a question over many days: the seat, the days that are done, and all days
+        self.program: Topic[[]] = Topic()  # the program was replaced
+        self.ended: Topic[[str]] = Topic()  # a task of the server has ended; the sentence says which
+        self.days: Topic[[int, int, int]] = Topic()  # progress of a question over many days: its seat, the days done, and all days

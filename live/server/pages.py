@@ -1,4 +1,4 @@
-"""The files that browsers load, and the headers that keep others out."""
+"""Serve the files of the page, with headers that keep other origins out."""
 from __future__ import annotations
 
 import re
@@ -14,7 +14,7 @@ TYPES = {".html": "text/html", ".js": "text/javascript", ".mjs": "text/javascrip
 
 
 class Page:
-    """The files that are served, and the headers that keep others out."""
+    """The routes of the page. A request must name one of the server's hosts, and a socket must come from the page itself."""
 
     def __init__(self, tabs: Tabs, hosts: set[str], scheme: str) -> None:
         self._tabs, self._hosts, self._scheme = tabs, hosts, scheme
@@ -28,13 +28,13 @@ class Page:
     def _check(self, request: web.Request) -> str:
         host = request.headers.get("Host", "")
         if host not in self._hosts:
-            raise web.HTTPForbidden(text="this host is not one of the server's names")
+            raise web.HTTPForbidden(text="this server does not have this name: start it with --name, or use the address that it printed")
         return host
 
     async def _live(self, request: web.Request) -> web.StreamResponse:
         host = self._check(request)
         if request.headers.get("Origin") != f"{self._scheme}://{host}":
-            raise web.HTTPForbidden(text="this origin is not the server's")
+            raise web.HTTPForbidden(text="only the server's own page may connect: open the address that live/serve printed")
         return await self._tabs.socket(request)
 
     async def _file(self, request: web.Request) -> web.StreamResponse:
@@ -56,7 +56,7 @@ class Page:
 
 
 def file_of(name: str = "", part: str = "", drawing: str = "") -> Path | None:
-    """Return the file of a path: one beside the page, one of its modules, or one that draws. None: there are no other files."""
+    """Return the file at a path: the page or its style, a module of the page, or a module that draws. None if there is no such file."""
     if part:
         return LIVE / "page" / part if re.fullmatch(r"[a-z_]+\.mjs", part) else None
     if drawing:

@@ -1,8 +1,8 @@
-"""A running road_lab, asked a line at a time.
+"""Run road_lab as a process, and ask it line by line.
 
     program = await start(command, plan)
     reply = await program.ask(line)              bytes, without the newline
-    horizon = await program.advance(at, to)      one piece of it
+    horizon = await program.advance(at, to)      simulates some of the steps
     await program.close()
 """
 from __future__ import annotations
@@ -17,18 +17,18 @@ from typing import Mapping, Sequence
 
 from zegdrut.wire import WrittenEdit
 
-from .journal import packed
+from .journal import to_json
 
 LONGEST_REPLY = 1 << 26
-PIECE = 1_200  # edits of an import, so that its line is at most 65,536 bytes
-STEPS = 2_000  # of an advance, so that others get their turn
-HANGS = 10.0  # seconds in which a program that owes an answer uses no processor, until it is ended
-LOOKS = 8  # in that time
-LONG_ROAD = 4_096  # cells from which on threads pay; where others work, too, more than two do not
+PIECE = 1_200  # edits of an import, so that its line has at most 65,536 bytes
+STEPS = 2_000  # steps that are simulated at a time, so that other seats get their turn
+IDLE_PATIENCE = 10.0  # seconds without processor time after which a program that owes an answer is ended
+LOOKS = 8  # how often the program is looked at in that time
+LONG_ROAD = 4_096  # cells from which on two threads are faster than one; more than two are not, on a machine that does other work
 
 
 class ProgramExited(Exception):
-    """The program ended, or does not answer."""
+    """The program has ended, or does not answer."""
 
 
 class BadPlan(Exception):
@@ -36,25 +36,25 @@ class BadPlan(Exception):
 
 
 def command_of(path: str, plan: Mapping[str, object]) -> list[str]:
-    """Return the command that starts the program: with threads if they pay, for one long road."""
+    """Return the command that starts the program at a path, with two threads if the road is long."""
     length = plan.get("length")
     pays = isinstance(length, int) and length >= LONG_ROAD and (os.cpu_count() or 1) > 2
     return [path, "--workers", "2"] if pays else [path]
 
 
-def dies_with_us(command: list[str]) -> list[str]:
-    """Return a command whose process is killed as soon as this one has ended, however that was."""
+def command_ending_with_parent(command: list[str]) -> list[str]:
+    """Return a command whose process is killed as soon as this process ends, for whatever reason."""
     return [*(["setpriv", "--pdeathsig", "KILL"] if shutil.which("setpriv") else []), *command]
 
 
 def import_lines(at: str, edits: Sequence[WrittenEdit]) -> list[dict[str, object]]:
-    """Return the lines that give a replica these edits."""
+    """Return the lines that import edits into the replica `at`."""
     return [{"import": {"at": at, "edits": edits[begin:begin + PIECE], "form": 2}}
             for begin in range(0, len(edits), PIECE)]
 
 
 class Program:
-    """A process, how many lines it has read, and how far each replica has run."""
+    """A process of road_lab. `lines` counts the lines that it has read; `horizons` has the step up to which each replica has run."""
 
     def __init__(self, process: asyncio.subprocess.Process) -> None:
         self._process, self.lines = process, 0
@@ -64,11 +64,11 @@ class Program:
         self.horizons: dict[str, int] = {}
 
     async def ask(self, line: bytes) -> bytes:
-        """Return the reply to a line; raise `ProgramExited` if none comes."""
+        """Return the reply to a line. Raise `ProgramExited` if there is none."""
         return (await self.ask_all([line]))[0]
 
     async def ask_all(self, lines: Sequence[bytes]) -> list[bytes]:
-        """Return the replies to lines that are sent at once."""
+        """Send lines all at once, and return their replies. Raise `ProgramExited` if one is missing."""
         self.lines += len(lines)
         stdin, stdout = self._process.stdin, self._process.stdout
         assert stdin is not None and stdout is not None
@@ -80,7 +80,7 @@ class Program:
                 replies.append(await stdout.readline())
                 self._read += 1
         except asyncio.CancelledError:
-            self.kill()  # nobody reads the replies that it owes
+            self.kill()  # else the next caller would read replies to these lines
             raise
         except (OSError, ValueError) as fault:
             self.kill()
@@ -94,29 +94,29 @@ class Program:
         return [reply[:-1] for reply in replies]
 
     def _look(self, before: object, idle: int) -> None:
-        """Look now and then whether the program, which owes an answer, does anything; end one that hangs."""
-        now = self._done()
+        """While the program owes an answer, look at intervals whether it does anything. End it if it hangs."""
+        now = self._find_progress()
         idle = idle + 1 if now == before else 0
         if idle >= LOOKS:
-            self._fault = f"the program owed an answer and used no processor for {HANGS:g} seconds"
+            self._fault = f"the program did not answer and used no processor time for {IDLE_PATIENCE:g} seconds"
             self.kill()
         else:
-            self._watch = asyncio.get_running_loop().call_later(HANGS / LOOKS, self._look, now, idle)
+            self._watch = asyncio.get_running_loop().call_later(IDLE_PATIENCE / LOOKS, self._look, now, idle)
 
-    def _done(self) -> object:
-        """Return a value that differs when the program has done something."""
+    def _find_progress(self) -> object:
+        """Return a value that changes when the program has done something."""
         try:
             said = Path(f"/proc/{self._process.pid}/stat").read_text(encoding="ascii", errors="replace")
         except OSError:
             return object()
         state, *numbers = said.rpartition(")")[2].split()
-        return object() if state == "R" else (self._read, *numbers[10:12])  # the time it used, also by threads
+        return object() if state == "R" else (self._read, *numbers[10:12])  # the processor time of all its threads
 
     async def advance(self, at: str, to: int) -> int:
-        """Do one piece of an advance. Return how far the replica has run then."""
+        """Simulate some of the steps of a replica up to `to`. Return the step that it has reached."""
         here = self.horizons.get(at, 0)
         if here < to:
-            reply = await self.ask(packed({"advance": {"at": at, "to": min(to, here + STEPS)}}).encode())
+            reply = await self.ask(to_json({"advance": {"at": at, "to": min(to, here + STEPS)}}).encode())
             self.horizons[at] = json.loads(reply).get("horizon", to)
         return self.horizons.get(at, 0)
 
@@ -125,7 +125,7 @@ class Program:
             self._process.kill()
 
     async def close(self) -> None:
-        """End the program."""
+        """End the program, and wait until it has ended."""
         assert self._process.stdin is not None
         self._process.stdin.close()
         try:
@@ -137,12 +137,12 @@ class Program:
 
 
 async def start(command: list[str], plan: bytes) -> Program:
-    """Start a program, and let it read the plan line. Raise `ProgramExited`, or `BadPlan` with its refusal."""
+    """Start a program and send it the plan line. Raise `ProgramExited` if it cannot be started, and `BadPlan` if it refuses the plan."""
     try:
         if not os.access(command[0], os.X_OK):
-            raise PermissionError(f"{command[0]} is not a program")
+            raise PermissionError(f"{command[0]} is not an executable file")
         process = await asyncio.create_subprocess_exec(
-            *dies_with_us(command), stdin=asyncio.subprocess.PIPE, stdout=asyncio.subprocess.PIPE, limit=LONGEST_REPLY,
+            *command_ending_with_parent(command), stdin=asyncio.subprocess.PIPE, stdout=asyncio.subprocess.PIPE, limit=LONGEST_REPLY,
             start_new_session=True)
     except OSError as fault:
         raise ProgramExited(f"the program cannot be started: {fault}") from None

@@ -1,10 +1,10 @@
-"""Entries of the journal, form 3: what each says, how it is written, and what it does to a state.
+"""Define the entries of the journal, form 3: their fields, how these are written, and how an entry changes a state.
 
-    entry = read_entry("take", value)     `Malformed` if it is none
+    entry = read_entry("take", value)     raises `Malformed` if the value is not such an entry
     entry.apply(state)
     entry.written()                       {"take": {..}}
 
-An entry is a dataclass. The metadata of a field says how it is read and written; one that has its default is not written.
+An entry is a dataclass. The metadata of a field says how it is read and written. A field that has its default value is not written.
 """
 from __future__ import annotations
 
@@ -35,7 +35,7 @@ J = TypeVar("J", bound=Json)
 
 @dataclass(frozen=True)
 class Codec(Generic[V]):
-    """Reads and writes a field; `name` is its written name, if that differs from the one in Python."""
+    """Reads and writes a field. `name` is its name in the journal; if empty, it is the same as in Python."""
 
     read: Callable[[Json], V]
     write: Callable[[V], Json]
@@ -46,24 +46,24 @@ How = Mapping[str, Codec[object]]
 """The metadata of a field: its codec, as `how`."""
 
 
-def how(read: Callable[[Json], T], write: Callable[[T], Json], name: str = "") -> How:
+def field_format(read: Callable[[Json], T], write: Callable[[T], Json], name: str = "") -> How:
     codec: Codec[T] = Codec(read, write, name)
     return {"how": codec}
 
 
-def as_it_is(read: Callable[[Json], J], name: str = "") -> How:
-    """Return how a value is read that is written as it is."""
-    return how(read, lambda value: value, name)
+def unconverted(read: Callable[[Json], J], name: str = "") -> How:
+    """Return the metadata of a field whose value is written without conversion."""
+    return field_format(read, lambda value: value, name)
 
 
 class Said:
-    """A value that is written as an object of JSON. Each subclass is a dataclass."""
+    """A value that is written as a JSON object. Each subclass is a dataclass."""
 
     __dataclass_fields__: ClassVar[dict[str, dataclasses.Field[object]]]
 
     @classmethod
     def read(cls: type[S], value: Fields) -> S:
-        """Return what an object says; raise `Malformed` or KeyError if it says none."""
+        """Return the value that a JSON object describes. Raise `Malformed` or KeyError if it describes none."""
         return cls(**{one.name: one.codec.read(value[one.written]) for one in written_parts(cls)
                       if one.is_required or value.get(one.written) is not None})
 
@@ -78,16 +78,16 @@ class Entry(Said):
     kind: ClassVar[str]
 
     def apply(self, state: State) -> None:
-        """Make it so."""
+        """Change a state as the entry says."""
         raise NotImplementedError
 
     def written(self) -> Written:
-        """Return it as the journal has it."""
+        """Return the entry as a JSON value, in the form of the journal."""
         return {self.kind: self.fields()}
 
 
 class Part(NamedTuple):
-    """A field: its names in Python and as it is written, whether it must be there, and its default."""
+    """A field: its names in Python and in the journal, whether it must be present, its default and its codec."""
 
     name: str
     written: str
@@ -100,7 +100,7 @@ PARTS: dict[type[Said], list[Part]] = {}
 
 
 def written_parts(kind: type[Said]) -> list[Part]:
-    """Return the fields of a class. One whose default is made by a factory is always written."""
+    """Return the fields of a class. A field without a default value is required and always written, even if it has a factory."""
     if kind not in PARTS:
         PARTS[kind] = [Part(one.name, one.metadata["how"].name or one.name, one.default is dataclasses.MISSING, one.default,
                             one.metadata["how"]) for one in dataclasses.fields(kind)]
@@ -111,18 +111,18 @@ def written_parts(kind: type[Said]) -> list[Part]:
 
 def read_string(value: Json) -> str:
     if not isinstance(value, str):
-        raise Malformed(f"{str(value)[:40]} is not a text")
+        raise Malformed(f"{str(value)[:40]} is not a string")
     return value
 
 
 def read_object(value: Json) -> dict[str, Json]:
     if not isinstance(value, dict):
-        raise Malformed("a plan is an object")
+        raise Malformed(f"a JSON object was expected, not {str(value)[:40]}")
     return value
 
 
 def read_plan_line(value: Json) -> PlanLine:
-    """Return a plan line; raise `Malformed` if it has other fields than one has."""
+    """Return a plan line. Raise `Malformed` if its fields are not those of a plan line."""
     fault = next(check_fields(value, PLAN, "the plan"), None)
     if fault is not None:
         raise Malformed(fault)
@@ -141,29 +141,29 @@ def read_number(value: Json) -> float:
 
 
 def form(*forms: int) -> How:
-    """Return how the form of a journal is read; a form that is not one of these is refused."""
+    """Return the metadata of a journal's form, which must be one of these."""
     def read_form(value: Json) -> int:
         if type(value) is not int or value not in forms:
             raise Malformed(f"the journal has form {value}, and this server reads the forms 1 to {JOURNAL_FORM}")
         return value
-    return as_it_is(read_form)
+    return unconverted(read_form)
 
 
-def counted(most: int, what: str) -> How:
-    return as_it_is(lambda value: whole(value, most, what))
+def count_format(most: int, what: str) -> How:
+    return unconverted(lambda value: whole(value, most, what))
 
 
-def many(read: Callable[[Json], T], write: Callable[[T], Json]) -> How:
-    """Return how a list is read and written, given its items."""
+def list_format(read: Callable[[Json], T], write: Callable[[T], Json]) -> How:
+    """Return the metadata of a list, given how its items are read and written."""
     def read_all(value: Json) -> Sequence[T]:
         if not isinstance(value, list):
             raise Malformed(f"a list was expected, not {str(value)[:40]}")
         return [*map(read, value)]
-    return how(read_all, lambda some: [*map(write, some)])
+    return field_format(read_all, lambda some: [*map(write, some)])
 
 
-def pairs(read_key: Callable[[Json], T], write_key: Callable[[T], Json]) -> How:
-    """Return how a mapping to stamps is read and written: as a list of pairs."""
+def pairs_format(read_key: Callable[[Json], T], write_key: Callable[[T], Json]) -> How:
+    """Return the metadata of a mapping to stamps, which is written as a list of pairs."""
     def read_all(value: Json) -> Mapping[T, Stamp]:
         if not isinstance(value, list):
             raise Malformed(f"a list was expected, not {str(value)[:40]}")
@@ -172,24 +172,24 @@ def pairs(read_key: Callable[[Json], T], write_key: Callable[[T], Json]) -> How:
 
     def write_all(some: Mapping[T, Stamp]) -> Json:
         return [[write_key(key), [*stamp]] for key, stamp in some.items()]
-    return how(read_all, write_all)
+    return field_format(read_all, write_all)
 
 
-TEXT, TIME, NUMBER = as_it_is(read_string), as_it_is(read_time), as_it_is(read_number)
-SEAT, SITE, STEP = counted(MOST_SEATS - 1, "seat"), counted(1_023, "site"), counted(1 << 30, "step")
-COUNT, PLACE = counted(GREATEST_COUNT, "count"), counted(1 << 40, "place")
-STAMPS = many(read_stamp, lambda stamp: [*stamp])
-SHARED, UNSENT = (as_it_is(lambda value: value is True, name) for name in ("shared", "unsent"))
+TEXT, TIME, NUMBER = unconverted(read_string), unconverted(read_time), unconverted(read_number)
+SEAT, SITE, STEP = count_format(MOST_SEATS - 1, "seat"), count_format(1_023, "site"), count_format(1 << 30, "step")
+COUNT, PLACE = count_format(GREATEST_COUNT, "count"), count_format(1 << 40, "place")
+STAMPS = list_format(read_stamp, lambda stamp: [*stamp])
+SHARED, UNSENT = (unconverted(lambda value: value is True, name) for name in ("shared", "unsent"))
 
 
 # Entries
 
 @dataclass(frozen=True)
 class Folder(Entry):
-    """A folder's road, and its site."""
+    """The first entry: the plan, the site's number, the folder's identifier, and the form of the journal."""
 
     kind = "lab"
-    plan: PlanLine = field(metadata=how(read_plan_line, write_plan))
+    plan: PlanLine = field(metadata=field_format(read_plan_line, write_plan))
     site: int = field(metadata=SITE)
     folder: str = field(metadata=TEXT)
     form: int = field(default_factory=lambda: JOURNAL_FORM, metadata=form(*FORMER_FORMS, JOURNAL_FORM))
@@ -200,7 +200,7 @@ class Folder(Entry):
 
 @dataclass(frozen=True)
 class Upgraded(Entry):
-    """The entries before have a former form, and those that follow this one."""
+    """The journal had a former form up to here. The entries that follow have the present form."""
 
     kind = "form"
     form: int = field(default_factory=lambda: JOURNAL_FORM, metadata=form(JOURNAL_FORM))
@@ -211,7 +211,7 @@ class Upgraded(Entry):
 
 @dataclass(frozen=True)
 class Clock(Entry):
-    """The clock: how late it is, how many steps pass in a second, and where a fast clock stops."""
+    """The clock: the steps per second, the present step, and the step at which a fast clock stops."""
 
     kind = "clock"
     rate: float = field(metadata=NUMBER)
@@ -224,7 +224,8 @@ class Clock(Entry):
 
 @dataclass(frozen=True)
 class SeatGiven(Entry):
-    """A seat is somebody's. `key` is the hash of the tab's key."""
+    """A seat was given to somebody. `key` is the hash of the tab's key, `count` the greatest count in its stamps, `upto` how many shared
+    operations it has taken."""
 
     kind = "seat"
     seat: int = field(metadata=SEAT)
@@ -243,7 +244,7 @@ class SeatGiven(Entry):
 
 @dataclass(frozen=True)
 class SeatUsed(Entry):
-    """When a tab of a seat was last there."""
+    """A seat last had a tab at this time."""
 
     kind = "left"
     seat: int = field(metadata=SEAT)
@@ -255,7 +256,7 @@ class SeatUsed(Entry):
 
 @dataclass(frozen=True)
 class SeatFreed(Entry):
-    """A seat is nobody's any more. `count` is the greatest of its stamps."""
+    """A seat was freed. `count` is the greatest count in its stamps."""
 
     kind = "free"
     seat: int = field(metadata=SEAT)
@@ -267,18 +268,18 @@ class SeatFreed(Entry):
 
 @dataclass(frozen=True)
 class Made(Entry):
-    """An operation of a seat. A shared one is on the shared road, too; `is_unsent`: other sites may not have it."""
+    """A seat made an operation. If `is_shared`, it is on the shared road, too; if `is_unsent`, other sites may not have it."""
 
     kind = "made"
     seat: int = field(metadata=SEAT)
-    operation: Operation = field(metadata=how(read_operation, Operation.written))
+    operation: Operation = field(metadata=field_format(read_operation, Operation.written))
     key: str | None = field(default=None, metadata=TEXT)
     is_shared: bool = field(default=False, metadata=SHARED)
     is_unsent: bool = field(default=False, metadata=UNSENT)
     title: str = field(default="", metadata=TEXT)
 
     def apply(self, state: State) -> None:
-        seat, one = state.seats[self.seat], state.interned(self.operation)
+        seat, one = state.seats[self.seat], state.intern(self.operation)
         if self.is_shared:
             state.hold_shared([one], self.is_unsent, self.title)
         state.hold_own(seat, one)
@@ -288,11 +289,11 @@ class Made(Entry):
 
 @dataclass(frozen=True)
 class StampedAnew(Entry):
-    """Private operations of a seat have other stamps, since the clock was wrong when they were made."""
+    """Private operations of a seat got new stamps, since the clock was wrong when they were made."""
 
     kind = "restamp"
     seat: int = field(metadata=SEAT)
-    stamps: Mapping[Stamp, Stamp] = field(metadata=pairs(read_stamp, lambda stamp: [*stamp]))
+    stamps: Mapping[Stamp, Stamp] = field(metadata=pairs_format(read_stamp, lambda stamp: [*stamp]))
 
     def apply(self, state: State) -> None:
         state.stamp_anew(state.seats[self.seat], self.stamps)
@@ -300,7 +301,7 @@ class StampedAnew(Entry):
 
 @dataclass(frozen=True)
 class Share(Entry):
-    """A seat gives private operations to all."""
+    """A seat shared private operations."""
 
     kind = "share"
     seat: int = field(metadata=SEAT)
@@ -313,28 +314,28 @@ class Share(Entry):
         wanted = set(self.stamps)
         given = [one for one in state.private(state.seats[self.seat]) if one.stamp in wanted]
         state.hold_shared(given, is_unsent=True, title=self.title)
-        state.tell(News(state.shared.size, self.who, self.title, self.when, len(given)))
+        state.add_news(News(state.shared.size, self.who, self.title, self.when, len(given)))
 
 
 @dataclass(frozen=True)
 class Came(Entry):
-    """Operations of other sites, or of this one where no seat has them any more."""
+    """Operations came from other sites; or they are from this site, but their seat was freed."""
 
     kind = "came"
-    operations: Sequence[Operation] = field(metadata=many(read_operation, Operation.written))
+    operations: Sequence[Operation] = field(metadata=list_format(read_operation, Operation.written))
     who: str = field(default="", metadata=TEXT)
     title: str = field(default="", metadata=TEXT)
     when: float = field(default=0, metadata=TIME)
     is_unsent: bool = field(default=False, metadata=UNSENT)
 
     def apply(self, state: State) -> None:
-        fresh = state.hold_shared([*map(state.interned, self.operations)], self.is_unsent, self.title)
-        state.tell(News(state.shared.size, self.who, self.title, self.when, len(fresh)))
+        fresh = state.hold_shared([*map(state.intern, self.operations)], self.is_unsent, self.title)
+        state.add_news(News(state.shared.size, self.who, self.title, self.when, len(fresh)))
 
 
 @dataclass(frozen=True)
 class Take(Entry):
-    """A seat takes the first operations of the shared road, up to a place."""
+    """A seat took the first `upto` operations of the shared road."""
 
     kind = "take"
     seat: int = field(metadata=SEAT)
@@ -346,7 +347,7 @@ class Take(Entry):
 
 @dataclass(frozen=True)
 class CameBack(Entry):
-    """These came back from the broker, so other sites have them."""
+    """The broker returned these operations, so other sites get them."""
 
     kind = "back"
     stamps: Sequence[Stamp] = field(metadata=STAMPS)
@@ -358,7 +359,7 @@ class CameBack(Entry):
 
 @dataclass(frozen=True)
 class Bound(Entry):
-    """A site's number is a folder's."""
+    """A site's number was bound to a folder; an empty folder revokes the binding."""
 
     kind = "bound"
     site: int = field(metadata=SITE)
@@ -370,11 +371,11 @@ class Bound(Entry):
 
 @dataclass(frozen=True)
 class Keys(Entry):
-    """The keys of a seat's operations."""
+    """The stamps of a seat's operations by their keys."""
 
     kind = "done"
     seat: int = field(metadata=SEAT)
-    keys: Mapping[str, Stamp] = field(metadata=pairs(str, str))
+    keys: Mapping[str, Stamp] = field(metadata=pairs_format(str, str))
 
     def apply(self, state: State) -> None:
         state.seats[self.seat].done.update(self.keys)
@@ -382,7 +383,7 @@ class Keys(Entry):
 
 @dataclass(frozen=True)
 class News(Said):
-    """Operations that were shared at once: their number, and how many the shared road had then."""
+    """Operations that were shared together: `size` is their number, `upto` how many the shared road had afterwards."""
 
     upto: int = field(metadata=PLACE)
     who: str = field(metadata=TEXT)
@@ -390,8 +391,8 @@ class News(Said):
     when: float = field(metadata=TIME)
     size: int = field(metadata=PLACE)
 
-    def told(self) -> dict[str, Json]:
-        """Return it as a tab gets it."""
+    def reply_fields(self) -> dict[str, Json]:
+        """Return the share in the form of a reply to a tab."""
         return {name: value for name, value in self.fields().items() if name != "upto"}
 
 
@@ -401,10 +402,10 @@ def read_news(value: Json) -> News:
 
 @dataclass(frozen=True)
 class AllNews(Entry):
-    """The last shares."""
+    """The latest shares."""
 
     kind = "shares"
-    shares: Sequence[News] = field(metadata=many(read_news, News.fields))
+    shares: Sequence[News] = field(metadata=list_format(read_news, News.fields))
 
     def apply(self, state: State) -> None:
         state.shares = [*self.shares]
@@ -412,7 +413,7 @@ class AllNews(Entry):
 
 @dataclass(frozen=True)
 class Works(Entry):
-    """The number of shared operations that every new seat has from the start: the works of a freeway file."""
+    """Every new seat starts with the first `upto` operations of the shared road: the roadworks of a freeway's file."""
 
     kind = "works"
     upto: int = field(metadata=PLACE)
@@ -426,7 +427,7 @@ ENTRY_KINDS: dict[str, type[Entry]] = {one.kind: one for one in Entry.__subclass
 
 
 def read_entry(kind: str, value: Fields) -> Entry:
-    """Return an entry of form 3, or raise `Malformed`."""
+    """Return an entry of form 3. Raise `Malformed` if the fields are not those of such an entry."""
     if kind not in ENTRY_KINDS:
-        raise Malformed(f"no entry of this form: {kind}")
+        raise Malformed(f"the journal's form {JOURNAL_FORM} has no entry `{kind}`")
     return ENTRY_KINDS[kind].read(value)

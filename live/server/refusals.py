@@ -1,8 +1,8 @@
-"""Refusals of the server: each has a name, which scripts compare, and a sentence for people.
+"""Define the refusals of the server. Each has a name, which scripts compare, and a sentence for people.
 
-    raise Refused("TooFarAhead", "at most 36000 steps ahead of the clock, which is at 7200")
+    raise Refused("OwnSite", "site 2 cannot exclude itself: another site must do it")
 
-What the program refuses has the names of docs/FORMAT.md. `MEANINGS` has all others; live/PROTOCOL.md has the same table.
+Refusals by the program have the names in docs/FORMAT.md. `MEANINGS` has all other names; live/PROTOCOL.md has the same table.
 """
 from __future__ import annotations
 
@@ -20,8 +20,8 @@ MEANINGS = {
     "NotBound": "No other folder has this site's number, so there is nothing to revoke",
     "NothingToPut": "An undo cannot be repeated: change the line itself",
     "NothingToUndo": "The undo of this operation would change nothing",
-    "NotWritten": "The disk did not accept it, so it was not done: try again later",
-    "NotYourReplica": "`at` must be your own replica or, to read, the shared one or your preview",
+    "NotWritten": "The change was not saved, so it was not made: try again later",
+    "NotYourReplica": "`at` must be your own road, or in a query one of your four roads",
     "OneDay": "This road has fixed random numbers (no seed), so all days are the same",
     "OtherVersion": "The page is older or newer than the server: reload it",
     "OwnSite": "A site cannot exclude itself: another site must do it",
@@ -33,7 +33,7 @@ MEANINGS = {
     "TooLong": "The report took more than 600 seconds: choose a shorter period",
     "TooManyEdits": "A gesture can have at most 1,200 raw edits",
     "TooManyObjects": "The shapes of one operation can cover at most 600 objects",
-    "UnknownKey": "The seat of this key was taken over, or is free again: choose a seat",
+    "UnknownKey": "The seat of this key was taken over or freed: choose a seat",
 }
 OF_THE_FORMAT = frozenset({
     "line too long", "not json", "not a command", "unknown form", "NoReplica", "NoMessage", "NameTaken", "NoObject", "Step",
@@ -42,7 +42,7 @@ NOT_A_COMMAND = "not a command"
 
 
 class Refused(Exception):
-    """A refusal: `text` is its name, `why` a sentence, `more` are further fields of the reply."""
+    """A refusal. `text` is its name, `why` a sentence, and `more` has further fields of the reply."""
 
     def __init__(self, text: str, why: str, **more: object) -> None:
         if text not in MEANINGS and text not in OF_THE_FORMAT:

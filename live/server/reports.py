@@ -1,6 +1,6 @@
-"""The report of two roads in a window: the same page as `zegdrut report` writes of a freeway.
+"""Make the report on two roads in a window: the same page as `zegdrut report` makes for a freeway.
 
-As a program this module reads a `ReportAsked` from standard input, and prints the page.
+As a program, this module reads a `ReportAsked` from standard input, and prints the page.
 """
 from __future__ import annotations
 
@@ -10,7 +10,7 @@ import sys
 from typing import TYPE_CHECKING, Sequence, TypedDict
 
 from . import LIVE, figures
-from .journal import packed
+from .journal import to_json
 from .program import import_lines
 from .refusals import Refused
 
@@ -24,35 +24,35 @@ if TYPE_CHECKING:
 DAYS = 5
 NICE = 8
 PATIENCE = 600.0
-MOST_DATES = 12  # of a demand over time, in a sentence; a longer one is a chart
+MOST_DATES = 12  # changes of a demand that a sentence lists; if there are more, the chart shows them
 ReportAsked = TypedDict("ReportAsked", {
     "roads": figures.TwoRoads, "title": str, "works": Sequence[str], "names": Sequence[str], "clock": Sequence["str | None"], "days": int})
-"""Two roads with their names, sentences about the works on them, and the begin, date and time zone of the file."""
+"""Two roads and their names, sentences about the change, the begin, date and time zone of the road's file, and the number of days."""
 
 
-async def make(index: int, asked: ReportAsked) -> str:
-    """Return the page that a seat asks for."""
-    async with figures.alone(index):
+async def make_report(index: int, asked: ReportAsked) -> str:
+    """Return the report that a seat asks for, as HTML. Raise `Refused` if it takes too long, or others are waiting for theirs."""
+    async with figures.wait_for_slot(index):
         process = await asyncio.create_subprocess_exec(
-            *figures.gently(__name__, NICE), stdin=asyncio.subprocess.PIPE, stdout=asyncio.subprocess.PIPE, 
+            *figures.command_at_low_priority(__name__, NICE), stdin=asyncio.subprocess.PIPE, stdout=asyncio.subprocess.PIPE, 
             env=figures.environment(asked["roads"]["program"]), start_new_session=True, cwd=LIVE)
         try:
             async with asyncio.timeout(PATIENCE):
-                out, _ = await process.communicate(packed(asked).encode())
+                out, _ = await process.communicate(to_json(asked).encode())
         except asyncio.TimeoutError:
             raise Refused("TooLong", f"the report took more than {PATIENCE:.0f} seconds: choose a shorter period") from None
         finally:
             if process.returncode is None:  # nobody waits for it any more
                 figures.kill(process)
     if process.returncode != 0:
-        raise Refused("Failed", "the report failed; the server's log says why")
+        raise Refused("Failed", "the report could not be made; the server's log says why")
     return out.decode()
 
 
 # The program
 
 def sides_of(asked: ReportAsked) -> list[Side]:
-    """Return the roads before and after, or the one if they are the same."""
+    """Return the roads before and after the change; only one road if they are equal."""
     from zegdrut.lost import compute_demands
     from zegdrut.report import Side
     from zegdrut.scripts import Script
@@ -64,17 +64,17 @@ def sides_of(asked: ReportAsked) -> list[Side]:
     for edits, name, demands in zip(both, asked["names"], (known["before"], known["after"])):
         lines: list[Fields] = [*import_lines("A", [(*key, 1, figures.NUMBER, value) for key, value in sorted(edits.items())]),
                                {"advance": {"at": "A", "to": last}}]
-        found.append(Side(name, Script(plan, lines), compute_demands(plan, figures.given(edits), last, asked=demands)))
+        found.append(Side(name, Script(plan, lines), compute_demands(plan, figures.to_edits(edits), last, asked=demands)))
     return found if both[0] != both[1] else found[1:]
 
 
-def edits_of(roads: figures.TwoRoads) -> list[figures.Edits]:
-    """Return the edits of both roads."""
+def edits_of(roads: figures.TwoRoads) -> list[figures.EditValues]:
+    """Return the edits of the roads before and after the change."""
     return [figures.edits_of(roads["before"]), figures.edits_of(roads["after"])]
 
 
-def closures_of(edits: figures.Edits, last: int) -> list[tuple[int, int, float, float]]:
-    """Return the closures of a road, as (from step, to step, from km, to km): neighbouring cells as one."""
+def closures_of(edits: figures.EditValues, last: int) -> list[tuple[int, int, float, float]]:
+    """Return the closures of a road, as (from step, to step, from km, to km). Neighbouring cells are one closure."""
     from zegdrut.units import to_km
     changes: dict[int, list[tuple[int, int]]] = {}
     for (kind, cell, step), value in sorted(edits.items()):
@@ -90,11 +90,11 @@ def closures_of(edits: figures.Edits, last: int) -> list[tuple[int, int, float, 
                 spans.setdefault((begin, step), []).append(cell)
                 begin = None
     return [(begin, end, to_km(cells[0]), to_km(cells[-1] + 1)) for (begin, end), all_cells in spans.items()
-            for cells in runs(all_cells)]
+            for cells in join_adjacent_cells(all_cells)]
 
 
-def runs(cells: Sequence[int]) -> list[list[int]]:
-    """Return stretches of cells beside each other."""
+def join_adjacent_cells(cells: Sequence[int]) -> list[list[int]]:
+    """Return the cells, in rising order, as stretches of adjacent cells."""
     found: list[list[int]] = []
     for cell in cells:
         if found and found[-1][-1] == cell - 1:
@@ -105,7 +105,7 @@ def runs(cells: Sequence[int]) -> list[list[int]]:
 
 
 def facts_of(roads: figures.TwoRoads, side: Side, clock: Clock) -> list[str]:
-    """Return length, drivers and demand, a sentence each."""
+    """Return sentences that say the length, drivers and demands of a road."""
     from zegdrut.units import ALWAYS, KMH, to_km
     plan = roads["plan"]
     kinds = {(limit, slowing) for limit, slowing in plan["zones"]}
@@ -123,14 +123,14 @@ def named_demands(plan: PlanLine, side: Side) -> list[tuple[str, Rates]]:
 
 
 def demand_chart(plan: PlanLine, sides: Sequence[Side], clock: Clock, window: Window) -> str:
-    """Return the demands of the roads as a chart; of one if they are the same."""
+    """Return a chart of the demands of the roads; of only one road if they are equal."""
     from zegdrut.report_page import draw_demands
     shown = sides if sides[0].demands != sides[-1].demands else sides[-1:]
     return draw_demands([(side.name if len(shown) > 1 else "", named_demands(plan, side)) for side in shown], clock, window)
 
 
 def demand_text(rates: Rates, clock: Clock, last: int) -> str:
-    """Return a demand over time in words."""
+    """Return a phrase that describes a demand over time, up to the step `last`."""
     whole = [(step, round(rate)) for step, rate in rates if step < last]
     dates = [one for place, one in enumerate(whole) if not place or one[1] != whole[place - 1][1]]
     if len(dates) == 1:
@@ -141,8 +141,8 @@ def demand_text(rates: Rates, clock: Clock, last: int) -> str:
     return ", ".join(f"{rate:,} from {clock.to_text(step)}" for step, rate in dates) + " cars/h"
 
 
-def page(asked: ReportAsked) -> str:
-    """Return the page."""
+def make_page(asked: ReportAsked) -> str:
+    """Return the report as HTML."""
     from zegdrut.clock import Clock
     from zegdrut.report import make_table, run_sides
     from zegdrut.report_page import Contents, format_page
@@ -160,9 +160,9 @@ def page(asked: ReportAsked) -> str:
 
 
 def main() -> None:
-    """Print the page of what standard input asks for."""
+    """Print the report that standard input asks for."""
     figures.leave_one_free()
-    sys.stdout.write(page(json.load(sys.stdin)))
+    sys.stdout.write(make_page(json.load(sys.stdin)))
 
 
 if __name__ == "__main__":

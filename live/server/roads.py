@@ -1,5 +1,5 @@
-"""The roads that a seat may ask: its own, the shared one, and the two of its last preview, which a program of their own
-runs beside."""
+"""The roads that a seat can query: its own, the shared one, and the two of its last preview. A second program simulates the roads of a
+preview."""
 from __future__ import annotations
 
 import asyncio
@@ -10,7 +10,7 @@ from typing import Protocol, Sequence, TypeVar
 from zegdrut.wire import WrittenEdit
 
 from .figures import TwoDemands
-from .journal import packed
+from .journal import to_json
 from .keeper import Keeper, Times
 from .model.road import Road
 from .program import ProgramExited, Program, command_of, import_lines, start
@@ -18,38 +18,39 @@ from .refusals import Refused
 from .turns import Job, More
 
 SIDES = ("before", "after")
-MOST_PREVIEWS = 4  # that are run; the one that was asked longest ago goes
-UNUSED = 600.0  # seconds after which one goes
-LET_GO = "the two roads were let go"
+MOST_PREVIEWS = 4  # previews with a program; to make room, the least recently used one is dropped
+UNUSED = 600.0  # seconds without a query after which a preview is dropped
+LET_GO = "the two roads of this preview were dropped"
 T = TypeVar("T")
 
 
 class AskedRoad(Protocol):
-    """One that can be asked; `job` does a piece of work again as long as it gives `MORE`."""
+    """A road that can be queried."""
 
     name: str
 
-    async def job(self, body: Job[T], at_leisure: bool = False) -> T:
-        """Do a piece of work when the road has run as far as it shall; at leisure if no picture waits for it."""
+    async def run_job(self, body: Job[T], at_leisure: bool = False) -> T:
+        """Call `body` when the road has been simulated as far as it shall be, again and again while it returns `MORE`. `at_leisure` says
+        that no picture waits for the result."""
 
     def mark(self) -> Road | None:
-        """Return the road as it is: it is changed if this is not the same object as before. None: it never changes."""
+        """Return an object that is replaced by another one whenever the road changes; None if the road never changes."""
 
     async def say_all(self, lines: list[bytes], times: Times) -> list[bytes]:
-        """Return the replies to lines that are sent at once; raise the first refusal."""
+        """Send lines all at once and return the program's replies; raise the first refusal."""
 
     async def advance(self, to: int) -> int:
-        """Let the road run to a step."""
+        """Simulate the road up to a step. Return the step that it has reached."""
 
 
 class KeptRoad:
-    """A road that is kept: the own or the shared one, asked in the turn of a seat."""
+    """The road of a seat or the shared road, queried in the turn of a seat."""
 
     def __init__(self, keeper: Keeper, turn: int, index: int) -> None:
         self._keeper, self._turn, self._index = keeper, turn, index
         self.name = keeper.state.replica(index).at
 
-    async def job(self, body: Job[T], at_leisure: bool = False) -> T:
+    async def run_job(self, body: Job[T], at_leisure: bool = False) -> T:
         return await self._keeper.ask(self._turn, (self._index,), body, at_leisure)
 
     def mark(self) -> Road:
@@ -59,19 +60,19 @@ class KeptRoad:
         return await self._keeper.say_all(lines, times)
 
     async def advance(self, to: int) -> int:
-        wanted = self._keeper.wanted
+        wanted = self._keeper.target_steps
         wanted[self._index] = max(to, wanted.get(self._index, 0))
 
         async def body() -> int:
             return self._keeper.program.horizons.get(self.name, 0)
-        return await self.job(body)
+        return await self.run_job(body)
 
 
 class Preview:
-    """Two roads as they were when they were compared: their edits, and a program once they are asked."""
+    """The two roads of a preview, as they were when it was made: their edits, and a program once they are queried."""
 
     def __init__(self, keeper: Keeper, before: Sequence[WrittenEdit], after: Sequence[WrittenEdit], demands: TwoDemands) -> None:
-        """`before` and `after` are all edits of both."""
+        """`before` and `after` are all edits of the two roads."""
         self._keeper, self.edits, self.demands = keeper, {"before": before, "after": after}, demands
         self.used = time.monotonic()
         self._is_over = False
@@ -82,14 +83,14 @@ class Preview:
 
     @property
     def is_idle(self) -> bool:
-        """Return whether it has a program that is asked nothing just now."""
+        """Return whether its program runs and is not answering a query."""
         return self._program is not None and not self._lock.locked()
 
-    async def ready(self, side: str) -> Program:
-        """Return its program, when it has the edits of a side and has run as far as it shall."""
+    async def prepare_program(self, side: str) -> Program:
+        """Return its program, when that has the edits of a side and has simulated it as far as it shall."""
         self.used = time.monotonic()
-        program = self._program or await self._started()
-        lines = [packed(line).encode() for line in import_lines(side, self.edits[side])]
+        program = self._program or await self._start_program()
+        lines = [to_json(line).encode() for line in import_lines(side, self.edits[side])]
         if lines and not self._fed[side]:
             await program.ask_all(lines)
             self._fed[side] = 1
@@ -97,22 +98,22 @@ class Preview:
             await asyncio.sleep(0)
         return program
 
-    async def _started(self) -> Program:
-        """Start a program, which ends at once if the seat has let the two roads go meanwhile."""
+    async def _start_program(self) -> Program:
+        """Start its program. Raise `ProgramExited` if the preview was dropped in the meantime."""
         if self._is_over:
             raise ProgramExited(LET_GO)
         plan: dict[str, object] = {**self._keeper.state.plan, "replicas": list(SIDES)}
-        program = await start(command_of(self._keeper.path, plan), packed(plan).encode())
+        program = await start(command_of(self._keeper.path, plan), to_json(plan).encode())
         if self._is_over:
             program.kill()
             raise ProgramExited(LET_GO)
         self._program = program
         return program
 
-    async def job(self, side: str, body: Job[T]) -> T:
+    async def run_job(self, side: str, body: Job[T]) -> T:
         async with self._lock:
             try:
-                await self.ready(side)
+                await self.prepare_program(side)
                 while isinstance(said := await body(), More):
                     pass
                 return said
@@ -121,7 +122,7 @@ class Preview:
                 raise no_preview() from fault
 
     async def say_all(self, lines: list[bytes], times: Times) -> list[bytes]:
-        """Return the replies to lines, in a job."""
+        """Send lines all at once and return the program's replies; raise the first refusal. To be called in a job."""
         if self._program is None:
             raise ProgramExited(LET_GO)
         began = time.perf_counter()
@@ -132,11 +133,11 @@ class Preview:
                 self._keeper.refuse(line, json.loads(reply), self._program)
         return replies
 
-    def wants(self, side: str, to: int) -> None:
+    def run_to(self, side: str, to: int) -> None:
         self._wanted[side] = max(to, self._wanted[side])
 
     def close(self) -> None:
-        """End its program, until it is asked again."""
+        """End its program. The next query starts a new one."""
         if self._program is not None:
             self._program.kill()
         self._program, self._fed = None, dict.fromkeys(SIDES, 0)
@@ -155,11 +156,11 @@ class Side:
 
     @property
     def edits(self) -> Sequence[WrittenEdit]:
-        """Return its edits, as an import has them."""
+        """Return all edits of this road, as rows of an import."""
         return self._preview.edits[self.name]
 
-    async def job(self, body: Job[T], at_leisure: bool = False) -> T:
-        return await self._preview.job(self.name, body)
+    async def run_job(self, body: Job[T], at_leisure: bool = False) -> T:
+        return await self._preview.run_job(self.name, body)
 
     def mark(self) -> None:
         return None
@@ -168,21 +169,21 @@ class Side:
         return await self._preview.say_all(lines, times)
 
     async def advance(self, to: int) -> int:
-        self._preview.wants(self.name, to)
+        self._preview.run_to(self.name, to)
 
         async def body() -> int:
             return to
-        return await self.job(body)
+        return await self.run_job(body)
 
 
 class Previews:
-    """The last preview of each seat."""
+    """The latest preview of each seat."""
 
     def __init__(self) -> None:
         self._of: dict[int, Preview] = {}
 
     def put(self, index: int, preview: Preview | None) -> None:
-        """Put a preview in the place of the seat's last one."""
+        """Replace the preview of a seat; None drops it."""
         old = self._of.pop(index, None)
         if old is not None:
             old.end()
@@ -190,7 +191,7 @@ class Previews:
             self._of[index] = preview
 
     def get(self, index: int) -> Preview:
-        """Return the seat's last one. Others that nobody uses stop."""
+        """Return the preview of a seat. Raise `Refused` if it has none. End programs of other seats' previews that are not used."""
         running = sorted((one for at, one in self._of.items() if one.is_idle and at != index), key=lambda one: one.used)
         for one in running[:max(0, len(running) + 1 - MOST_PREVIEWS)]:
             one.close()

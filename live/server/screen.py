@@ -1,4 +1,4 @@
-"""The program as a screen: each of its replicas is shown a road, and then the difference to another one."""
+"""Make the replicas of a program simulate roads: a screen sends them the edits that turn the road that they have into another one."""
 from __future__ import annotations
 
 import asyncio
@@ -8,47 +8,47 @@ from typing import Deque
 
 from zegdrut.wire import WrittenEdit
 
-from .journal import packed
+from .journal import to_json
 from .model.projection import Edits, difference, difference_like
 from .model.road import Road
 from .program import Program, import_lines
 
-NUMBER = 64  # in all stamps that a program is given: of no replica
-MOST_INLINE = 64  # layers of a road whose difference is worked out at once, and not beside
-KEPT = 16  # differences
+NUMBER = 64  # the number in all stamps that the program gets; no replica has it
+MOST_INLINE = 64  # layers of two roads whose difference is computed in the event loop; if there are more, in a thread
+MOST_DIFFERENCES = 16  # differences
 
 
 def rows_of(edits: Edits, count: int = 1) -> list[WrittenEdit]:
-    """Return edits as an `import` has them. Their stamps say nothing outside of the program."""
+    """Return edits as rows of an import. Their stamps have a meaning only for the program."""
     return [(kind, index, step, count, NUMBER, value) for (kind, index, step), value in edits.items()]
 
 
 def first_step(edits: Edits) -> int | None:
-    """Return the first step at which edits change anything."""
+    """Return the first step at which edits change a road; None if there are none."""
     return min((step for _, _, step in edits), default=None)
 
 
 class Differences:
-    """Edits between two roads, worked out once for all who need them. Large ones are worked out beside the event loop."""
+    """Computes the edits between two roads. Keeps the latest, since many seats need the same."""
 
     def __init__(self) -> None:
-        self._known: Deque[tuple[Road, Road, Edits]] = collections.deque(maxlen=KEPT)
+        self._known: Deque[tuple[Road, Road, Edits]] = collections.deque(maxlen=MOST_DIFFERENCES)
 
     async def between(self, before: Road, after: Road, like: tuple[Road, Road] | None = None) -> Edits:
-        """Return the edits from one road to another; `like` are two others between which much is the same."""
+        """Return the edits that turn `before` into `after`. `like` are two roads with a similar difference, which saves work."""
         if before is after:
             return {}
-        found = self._found(before, after)
+        found = self._find_known(before, after)
         if found is None:
             known = None if like is None else (*like, await self.between(*like))
-            found = await self._worked_out(before, after, known)
+            found = await self._compute(before, after, known)
             self._known.append((before, after, found))
         return found
 
-    def _found(self, before: Road, after: Road) -> Edits | None:
+    def _find_known(self, before: Road, after: Road) -> Edits | None:
         return next((edits for one, other, edits in self._known if one is before and other is after), None)
 
-    async def _worked_out(self, before: Road, after: Road, known: tuple[Road, Road, Edits] | None) -> Edits:
+    async def _compute(self, before: Road, after: Road, known: tuple[Road, Road, Edits] | None) -> Edits:
         if len(before.layers) + len(after.layers) <= MOST_INLINE:
             return difference(before, after)
         loop = asyncio.get_running_loop()
@@ -58,7 +58,7 @@ class Differences:
 
 
 class Screen:
-    """A program, and the road that each of its replicas simulates."""
+    """A program, and the road that each of its replicas has."""
 
     def __init__(self, program: Program, empty: Road) -> None:
         self.program = program
@@ -67,14 +67,14 @@ class Screen:
         self._shown: dict[int, Road] = {}
 
     def shown(self, index: int) -> Road:
-        """Return the road that a replica simulates."""
+        """Return the road that a replica has."""
         return self._shown.get(index, self._empty)
 
     async def show(self, index: int, at: str, road: Road, edits: Edits) -> None:
-        """Have a replica simulate a road. `edits` lead to it from the road that it simulates now."""
+        """Give a replica a road. `edits` turn the road that it has into this one."""
         self._count += 1
         self.withdrawn += sum(value is None for value in edits.values())
-        lines = [packed(line).encode() for line in import_lines(at, rows_of(edits, self._count))]
+        lines = [to_json(line).encode() for line in import_lines(at, rows_of(edits, self._count))]
         for reply in await self.program.ask_all(lines) if lines else ():
             if not reply.startswith(b'{"touched"'):
                 logging.error("the program refused edits that had been checked: %s", reply[:200])

@@ -1,7 +1,7 @@
-"""Seats: they are given, taken over, left, and freed when nobody used them for a day.
+"""Give seats to tabs, let other tabs take them over, and free seats that nobody has used for a day.
 
-A seat that is given while the disk takes nothing is written down when it does. Until then its key itself says whose seat it
-is, signed, so that it is given again after a kill.
+If the disk refuses writes when a seat is given, the seat is written to the journal later. Until then its key contains a signed copy of
+the seat's number and name, so that the tab gets the seat back even if the server is killed.
 """
 from __future__ import annotations
 
@@ -14,16 +14,16 @@ import secrets
 import time
 from typing import Callable, TypedDict
 
-from .asked import folded
+from .asked import fold_look_alikes
 from .keeper import A_MOMENT, SHARED, Keeper, NotKept
 from .model.operations import SEATS
 from .records import SeatFreed, SeatGiven, SeatUsed
 from .refusals import Refused
 from .state import SeatReplica, State
-from .writing import confirmed
+from .writing import wait_until_written
 
-JUMP = 60.0  # seconds between the time that passed and the system's clock
-NOTED = 1 / 24  # of the time after which a seat that nobody uses is free
+JUMP = 60.0  # seconds that the system's clock must differ from the time that passed, to count as a jump
+NOTED = 1 / 24  # the part of the time after which unused seats are freed: how often the use of a seat is noted
 
 
 def digest(key: str) -> str:
@@ -31,7 +31,7 @@ def digest(key: str) -> str:
 
 
 ListedSeat = TypedDict("ListedSeat", {"seat": int, "at": str, "name": str, "here": bool, "private": int})
-"""A seat that somebody has, as tabs get it; `private` is how many changes it has not shared."""
+"""A seat that somebody has, in the form of a reply. `private` is the number of changes that it has not shared."""
 
 
 class Seating:
@@ -41,9 +41,9 @@ class Seating:
         self._keeper = keeper
         self._giving = asyncio.Lock()
         self.steady = SteadyClock(keeper.settings.day * NOTED)
-        self.secret = secrets.token_bytes(16)  # of signed keys
-        self._unkept: dict[int, SeatGiven] = {}  # seats that were given while the disk took nothing
-        self._listed: list[ListedSeat] = []  # as it was on the disk
+        self.secret = secrets.token_bytes(16)  # signs keys
+        self._unkept: dict[int, SeatGiven] = {}  # seats that were given while the disk refused writes
+        self._listed: list[ListedSeat] = []  # the last list whose seats were all on the disk
         keeper.listeners.trouble.on(self._keep)
 
     @property
@@ -51,7 +51,7 @@ class Seating:
         return self._keeper.state
 
     def _keep(self) -> None:
-        """Write down the seats that were given while the disk took nothing, before anything that they put."""
+        """Once the disk accepts writes again, write the seats that were given meanwhile, before any operation of theirs."""
         while self._unkept and self._keeper.journal.fault is None:
             index, entry = self._unkept.popitem()
             if self._state.seats[index].key == entry.key:
@@ -59,25 +59,26 @@ class Seating:
 
     # Lists
 
-    def seats(self) -> list[ListedSeat]:
-        """Return who has a seat, for people."""
-        return [{"seat": seat.index, "at": seat.at, "name": seat.name, "here": seat.index in self._keeper.here,
+    def list_seats(self) -> list[ListedSeat]:
+        """Return the seats that somebody has."""
+        return [{"seat": seat.index, "at": seat.at, "name": seat.name, "here": seat.index in self._keeper.connected,
                  "private": len(seat.shareable())} for seat in self._state.seats[1:] if seat.key]
 
-    async def seats_kept(self, turn: int | None = None) -> list[ListedSeat]:
-        """Return the same, in a seat's turn or at once, when it is on the disk; while that does not answer, as it was before."""
+    async def list_saved_seats(self, turn: int | None = None) -> list[ListedSeat]:
+        """Return the seats that somebody has, when they are on the disk; in the turn of a seat if `turn` is given. If the disk does not
+        answer, return the last list that was on the disk."""
         async def look() -> list[ListedSeat]:
-            return self.seats()
+            return self.list_seats()
 
         async def in_turn() -> list[ListedSeat]:
             return await (look() if turn is None else self._keeper.ask(turn, (), look))
         asked = asyncio.ensure_future(self._keeper.read_committed(in_turn))
         while not (await asyncio.wait([asked], timeout=A_MOMENT))[0]:
-            if self._listed and self._keeper.journal.waits(A_MOMENT):
+            if self._listed and self._keeper.journal.has_waited(A_MOMENT):
                 asked.cancel()
                 kept = [one.copy() for one in self._listed]
                 for one in kept:
-                    one["here"] = one["seat"] in self._keeper.here
+                    one["here"] = one["seat"] in self._keeper.connected
                 return kept
         self._listed = asked.result()
         return self._listed
@@ -85,7 +86,7 @@ class Seating:
     # Coming
 
     async def join(self, name: str, key: str, take: int | None) -> tuple[int, str]:
-        """Return the seat of a tab that was here, one that is taken over, or a new one; and the key to come again."""
+        """Give a tab a seat: the seat of its key, the seat `take` that it takes over, or a new one. Return the seat's index and its key."""
         if take is None and key:
             known = [seat for seat in self._state.seats[1:] if seat.key and hmac.compare_digest(seat.key, digest(key))]
             if known:
@@ -97,66 +98,66 @@ class Seating:
 
     async def _take_over(self, index: int) -> tuple[int, str]:
         if not 1 <= index < SEATS or not self._state.seats[index].key:
-            raise self._refused("NoSuchSeat", "nobody has this seat")
-        if index in self._keeper.here:
-            raise self._refused("SeatConnected", "a tab is connected to this seat")
+            raise self._refuse_with_seats("NoSuchSeat", "nobody has this seat")
+        if index in self._keeper.connected:
+            raise self._refuse_with_seats("SeatConnected", "a tab is connected to this seat")
         return await self._give(index, self._state.seats[index].name)
 
     async def _new_seat(self, name: str) -> tuple[int, str]:
         if not name:
-            raise self._refused("NoName", "give a name of 1 to 64 characters")
-        alike = self._alike(name)
+            raise self._refuse_with_seats("NoName", "give a name of 1 to 64 characters")
+        alike = self._find_similar_name(name)
         if alike is not None:
             looks = "" if alike == name else f", and {name} looks like it"
-            raise self._refused("NameTaken", f"there is a seat of {alike}{looks}: take it over, or choose another name")
+            raise self._refuse_with_seats("NameTaken", f"there is a seat of {alike} already{looks}: take it over, or choose another name")
         free = [seat.index for seat in self._state.seats[1:] if not seat.key]
         if not free:
-            raise self._refused("AllSeatsTaken", "all 63 seats are taken: take one over")
-        made = {number for _, number in self._state.by_stamp}  # whose is not to be another's
+            raise self._refuse_with_seats("AllSeatsTaken", "all 63 seats are taken: take one over")
+        made = {number for _, number in self._state.by_stamp}  # prefer seats whose number has made no operations
         fresh = [index for index in free if self._state.seats[index].number not in made]
         return await self._give((fresh or free)[0], name, self._state.works)
 
     async def _give_again(self, key: str) -> tuple[int, str]:
-        """Give a seat that was given by this key while the disk took nothing, if it is free."""
+        """Give a tab the seat that its signed key names. The seat was given while the disk refused writes, and must be free."""
         said, _, name = key.partition(".")[2].partition(".")
         index = int(said) if said.isdecimal() and len(said) <= 2 else 0
-        is_signed = hmac.compare_digest(self._signed(key[:8], index, name).encode(), key.encode("utf-8", "replace"))
-        if not is_signed or self._state.seats[index].key or self._alike(name) is not None:
-            raise self._refused("UnknownKey", "the seat was taken over, or is free again: choose a seat")
+        is_signed = hmac.compare_digest(self._sign(key[:8], index, name).encode(), key.encode("utf-8", "replace"))
+        if not is_signed or self._state.seats[index].key or self._find_similar_name(name) is not None:
+            raise self._refuse_with_seats("UnknownKey", "this seat was taken over or freed: choose a seat")
         return await self._give(index, name, self._state.works, key)
 
-    def _alike(self, name: str) -> str | None:
-        """Return the name of a seat that looks like this one, or is it."""
-        return next((seat.name for seat in self._state.seats if seat.key and folded(seat.name) == folded(name)), None)
+    def _find_similar_name(self, name: str) -> str | None:
+        """Return the name of a seat that is equal to this name or looks like it; None if there is none."""
+        return next((seat.name for seat in self._state.seats if seat.key and fold_look_alikes(seat.name) == fold_look_alikes(name)), None)
 
-    def _refused(self, text: str, why: str) -> Refused:
-        return Refused(text, why, seats=self.seats())
+    def _refuse_with_seats(self, text: str, why: str) -> Refused:
+        return Refused(text, why, seats=self.list_seats())
 
     async def _give(self, index: int, name: str, upto: int = 0, key: str = "") -> tuple[int, str]:
         key = key or secrets.token_urlsafe(12)
-        self._keeper.here.add(index)  # so that nobody else gets it meanwhile
+        self._keeper.connected.add(index)  # so that nobody else gets the seat meanwhile
         try:
             try:
-                await self._keeper.turns.ask(SHARED, self._keeper.writable)
-                await confirmed(self._keeper.record_late(self._entry(index, name, key, upto), lambda: None), {})
-            except NotKept:  # who looks needs no disk
-                key = self._signed(key[:8], index, name)
+                await self._keeper.turns.ask(SHARED, self._keeper.require_writable)
+                await wait_until_written(self._keeper.apply_when_written(self._entry(index, name, key, upto), lambda: None), {})
+            except NotKept:  # a newcomer can view everything without the disk
+                key = self._sign(key[:8], index, name)
                 entry = self._entry(index, name, key, upto)
 
                 async def looks() -> None:
                     entry.apply(self._state)
                     self._unkept[index] = entry
                 await self._keeper.turns.ask(SHARED, looks)
-        except BaseException:  # also where its tab went meanwhile
-            self._keeper.here.discard(index)
+        except BaseException:  # also if the tab has gone meanwhile
+            self._keeper.connected.discard(index)
             raise
         return index, key
 
     def _entry(self, index: int, name: str, key: str, upto: int) -> SeatGiven:
         return SeatGiven(index, name, digest(key), int(time.time()), upto=upto)
 
-    def _signed(self, bits: str, index: int, name: str) -> str:
-        """Return a key that says whose seat it is."""
+    def _sign(self, bits: str, index: int, name: str) -> str:
+        """Return a key that contains the seat's number and name, signed. `bits` make it random."""
         said = f"{index}.{name}"
         seal = hmac.digest(self.secret, f"{bits}.{said}".encode("utf-8", "replace"), "sha256")[:12]
         return f"{bits}{base64.urlsafe_b64encode(seal).decode()}.{said}"
@@ -165,60 +166,60 @@ class Seating:
 
     def leave(self, index: int) -> None:
         """Note that the tab of a seat has gone."""
-        self._keeper.here.discard(index)
+        self._keeper.connected.discard(index)
         if self._keeper.journal.fault is None and self._state.seats[index].key:
             self._note_use(index)
 
     def _note_use(self, index: int) -> None:
         self._keeper.record(SeatUsed(index, int(time.time())))
 
-    async def give_back(self, index: int) -> None:
-        """Free a seat that holds nothing private, when what it was asked before is done."""
+    async def release_seat(self, index: int) -> None:
+        """Free a seat when its earlier commands are done. Raise `Refused` if it has changes that are not shared."""
         async def body() -> asyncio.Future[None]:
-            if self.owned(index).shareable():
-                raise Refused("PrivateChanges", "this seat has changes that are not shared: share them, or undo them")
-            await self._keeper.writable()
+            if self.require_owned(index).shareable():
+                raise Refused("PrivateChanges", "this seat has changes that are not shared: share or undo them first")
+            await self._keeper.require_writable()
             return self._free(index)
-        await confirmed(await self._keeper.turns.ask(index, body), {})
+        await wait_until_written(await self._keeper.turns.ask(index, body), {})
 
-    def owned(self, index: int) -> SeatReplica:
-        """Return a seat, unless it was left by what was asked before."""
+    def require_owned(self, index: int) -> SeatReplica:
+        """Return a seat. Raise `Refused` if an earlier command has left it."""
         seat = self._state.seats[index]
         if not seat.key:
-            raise Refused("NotYourReplica", "this tab has left the seat")
+            raise Refused("NotYourReplica", "this tab has left its seat: say `hello` again")
         return seat
 
     def _free(self, index: int) -> asyncio.Future[None]:
-        self._keeper.wanted.pop(index, None)
+        self._keeper.target_steps.pop(index, None)
         return self._keeper.record(SeatFreed(index))
 
     def free_unused(self) -> None:
-        """Free the seats that nobody used for a day and that hold nothing private; and note now and then which are used, since
-        after a kill that is not known. Nothing is done for an hour after a start, or after the clock has jumped."""
-        if not self.steady.is_so():
+        """Free the seats that nobody has used for a day and that have no private changes. Write down at intervals which seats are used,
+        so that this is known after a kill. Do nothing for an hour after a start or a jump of the clock."""
+        if not self.steady.is_steady():
             return
         now, day = time.time(), self._keeper.settings.day
         for seat in [one for one in self._state.seats[1:] if one.key]:
-            if seat.index in self._keeper.here:
+            if seat.index in self._keeper.connected:
                 if seat.used < now - day * NOTED:
                     self._note_use(seat.index)
             elif seat.used < now - day and not seat.shareable():
-                logging.info("seat %d of %s is free again", seat.index, seat.name)
+                logging.info("seat %d of %s was not used for a day and is freed", seat.index, seat.name)
                 self._free(seat.index)
-                self._keeper.listeners.seats.tell()
+                self._keeper.listeners.seats.notify()
 
 
 class SteadyClock:
-    """The system's clock beside one that cannot be set."""
+    """Compares the system's clock with a clock that cannot be set, to notice jumps."""
 
     def __init__(self, patience: float, wall: Callable[[], float] = time.time,
                  passed: Callable[[], float] = time.monotonic) -> None:
-        """`patience` are the seconds for which a clock must go on without a jump."""
+        """`patience` is the time in seconds that must pass without a jump; `wall` is the system's clock, `passed` the other one."""
         self._patience, self._wall, self._passed = patience, wall, passed
         self._offset, self._since = wall() - passed(), passed()
 
-    def is_so(self) -> bool:
-        """Return whether the clock has gone on without a jump for long enough. To be asked now and then."""
+    def is_steady(self) -> bool:
+        """Return whether the clock has run without a jump for long enough. Must be called at intervals."""
         offset, now = self._wall() - self._passed(), self._passed()
         if abs(offset - self._offset) > JUMP:
             self._offset, self._since = offset, now

@@ -1,12 +1,12 @@
-"""Hold what a folder's journal says: the plan, the seats, and the operations that each seat holds.
+"""Hold the state that a folder's journal describes: the plan, the seats, and the operations that each seat holds.
 
     state = State()
     for entry in read_entries(path)[0]: state.read(entry)
     entry.apply(state)                     a new entry
-    entries = list(state.entries())        the same in as few entries as possible
+    entries = list(state.entries())        as few entries as possible that give the same state
 
-Seat 0 is the shared road. It has its operations in order of arrival. Every other seat holds its own operations and a prefix of
-these.
+Seat 0 is the shared road, which holds the shared operations in order of arrival. Every other seat holds its own operations, and the
+first ones of the shared road.
 """
 from __future__ import annotations
 
@@ -19,22 +19,22 @@ from zegdrut.wire import PlanLine
 from .records import (JOURNAL_FORM, AllNews, AnyEntry, Bound, Came, Clock, Fields, Folder, Keys, Made, News, SeatFreed,
                       SeatGiven, Take, Works, read_entry)
 from .former_journal import Former
-from .journal import Broken
-from .model.changes import all_lines, altered, lines_of, operations_on
-from .model.choices import forgettable, shareable
-from .model.operations import SEATS, Operation, Stamp, is_raw, same_int, stamped_anew
+from .journal import CorruptJournal
+from .model.changes import all_lines, find_altered_lines, lines_of, operations_on
+from .model.choices import find_forgettable, shareable
+from .model.operations import SEATS, Operation, Stamp, is_raw, intern_int, restamp
 from .model.road import Road
 from .stamps import StampClock
 
 TAB_FORM = 4  # the protocol of tabs
 SITE_FORM = 3  # the protocol of sites
 MOST_NEWS = 100
-AT_ONCE = 100  # operations that are applied before others get a turn
+APPLIED_AT_ONCE = 100  # operations that are applied before others get a turn
 LARGE = 12  # layers of an operation that count as one more operation
 MOST_ROADS = 8  # values of the shared road that are kept for seats that take
 
 NO_PLAN: PlanLine = {"length": 0, "inlets": (), "zones": (), "zone": 0, "exit": 0, "detectors": (), "words": 0, "replicas": ()}
-"""The plan of a state that has read none."""
+"""The plan of a state that has not read a plan."""
 
 
 def plan_value(plan: PlanLine, kind: str, index: int) -> int | None:
@@ -55,7 +55,7 @@ def plan_value(plan: PlanLine, kind: str, index: int) -> int | None:
 def size_of_part(some: list[Operation]) -> int:
     """Return how many of these operations, from the first on, are applied at once: fewer if they are large."""
     work = itertools.accumulate(1 + len(one.sets) // LARGE for one in some)
-    return max(1, sum(1 for _ in itertools.takewhile(lambda done: done <= AT_ONCE, work)))
+    return max(1, sum(1 for _ in itertools.takewhile(lambda done: done <= APPLIED_AT_ONCE, work)))
 
 
 class Replica:
@@ -63,7 +63,7 @@ class Replica:
 
     def __init__(self, index: int, state: State) -> None:
         self.index, self._state = index, state
-        self.begun = self.version = state.begun  # of its list
+        self.begun = self.version = state.begun  # the first and the present version of its list
         self.marks: dict[Stamp, int] | None = None  # line -> version of its last change, relative to `begun`
         self.places: dict[Operation, int] = {}  # operation -> its place in order of arrival
         self.size: int = 0  # how many operations it holds
@@ -83,20 +83,20 @@ class Replica:
     @property
     def road(self) -> Road:
         if self._road is None:
-            self._road, self._waiting = self.built(), []
+            self._road, self._waiting = self.build(), []
         if self._waiting:
             waiting, self._waiting = self._waiting, []
             self.become(self._road.adding(waiting))
         return self._road
 
     async def catch_up(self) -> None:
-        """Apply waiting operations in pieces, so that others get a turn in between. Whoever asks for the road meanwhile gets all of it."""
+        """Apply waiting operations in pieces, so that other seats get their turn in between. The property `road` still applies all."""
         while self._road is not None and (size := size_of_part(self._waiting)) < len(self._waiting):
             part, self._waiting = self._waiting[:size], self._waiting[size:]
             self.become(self._road.adding(part))
             await asyncio.sleep(0)
 
-    def built(self) -> Road:
+    def build(self) -> Road:
         """Build its road from all the operations that it holds."""
         raise NotImplementedError
 
@@ -104,14 +104,14 @@ class Replica:
         """Replace the road, and mark the lines that may look different."""
         before, self._road = self._road, road
         if self.marks is not None and before is not None:
-            self.mark(sorted(altered(before, road)))
+            self.mark(sorted(find_altered_lines(before, road)))
 
     def hold(self, operations: Iterable[Operation]) -> list[Operation]:
         """Hold operations, and return those that are new."""
         fresh = []
         for one in operations:
             if one not in self.places:
-                self.places[one] = same_int(self.size)
+                self.places[one] = intern_int(self.size)
                 self.size += 1
                 fresh.append(one)
         if self._road is not None:
@@ -123,7 +123,7 @@ class Replica:
         if self.marks is not None:
             for line in lines:
                 self.version += 1
-                self.marks[line] = same_int(self.version - self.begun)
+                self.marks[line] = intern_int(self.version - self.begun)
 
     def begin_list(self) -> dict[Stamp, int]:
         """Return the marks. The first time, all lines are new."""
@@ -140,9 +140,9 @@ class SharedReplica(Replica):
     def __init__(self, state: State) -> None:
         super().__init__(0, state)
         self._order: list[Operation] = []
-        self._roads: dict[int, Road] = {}  # by the number of its operations
+        self._roads: dict[int, Road] = {}  # by the number of operations: values of the road
 
-    def built(self) -> Road:
+    def build(self) -> Road:
         return self.upto(self.size)
 
     def hold(self, operations: Iterable[Operation]) -> list[Operation]:
@@ -163,7 +163,7 @@ class SharedReplica(Replica):
         return self._roads[size]
 
     def keep(self, size: int, road: Road) -> None:
-        """Keep a value of the road for seats that take, and drop those that nobody will ask for."""
+        """Keep a value of the road for the seats that will need it, and drop values that none needs."""
         self._roads[size] = road
         used = {seat.upto for seat in self._state.seats if seat.key}
         for old in [one for one in self._roads if one not in used][:-MOST_ROADS]:
@@ -184,29 +184,29 @@ class SeatReplica(Replica):
 
     def __init__(self, index: int, state: State, count: int = 0) -> None:
         super().__init__(index, state)
-        self.name, self.key = "", ""  # the hash of its tab's key; empty: nobody has the seat
+        self.name, self.key = "", ""  # `key` is the hash of its tab's key; empty if nobody has the seat
         self.count = count  # the greatest count in its stamps
         self.upto = 0  # how many operations of the shared road it has taken
-        self.used: float = 0  # when it last had a tab
+        self.used: float = 0  # when it last had a tab, in seconds since 1970, in seconds since 1970
         self.own: dict[Operation, None] = {}  # made at this seat, in order
         self.done: dict[str, Stamp] = {}  # its operations by their keys
         self.renamed: dict[Stamp, Stamp] = {}  # the stamps of operations that were stamped again
         self.idle: frozenset[Operation] = frozenset()  # private ones that need not be shared, as the list shows
         self._shareable: tuple[Road, Road, list[Operation]] | None = None
 
-    def built(self) -> Road:
+    def build(self) -> Road:
         return self._state.shared.upto(self.upto).adding(self.own)
 
     def rebuild(self) -> None:
         """Build its road again from all the operations that it holds."""
         if self._road is not None:
             self._waiting = []
-            self.become(self.built())
+            self.become(self.build())
 
-    def forgot(self, lines: set[Stamp], others: set[Operation]) -> None:
-        """Build its road again, without what was forgotten on these lines. Empty lines had left the list before. Raw edits of
-        others that replaced forgotten ones may now belong to other lines: these are listed again."""
-        before, after = self.road, self.built()
+    def rebuild_without(self, lines: set[Stamp], others: set[Operation]) -> None:
+        """Build its road again after operations on these lines were forgotten. Lines without operations leave the list. Raw edits of
+        `others` that replaced forgotten ones may now belong to different lines, so mark the lines of these operations, too."""
+        before, after = self.road, self.build()
         self._road = after
         left = {line for line in lines if operations_on(after, line)}
         left |= {line for one in others for road in (before, after) for line in lines_of(road, one)}
@@ -224,7 +224,7 @@ class SeatReplica(Replica):
         return self._shareable[2]
 
     def _all_shared(self, shared: Road) -> Road:
-        """Return the shared road with all private operations. Starts from the last such road, since most of them are in it."""
+        """Return the shared road with all private operations added. Start from the last such road, which has most of them."""
         lately = self._state.lately
         known, then = lately.pop(self.index, (shared, shared))
         lately[self.index] = shared, (then if known is shared else shared).adding(self._state.private(self))
@@ -249,12 +249,12 @@ class State:
     """All that a journal determines."""
 
     def __init__(self, clock: StampClock | None = None, begun: int = 0) -> None:
-        """`clock` makes stamps; versions of lists are above `begun`."""
+        """`clock` makes stamps. Versions of lists begin above `begun`."""
         self.begun = begun
         self.plan: PlanLine = NO_PLAN
         self.site, self.folder, self.form = 0, "", JOURNAL_FORM
         self.bound: dict[int, str] = {}  # site's number -> the folder that had it first
-        self.unsent: dict[Operation, None] = {}  # shared here, and not yet come back from the broker
+        self.unsent: dict[Operation, None] = {}  # shared at this site, but not yet returned by the broker
         self.titles: dict[Operation, str] = {}  # the title under which an operation was shared
         self.shares: list[News] = []
         self.works = 0  # how many operations of the shared road every new seat starts with
@@ -263,7 +263,7 @@ class State:
         self.stop: int | None = None
         self.by_stamp: dict[Stamp, Operation] = {}
         self._twins: dict[Stamp, tuple[Operation, ...]] = {}  # other operations with the same stamp
-        self._greatest, self._later = 0, list[int]()  # the greatest count by the clock when it was asked last, and those above
+        self._greatest, self._later = 0, list[int]()  # the greatest count not too far ahead of the clock, and those beyond
         self.lately: dict[int, tuple[Road, Road]] = {}  # by seat: the shared road, and the same road with all private operations
         self._clock = clock or StampClock()
         self._former: Former | None = None
@@ -279,23 +279,24 @@ class State:
     # Entries
 
     def read(self, entry: Mapping[str, Fields]) -> None:
-        """Apply an entry of a journal, of any form; raise `Broken` if it is malformed."""
+        """Apply an entry of a journal, of any form; raise `CorruptJournal` if it is malformed."""
         (kind, value), = entry.items()
         try:
             if self._former is None or not self._former.apply(kind, value):
                 read_entry(kind, value).apply(self)
         except (KeyError, IndexError, TypeError, ValueError, OverflowError) as fault:
-            raise Broken(f"no entry `{kind}`: {fault}" if isinstance(fault, ValueError) else f"no entry `{kind}`: {fault!r}") from None
+            why = str(fault) if isinstance(fault, ValueError) else repr(fault)
+            raise CorruptJournal(f"malformed entry `{kind}`: {why}") from None
 
     def begin(self, plan: PlanLine, site: int, folder: str, form: int) -> None:
         self.plan, self.site, self.folder, self.form = plan, site, folder, form
         self._former = Former(self) if form < JOURNAL_FORM else None
 
     def end_reading(self) -> None:
-        """Note that the whole journal is read: from now on entries are of this form."""
+        """Note that the whole journal, or its part in a former form, has been read: new entries have the present form."""
         self.form, self._former = JOURNAL_FORM, None
 
-    def interned(self, one: Operation) -> Operation:
+    def intern(self, one: Operation) -> Operation:
         """Return the equal operation that is already held, or this one."""
         known = self.of_stamp(one.stamp)
         found = next((other for other in known if other.is_same(one)), None)
@@ -339,14 +340,14 @@ class State:
         return fresh
 
     def _raise_count(self, one: Operation) -> None:
-        """Raise a number's count, also if an operation of it came from outside."""
+        """Raise the count of an operation's seat if it is above, also if the operation came from another site."""
         count, number = one.stamp
         if number // SEATS == self.site:
             own = self.seats[number % SEATS]
             own.count = max(own.count, count)
 
     def take(self, seat: SeatReplica, upto: int) -> None:
-        came, seat.upto = self.fresh(seat, upto), max(seat.upto, upto)
+        came, seat.upto = self.unseen(seat, upto), max(seat.upto, upto)
         seat.hold(came)
 
     def free(self, index: int, count: int) -> None:
@@ -354,14 +355,14 @@ class State:
         self.lately.pop(index, None)
         self.seats[index] = SeatReplica(index, self, max(old.count, count))
 
-    def tell(self, news: News) -> None:
+    def add_news(self, news: News) -> None:
         self.shares = [*self.shares, news][-MOST_NEWS:]
 
     # Questions
 
     def stamp(self, seat: SeatReplica) -> Stamp:
-        """Return a new stamp of a seat: above all stamps that are held here, and above all that this site made, so that no change
-        falls below an older one if the clock goes back. Stamps too far ahead of the clock are ignored."""
+        """Return a new stamp for a seat. It is above all stamps that are held here or that this site made, so a change wins over older
+        ones even if the clock was set back. Stamps that are too far ahead of the clock are ignored."""
         latest = self._clock.latest_count()
         if self._greatest > latest:  # the clock has gone back
             self._greatest, self._later = 0, [count for count, _ in self.by_stamp]
@@ -374,7 +375,7 @@ class State:
         """Return the seat's own operations that have not been shared."""
         return [one for one in seat.own if one not in self.shared.places]
 
-    def fresh(self, seat: SeatReplica, upto: int | None = None) -> list[Operation]:
+    def unseen(self, seat: SeatReplica, upto: int | None = None) -> list[Operation]:
         """Return the shared operations that the seat has not taken and does not hold already."""
         return [one for one in self.shared.operations(seat.upto, upto) if one not in seat.places]
 
@@ -382,12 +383,12 @@ class State:
         return [one for one in self.of_stamp(stamp) if one in seat.places]
 
     def stamp_anew(self, seat: SeatReplica, stamps: Mapping[Stamp, Stamp]) -> None:
-        """Give private operations of a seat new stamps. The old ones still name them, too."""
+        """Give private operations of a seat new stamps. The old stamps still name them, too."""
         old = [one for one in self.private(seat) if one.stamp in stamps]
-        new = stamped_anew(old, stamps)
+        new = restamp(old, stamps)
         for one in old:
             self._drop(seat, one)
-        for one in map(self.interned, new):
+        for one in map(self.intern, new):
             self.hold_own(seat, one)
         seat.done = {key: stamps.get(stamp, stamp) for key, stamp in seat.done.items()}
         seat.renamed.update(stamps)
@@ -402,18 +403,18 @@ class State:
         self._set_stamp(one.stamp, tuple(other for other in self.of_stamp(one.stamp) if other is not one))
 
     def forget(self, seat: SeatReplica, kept: int) -> None:
-        """Drop private operations that no longer have an effect, except the newest: no layer differs without them."""
+        """Drop private operations that no longer have an effect, except the newest `kept`. No road differs without them."""
         private = self.private(seat)
         if len(private) <= kept:
             return
-        gone = forgettable(seat.road, self.shared.road, seat.number, kept) & set(private)
+        gone = find_forgettable(seat.road, self.shared.road, seat.number, kept) & set(private)
         if not gone:
             return
         lines = {line for one in gone for line in lines_of(seat.road, one)}
         others = {other for one in gone for name in one.sets if is_raw(name) for other in seat.road.setters_of(name)}
         for one in gone:
             self._drop(seat, one)
-        seat.forgot(lines, others - gone)
+        seat.rebuild_without(lines, others - gone)
 
     # Compaction
 

@@ -1,4 +1,4 @@
-"""The clock of a folder's road: it goes on by itself at a rate, or is set forward."""
+"""Set the clock of the road: let it run at a rate, or set it forward to a step."""
 from __future__ import annotations
 
 import asyncio
@@ -10,15 +10,15 @@ from zegdrut.grammar import LAST_HORIZON
 from .keeper import A_MOMENT, SHARED, Keeper
 from .records import Clock
 from .refusals import Refused
-from .writing import confirmed
+from .writing import wait_until_written
 
-AHEAD = 36_000  # steps that a replica may run past the clock, and that the clock may be set forward
-FASTEST, FAST = 600, 60  # steps a second; a clock that is faster stops in an hour
-HOUR = 3_600
+STEPS_AHEAD = 36_000  # steps that a replica may run ahead of the clock, and that the clock may be set forward
+FASTEST, FAST = 600, 60  # steps a second; above `FAST` the clock stops after an hour of the road
+HOUR = 3_600  # steps
 
 
 class Timing:
-    """Sets the clock, and writes down now and then how late it is."""
+    """Sets the clock, and saves it to the journal at intervals."""
 
     def __init__(self, keeper: Keeper) -> None:
         self._keeper = keeper
@@ -26,41 +26,42 @@ class Timing:
         self._waiting: set[asyncio.Future[None]] = set()  # clocks that are being written
 
     async def set_clock(self, rate: float | None = None, to: int | None = None) -> Mapping[str, object]:
-        """Let the clock go on at a rate, or set it forward. Of several who do so at once each keeps what the others set."""
+        """Set the rate of the clock in steps a second, or set the clock forward to a step. If several tabs do this at the same time, one
+        that sets the rate does not change the step, and vice versa. Return the present step."""
         keeper = self._keeper
         now = keeper.now()
-        if to is not None and not now <= to <= min(LAST_HORIZON, now + AHEAD):
-            raise Refused("Range", f"`to` must be {now} to {min(LAST_HORIZON, now + AHEAD)}, not {to}")
+        if to is not None and not now <= to <= min(LAST_HORIZON, now + STEPS_AHEAD):
+            raise Refused("Range", f"`to` must be {now} to {min(LAST_HORIZON, now + STEPS_AHEAD)}, not {to}")
         async with self._setting:
-            await keeper.turns.ask(SHARED, keeper.writable)
+            await keeper.turns.ask(SHARED, keeper.require_writable)
             clock = keeper.clock() if rate is None else Clock(rate, keeper.now())
             step = clock.now if to is None else max(to, clock.now)
             stop = min(LAST_HORIZON, step + HOUR) if clock.rate > FAST else clock.stop
-            await confirmed(self._put(Clock(clock.rate, step, stop)), {})
-        keeper.listeners.clock.tell()
+            await wait_until_written(self._put(Clock(clock.rate, step, stop)), {})
+        keeper.listeners.clock.notify()
         return {"now": step}
 
     def _put(self, clock: Clock) -> asyncio.Future[None]:
-        """Write down a clock, which goes on from now; it takes effect once that is on the disk."""
+        """Save a clock. It takes effect once it is on the disk, and then counts from now."""
         def begin() -> None:
-            self._keeper.since = begun
+            self._keeper.clock_started = begun
         begun = time.monotonic()
-        self._waiting.add(done := self._keeper.record_late(clock, begin))
+        self._waiting.add(done := self._keeper.apply_when_written(clock, begin))
         done.add_done_callback(self._waiting.discard)
         return done
 
-    def keep(self) -> None:
-        """Write down how late it is. What is less than a step goes on."""
+    def save(self) -> None:
+        """Save the present step if the clock has run on; keep the fraction of a step. Stop a fast clock at its end."""
         keeper = self._keeper
         clock, before = keeper.clock(), keeper.state.now
-        if self._waiting or keeper.journal.waits(A_MOMENT):
+        if self._waiting or keeper.journal.has_waited(A_MOMENT):
             return
         if clock.now > before:
             keeper.record(clock)
-            keeper.since += (clock.now - before) / clock.rate
+            keeper.clock_started += (clock.now - before) / clock.rate
         elif clock.now == clock.stop:
             self._put(Clock(0, before)).add_done_callback(self._has_stopped)
 
     def _has_stopped(self, done: asyncio.Future[None]) -> None:
         if not done.cancelled() and done.exception() is None:
-            self._keeper.listeners.clock.tell()
+            self._keeper.listeners.clock.notify()

@@ -1,5 +1,5 @@
-"""Answer the commands of a tab. One table has for each its name, the roads that may be asked, and the reader of its fields, which
-returns what answers it."""
+"""Answer the commands of a tab. The table `VERBS` has for each command the roads that `at` may name, and the reader of its fields. A
+reader returns a function that answers the command."""
 from __future__ import annotations
 
 import secrets
@@ -9,7 +9,7 @@ from typing import Awaitable, Callable, TypeVar
 from zegdrut.grammar import LAST_HORIZON
 
 from . import peers
-from .asked import LONGEST_NOTE, Asked, RawEdit
+from .asked import LONGEST_NOTE, CommandFields, RawEdit
 from .keeper import SHARED, Times
 from .lab import Lab
 from .questions import Questions, Reply
@@ -18,12 +18,12 @@ from .roads import SIDES, AskedRoad
 from .state import Replica
 from .timing import FASTEST
 
-MOST_WORKS = 200  # sentences of a report
-ALL = frozenset[str]()  # it is of no road
+MOST_WORKS = 200  # sentences about the change in a report
+ALL = frozenset[str]()  # the command has no `at`
 OWN = frozenset({"own"})
 SHARED_ROAD = frozenset({"shared"})
-KEPT = OWN | SHARED_ROAD
-ROADS = KEPT | frozenset(SIDES)
+KEPT_ROADS = OWN | SHARED_ROAD
+ROADS = KEPT_ROADS | frozenset(SIDES)
 
 
 CHANGES = frozenset({"gesture", "edit", "withdraw", "undo", "again", "site", "send", "take", "leave", "clock", "unbind"})
@@ -31,7 +31,7 @@ CHANGES = frozenset({"gesture", "edit", "withdraw", "undo", "again", "site", "se
 
 @dataclass
 class Call:
-    """A question: the seat that asks, the road, and how long each part takes."""
+    """A command that is being answered: the seat that sent it, the road that it is about, and the times that the answer takes."""
 
     lab: Lab
     questions: Questions
@@ -41,7 +41,7 @@ class Call:
 
     @property
     def replica(self) -> Replica:
-        """Return the seat, or the shared road, that is asked about."""
+        """Return the replica that the command is about: the seat's own or the shared one."""
         return self.lab.state.replica(SHARED if self.at == "shared" else self.index)
 
     @property
@@ -50,26 +50,27 @@ class Call:
 
 
 Does = Callable[[Call], Awaitable[Reply]]
-"""A command whose fields are read: it answers a call."""
-Reads = Callable[[Asked], Does]
+"""A command whose fields have been read. It answers a call."""
+Reads = Callable[[CommandFields], Does]
 T = TypeVar("T")
 
 
 @dataclass(frozen=True)
 class Verb:
-    """A command. If the road is one of `lists`, the answer may show what others did. It waits until that is on the disk."""
+    """A command: the roads that `at` may name, and the reader of its fields. If the command is about a road in `lists`, the reply may
+    show changes of other seats, so it waits until these are on the disk."""
 
     of: frozenset[str]
     reads: Reads
     lists: frozenset[str] = frozenset()
 
 
-async def answer(lab: Lab, questions: Questions, index: int, asked: Asked, times: Times) -> Reply:
-    """Answer a seat; raise `Refused` if that cannot be done."""
+async def answer(lab: Lab, questions: Questions, index: int, asked: CommandFields, times: Times) -> Reply:
+    """Return the reply to a command of a seat. Raise `Refused` if the command is refused."""
     if asked.verb not in VERBS:
-        raise not_a_command(f"`{asked.verb}` is not a command of a tab")
+        raise not_a_command(f"there is no command `{asked.verb}`")
     verb = VERBS[asked.verb]
-    call = Call(lab, questions, index, where(lab, index, asked, verb), times)
+    call = Call(lab, questions, index, road_name(lab, index, asked, verb), times)
     with asked:
         does = verb.reads(asked)
     if verb.of in (ALL, OWN) and not verb.lists:
@@ -78,7 +79,7 @@ async def answer(lab: Lab, questions: Questions, index: int, asked: Asked, times
     return await lab.keeper.read_committed(lambda: does(call), may_see)
 
 
-def where(lab: Lab, index: int, asked: Asked, verb: Verb) -> str:
+def road_name(lab: Lab, index: int, asked: CommandFields, verb: Verb) -> str:
     """Return the road that `at` names."""
     if verb.of == ALL:
         return "own"
@@ -86,7 +87,7 @@ def where(lab: Lab, index: int, asked: Asked, verb: Verb) -> str:
     meant = "own" if at == own else at
     if type(meant) is not str or meant not in verb.of:
         valid = " or ".join(f'"{own if one == "own" else one}"' for one in sorted(verb.of))
-        raise Refused("NotYourReplica", "a tab may change only its own replica, and read only that one, the shared one and the two "
+        raise Refused("NotYourReplica", "a tab can change only its own road, and query only that one, the shared road and the two roads "
                       f"of its preview: here `at` must be {valid}")
     return meant
 
@@ -97,46 +98,46 @@ def no_fields(does: Does) -> Reads:
     return lambda _asked: does
 
 
-def one_part(read: Callable[[Asked], T], does: Callable[[Call, T], Awaitable[Reply]]) -> Reads:
-    """Return the reader of a command whose fields are one part: a value, or a tuple."""
-    def reads(asked: Asked) -> Does:
+def reader_of_one_part(read: Callable[[CommandFields], T], does: Callable[[Call, T], Awaitable[Reply]]) -> Reads:
+    """Return the reader of a command whose fields `read` returns as one value or tuple, which `does` gets."""
+    def reads(asked: CommandFields) -> Does:
         part = read(asked)
         return lambda call: does(call, part)
     return reads
 
 
-def read_steps(asked: Asked) -> tuple[int, int]:
+def read_steps(asked: CommandFields) -> tuple[int, int]:
     return asked.whole("from"), asked.whole("to")
 
 
-def read_key_and_note(asked: Asked) -> tuple[str, str]:
+def read_key_and_note(asked: CommandFields) -> tuple[str, str]:
     return asked.key(), asked.text("note", LONGEST_NOTE, "")
 
 
-def read_comparison(asked: Asked) -> tuple[str, int, int]:
-    """Return which roads are compared, and the steps."""
+def read_comparison(asked: CommandFields) -> tuple[str, int, int]:
+    """Return which roads a command compares, and the steps."""
     of = asked.require("of")
     if type(of) is not str or of not in ("preview", "mine"):
         raise not_a_command('`of` must be "preview" or "mine"')
     return (of, *read_steps(asked))
 
 
-def read_site(asked: Asked) -> int:
+def read_site(asked: CommandFields) -> int:
     return asked.whole("site", 1, 1_023)
 
 
-def require_shared(asked: Asked, field: str) -> None:
+def require_shared(asked: CommandFields, field: str) -> None:
     if asked.require(field) != "shared":
         raise Refused("not a command", f"`{field}` must be \"shared\" here")
 
 
-# Of no road
+# Commands without a road
 
 async def seats(call: Call) -> Reply:
-    return {"seats": await call.lab.seating.seats_kept(call.index)}
+    return {"seats": await call.lab.seating.list_saved_seats(call.index)}
 
 
-def clock(asked: Asked) -> Does:
+def clock(asked: CommandFields) -> Does:
     rate = asked.number("rate", FASTEST) if asked.has("rate") else None
     to = asked.whole("to") if rate is None else None
     return lambda call: call.lab.timing.set_clock(rate, to)
@@ -152,8 +153,8 @@ async def unbind(call: Call, site: int) -> Reply:
     return {}
 
 
-def admission(asked: Asked) -> Does:
-    """Read an inlet, the slow-to-start chance there, and the chances of inlets before it."""
+def admission(asked: CommandFields) -> Does:
+    """Read an inlet, the slow-to-start chance there, and the chances of the inlets upstream."""
     inlet = asked.whole("inlet")
     start = None if asked.is_null("start") else asked.whole("start", 0, 65_536)
     before = asked.pairs("before")
@@ -170,10 +171,10 @@ def admission(asked: Asked) -> Does:
     return does
 
 
-# The own road is changed, shared, taken
+# Commands that change, share or take
 
-def gesture(asked: Asked) -> Does:
-    """Read a gesture: raw edits, a new shape, or another shape or height of a line."""
+def gesture(asked: CommandFields) -> Does:
+    """Read a gesture: raw edits, a new shape, or a new shape or height for a line."""
     key, note = read_key_and_note(asked)
     if asked.has("edits"):
         drawn = None if not asked.has("shape") or asked.is_null("shape") else asked.shape()
@@ -193,12 +194,12 @@ def gesture(asked: Asked) -> Does:
     return lambda call: call.lab.change_line(call.index, call.times, key=key, note=note, line=line, shape=shape, top=top, demand=said)
 
 
-def read_edit(asked: Asked) -> list[RawEdit]:
-    """Read the `edit` and `withdraw` of the format, as raw edits."""
+def read_edit(asked: CommandFields) -> list[RawEdit]:
+    """Read the commands `edit` and `withdraw` of docs/FORMAT.md as a raw edit."""
     thing = asked.require("object")
     edit = [*(thing if isinstance(thing, list) else [thing]), asked.require("step"),
             asked.require("value") if asked.verb == "edit" else None]
-    edits = Asked("gesture", {"edits": [edit]}).edits()
+    edits = CommandFields("gesture", {"edits": [edit]}).edits()
     if asked.verb == "edit" and edit[-1] is None:
         raise Refused("not a command", "`value` is null: use `withdraw` to take an edit back")
     return edits
@@ -209,57 +210,57 @@ async def put_edits(call: Call, edits: list[RawEdit]) -> Reply:
     return {"stamp": said["stamp"]}
 
 
-def undo(asked: Asked) -> Does:
+def undo(asked: CommandFields) -> Does:
     key, note = read_key_and_note(asked)
     stamp = asked.stamp_or_key("stamp")
     return lambda call: call.lab.undo(call.index, call.times, key=key, note=note, stamp=stamp)
 
 
-def put_again(asked: Asked) -> Does:
+def put_again(asked: CommandFields) -> Does:
     key, stamp = asked.key(), asked.stamp_or_key("stamp")
     return lambda call: call.lab.put_again(call.index, call.times, key=key, stamp=stamp)
 
 
-def exclude_site(asked: Asked) -> Does:
+def exclude_site(asked: CommandFields) -> Does:
     key, note = read_key_and_note(asked)
     site, is_out = read_site(asked), asked.flag("out")
     return lambda call: call.lab.exclude_site(call.index, call.times, key=key, note=note, site=site, out=is_out)
 
 
-def share(asked: Asked) -> Does:
+def share(asked: CommandFields) -> Does:
     require_shared(asked, "name")
     stamps, title = asked.stamps(), asked.text("title", LONGEST_NOTE, "")
     return lambda call: call.lab.share(call.index, call.times, stamps=stamps, title=title)
 
 
 async def leave(call: Call) -> Reply:
-    await call.lab.seating.give_back(call.index)
+    await call.lab.seating.release_seat(call.index)
     return {}
 
 
-# Roads are asked
+# Queries of roads
 
-def forward(asked: Asked) -> Does:
-    """Give the program a command as it is."""
+def forward(asked: CommandFields) -> Does:
+    """Forward a command to the program unchanged."""
     fields = asked.remaining()
-    return lambda call: call.questions.plain(call.road, call.times, asked.verb, fields)
+    return lambda call: call.questions.ask_program(call.road, call.times, asked.verb, fields)
 
 
-def diagram(asked: Asked) -> Does:
+def diagram(asked: CommandFields) -> Does:
     first, last = read_steps(asked)
     every, cells = asked.whole("every", 1, LAST_HORIZON, 1), asked.stretch()
     return lambda call: call.questions.diagram(call.road, call.times, first=first, last=last, every=every, cells=cells)
 
 
-def counts(asked: Asked) -> Does:
+def counts(asked: CommandFields) -> Does:
     first, last = read_steps(asked)
     each = asked.whole("each", 1, LAST_HORIZON) if asked.has("each") else None
     return lambda call: call.questions.counts(call.road, call.times, first=first, last=last, each=each)
 
 
-# Lists, and what would be
+# Lists and previews
 
-def preview(asked: Asked) -> Does:
+def preview(asked: CommandFields) -> Does:
     what = None if asked.is_null("what") else asked.require("what")
     if what not in (None, "share", "take"):
         raise not_a_command('`what` must be "share", "take" or null')
@@ -267,30 +268,30 @@ def preview(asked: Asked) -> Does:
     return lambda call: call.questions.preview(call.index, what, stamps)
 
 
-def days(asked: Asked) -> Does:
-    """Read a comparison over many days; `of` null ends the one that runs."""
+def days(asked: CommandFields) -> Does:
+    """Read a comparison over many days. If `of` is null, the command stops the one that is running."""
     if asked.is_null("of"):
         return lambda call: call.questions.days(call.index, call.replica, None, 0, 0)
     of, first, last = read_comparison(asked)
     return lambda call: call.questions.days(call.index, call.replica, of, first, last)
 
 
-# What is saved
+# Files
 
-def transcript(asked: Asked) -> Does:
+def transcript(asked: CommandFields) -> Does:
     first, last = asked.whole("from", default=0), asked.whole("to", 0, LAST_HORIZON)
     piece = asked.whole("next", default=0)
     return lambda call: call.questions.transcript(call.index, call.replica, first, last, piece)
 
 
-def report(asked: Asked) -> Does:
-    """Read a comparison with its title, and sentences about the works on the roads."""
+def report(asked: CommandFields) -> Does:
+    """Read a comparison, the title of its report, and sentences about the change."""
     of, first, last = read_comparison(asked)
     title, works = asked.text("title", LONGEST_NOTE), asked.texts("works", MOST_WORKS, LONGEST_NOTE)
     return lambda call: call.questions.report(call.index, call.replica, of, first, last, title, works)
 
 
-def table_of_counts(asked: Asked) -> Does:
+def table_of_counts(asked: CommandFields) -> Does:
     if asked.require("what") != "counts":
         raise not_a_command('`what` must be "counts"')
     first, last = read_steps(asked)
@@ -299,42 +300,45 @@ def table_of_counts(asked: Asked) -> Does:
 
 
 VERBS: dict[str, Verb] = {
-    # Of no road
+    # Commands without a road
     "seats": Verb(ALL, no_fields(seats)),
     "clock": Verb(ALL, clock),
     "numbers": Verb(ALL, no_fields(list_numbers)),
-    "unbind": Verb(ALL, one_part(read_site, unbind)),
+    "unbind": Verb(ALL, reader_of_one_part(read_site, unbind)),
     "admission": Verb(ALL, admission),
-    # The own road is changed, shared, taken
+    # Commands that change, share or take
     "gesture": Verb(OWN, gesture),
-    "edit": Verb(OWN, one_part(read_edit, put_edits)),
-    "withdraw": Verb(OWN, one_part(read_edit, put_edits)),
+    "edit": Verb(OWN, reader_of_one_part(read_edit, put_edits)),
+    "withdraw": Verb(OWN, reader_of_one_part(read_edit, put_edits)),
     "undo": Verb(OWN, undo),
     "again": Verb(OWN, put_again),
     "site": Verb(OWN, exclude_site),
     "send": Verb(OWN, share),
-    "take": Verb(OWN, one_part(lambda asked: require_shared(asked, "message"), lambda call, _: call.lab.take(call.index, call.times))),
+    "take": Verb(OWN, reader_of_one_part(
+        lambda asked: require_shared(asked, "message"), lambda call, _: call.lab.take(call.index, call.times))),
     "leave": Verb(OWN, no_fields(leave)),
-    # Roads are asked
-    "advance": Verb(ROADS, one_part(lambda asked: asked.whole("to"), lambda call, to: call.questions.advance(call.road, to))),
+    # Queries of roads
+    "advance": Verb(ROADS, reader_of_one_part(lambda asked: asked.whole("to"), lambda call, to: call.questions.advance(call.road, to))),
     "cells": Verb(ROADS, forward),
     "cars": Verb(ROADS, forward),
     "count": Verb(ROADS, forward),
-    "scenario": Verb(KEPT, forward),
+    "scenario": Verb(KEPT_ROADS, forward),
     "diagram": Verb(ROADS, diagram),
-    "sums": Verb(ROADS, one_part(read_steps, lambda call, span: call.questions.sums(call.road, call.times, *span))),
+    "sums": Verb(ROADS, reader_of_one_part(read_steps, lambda call, span: call.questions.sums(call.road, call.times, *span))),
     "counts": Verb(ROADS, counts),
-    # Lists, and what would be
-    "layers": Verb(KEPT, one_part(lambda asked: asked.version("from"), lambda call, version: call.questions.layers(
+    # Lists and previews
+    "layers": Verb(KEPT_ROADS, reader_of_one_part(lambda asked: asked.version("from"), lambda call, version: call.questions.layers(
         call.index, call.replica, version)), SHARED_ROAD),
-    "operations": Verb(KEPT, one_part(lambda asked: asked.whole("from", default=0), lambda call, first: call.questions.operations(
-        call.index, call.replica, first)), SHARED_ROAD),
-    "preview": Verb(OWN, preview),  # (which waits itself, before it keeps the two roads)
-    "figures": Verb(OWN, one_part(read_comparison, lambda call, asked: call.questions.figures(call.index, call.replica, *asked)), OWN),
+    "operations": Verb(KEPT_ROADS, reader_of_one_part(
+        lambda asked: asked.whole("from", default=0), lambda call, first: call.questions.operations(call.index, call.replica, first)),
+        SHARED_ROAD),
+    "preview": Verb(OWN, preview),  # (`Questions.preview` waits for the disk itself, before it keeps the two roads)
+    "figures": Verb(OWN, reader_of_one_part(
+        read_comparison, lambda call, asked: call.questions.figures(call.index, call.replica, *asked)), OWN),
     "days": Verb(OWN, days, OWN),
-    # What is saved
-    "transcript": Verb(KEPT, transcript, SHARED_ROAD),
+    # Files
+    "transcript": Verb(KEPT_ROADS, transcript, SHARED_ROAD),
     "report": Verb(OWN, report, OWN),
-    "script": Verb(KEPT, no_fields(lambda call: call.questions.script(call.index, call.replica)), SHARED_ROAD),
-    "csv": Verb(KEPT, table_of_counts, SHARED_ROAD),
+    "script": Verb(KEPT_ROADS, no_fields(lambda call: call.questions.script(call.index, call.replica)), SHARED_ROAD),
+    "csv": Verb(KEPT_ROADS, table_of_counts, SHARED_ROAD),
 }

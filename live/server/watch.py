@@ -1,11 +1,11 @@
-"""Tell which piece of work kept all others waiting; and keep collections of garbage short, which did.
+"""Report pieces of work that keep the event loop busy for too long; and keep garbage collections short, which are such pieces.
 
-    watch = Watch(0.2, logging.warning)     told of each piece that uses the processor for longer, in seconds
+    watch = Watch(0.2, logging.warning)     warns of each piece that uses the processor for more than 0.2 seconds
     ..
     watch.end()
 
-An event loop does one piece at a time. What counts is the processor time of its thread, and not how late it is: on a busy
-machine a short piece takes long, too. Where a long piece was is looked up by a thread beside it.
+An event loop does one piece of work at a time. A piece counts by the processor time of its thread, not by the time that passes, since on
+a busy machine even a short piece takes long. A second thread looks at the stack of a long piece, to say where in the code it is.
 """
 from __future__ import annotations
 
@@ -19,22 +19,23 @@ from pathlib import Path
 from typing import Callable
 
 HERE = str(Path(__file__).resolve().parent)
-CLIENT = str(Path(HERE, "client.py"))  # which is not part of a server
-LOOKS = 4  # times that a piece of the greatest length is looked at
-FRAMES = 4  # of the stack in a warning
+CLIENT = str(Path(HERE, "client.py"))  # not a part of the server
+LOOKS = 4  # how often a piece of the longest allowed duration is looked at
+FRAMES = 4  # frames of the stack in a warning
 SAID = "all others waited"
-LONG = 0.01  # seconds of processor of a full collection of garbage
+LONG = 0.01  # seconds of processor time from which a full garbage collection counts as long
 
 
 class Watch:
-    """Looks at each piece of work of the event loops in this process."""
+    """Measures each piece of work of the event loops in this process."""
 
     def __init__(self, longest: float, told: Callable[[str], object],
                  counts: Callable[[object], bool] = lambda callback: True) -> None:
-        """`counts` says whether a piece is looked at, by its callback."""
+        """Call `told` with a warning for each piece that takes longer than `longest` seconds. `counts` decides by the callback of a piece
+        whether it is measured."""
         self._longest, self._told, self._counts = longest, told, counts
-        self._piece: tuple[int, float] | None = None  # the thread that does one, and when it began
-        self._seen: list[str] = []  # where it was
+        self._piece: tuple[int, float] | None = None  # the thread of the present piece, and when the piece began
+        self._seen: list[str] = []  # where in the code it was seen
         self._ended = threading.Event()
         self._run = asyncio.Handle._run
         self._looker = threading.Thread(target=self._look, daemon=True)
@@ -56,14 +57,14 @@ class Watch:
                 self._piece = None
                 took = clock() - began
                 if took > longest:
-                    self._tell(took, callback)
+                    self._report(took, callback)
                 self._seen = []
         self._measured = measured
         setattr(asyncio.Handle, "_run", measured)
         self._looker.start()
 
-    def _tell(self, took: float, callback: object) -> None:
-        where = max(self._seen, key=self._seen.count, default=named(callback))
+    def _report(self, took: float, callback: object) -> None:
+        where = max(self._seen, key=self._seen.count, default=describe_callback(callback))
         self._told(f"{SAID} for a piece of work of {took:.2f} s: {where}")
 
     def _look(self) -> None:
@@ -77,21 +78,21 @@ class Watch:
                     self._seen.append(", ".join(f"{Path(one.filename).name} {one.lineno} {one.name}" for one in stack))
 
     def end(self) -> None:
-        """Look no more."""
+        """Stop measuring."""
         self._ended.set()
         if asyncio.Handle._run is self._measured:
             setattr(asyncio.Handle, "_run", self._run)
         self._looker.join()
 
 
-def named(callback: object) -> str:
-    """Return what a piece does, where nobody has seen where it was."""
+def describe_callback(callback: object) -> str:
+    """Return a description of a piece for the case that it was not seen on the stack."""
     task = getattr(callback, "__self__", None)
     return repr(task.get_coro()) if isinstance(task, asyncio.Task) else repr(callback)
 
 
 def is_of_server(callback: object) -> bool:
-    """Return whether a piece is of this package: of a task of one of its functions, or a call of one."""
+    """Return whether a piece belongs to this package: it is a call of one of its functions, or a step of a task that runs one."""
     task = getattr(callback, "__self__", None)
     does = task.get_coro() if isinstance(task, asyncio.Task) else callback
     code = getattr(does, "cr_code", None) or getattr(getattr(does, "__func__", does), "__code__", None)
@@ -99,9 +100,9 @@ def is_of_server(callback: object) -> bool:
 
 
 def keep_collections_short() -> None:
-    """Freeze all objects that live now, so that later collections skip them; freeze again after each full one that takes long.
+    """Freeze all present objects, so that garbage collections skip them. Freeze again after each full collection that takes long.
 
-    Frozen objects are still freed with their last reference. Only cycles would stay, and operations and roads form none."""
+    A frozen object is still freed when its last reference goes. Only cycles would never be freed, and operations and roads form none."""
     began = 0.0
 
     def look(phase: str, info: dict[str, int]) -> None:

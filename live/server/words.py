@@ -27,12 +27,12 @@ KIND_OF_WORD = {"close": "block", "limit": "limit", "slowing": "slow", "slow-to-
 
 
 class InvalidWords(ValueError):
-    """The words of a change cannot be read; the sentence says which, and what is accepted."""
+    """The words of a change cannot be read. The sentence says which words, and what is accepted."""
 
 
 @dataclass(frozen=True)
 class WrittenChange:
-    """A change: its shape, in which a demand has the value 0; the demand in cars per hour, if it is one; and a sentence about it."""
+    """A change: its shape, the demand in cars per hour or None, and a sentence that describes it. The shape of a demand has the value 0."""
 
     shape: Shape
     demand: float | None
@@ -40,18 +40,19 @@ class WrittenChange:
 
 
 InletState = TypedDict("InletState", {"inlet": int, "start": "int | None", "before": Sequence["tuple[int, int]"]})
-"""What the curve of an inlet depends on: the chance of standing cars, and the chances of inlets before it, in 1/65,536."""
+"""What the curve of an inlet depends on: the slow-to-start chance there, and the indexes and chances of the inlets upstream. Chances are
+in 1/65,536."""
 
 
 def read_change(words: Sequence[str], plan: PlanLine, clock: Clock) -> WrittenChange:
-    """Return the change that words write. InvalidWords: they cannot be read, or the road has no such place."""
+    """Return the change that these words describe. Raise `InvalidWords` if they cannot be read, or if the road has no such place."""
     kind = words[0] if words else ""
     if kind not in HOW:
-        raise InvalidWords(f"{kind!r} is not a change: write {', '.join(HOW)}")
+        raise InvalidWords(f"{kind!r} is not a kind of change: write one of {', '.join(HOW)}")
     most = HOW[kind].count(" ") + 1
     given = list(words[1:])
     if not most - 1 <= len(given) <= most:
-        raise InvalidWords(f"write {kind} {HOW[kind]}")
+        raise InvalidWords(f"too few or too many words: write {kind} {HOW[kind]}")
     value = None if kind == "close" else given.pop(0)
     places = [given.pop(0) for _ in range(1 if kind in ("demand", "detector") else 2)]
     begin, end = read_times(given, clock)
@@ -63,7 +64,7 @@ def read_change(words: Sequence[str], plan: PlanLine, clock: Clock) -> WrittenCh
 
 
 def parse_number(text: str, accepted: str) -> float:
-    """Return a number of 0 or more. InvalidWords: it is not a number."""
+    """Return a number of 0 or more. Raise `InvalidWords` if the text is not one; `accepted` says what is accepted."""
     try:
         number = float(text.replace(",", "."))
     except ValueError:
@@ -74,7 +75,8 @@ def parse_number(text: str, accepted: str) -> float:
 
 
 def read_times(given: Sequence[str], clock: Clock) -> tuple[int, int | None]:
-    """Return the steps of a beginning and of an end, if there is one. InvalidWords: they are not times, or in the wrong order."""
+    """Return the steps of a beginning and of an end, which may be missing. Raise `InvalidWords` if they are not times, or if the end is
+    not later than the beginning."""
     try:
         steps = [clock.to_step(float(one) if one.replace(".", "", 1).isdigit() else one, name) for one, name in zip(given, ("BEGIN", "END"))]
     except InvalidTime as fault:
@@ -86,14 +88,13 @@ def read_times(given: Sequence[str], clock: Clock) -> tuple[int, int | None]:
 
 
 def read_value(kind: str, text: str | None) -> tuple[int, str]:
-    """Return a value in program units, and a description. A demand gives 0, since it is converted later; no text means closed.
-
-    InvalidWords: the value is out of range."""
+    """Return a value in the program's units, and a description. A demand gives 0, since its chance is found later; the text None means
+    closed. Raise `InvalidWords` if the value is out of range."""
     if text is None:
         return 1, "closed"
     if kind == "detector":
         if text not in ("on", "off"):
-            raise InvalidWords(f"a detector can be on or off, not {text!r}")
+            raise InvalidWords(f"a detector must be on or off, not {text!r}")
         return int(text == "on"), f"detector {text}"
     if kind == "demand":
         return 0, f"{parse_number(text, 'a number of cars per hour'):g} cars/h"
@@ -104,13 +105,13 @@ def read_value(kind: str, text: str | None) -> tuple[int, str]:
             raise InvalidWords(f"a limit must be 0 to {9 * KMH:g} km/h, not {text}")
         return limit, f"limit {limit * KMH:g} km/h"
     if number > 100:
-        raise InvalidWords(f"a chance must be between 0 and 100 %, not {text}")
+        raise InvalidWords(f"a chance must be 0 to 100 %, not {text}")
     return to_chance(number / 100), f"{kind} {number:g} %"
 
 
 def find_places(kind: str, places: Sequence[float], plan: PlanLine) -> tuple[int, int, str]:
-    """Return the first and the last object at places in km, and a text that says where they are. InvalidWords: they are not on the
-    road."""
+    """Return the first and the last object at places in km, and a text that says where these are. Raise `InvalidWords` if a place is not
+    on the road."""
     end = to_km(plan["length"])
     if max(places) > end + 1e-9 or len(places) == 2 and places[0] > places[1]:
         raise InvalidWords(f"{' to '.join(f'{one:g}' for one in places)} km: give two places from 0 to {end:g} km, the smaller first"
@@ -133,7 +134,7 @@ def find_places(kind: str, places: Sequence[float], plan: PlanLine) -> tuple[int
 
 
 def find_state(plan: PlanLine, edits: Sequence[WrittenEdit], inlet: int, step: int) -> InletState:
-    """Return what the curve of an inlet depends on at a step, in the form that `admission` takes. `edits` are those of a scenario."""
+    """Return what the curve of an inlet depends on at a step, as fields of the command `admission`. `edits` are those of a scenario."""
     cell = plan["inlets"][inlet][0]
 
     def find_value(kind: str, index: int, at: int, planned: int | None) -> int | None:
@@ -146,7 +147,7 @@ def find_state(plan: PlanLine, edits: Sequence[WrittenEdit], inlet: int, step: i
 
 
 def find_chance(curve: Curve, demand: float) -> int:
-    """Return the inflow chance in 1/65,536 that admits a demand in cars per hour. InvalidWords: the inlet admits less."""
+    """Return the inflow chance in 1/65,536 that admits a demand in cars per hour. Raise `InvalidWords` if the inlet admits less."""
     if demand > curve["capacity"]:
         raise InvalidWords(f"this inlet admits 0 to {curve['capacity']:,.0f} cars per hour here, not {demand:,.0f}")
     points = curve["points"]

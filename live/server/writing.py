@@ -1,9 +1,9 @@
-"""Writes of commands, and their confirmation.
+"""Write the entries of a command, and wait for their confirmation.
 
     write = Write(keeper)
-    await write.ready()             `Refused` if the disk takes nothing
-    write.record(entry)             it is so from now on, here
-    await write.confirmed(times)    it is on the disk
+    await write.require_writable()          raises `Refused` if the disk refuses writes
+    write.record(entry)                     applies the entry at once
+    await write.wait_until_written(times)   returns when all entries are on the disk
 """
 from __future__ import annotations
 
@@ -16,8 +16,9 @@ from .keeper import Keeper, NotKept, Times
 from .records import AnyEntry
 
 
-async def confirmed(done: Awaitable[None], times: Times) -> None:
-    """Wait until something is on the disk; raise `Refused` if it is not taken. Whoever waits may go, and others wait on."""
+async def wait_until_written(done: Awaitable[None], times: Times) -> None:
+    """Wait until an entry is on the disk, and add the seconds to `times`. Raise `Refused` if the write fails. If the caller is cancelled,
+    the write goes on."""
     began = time.perf_counter()
     try:
         await asyncio.shield(done)
@@ -33,15 +34,15 @@ class Write:
         self._keeper = keeper
         self.dones: list[asyncio.Future[None]] = []
 
-    async def ready(self) -> None:
-        """Find out whether the disk takes anything; raise `Refused` if it does not."""
-        await self._keeper.writable()
+    async def require_writable(self) -> None:
+        """Raise `Refused` if the disk refuses writes."""
+        await self._keeper.require_writable()
 
     def record(self, entry: AnyEntry) -> None:
-        """Make something so."""
+        """Apply an entry to the state at once, and write it."""
         self.dones.append(self._keeper.record(entry))
 
-    async def confirmed(self, times: Times) -> None:
-        """Wait until all of it is on the disk; raise `Refused` if it is not taken."""
+    async def wait_until_written(self, times: Times) -> None:
+        """Wait until all entries are on the disk. Raise `Refused` if a write fails."""
         for done in self.dones:
-            await confirmed(done, times)
+            await wait_until_written(done, times)

@@ -1,4 +1,5 @@
-"""Test what a tab can do: put, change, withdraw, raise, undo, share, take; which change covers which, and what the server tells."""
+"""Test what a tab can do: put, change, withdraw, put on top, undo, share, take; which change covers which, and what the server
+sends."""
 from __future__ import annotations
 
 import asyncio
@@ -15,12 +16,12 @@ CLOSED = ["block", 60, 69, 30, 60, 1]
 SLOW = ["limit", 1, 3, 20, 80, 2]
 
 
-async def put(seat: Seat, key: str, *edits: list[Any], **more: Any) -> Stamp:
+async def put_edits(seat: Seat, key: str, *edits: list[Any], **more: Any) -> Stamp:
     """Put raw edits. Return the stamp."""
     return (await seat.ask("gesture", key=key, edits=list(edits), **more))["stamp"]
 
 
-async def lay(seat: Seat, key: str, shape: list[Any] | None, **more: Any) -> Stamp:
+async def put_layer(seat: Seat, key: str, shape: list[Any] | None, **more: Any) -> Stamp:
     """Put, change or withdraw a shape. Return the stamp."""
     return (await seat.ask("gesture", key=key, shape=shape, **more))["stamp"]
 
@@ -49,7 +50,7 @@ async def lines(seat: Seat, at: str = "") -> dict[tuple[int, ...], Any]:
 
 
 def closed(first: int, last: int, begin: int, end: int) -> dict[tuple[Any, ...], int]:
-    """Return the values of the edits of a closure alone."""
+    """Return the values of the edits of a road that has only this closure."""
     return {("block", cell, step): value for cell in range(first, last + 1) for step, value in ((begin, 1), (end, 0))}
 
 
@@ -77,17 +78,17 @@ class Acts(Case):
         self.assertEqual(await numbers(self.ada), closed(60, 69, 30, 60))
 
     async def test_each_of_two_overlapping_closures_can_be_withdrawn(self) -> None:
-        first = await lay(self.ada, "1", ["block", 60, 60, 30, 60, 1])
-        second = await lay(self.ada, "2", ["block", 60, 60, 20, 40, 1])
+        first = await put_layer(self.ada, "1", ["block", 60, 60, 30, 60, 1])
+        second = await put_layer(self.ada, "2", ["block", 60, 60, 20, 40, 1])
         self.assertEqual(await numbers(self.ada), closed(60, 60, 20, 60))
-        await lay(self.ada, "3", None, layer=first)
+        await put_layer(self.ada, "3", None, layer=first)
         self.assertEqual(await numbers(self.ada), closed(60, 60, 20, 40))
-        await lay(self.ada, "4", None, layer=second)
+        await put_layer(self.ada, "4", None, layer=second)
         self.assertEqual(await numbers(self.ada), {})
         self.assertEqual(await lines(self.ada), {})  # it was private: nothing of it is left to list
 
     async def test_a_replaced_preview_leaves_no_program(self) -> None:
-        await lay(self.ada, "1", CLOSED)
+        await put_layer(self.ada, "1", CLOSED)
         asked = []
         for count in range(30):
             await self.ada.ask("preview", what="share")
@@ -103,14 +104,14 @@ class Acts(Case):
         self.assertNotIn("` failed", self.a6.said())  # no question failed (asyncio may log a broken pipe)
 
     async def test_shown_lists_which_layer_covers_which_and_when(self) -> None:
-        old = await lay(self.ada, "old", ["limit", 2, 2, 20, 80, 1], note="long")
+        old = await put_layer(self.ada, "old", ["limit", 2, 2, 20, 80, 1], note="long")
         said = await self.ada.ask("gesture", key="new", shape=["limit", 2, 2, 40, 50, 3])
         new = said["stamp"]
-        self.assertEqual({tuple(one["name"]) for one in said["layers"]}, {tuple(old), tuple(new)})  # what differs now
+        self.assertEqual({tuple(one["name"]) for one in said["layers"]}, {tuple(old), tuple(new)})  # those that changed
         shown = next(one["shown"] for one in said["layers"] if one["name"] == old)
         self.assertEqual(shown, [["limit", 2, 2, 20, 40, 1, None], ["limit", 2, 2, 40, 50, 1, new],
                                  ["limit", 2, 2, 50, 80, 1, None]])
-        changed = await lay(self.ada, "change", ["limit", 2, 2, 20, 90, 2], layer=old)  # a change keeps its height
+        changed = await put_layer(self.ada, "change", ["limit", 2, 2, 20, 90, 2], layer=old)  # a change keeps its height
         self.assertEqual(await numbers(self.ada), {("limit", 2, 20): 2, ("limit", 2, 40): 3, ("limit", 2, 50): 2,
                                                    ("limit", 2, 90): 5})
         top = await self.ada.ask("gesture", key="top", layer=old, top=True)
@@ -123,8 +124,8 @@ class Acts(Case):
         self.assertEqual((gone["touched"], gone["layers"]), (None, [{"name": new, "gone": True}]))
 
     async def test_undo_restores_exactly_what_was_there(self) -> None:
-        old = await lay(self.ada, "old", ["limit", 2, 2, 20, 80, 1])
-        await lay(self.ada, "new", ["limit", 2, 2, 40, 50, 3])
+        old = await put_layer(self.ada, "old", ["limit", 2, 2, 20, 80, 1])
+        await put_layer(self.ada, "new", ["limit", 2, 2, 40, 50, 3])
         before = await numbers(self.ada), await lines(self.ada)
         gone = await self.ada.ask("gesture", key="gone", layer=old, shape=None)
         self.assertEqual((gone["undo"], gone["redo"]), (gone["stamp"], None))
@@ -157,7 +158,7 @@ class Acts(Case):
         self.assertEqual(await numbers(self.ada), states[3])
 
     async def test_z_undoes_every_change_of_one_line(self) -> None:
-        line = await lay(self.ada, "under", ["limit", 2, 2, 40, 90, 1])
+        line = await put_layer(self.ada, "under", ["limit", 2, 2, 40, 90, 1])
         states = [await numbers(self.ada)]
         gestures: list[tuple[str, dict[str, Any]]] = [
             ("put", {"shape": ["limit", 2, 3, 20, 50, 2]}), ("change", {"shape": ["limit", 2, 3, 20, 70, 2]}),
@@ -175,13 +176,13 @@ class Acts(Case):
             self.assertEqual(said[walk], line if walk == "undo" else None)
 
     async def test_a_change_that_somebody_undid_again_blocks_nobody(self) -> None:
-        mine = await lay(self.ada, "1", CLOSED)
+        mine = await put_layer(self.ada, "1", CLOSED)
         await self.ada.ask("send", name="shared")
         await self.ben.ask("take", message="shared")
-        change = await lay(self.ben, "1", ["block", 60, 69, 30, 70, 1], layer=mine)
+        change = await put_layer(self.ben, "1", ["block", 60, 69, 30, 70, 1], layer=mine)
         await self.ben.ask("send", name="shared")
         await self.ada.ask("take", message="shared")
-        with self.assertRaisesRegex(RefusedReply, "Ben changed it since"):
+        with self.assertRaisesRegex(RefusedReply, "Ben changed its line since"):
             await self.ada.ask("undo", key="2", stamp=mine)
         await self.ben.ask("undo", key="2", stamp=change)
         await self.ben.ask("send", name="shared")
@@ -200,18 +201,18 @@ class Acts(Case):
             ("undo", {"key": "e", "stamp": "c"}), ("undo", {"key": "f", "stamp": "b"})]
         said = await asyncio.gather(*(self.ada.reply(verb, at=self.ada.at, **fields) for verb, fields in asked))
         self.assertEqual([one.get("refused") for one in said], [None, None, None, None, None, "NothingToUndo"])
-        self.assertIn("Ada undid it already", said[-1]["why"])
+        self.assertIn("Ada undid this change already", said[-1]["why"])
         self.assertEqual(await numbers(self.ada), closed(60, 69, 30, 60))
         self.a6.restart()
         async with self.a6.seat(key=self.ada.key) as ada:  # keys are known after a restart, too
             await ada.ask("gesture", key="g", layer="a", shape=None)
             self.assertEqual(await numbers(ada), {})
 
-    async def test_refusals_of_shapes(self) -> None:
+    async def test_invalid_shapes_are_refused_with_a_sentence(self) -> None:
         for refusal, why, shape in (
                 ("NoObject", "no zone 6", ["limit", 5, 6, 0, None, 1]), ("NoObject", "before its first", ["limit", 3, 2, 0, 9, 1]),
                 ("NoObject", "no cell 120", ["block", 119, 120, 0, 9, 1]), ("Step", "at most", ["limit", 1, 1, 1_048_576, None, 1]),
-                ("Step", "must end at step", ["limit", 1, 1, 5, 1_048_576, 1]), ("Range", "after its beginning", ["limit", 1, 1, 5, 5, 1]),
+                ("Step", "must end at step", ["limit", 1, 1, 5, 1_048_576, 1]), ("Range", "must end after step", ["limit", 1, 1, 5, 5, 1]),
                 ("ValueOutOfRange", "0 to 9", ["limit", 1, 1, 5, 6, 10]), ("not a command", "not a number", ["limit", 1, 1, 5, 6, None]),
                 ("not a command", "is not [kind", ["limit", 1, 1, 5, 6]), ("not a command", "is not [kind", None),
                 ("not a command", "does not exist", ["lane", 1, 1, 5, 6, 1])):
@@ -231,8 +232,8 @@ class Acts(Case):
         async with server.seat() as ada:
             said = await ada.reply("gesture", at=ada.at, key="k", shape=["block", 0, 600, 5, 9, 1])
             self.assertEqual(said["refused"], "TooManyObjects")
-            for count in range(4):  # and yet more edits than an import has
-                await lay(ada, f"k{count}", ["block", 0, 599, 10 * count, 10 * count + 5, 1])
+            for count in range(4):  # which is more edits than an import may have
+                await put_layer(ada, f"k{count}", ["block", 0, 599, 10 * count, 10 * count + 5, 1])
             said = await ada.ask("gesture", key="all", shape=["block", 0, 599, 0, 100, 1])
             self.assertEqual(await numbers(ada), closed(0, 599, 0, 100))
             await ada.ask("undo", key="u", stamp=said["stamp"])
@@ -252,29 +253,29 @@ class Acts(Case):
                                          ["block", 61, 61, 40, None, 0, None]])
 
     async def test_a_shape_takes_the_place_of_raw_edits(self) -> None:
-        line = await put(self.ada, "1", ["limit", 2, 50, 1], ["limit", 2, 60, 5], shape=["limit", 2, 2, 50, 60, 1])
+        line = await put_edits(self.ada, "1", ["limit", 2, 50, 1], ["limit", 2, 60, 5], shape=["limit", 2, 2, 50, 60, 1])
         self.assertEqual((await lines(self.ada))[tuple(line)]["shape"], ["limit", 2, 2, 50, 60, 1])
-        stamp = await lay(self.ada, "2", ["limit", 2, 2, 50, 70, 1], layer=line)
+        stamp = await put_layer(self.ada, "2", ["limit", 2, 2, 50, 70, 1], layer=line)
         self.assertEqual(await numbers(self.ada), {("limit", 2, 50): 1, ("limit", 2, 70): 5})
         self.assertEqual({name: one["shape"] for name, one in (await lines(self.ada)).items() if one["standing"]},
-                         {tuple(line): ["limit", 2, 2, 50, 70, 1]})  # the line's stamp goes on naming one layer
+                         {tuple(line): ["limit", 2, 2, 50, 70, 1]})  # the line's stamp still names one layer
         await self.ada.ask("undo", key="3", stamp=stamp)
         self.assertEqual(await numbers(self.ada), {("limit", 2, 50): 1, ("limit", 2, 60): 5})
-        await lay(self.ada, "4", None, layer=line)
+        await put_layer(self.ada, "4", None, layer=line)
         self.assertEqual(await numbers(self.ada), {})
 
-    async def test_edit_and_withdraw_of_the_format(self) -> None:
+    async def test_the_commands_edit_and_withdraw_of_the_format_work(self) -> None:
         first = (await self.ada.ask("edit", object=["limit", 2], step=50, value=3))["stamp"]
         self.assertEqual(await limit_at(self.ada), 3)
         self.assertGreater((await self.ada.ask("withdraw", object=["limit", 2], step=50))["stamp"], first)
         self.assertEqual(await limit_at(self.ada), None)
 
-    async def test_raw_edits_are_the_formats_in_any_order(self) -> None:
+    async def test_raw_edits_of_one_object_may_come_in_any_order(self) -> None:
         for count, (step, value) in enumerate(((15, 1), (10, 2), (30, 4), (20, 3))):
-            await put(self.ada, f"{count}", ["limit", 2, step, value])
+            await put_edits(self.ada, f"{count}", ["limit", 2, step, value])
         self.assertEqual(await numbers(self.ada), {("limit", 2, 10): 2, ("limit", 2, 15): 1, ("limit", 2, 20): 3,
                                                    ("limit", 2, 30): 4})
-        await put(self.ada, "gone", ["limit", 2, 15, None])
+        await put_edits(self.ada, "gone", ["limit", 2, 15, None])
         self.assertEqual(await numbers(self.ada), {("limit", 2, 10): 2, ("limit", 2, 20): 3, ("limit", 2, 30): 4})
 
     async def test_refusals_have_sentences_and_change_nothing(self) -> None:
@@ -300,13 +301,13 @@ class Acts(Case):
     # Sharing and taking
 
     async def test_shared_changes_are_taken_and_the_later_one_is_on_top(self) -> None:
-        mine = await lay(self.ada, "1", ["limit", 2, 2, 50, 70, 1], note="mine")
-        one = await lay(self.ben, "1", ["limit", 0, 0, 5, None, 4])
-        other = await lay(self.ben, "2", ["limit", 2, 3, 50, 60, 3], note="his")
+        mine = await put_layer(self.ada, "1", ["limit", 2, 2, 50, 70, 1], note="mine")
+        one = await put_layer(self.ben, "1", ["limit", 0, 0, 5, None, 4])
+        other = await put_layer(self.ben, "2", ["limit", 2, 3, 50, 60, 3], note="his")
         said = await self.ben.ask("send", name="shared", title="two")
         self.assertEqual((said["size"], said["stamps"], said["touched"]), (2, [one, other], 5))
         self.assertEqual(await limit_at(self.ada), 1)
-        news = [one["news"] for one in self.ada.told if "news" in one][-1]
+        news = [one["news"] for one in self.ada.received if "news" in one][-1]
         self.assertEqual((news["size"], news["from"], news["touched"], news["shares"][0]["title"]), (2, ["Ben"], 5, "two"))
         self.assertEqual([one["note"] for one in news["changes"]], ["", "his"])
         took = await self.ada.ask("take", message="shared")
@@ -316,11 +317,11 @@ class Acts(Case):
         self.assertEqual(await numbers(self.ada), {("limit", 0, 5): 4, ("limit", 2, 50): 3, ("limit", 2, 60): 1,
                                                    ("limit", 2, 70): 5, ("limit", 3, 50): 3, ("limit", 3, 60): 5})
         self.assertEqual((await self.ada.ask("take", message="shared"))["size"], 0)
-        self.assertGreater(await lay(self.ada, "2", SLOW), other)  # above all that it holds
+        self.assertGreater(await put_layer(self.ada, "2", SLOW), other)  # above all that it holds
 
     async def test_an_operation_has_one_time_at_all_seats(self) -> None:
-        """When it was made, and not when it was shared or taken."""
-        mine = await lay(self.ada, "1", CLOSED)
+        """It is the time at which it was made, and not that at which it was shared or taken."""
+        mine = await put_layer(self.ada, "1", CLOSED)
         made = (await lines(self.ada))[tuple(mine)]["operations"][0]["when"]
         await asyncio.sleep(1.1)
         await self.ada.ask("send", name="shared")
@@ -330,10 +331,10 @@ class Acts(Case):
         self.assertEqual([*found, took["changes"][0]["when"]], [made] * 3)
 
     async def test_a_shared_change_of_another_seat_is_withdrawn_and_that_is_undone(self) -> None:
-        mine = await lay(self.ada, "1", CLOSED, note="mine")
+        mine = await put_layer(self.ada, "1", CLOSED, note="mine")
         await self.ada.ask("send", name="shared")
         await self.ben.ask("take", message="shared")
-        gone = await lay(self.ben, "1", None, layer=mine, note="open")
+        gone = await put_layer(self.ben, "1", None, layer=mine, note="open")
         line = (await lines(self.ben))[tuple(mine)]
         self.assertEqual((line["who"], line["standing"], line["shared"]), ("Ada", False, False))
         self.assertEqual((await self.ben.ask("send", name="shared"))["stamps"], [gone])
@@ -342,30 +343,31 @@ class Acts(Case):
         self.assertEqual([(one["who"], one["does"], one["note"], one["lost"]) for one in line["operations"]],
                          [("Ada", "put", "mine", None), ("Ben", "withdraw", "open", None)])
         self.assertEqual(await numbers(self.ada), {})
-        with self.assertRaisesRegex(RefusedReply, "Ben changed it since"):
+        with self.assertRaisesRegex(RefusedReply, "Ben changed its line since"):
             await self.ada.ask("undo", key="2", stamp=mine)
 
-    async def test_a_job_of_another_turn_does_not_run_at_once(self) -> None:
-        """A seat that holds a change has seen it, however often the line is changed later; an undo alone, too."""
-        line = tuple(await lay(self.ada, "1", CLOSED))
+    async def test_an_operation_on_a_line_that_its_seat_had_seen_does_not_compete(self) -> None:
+        """A seat has seen an operation if it held it when it made its own, however often the line was changed; this also holds
+        for an undo."""
+        line = tuple(await put_layer(self.ada, "1", CLOSED))
         await self.ada.ask("send", name="shared")
         await self.ben.ask("take", message="shared")
-        await lay(self.ben, "1", ["block", 60, 69, 30, 70, 1], layer=list(line))
-        await lay(self.ben, "2", ["block", 60, 69, 30, 80, 1], layer=list(line))
-        gone = await lay(self.ben, "3", None, layer=list(line))
+        await put_layer(self.ben, "1", ["block", 60, 69, 30, 70, 1], layer=list(line))
+        await put_layer(self.ben, "2", ["block", 60, 69, 30, 80, 1], layer=list(line))
+        gone = await put_layer(self.ben, "3", None, layer=list(line))
         await self.ben.ask("undo", key="4", stamp=gone)
         await self.ben.ask("send", name="shared")
         await self.ada.ask("take", message="shared")
         for seat in (self.ada, self.ben):
             self.assertEqual({one["lost"] for one in (await lines(seat))[line]["operations"]}, {None})
 
-    async def test_two_at_once_on_one_line(self) -> None:
-        line = tuple(await lay(self.ada, "1", CLOSED))
+    async def test_of_two_changes_of_one_line_at_once_the_later_one_wins(self) -> None:
+        line = tuple(await put_layer(self.ada, "1", CLOSED))
         await self.ada.ask("send", name="shared")
         await self.ben.ask("take", message="shared")
-        change = await lay(self.ada, "2", ["block", 60, 69, 30, 70, 1], layer=list(line))
-        gone = await lay(self.ben, "2", None, layer=list(line))
-        self.assertGreater(gone, change)  # of two who know nothing of each other the later one wins
+        change = await put_layer(self.ada, "2", ["block", 60, 69, 30, 70, 1], layer=list(line))
+        gone = await put_layer(self.ben, "2", None, layer=list(line))
+        self.assertGreater(gone, change)  # neither knew of the other: the later one wins
         await self.ben.ask("send", name="shared")
         await self.ada.ask("take", message="shared")
         self.assertEqual(await numbers(self.ada), {})
@@ -377,9 +379,9 @@ class Acts(Case):
         await self.ben.ask("take", message="shared")
         self.assertEqual(await numbers(self.ben), closed(60, 69, 30, 70))
 
-    async def test_operations_are_shared_in_part(self) -> None:
-        first = await lay(self.ada, "1", CLOSED)
-        second = await lay(self.ada, "2", ["block", 65, 74, 40, 80, 1])
+    async def test_some_operations_can_be_shared_without_the_others(self) -> None:
+        first = await put_layer(self.ada, "1", CLOSED)
+        second = await put_layer(self.ada, "2", ["block", 65, 74, 40, 80, 1])
         self.assertEqual((await self.ada.ask("send", name="shared", stamps=[second]))["stamps"], [second])
         self.assertEqual(await numbers(self.ada, "shared"), closed(65, 74, 40, 80))
         self.assertEqual((await self.ada.ask("send", name="shared"))["stamps"], [first])
@@ -389,23 +391,23 @@ class Acts(Case):
         self.assertTrue(all(one["shared"] for one in (await lines(self.ada)).values()))
 
     async def test_a_change_is_shared_without_its_put(self) -> None:
-        line = await lay(self.ada, "1", CLOSED)
-        change = await lay(self.ada, "2", ["block", 60, 69, 30, 70, 1], layer=line)
+        line = await put_layer(self.ada, "1", CLOSED)
+        change = await put_layer(self.ada, "2", ["block", 60, 69, 30, 70, 1], layer=line)
         await self.ada.ask("send", name="shared", stamps=[change])
         await self.ben.ask("take", message="shared")
         self.assertEqual(await numbers(self.ben), closed(60, 69, 30, 70))
-        self.assertEqual((await self.ada.ask("send", name="shared"))["size"], 0)  # nothing is other than there
+        self.assertEqual((await self.ada.ask("send", name="shared"))["size"], 0)  # the shared road already has the same shape
         await self.ada.ask("send", name="shared", stamps=[line])
         self.assertEqual(await numbers(self.ada, "shared"), closed(60, 69, 30, 70))
 
     async def test_privately_undone_changes_are_not_shared_and_hide_nothing(self) -> None:
-        his = await lay(self.ben, "1", ["limit", 2, 2, 50, 80, 4])
+        his = await put_layer(self.ben, "1", ["limit", 2, 2, 50, 80, 4])
         for count in range(3):
-            await lay(self.ada, f"a{count}", ["limit", 0, 0, 5 + 10 * count, 10 + 10 * count, 3])
-        stamp = await lay(self.ada, "b", ["limit", 2, 2, 40, 70, 1])
+            await put_layer(self.ada, f"a{count}", ["limit", 0, 0, 5 + 10 * count, 10 + 10 * count, 3])
+        stamp = await put_layer(self.ada, "b", ["limit", 2, 2, 40, 70, 1])
         await self.ada.ask("undo", key="u", stamp=stamp)
-        gone = await lay(self.ada, "c", CLOSED)
-        await lay(self.ada, "d", None, layer=gone)
+        gone = await put_layer(self.ada, "c", CLOSED)
+        await put_layer(self.ada, "d", None, layer=gone)
         self.assertEqual((await self.ada.ask("send", name="shared"))["size"], 3)
         self.assertEqual([edit for edit in (await self.ada.ask("scenario", at="shared"))["edits"] if edit[1] != 0], [])
         await self.ben.ask("send", name="shared")
@@ -419,13 +421,13 @@ class Acts(Case):
     async def test_changes_undone_long_ago_are_forgotten_and_never_come_back(self) -> None:
         server = self.server(LIVE_MOST_UNDONE="70")
         async with server.seat() as ada, server.seat("Ben") as ben:
-            first = await lay(ada, "first", ["limit", 2, 2, 20, 60, 1])
+            first = await put_layer(ada, "first", ["limit", 2, 2, 20, 60, 1])
             for count in range(30):
-                await lay(ben, f"b{count}", ["limit", 2, 3, 3 * count, 3 * count + 2, 3])
+                await put_layer(ben, f"b{count}", ["limit", 2, 3, 3 * count, 3 * count + 2, 3])
             for count in range(80):
-                stamp = await lay(ada, f"g{count}", ["limit", 1, 3, count, count + 30, 2])
+                stamp = await put_layer(ada, f"g{count}", ["limit", 1, 3, count, count + 30, 2])
                 await ada.ask("undo", key=f"u{count}", stamp=stamp)
-            last = await lay(ada, "last", ["limit", 1, 1, 7, None, 3])
+            last = await put_layer(ada, "last", ["limit", 1, 1, 7, None, 3])
 
             async def is_shorter() -> bool:
                 await ada.reply("cells", at=ada.at, step=0)
@@ -436,23 +438,24 @@ class Acts(Case):
             redo = await ada.ask("undo", key="redo", stamp="u79")
             self.assertEqual((await numbers(ada))["limit", 3, 79], 2)
             await ada.ask("undo", key="unredo", stamp=redo["stamp"])
-            await ben.ask("send", name="shared")  # what is older than what was forgotten
+            await ben.ask("send", name="shared")  # operations that are older than those that were forgotten
             await ada.ask("take", message="shared")
             for _ in range(2):
                 held = await numbers(ada)
                 ends = {(zone, step): 1 if zone == 2 and 20 <= step < 60 else 5 for zone in (2, 3) for step in range(2, 90, 3)}
                 self.assertEqual(held, {("limit", 1, 7): 3, **{("limit", *end): value for end, value in ends.items()},
                                         **{("limit", zone, step): 3 for zone in (2, 3) for step in range(0, 90, 3)}})
-                os.kill(server.program, signal.SIGKILL)  # another program: the same
+                os.kill(server.program, signal.SIGKILL)  # with another program it is the same
             self.assertEqual((await ada.ask("send", name="shared"))["stamps"], [first, last])
 
     async def test_a_change_that_names_a_change_belongs_to_its_line(self) -> None:
-        """Also by its key, before it is confirmed: three drags give one shape."""
-        line, change, last = await asyncio.gather(lay(self.ada, "a", CLOSED), lay(self.ada, "b", ["block", 60, 70, 30, 60, 1], layer="a"),
-                                                  lay(self.ada, "c", ["block", 60, 71, 30, 60, 1], layer="b"))
+        """So does one that names it by its key, before it is confirmed: three drags give one shape."""
+        line, change, last = await asyncio.gather(
+            put_layer(self.ada, "a", CLOSED), put_layer(self.ada, "b", ["block", 60, 70, 30, 60, 1], layer="a"),
+            put_layer(self.ada, "c", ["block", 60, 71, 30, 60, 1], layer="b"))
         undo = (await self.ada.ask("undo", key="u", stamp=last))["stamp"]
         for key, name, cells in (("d", change, 72), ("e", undo, 73)):
-            await lay(self.ada, key, ["block", 60, cells, 30, 60, 1], layer=name)
+            await put_layer(self.ada, key, ["block", 60, cells, 30, 60, 1], layer=name)
         self.assertEqual([(name, one["shape"][2]) for name, one in (await lines(self.ada)).items()], [(tuple(line), 73)])
 
     async def test_a_line_that_excludes_a_site_gets_no_shape(self) -> None:
@@ -465,11 +468,11 @@ class Acts(Case):
     async def test_forgotten_changes_are_no_longer_listed(self) -> None:
         server = self.server(LIVE_MOST_UNDONE="30")
         async with server.seat() as ada:
-            gone = await lay(ada, "gone", ["limit", 2, 2, 20, 60, 1])
-            await lay(ada, "withdrawn", None, layer=gone)
-            line = tuple(await lay(ada, "line", CLOSED))
+            gone = await put_layer(ada, "gone", ["limit", 2, 2, 20, 60, 1])
+            await put_layer(ada, "withdrawn", None, layer=gone)
+            line = tuple(await put_layer(ada, "line", CLOSED))
             for count in range(29):
-                stamp = await lay(ada, f"c{count}", ["block", 60, 69, 30, 70 + count, 1], layer=list(line))
+                stamp = await put_layer(ada, f"c{count}", ["block", 60, 69, 30, 70 + count, 1], layer=list(line))
                 said = await ada.ask("undo", key=f"u{count}", stamp=stamp)
 
             async def is_shorter() -> bool:
@@ -478,23 +481,23 @@ class Acts(Case):
             fresh = (await lines(ada))[line]
             self.assertEqual([one["does"] for one in fresh["operations"]], ["put", *["change", "undo"] * 10])
             self.assertEqual((await ada.ask("layers", **{"from": said["next"]}))["layers"], [fresh])
-            with self.assertRaisesRegex(RefusedReply, "you hold no change with the name"):
+            with self.assertRaisesRegex(RefusedReply, "this seat holds no change with the name"):
                 await ada.ask("gesture", key="late", layer=gone, top=True)
 
     async def test_a_list_loses_the_line_of_an_own_raw_edit_that_is_forgotten_after_another_replaced_it(self) -> None:
-        """The line was listed because of the other edit alone."""
+        """After the own edit was forgotten, the line was listed only because the other edit named it."""
         server = self.server(LIVE_MOST_UNDONE="12")
         async with server.seat() as ada, server.seat("Ben") as ben:
-            line = await put(ada, "gone", [*LIMIT, 2])
+            line = await put_edits(ada, "gone", [*LIMIT, 2])
             await ada.ask("undo", key="undo", stamp=line)
-            his = await put(ben, "his", [*LIMIT, 3])
+            his = await put_edits(ben, "his", [*LIMIT, 3])
             await ben.ask("send", name="shared")
             await ada.ask("take", message="shared")
             self.assertEqual((await lines(ada)).keys(), {tuple(line), tuple(his)})
             listed: dict[tuple[int, ...], Any] = {}
             after = 0
             for count in range(11):
-                stamp = await lay(ada, f"g{count}", SLOW)
+                stamp = await put_layer(ada, f"g{count}", SLOW)
                 await ada.ask("undo", key=f"u{count}", stamp=stamp)
                 said = await ada.ask("layers", **{"from": after})
                 after, changed = said["next"], {tuple(one["name"]): one for one in said["layers"]}
@@ -508,14 +511,14 @@ class Acts(Case):
             self.assertEqual(listed.keys(), {tuple(his)})
             self.assertEqual(listed, await lines(ada))
 
-    async def test_z_is_the_same_after_what_a_start_forgets(self) -> None:
-        """One of the newest operations undoes an older one."""
-        line = await lay(self.ada, "line", CLOSED)
-        stamp = await lay(self.ada, "change", ["block", 60, 69, 30, 70, 1], layer=line)
+    async def test_z_undoes_the_same_operations_after_a_start_that_forgets_some(self) -> None:
+        """One of the operations that are kept undoes an older one."""
+        line = await put_layer(self.ada, "line", CLOSED)
+        stamp = await put_layer(self.ada, "change", ["block", 60, 69, 30, 70, 1], layer=line)
         await self.ada.ask("undo", key="undo", stamp=stamp)
         undo: Stamp | None = None
         for count in range(19):
-            undo = await lay(self.ada, f"g{count}", ["limit", 2, 2, 20 + count, 60, 1])
+            undo = await put_layer(self.ada, f"g{count}", ["limit", 2, 2, 20 + count, 60, 1])
         self.a6.restart()
         async with self.a6.seat(key=self.ada.key) as ada:
             for count in range(20):
@@ -524,11 +527,11 @@ class Acts(Case):
                 self.assertEqual(closed(60, 69, 30, 60).items() <= (await numbers(ada)).items(), count < 19)
             self.assertEqual((undo, await numbers(ada)), (None, {}))
 
-    async def test_a_whole_line_is_forgotten(self) -> None:
-        line = await lay(self.ada, "line", CLOSED, note="works")
+    async def test_a_withdrawn_line_comes_back_whole_after_a_restart(self) -> None:
+        line = await put_layer(self.ada, "line", CLOSED, note="works")
         for count in range(20):
-            await lay(self.ada, f"g{count}", ["limit", 2, 2, 20 + count, 60, 1])
-        gone = await lay(self.ada, "gone", None, layer=line, note="open")
+            await put_layer(self.ada, f"g{count}", ["limit", 2, 2, 20 + count, 60, 1])
+        gone = await put_layer(self.ada, "gone", None, layer=line, note="open")
         self.a6.restart()
         async with self.a6.seat(key=self.ada.key) as ada:
             back = await ada.ask("undo", key="back", stamp=gone)
@@ -538,9 +541,9 @@ class Acts(Case):
 
     # Lists
 
-    async def test_the_list_comes_in_pieces_and_only_with_changes(self) -> None:
+    async def test_the_list_has_only_what_changed_since_a_version(self) -> None:
         for count in range(3):
-            await lay(self.ada, str(count), ["limit", count, count, 20, 40, 1])
+            await put_layer(self.ada, str(count), ["limit", count, count, 20, 40, 1])
         said = await self.ada.ask("layers")
         self.assertEqual((len(said["layers"]), said["more"]), (3, False))
         again = await self.ada.ask("layers", **{"from": said["next"]})
@@ -554,20 +557,20 @@ class Acts(Case):
 
 
 class Previews(Case):
-    """Compare a preview of sharing or taking with what it then does."""
+    """Compare a preview of sharing or taking with what sharing or taking then does."""
 
     async def asyncSetUp(self) -> None:
         self.a6 = self.server()
         self.ada = await self.enterAsyncContext(self.a6.seat("Ada"))
         self.ben = await self.enterAsyncContext(self.a6.seat("Ben"))
         await self.ada.say("clock", to=200)
-        self.his = await lay(self.ben, "1", ["block", 60, 60, 30, 90, 1], note="works")
+        self.his = await put_layer(self.ben, "1", ["block", 60, 60, 30, 90, 1], note="works")
         await self.ben.ask("send", name="shared")
-        self.slow = await lay(self.ada, "1", ["limit", 0, 1, 1, None, 2], note="slow")
-        self.mine = await lay(self.ada, "2", ["block", 60, 62, 50, 70, 0], note="open")
+        self.slow = await put_layer(self.ada, "1", ["limit", 0, 1, 1, None, 2], note="slow")
+        self.mine = await put_layer(self.ada, "2", ["block", 60, 62, 50, 70, 0], note="open")
 
     async def picture(self, at: str, to: int = 200) -> Any:
-        """Rows and counts of a road, by plain questions."""
+        """Return the rows, counts and sums of a road, each from a question of its own."""
         await self.ada.ask("advance", at=at, to=to)
         return (await self.ada.ask("diagram", at=at, **{"from": 0, "to": to}),
                 await self.ada.ask("counts", at=at, **{"from": 0, "to": to}),
@@ -577,7 +580,7 @@ class Previews(Case):
         return [{name: value for name, value in one.items() if name not in ("id", "us")} for one in picture]
 
     async def figures_are(self, said: Any, name: str, at: str, first: int) -> None:
-        """Compare the figures of a road with those of the replica's cars."""
+        """Compare the figures of a road with those that follow from the replica's cars."""
         cars: list[Any] = [(await self.ada.ask("cars", at=at, step=step))["cars"] for step in range(first, 201)]
         self.assertAlmostEqual(said[name]["vehicle_hours"], sum(map(len, cars[1:])) / 3_600)
         numbers = {car[0] for row in cars for car in row if first <= car[0] // 16 < 200}
@@ -607,7 +610,7 @@ class Previews(Case):
         self.assertNotEqual(self.seen(pictures["before"]), self.seen(pictures["after"]))
         for found, first in zip(figures, (0, 100)):
             await self.figures_are(found, "after", "shared", first)
-        self.assertEqual(self.seen(await self.picture("before")), self.seen(before))  # they stay as they were
+        self.assertEqual(self.seen(await self.picture("before")), self.seen(before))  # the roads of the preview stay as they were
 
     async def test_a_preview_of_taking_compares_with_the_own_road(self) -> None:
         said = await self.ada.ask("preview", what="take")
@@ -625,11 +628,11 @@ class Previews(Case):
         await self.figures_are(figures, "after", self.ada.at, 0)
 
     async def test_a_change_that_would_be_lost_is_listed_with_its_shape_and_the_winner(self) -> None:
-        """Though nothing would be other on the road."""
+        """It is listed although the road would stay the same."""
         await self.ada.ask("take", message="shared")
-        theirs = await lay(self.ben, "3", ["block", 60, 60, 30, 95, 1], layer=self.his)
+        theirs = await put_layer(self.ben, "3", ["block", 60, 60, 30, 95, 1], layer=self.his)
         await self.ben.ask("send", name="shared")
-        mine = await lay(self.ada, "4", ["block", 60, 60, 30, 99, 1], layer=self.his)
+        mine = await put_layer(self.ada, "4", ["block", 60, 60, 30, 99, 1], layer=self.his)
         for is_shared in (False, True):
             said = await self.ada.ask("preview", what="take")
             line: Any
@@ -640,13 +643,13 @@ class Previews(Case):
                              [theirs, "Ben", mine, ["block", 60, 60, 30, 95, 1]])
             await self.ada.ask("send", name="shared")
 
-    async def test_mine_is_compared_with_the_shared_road(self) -> None:
+    async def test_the_own_road_is_compared_with_the_shared_one(self) -> None:
         figures = await self.ada.ask("figures", of="mine", **{"from": 0, "to": 200})
         for name, at in (("before", "shared"), ("after", self.ada.at)):
             await self.ada.ask("advance", at=at, to=200)
             await self.figures_are(figures, name, at, 0)
 
-    async def test_a_part_is_shared_in_the_preview(self) -> None:
+    async def test_a_preview_of_sharing_some_changes_has_only_their_effects(self) -> None:
         said = await self.ada.ask("preview", what="share", stamps=[self.mine])
         self.assertEqual((said["size"], said["touched"]), (1, 50))
         self.assertEqual({tuple(one["name"]) for one in said["layers"]}, {tuple(self.mine), tuple(self.his)})
@@ -662,16 +665,16 @@ class Previews(Case):
         self.assertEqual((await self.ada.reply("cells", at="after", step=0))["refused"], "NoPreview")
         self.assertEqual((await self.ben.reply("cells", at="after", step=0))["refused"], "NoPreview")
 
-    async def test_demand_that_could_not_enter(self) -> None:
-        """Without slowing, an inlet with chance 1 admits a car every other step, 1,800 an hour: so the demand is known,
-        and what is lost, too. A demand that is lowered is not lost."""
+    async def test_demand_that_could_not_enter_is_lost(self) -> None:
+        """Without slowing, an inlet with chance 1 admits a car every other step, 1,800 an hour, so demand and lost demand are
+        known. A demand that is lowered is not lost."""
         plan = {**SMALL, "zones": [[5, 0]] * 6, "inlets": [[0, 65_536], [40, 0]]}
         server = self.server(plan=plan)
         async with server.seat() as ada:
             await ada.say("clock", to=300)
-            await lay(ada, "1", ["block", 50, 50, 60, 200, 1])  # a jam before it, to both inlets
-            await lay(ada, "2", ["inflow", 1, 1, 100, 250, 65_536])
-            await lay(ada, "3", ["inflow", 0, 0, 200, None, 0])
+            await put_layer(ada, "1", ["block", 50, 50, 60, 200, 1])  # its jam reaches both inlets
+            await put_layer(ada, "2", ["inflow", 1, 1, 100, 250, 65_536])
+            await put_layer(ada, "3", ["inflow", 0, 0, 200, None, 0])
             said: Any = await ada.ask("figures", of="mine", **{"from": 30, "to": 290})
             self.assertEqual(said["before"]["asked"], [(290 - 30) / 2, 0])
             self.assertEqual(said["before"]["lost"], [0, 0])
@@ -690,7 +693,7 @@ class Seats(Case):
     async def test_a_key_gives_the_seat_back_and_closes_the_other_tab(self) -> None:
         server = self.server()
         async with server.seat("Ada") as ada:
-            await put(ada, "1", [*LIMIT, 1])
+            await put_edits(ada, "1", [*LIMIT, 1])
             async with server.seat(key=ada.key) as again:
                 self.assertEqual((again.at, again.welcome["name"], await limit_at(again)), ("seat1", "Ada", 1))
                 with self.assertRaisesRegex(ConnectionError, "4000"):
@@ -700,7 +703,7 @@ class Seats(Case):
     async def test_a_seat_without_a_tab_can_be_taken_over(self) -> None:
         server = self.server()
         async with server.seat("Ada") as ada, server.seat("Ben") as ben:
-            await put(ada, "1", [*LIMIT, 1])
+            await put_edits(ada, "1", [*LIMIT, 1])
             cases: list[tuple[dict[str, Any], str]] = [
                 ({"take": 1}, "SeatConnected"), ({"name": "Ada"}, "NameTaken"), ({"take": 9}, "NoSuchSeat"),
                 ({"key": "none"}, "UnknownKey"), ({"name": " \n"}, "NoName"), ({"take": 0}, "NoSuchSeat")]
@@ -718,7 +721,7 @@ class Seats(Case):
         async with server.seat(key=taken.key) as back:
             self.assertEqual(back.at, "seat1")
 
-    async def test_all_63_seats(self) -> None:
+    async def test_63_seats_can_be_used_and_no_more(self) -> None:
         server = self.server(plan={**SMALL, "length": 20, "zones": [[5, 0]], "inlets": [[0, 65_536]], "detectors": []})
         seats = [await self.enterAsyncContext(server.seat(f"n{count}")) for count in range(63)]
         self.assertEqual({seat.at for seat in seats}, {f"seat{count}" for count in range(1, 64)})
@@ -726,7 +729,7 @@ class Seats(Case):
             async with server.seat("one more"):
                 pass
         for seat in seats:
-            await lay(seat, "1", ["limit", 0, 0, seat.welcome["seat"], seat.welcome["seat"] + 1, 1])
+            await put_layer(seat, "1", ["limit", 0, 0, seat.welcome["seat"], seat.welcome["seat"] + 1, 1])
             await seat.ask("send", name="shared")
         await seats[62].ask("take", message="shared")
         self.assertEqual({name[1] for name in await lines(seats[62])}, set(range(65, 128)))
@@ -735,8 +738,8 @@ class Seats(Case):
     async def test_a_seat_without_anything_private_is_freed_and_clean_for_the_next(self) -> None:
         server = self.server(LIVE_DAY="1")
         async with server.seat("Ada") as ada, server.seat("Ben") as ben:
-            await put(ada, "1", [*LIMIT, 1])
-            await put(ben, "1", [*LIMIT, 2])
+            await put_edits(ada, "1", [*LIMIT, 1])
+            await put_edits(ben, "1", [*LIMIT, 2])
             await ada.ask("send", name="shared")
         async with server.seat("Cleo") as cleo:
             async def ada_is_gone() -> bool:
@@ -746,15 +749,15 @@ class Seats(Case):
             fill = [await self.enterAsyncContext(server.seat(f"n{count}")) for count in range(61)]
             new = next(seat for seat in fill if seat.at == "seat1")
             self.assertEqual(await numbers(new), {})
-            self.assertGreater([*await put(new, "2", [*LIMIT, 3])], [1, 65])  # no stamp is made twice
+            self.assertGreater([*await put_edits(new, "2", [*LIMIT, 3])], [1, 65])  # the new owner makes no stamp that Ada made
         server.restart()
         async with server.seat(key=new.key) as new:
             self.assertEqual(await numbers(new), {("limit", 2, 50): 3})
 
-    async def test_a_seat_is_left(self) -> None:
+    async def test_a_seat_can_be_left_once_nothing_in_it_is_private(self) -> None:
         server = self.server()
         async with server.seat("Ada") as ada, server.seat("Ben") as ben:
-            await put(ada, "1", [*LIMIT, 1])
+            await put_edits(ada, "1", [*LIMIT, 1])
             with self.assertRaisesRegex(RefusedReply, "PrivateChanges"):
                 await ada.ask("leave")
             await ada.ask("send", name="shared")

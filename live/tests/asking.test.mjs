@@ -1,4 +1,4 @@
-// Questions to a server that is busy, or away.
+// Questions to a server that is busy, or cannot be reached.
 
 import assert from "node:assert/strict";
 import {test} from "node:test";
@@ -7,7 +7,7 @@ import {ask, askUntilFree} from "../page/asking.mjs";
 import {Disconnected} from "../page/connection.mjs";
 import {store} from "../page/store.mjs";
 
-/** A line that gives these answers, one after the other, and what it was asked. */
+/** Set a connection that gives these answers, one after the other. Return the list of its questions. */
 function answering(...answers) {
   const asked = [];
   store.message = ["", false];
@@ -29,11 +29,11 @@ test("a refusal is shown", async () => {
   assert.deepEqual(store.message, ["another road is being simulated", true]);
 });
 
-test("what was asked about what is looked at no more is not told", async () => {
+test("a refusal is not shown if its question is no longer wanted", async () => {
   answering({refused: "NoPreview", why: "ask again"}, {refused: "NoPreview", why: "ask again"});
-  await ask({diagram: {}}, {stands: () => false});
+  await ask({diagram: {}}, {isWanted: () => false});
   assert.deepEqual(store.message, ["", false]);
-  await ask({diagram: {}}, {stands: () => true});
+  await ask({diagram: {}}, {isWanted: () => true});
   assert.deepEqual(store.message, ["ask again", true]);
 });
 
@@ -52,10 +52,10 @@ test("a busy server is asked again until it answers, and nothing is shown", asyn
   assert.deepEqual(store.message, ["", false]);
 });
 
-test("other refusals, and a line that breaks, end it", async () => {
+test("other refusals, and a connection that breaks, end the retries", async () => {
   answering({refused: "Range", why: "too long"});
   assert.equal((await askUntilFree({transcript: {}})).refused, "Range");
   assert.deepEqual(store.message, ["too long", true]);
-  answering(new Disconnected("the line broke"));
+  answering(new Disconnected("the connection broke"));
   assert.equal(await askUntilFree({transcript: {}}), null);
 });

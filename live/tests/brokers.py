@@ -1,4 +1,4 @@
-"""Test two and three servers with a broker that is stopped, killed, forgets everything, and gets garbage."""
+"""Test two and three servers with a broker that is stopped, is killed, forgets everything, or gets garbage."""
 from __future__ import annotations
 
 import asyncio
@@ -31,8 +31,8 @@ async def shared(seat: Seat) -> list[Any]:
 
 
 def broker_of(seat: Seat) -> BrokerState:
-    """Return the last state of the broker that a seat has heard."""
-    told = [seat.welcome["broker"], *(one["broker"] for one in seat.told if "broker" in one)]
+    """Return the latest state of the broker that a seat was sent."""
+    told = [seat.welcome["broker"], *(one["broker"] for one in seat.received if "broker" in one)]
     assert told[-1] is not None
     return told[-1]
 
@@ -46,8 +46,8 @@ class Brokers(Case):
         return self.server("--broker", broker.address, "--site", str(number), plan=plan)
 
     async def same(self, *seats: Seat, edits: int) -> list[Any]:
-        """Wait until all shared replicas hold the same number of edits; then rows and totals are the same, and those
-        of one program that got the edits in another order."""
+        """Wait until all shared replicas hold the same number of edits. Then check that their rows and totals are the same, and
+        equal those of a program that got the edits in another order."""
         async def holds() -> bool:
             held = [await shared(seat) for seat in seats]
             return len(held[0]) == edits and all(one == held[0] for one in held)
@@ -77,13 +77,13 @@ class Brokers(Case):
                     await put(ada, ["limit", 2, 80, 1])
                     await put(sam, ["limit", 2, 80, 2])  # a tie: the greater number wins
                     self.assertEqual(await self.same(ada, sam, edits=1), [["limit", 2, 80, 1, 64, 2]])
-                    news = next(one["news"] for one in reversed(ada.told) if "news" in one)
+                    news = next(one["news"] for one in reversed(ada.received) if "news" in one)
                     self.assertIn("Sam", news["from"])
                     key = sam.key
                 second.kill()  # a site is away
                 await put(ada, ["limit", 3, 90, 3])
                 await put(ada, ["limit", 4, 91, 3])
-                broker.kill()  # with what it kept for it
+                broker.kill()  # with the messages that it kept for the site
                 await put(ada, ["limit", 5, 92, 3])
                 broker.start()
                 second.start()
@@ -95,7 +95,7 @@ class Brokers(Case):
                     async with first.seat(key=ada.key) as again:
                         await put(again, ["block", 61, 30, 1])
                         broker.start()
-                        third = self.site(broker, 3)  # comes late, and gets all
+                        third = self.site(broker, 3)  # it joins late, and gets everything
                         async with third.seat("Tom") as tom:
                             await self.same(again, sam, tom, edits=7)
 
@@ -105,22 +105,22 @@ class Brokers(Case):
         async with first.seat("Ada") as ada, second.seat("Sam") as sam:
             for number, title in enumerate(("night works", "by day")):
                 if number:
-                    broker.kill()  # what waits for it bears its title, by the journal, too
+                    broker.kill()  # what waits for the broker has its title, which the journal keeps, too
                 await ada.ask("gesture", key=f"k{number}", edits=[["limit", 2, 80 + number, 1]])
                 await ada.ask("send", name="shared", title=title)
                 if number:
                     first.restart()
                     broker.start()
                 await until(lambda: self.has_title(sam, title), title)
-            news = next(one["news"] for one in reversed(sam.told) if "news" in one)
+            news = next(one["news"] for one in reversed(sam.received) if "news" in one)
             self.assertEqual([one["title"] for one in news["shares"]], ["night works", "by day"])
 
     async def has_title(self, seat: Seat, title: str) -> bool:
-        """Return whether the server told the seat that Ada shared something with this title, and nothing else."""
-        shares = [share for one in seat.told if "news" in one for share in one["news"]["shares"]]
+        """Return whether the server announced a single share to the seat: by Ada, with this title."""
+        shares = [share for one in seat.received if "news" in one for share in one["news"]["shares"]]
         return bool(shares) and (shares[-1]["who"], shares[-1]["title"]) == ("Ada", title)
 
-    async def test_garbage_is_skipped_and_reported(self) -> None:
+    async def test_garbage_is_ignored_and_reported(self) -> None:
         broker = self.broker()
         first, second = self.site(broker, 1), self.site(broker, 2)
         topic = f"road/{reference(first)}/operations"
@@ -136,7 +136,7 @@ class Brokers(Case):
             for text, why in (
                     ("good morning", "not JSON"), ("", "not JSON"), ("[" * 3_000, "not JSON"), ("[1]", "no list"),
                     ('{"operations":7}', "no list"), ('{"operations":[],"form":2}', "no list"),
-                    (said(7), "an operation is an object"), (said({"stamp": [1, 70]}), "does nothing"),
+                    (said(7), "an operation must be a JSON object"), (said({"stamp": [1, 70]}), "the operation does nothing"),
                     (said(limit([1, 70], 99, 8)), "no zone 99"), (said(limit([1, 3], 1, 8)), "belongs to a replica"),
                     (said(limit([281474976710656, 70], 1, 20)), "[281474976710656, 70] of number 70 is more than a day"),
                     (said(limit([2764800001, 70], 1, 21)), "[2764800001, 70] of number 70 is more than a day ahead"),
@@ -150,7 +150,7 @@ class Brokers(Case):
             await self.same(ada, sam, edits=3)
             good = {"stamp": [7, 70], "sets": [[["limit", 1, 9], 2]], "who": "Eve", "note": "by a script"}
             broker.say(topic, said(7, good, {}))
-            await self.same(ada, sam, edits=4)  # what is good in a message is taken
+            await self.same(ada, sam, edits=4)  # the valid operations of a message are taken
             came = (await ada.ask("operations", at="shared"))["operations"][-1]
             self.assertEqual((came["who"], came["note"]), ("Eve", "by a script"))
 
@@ -168,7 +168,7 @@ class Brokers(Case):
             await until(lambda: self.stays("has this site's number, 7", ada, sam), "one number twice")
             await put(ada, ["limit", 2, 80, 1])
             await put(sam, ["limit", 2, 80, 2])
-            await asyncio.sleep(4)  # so long that both have announced themselves once more
+            await asyncio.sleep(4)  # by then both have announced themselves again
             self.assertEqual([(await shared(seat))[0][5] for seat in (ada, sam)], [1, 2])
         second.kill()
         third = self.site(broker, 8)
@@ -185,7 +185,7 @@ class Brokers(Case):
         async with first.seat("Ada") as ada, second.seat("Sam") as sam:
             await until(lambda: self.stays("has this site's number, 7", ada, sam), "one number twice")
 
-    async def test_another_seed_is_reported(self) -> None:
+    async def test_a_site_whose_plan_has_another_seed_is_reported(self) -> None:
         broker = self.broker()
         first, second = self.site(broker, 1), self.site(broker, 2, {**SMALL, "words": 2})
         async with first.seat("Ada") as ada, second.seat("Sam") as sam:
@@ -214,7 +214,7 @@ class Brokers(Case):
         return (now["state"], now["unsent"]) == (state, unsent)
 
     async def test_a_broker_on_another_host_requires_a_password(self) -> None:
-        with self.assertRaisesRegex(RuntimeError, "requires --broker-user, --broker-password"):
+        with self.assertRaisesRegex(RuntimeError, "give --broker-user and --broker-password"):
             self.server("--broker", "192.0.2.1:8883")
 
 

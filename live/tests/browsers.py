@@ -1,4 +1,4 @@
-"""Real browsers for the tests of the page: what is dragged and typed in them, and what they draw and say."""
+"""Drive real browsers in the tests of the page: drag and type in them, and read what they draw and say."""
 from __future__ import annotations
 
 import json
@@ -20,17 +20,17 @@ TOP = LIVE.parent
 SCREENSHOTS = os.environ.get("SCREENSHOTS")
 PATIENCE = 90.0  # seconds
 
-# The road of examples/closed_cell: cars gain speed up to 3, none is slowed.
+# The road of examples/closed_cell: cars accelerate to 3, and none is slowed.
 FREE_ROAD = {"detectors": [28], "exit": 1, "inlets": [[0, 65536]], "length": 40, "words": "steady", "zone": 40,
              "zones": [[3, 0]], "replicas": ["A"]}
 # 6 km in zones of 375 m, p = 0.1; an on-ramp at 1.5 km.
 FREEWAY = json.loads((LIVE / "plan.json").read_text(encoding="utf-8"))
-# Viridis from dark to light over speeds 0 to 5, and how the legend names the others.
+# The colours of characters: Viridis from dark to light for speeds 0 to 5, and those of a closed and an empty cell.
 COLOURS = {"0": (0x44, 0x01, 0x54), "1": (0x41, 0x44, 0x87), "2": (0x2a, 0x78, 0x8e), "3": (0x21, 0x91, 0x8c),
            "#": (0xe6, 0x61, 0x00), ".": (0xff, 0xff, 0xff)}
 
 
-# The page's modules, whose names are made known to the scripts of tests.
+# The page's modules. Scripts of tests may use what they export.
 MODULES = ["/viewer/drawing.mjs", *(f"/page/{path.name}" for path in sorted((LIVE / "page").glob("*.mjs")) if path.stem != "main")]
 MODULES_KNOWN = """
     return Promise.all(arguments[0].map((name) => import(name))).then((modules) => {
@@ -40,7 +40,7 @@ MODULES_KNOWN = """
 
 IF_KNOWN = "if (!window.hasModules && document.getElementById('diagram')) return null;"
 
-# Finds what is called so in a part, or the part itself, where it can be pressed and nothing lies over it.
+# Finds the button whose name begins so, in a part or the part itself, if it can be pressed and nothing lies over it.
 FOUND = """
     const [name, within] = arguments;
     const one = [...document.querySelectorAll(`:is(${within}):is(button, summary), :is(${within}) button`)]
@@ -56,7 +56,7 @@ FOUND = """
 FOCUS = FOUND + "return true;"
 PRESS = FOUND + "one.click(); return true;"
 
-# Whether the page is quiet: looked at as often as the page itself can, for a second at the longest.
+# Waits until the page has been quiet for a tenth of a second. Gives false after a second.
 SETTLED = """
     const [done] = arguments;
     import("/page/store.mjs").then(({store}) => {
@@ -75,15 +75,15 @@ SETTLED = """
       look();
     });"""
 
-# What befalls a page: where pointer and keys go, what moves under them, what it saves.
+# Records what happens to a page: where pointer and keys go, what moves under them, what it saves.
 RECORDER = """{
-    window.befell = [];
+    window.happened = [];
     const shortly = (one) => one.getAttribute("aria-label")
       || one.textContent.trim().replace(/\\s+/g, " ").slice(0, 40);
     const named = (one) => (one?.tagName
       ? `<${one.tagName.toLowerCase()}${one.id && " #" + one.id}> ${shortly(one)}` : String(one));
     const record = (what) => {
-      if (befell.push(`${(performance.now() / 1000).toFixed(2)} s: ${what}`) > 40) befell.shift();
+      if (happened.push(`${(performance.now() / 1000).toFixed(2)} s: ${what}`) > 40) happened.shift();
     };
     for (const kind of ["pointerdown", "pointerup", "click", "submit", "change", "keydown"]) {
       addEventListener(kind, ({clientX: x, clientY: y, isTrusted, key = "", target}) => {
@@ -105,7 +105,7 @@ RECORDER = """{
       return click.call(this);
     };
 }"""
-# What a page shows, knows and went through.
+# Gives what a page shows and knows, and what happened to it.
 TRUTH = """
     const {store} = window;
     const shown = (id) => {
@@ -118,7 +118,7 @@ TRUTH = """
             `is hidden: ${document.hidden}, has the focus: ${document.hasFocus()}`,
             JSON.stringify({open: connection && [...connection.questions.values()].map(({command}) => command), waits: connection?.countWaiting(),
                             pending: pending?.size, openRowQuestions, isDrawing, idleTimer, figures: figures?.asking}),
-            window.over ?? "", "what befell it:", ...(window.befell ?? [])];"""
+            window.over ?? "", "what happened:", ...(window.happened ?? [])];"""
 
 
 def example_rows(which: int) -> list[str]:
@@ -168,7 +168,7 @@ class Tab:
         self.until(lambda: self.text("line").startswith("connected"), "connected")
         return self
 
-    # What there is
+    # What it shows
 
     def script(self, text: str, *words: Any) -> Any:
         """Run a script that may use the names of the page's modules. Return its value."""
@@ -185,11 +185,11 @@ class Tab:
     def text(self, ident: str) -> str:
         return " ".join(str(self.script("return document.getElementById(arguments[0]).textContent", ident)).split())
 
-    def until(self, holds: Callable[[], Any], what: str) -> None:
-        """Wait until something holds."""
+    def until(self, condition: Callable[[], Any], what: str) -> None:
+        """Wait until a condition holds."""
         end = time.monotonic() + PATIENCE
         while time.monotonic() < end:
-            if holds():
+            if condition():
                 return
             time.sleep(0.03)
         raise AssertionError(f"waited in vain: {what}\n{self.truth()}")
@@ -202,7 +202,7 @@ class Tab:
         return "\n".join([*seen, f"console: {console}", f"saved: {saved}"])
 
     def settled(self) -> None:
-        """Wait until all is confirmed, asked for and drawn, the figures say it, and it stays so for a moment."""
+        """Wait until everything is confirmed, loaded and drawn, in the figures too, and stays so for a moment."""
         self.until(lambda: self.driver.execute_async_script(SETTLED), "quiet")
 
     def lines(self, ident: str) -> list[str]:
@@ -228,24 +228,24 @@ class Tab:
         return [entry["message"] for entry in self.driver.get_log("browser")
                 if entry["level"] == "SEVERE" and "WebSocket" not in entry["message"]]
 
-    # What is done
+    # What a user does
 
     def press(self, name: str, within: str = "body") -> None:
-        """Press the button that is called so, once it is there and nothing lies over it: in the page itself, where
-        nothing moves meanwhile, as it may between a look and a click from outside."""
+        """Press the button whose name begins so, once it is there and nothing lies over it. A script in the page does both at
+        once, since buttons may move between a look and a click from outside."""
         self.until(lambda: self.script(PRESS, name, within), f"a button {name} in {within}")
 
     def press_in(self, ident: str) -> None:
-        """Press the only or the first button of a part, or the part where it is one."""
+        """Press the first button of a part, or the part itself if it is a button."""
         self.until(lambda: self.script(PRESS, "", ident), f"the button of {ident}")
 
     def open_part(self, ident: str) -> None:
-        """Open what is folded."""
+        """Open a folded part."""
         self.until(lambda: self.script(PRESS, "", f"#{ident} > summary"), f"to open {ident}")
 
     def save(self, name: str, file: str) -> Path:
-        """Save from the menu, and return the new file whose name begins and ends as this one's; by a key, since a browser lets a
-        page save once for each press."""
+        """Save from the menu. Return the new file whose name begins and ends as this one's. It is done by a key, since a browser
+        lets a page save once for each press of a key or button."""
         before = set(self.saved(file))
         if self.part("save").get_attribute("open") is None:
             self.open_part("save")
@@ -256,7 +256,7 @@ class Tab:
         return path
 
     def save_both(self, name: str, file: str) -> list[Path]:
-        """Save two files by one press: that of the own road, and that of the shared one."""
+        """Save two files by one press: those of the own road and of the shared one, in this order."""
         self.open_part("save")
         self.press(name, "#save")
         is_shared = lambda path: "-shared-" in path.name
@@ -276,7 +276,7 @@ class Tab:
         self.fill(**{ident: value})
 
     def fill(self, **fields: str) -> None:
-        """Write into fields, and choose from lists."""
+        """Type into fields, and choose from lists."""
         self.script("""
             for (const [ident, value] of Object.entries(arguments[0])) {
               $(ident).value = value;
@@ -301,14 +301,14 @@ class Tab:
             ActionChains(self.driver, duration=0).send_keys(key).perform()
 
     def place(self, cell: float, step: float) -> tuple[int, int]:
-        """Return where a place of the road is in the canvas, relative to its middle."""
+        """Return where a place of the road is on the canvas, in pixels from its middle."""
         x, y, wide, high = self.script(
             "const c = $('diagram'); return [leftOf(viewNow(), arguments[0]), topOf(viewNow(), arguments[1]),"
             " c.clientWidth, c.clientHeight]", cell, step)
         return round(x - wide / 2), round(y - high / 2)
 
     def begin_drag(self, one: tuple[float, float], other: tuple[float, float]) -> None:
-        """Press at a place [cell, step], and move to another one."""
+        """Press the mouse at a place (cell, step), and move it to another one."""
         self.script("$('diagram').scrollIntoView({block: 'center'})")
         (x, y), (to_x, to_y) = self.place(*one), self.place(*other)
         chain = ActionChains(self.driver, duration=20).move_to_element_with_offset(self.part("diagram"), x, y)
@@ -323,17 +323,17 @@ class Tab:
         self.begin_drag(one, other)
         self.drop()
 
-    def in_figures(self, **fields: str) -> None:
+    def type_and_apply(self, **fields: str) -> None:
         """Fill the form, and apply it."""
         self.fill(**fields)
         self.press_in("#apply")
         self.settled()
 
     def limit(self, limit: str, begin: str, end: str) -> None:
-        """Put a limit on the whole of a short road."""
+        """Put a limit on all of a short road."""
         self.tool("limit")
         self.choose("limit", limit)
-        self.in_figures(kmFrom="0", kmTo="0.3", timeFrom=begin, timeTo=end)
+        self.type_and_apply(kmFrom="0", kmTo="0.3", timeFrom=begin, timeTo=end)
 
     def share_all(self) -> None:
         self.press("Share all")
@@ -348,8 +348,8 @@ class Tab:
 
     # What is drawn
 
-    def signs(self, first: int, count: int, length: int) -> list[str]:
-        """Return the rows that the pixels of the diagram show, read next to the middle of each cell."""
+    def characters(self, first: int, count: int, length: int) -> list[str]:
+        """Return the rows of characters that the diagram shows, from a pixel in each cell, left of its middle."""
         found = self.script("""
             const [first, count, length] = arguments, view = viewNow();
             const context = $("diagram").getContext("2d");
@@ -375,8 +375,8 @@ class Tab:
         return self.text("readout")
 
 
-def before_rows(tab: Tab) -> dict[str, tuple[float, ...]]:
-    """Return the table of what sharing or taking would change: before, after, the change."""
+def preview_rows(tab: Tab) -> dict[str, tuple[float, ...]]:
+    """Return the table of a preview, by the names of its rows: before, after, change."""
     tab.until(lambda: tab.script("return document.querySelector('#preview table') !== null"), "the figures")
     rows = tab.script("return [...document.querySelectorAll('#preview tbody tr')].map((line) => "
                       "[...line.children].map((one) => one.textContent))")

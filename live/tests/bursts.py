@@ -1,5 +1,5 @@
-"""Test bursts of gestures. In each a server, its program or the broker is killed, or a folder is restored from an
-older copy, or cloned: what was confirmed is there, no stamp is made twice, and at the end all sites have one road.
+"""Test bursts of gestures. In each a server, its program or the broker is killed, or a folder is restored from an older copy, or
+cloned. Afterwards every confirmed gesture is there, no stamp was made twice, and all sites have the same road.
 `live/test --all` has twenty bursts of 500 gestures.
 """
 from __future__ import annotations
@@ -28,7 +28,7 @@ class Bursts(Case):
         self.mosquitto = self.broker()
         self.one, self.two = [self.site(number) for number in "12"]
         self.engineers = [Engineer(f"e{number}", random.Random(number)) for number in range(3)]
-        self.stamps: dict[tuple[int, ...], str] = {}  # all that were ever confirmed, with their keys
+        self.stamps: dict[tuple[int, ...], str] = {}  # all gestures that were ever confirmed, with their keys
         self.tom: dict[str, str] = {"name": "Tom"}
 
     def site(self, number: str) -> Server:
@@ -47,7 +47,7 @@ class Bursts(Case):
             self.assertLessEqual(engineer.shared, shared)
         self.assertNotIn("Two changes have the same stamp", self.one.said() + self.two.said())
 
-    # What is done in a burst
+    # What happens in a burst
 
     async def server_is_killed(self) -> None:
         await self.burst(self.one, lambda: self.one.restart())
@@ -62,7 +62,7 @@ class Bursts(Case):
         await self.burst(self.one, again)
 
     async def folder_is_restored(self) -> None:
-        """Restore the folder from before the burst; what was shared since comes from the other site."""
+        """Restore the folder from before the burst. What was shared since comes back from the other site."""
         old = self.copy(self.one.folder)
         before = [dict(engineer.confirmed) for engineer in self.engineers]
         await self.burst(self.one, lambda: None)
@@ -76,7 +76,7 @@ class Bursts(Case):
             engineer.sent = {key: engineer.sent[key] for key in confirmed}
 
     async def folder_is_cloned(self) -> None:
-        """Run a clone at the same time: neither uses a stamp of the other."""
+        """Run a clone of the folder at the same time. Neither may use a stamp of the other."""
         clone = Server(self.copy(self.one.folder), PLAN, "--broker", self.mosquitto.address, LIVE_MILLISECONDS="")
         self.addCleanup(lambda: end(clone.process))
         twins = [Engineer(one.name, random.Random(9)) for one in self.engineers]
@@ -92,7 +92,7 @@ class Bursts(Case):
         return copy
 
     async def burst(self, server: Server, fault: Any, engineers: list[Engineer] | None = None) -> None:
-        """Make this many gestures, and the fault at some time between them."""
+        """Make this many gestures, and let the fault happen at some time between them."""
         some = engineers or self.engineers
         left = [GESTURES - self.chance.randrange(GESTURES // 5, GESTURES * 4 // 5)]
         count = sum(len(one.confirmed) for one in some) + GESTURES
@@ -105,7 +105,7 @@ class Bursts(Case):
         await asyncio.gather(*tasks)
 
     async def puts(self, server: Server, engineer: Engineer, count: int, some: list[Engineer]) -> None:
-        """Put, share and take until every seat has put this many; a seat that loses the server comes back."""
+        """Put, share and take until every seat has put this many gestures. A seat whose connection breaks joins again."""
         while sum(len(one.confirmed) for one in some) < count:
             try:
                 async with engineer.seat(server) as seat:
@@ -120,10 +120,10 @@ class Bursts(Case):
         for key, stamp in engineer.confirmed.items():
             self.assertEqual(self.stamps.setdefault(tuple(stamp), key), key)
 
-    # What is so then
+    # What must be so afterwards
 
     async def look(self, engineer: Engineer) -> None:
-        """Check that each confirmed gesture is there, and that each other one is sent again and is there once."""
+        """Check that each confirmed gesture is there. Send each other one again, and check that it is there once."""
         async with engineer.seat(self.one) as seat:
             for key in engineer.sent.keys() - engineer.confirmed.keys():
                 engineer.confirmed[key] = (await seat.ask("gesture", key=key, edits=engineer.sent[key]))["stamp"]
@@ -149,7 +149,7 @@ class Bursts(Case):
             await tom.ask("send", name="shared")
 
     async def are_same(self) -> bool:
-        """Both sites hold the same gestures, those that others cover too, and the same edits."""
+        """Check that both sites hold the same gestures, also those that are covered, and the same edits."""
         async with self.one.seat(key=self.engineers[0].key) as here, self.two.seat(**self.tom) as there:
             self.tom = {"key": there.key}
             one, other = [{tuple(one["stamp"]) for one in await self.operations(seat, "shared")} for seat in (here, there)]

@@ -1,5 +1,5 @@
-"""The figures that live gives of two roads, beside those that numpy finds in the cars of each step: 30 random roads with all kinds
-of edits, in windows of any length; and over days."""
+"""Compare the figures that live gives for two roads with those that numpy finds in the cars of each step: on 30 random roads with
+all kinds of edits, in windows of any length, and over days."""
 from __future__ import annotations
 
 import math
@@ -16,7 +16,7 @@ ROADS = 100 if ALL else 30
 
 class ByCars(Case):
     def near(self, found: Any, wanted: Any, what: Any) -> None:
-        """Numbers, and lists and objects of them, to nine digits."""
+        """Return numbers, or lists and objects of numbers, rounded to nine digits."""
         if isinstance(wanted, dict):
             for name, value in wanted.items():
                 self.near(found[name], value, (what, name))
@@ -30,7 +30,7 @@ class ByCars(Case):
             self.assertAlmostEqual(found, wanted, 7, what)
 
     async def runs(self, here: Here, seat: int) -> list[Run]:
-        """Build the shared road and the own one from the edits that the laboratory reports."""
+        """Build the shared road and the own road from the edits that the laboratory reports."""
         edits = [(await here.ask(seat, "scenario", at=at))["edits"] for at in ("shared", f"seat{seat}")]
         return [Run(here.plan, one, STEPS) for one in edits]
 
@@ -84,8 +84,9 @@ class ByCars(Case):
                 self.assertLessEqual(abs(asked - wanted), 0.005 * wanted + 4 * error + 1e-9, (number, side, inlet, asked, wanted))
 
     async def test_cars_held_back_at_an_inlet_are_lost_demand(self) -> None:
-        """Without slowing a chance q admits q / (1 + q q) cars a step, if nothing hinders a car: so the demand is known. What is put
-        at the inlet holds cars back, and leaves the demand as it is; a lowered demand or a ramp that is switched off loses nothing."""
+        """Without slowing, a chance q admits q / (1 + q q) cars a step if nothing is in their way, so the demand is known.
+        Changes at the inlet hold cars back, but do not change the demand. A demand that is lowered, or a ramp that is switched
+        off, loses nothing."""
         chances, steps = (26_214, 6_554), 3_600
         plan: dict[str, Any] = {"length": 240, "exit": 1, "zone": 20, "zones": [[5, 0]] * 12, "inlets": [[0, chances[0]], [100, chances[1]]],
                                 "detectors": [50], "words": 3, "replicas": ["road"]}
@@ -94,7 +95,7 @@ class ByCars(Case):
         scatter = 2 * math.sqrt(wanted)
         cases: list[tuple[list[list[Any]], float, float, float]] = [
             ([], wanted, -scatter, scatter),
-            ([["slow", 0, 0, 0, None, 49_152]], wanted, 400, 900),  # three of four cars that enter stand
+            ([["slow", 0, 0, 0, None, 49_152]], wanted, 400, 900),  # three of four cars that enter do not start
             ([["start", 0, 0, 1, None, 60_000]], wanted, 400, 1_200), ([["limit", 0, 0, 0, None, 0]], wanted, wanted - 2, wanted),
             ([["limit", 0, 0, 0, None, 1]], wanted, -scatter, scatter),  # (at 27 km/h a car still leaves the inlet at once)
             ([["block", 0, 5, 600, 2_400, 1]], wanted, wanted / 2 - scatter, wanted / 2 + scatter),

@@ -1,4 +1,4 @@
-"""Other hosts reach the server by TLS alone."""
+"""Test that other hosts can reach the server only with TLS."""
 from __future__ import annotations
 
 import asyncio
@@ -97,7 +97,7 @@ class Certificates(Case):
             writer.close()
 
     async def test_a_flood_from_one_address_locks_out_no_other_address(self) -> None:
-        """600 silent TLS connections a second come from one address: none of the other address's connections is closed, and each has its
+        """One address opens 600 silent TLS connections a second. No connection of the other address is closed, and each gets the
         page in time."""
         server = self.server("--listen", "0.0.0.0", "--name", "localhost", "--certificate", self.both)
         port = int(server.address.partition("/#")[0].rpartition(":")[2])
@@ -136,17 +136,17 @@ class Certificates(Case):
             await ada.ask("gesture", key="1", edits=[["limit", 1, 5, 1]])
             await ada.ask("send", name="shared")
             async def is_told() -> bool:
-                told[:] = [one["broker"] for one in eve.told if "broker" in one and one["broker"]["told"]]
+                told[:] = [one["broker"] for one in eve.received if "broker" in one and one["broker"]["told"]]
                 return bool(told and (await sam.ask("scenario", at="shared"))["edits"])
             told: list[Any] = []
             await until(is_told, "the one has the edit, the other a warning")
-            kind, index, step, *_, value = (await sam.ask("scenario", at="shared"))["edits"][0]  # stamps are a server's own
+            kind, index, step, *_, value = (await sam.ask("scenario", at="shared"))["edits"][0]    # stamps differ
             self.assertEqual((kind, index, step, value), ("limit", 1, 5, 1))
             self.assertIn("refused the connection", told[-1]["told"][0])
             self.assertEqual((await eve.ask("scenario", at="shared"))["edits"], [])
 
     def test_without_a_certificate_other_hosts_are_refused(self) -> None:
-        self.refused("--listen wants --certificate", "--listen", "0.0.0.0")
+        self.refused("--listen 0.0.0.0 requires --certificate", "--listen", "0.0.0.0")
         folder = new_folder() / "new"
         self.refused("no certificate", "--listen", "0.0.0.0", "--name", "x", "--certificate", str(LIVE / "serve"),
                      "--folder", str(folder))
@@ -154,25 +154,26 @@ class Certificates(Case):
 
     def test_a_server_that_listens_everywhere_must_name_its_host(self) -> None:
         for everywhere in ("0.0.0.0", "::"):
-            self.refused(f"--listen {everywhere} wants --name", "--listen", everywhere, "--certificate", self.both)
+            self.refused(f"--listen {everywhere} requires --name", "--listen", everywhere, "--certificate", self.both)
 
     def test_a_port_in_use_is_reported_at_once_with_the_next_free_one(self) -> None:
-        """Before the road is opened, which may take long: here the program never answers. Nothing is left of a new folder."""
+        """The port is tried before the road is opened, which may take long: here the program never answers. No new folder is
+        left."""
         silent, folder = new_folder() / "road_lab", new_folder() / "new"
         silent.write_text("#!/bin/sh\nsleep 600\n", encoding="utf-8")
         silent.chmod(0o755)
         with two_ports() as (first, second):
             said = self.refused("Address already in use", "--port", str(first), "--program", str(silent), "--folder", str(folder))
-        named = re.search(r"in use: --port (\d+) is free, and --port 0 takes any that is free", said)
+        named = re.search(r"in use: --port (\d+) is free, and --port 0 takes any free port", said)
         assert named is not None, said
         self.assertGreater(int(named[1]), second)
         self.assertLess(int(named[1]), second + 100)
         self.assertFalse(folder.exists())
 
     def test_an_invalid_port_is_reported(self) -> None:
-        """Else another one would be listened at, or a broker waited for that cannot be."""
+        """Otherwise the server would listen at another port, or wait for a broker that cannot exist."""
         for port in ("65536", "-1"):
-            self.refused(f"a port is 1 to 65535, or 0: any that is free; and not {port}", "--port", port)
+            self.refused(f"--port must be 1 to 65535, or 0 for any free port, not {port}", "--port", port)
         for broker in ("127.0.0.1:65536", "127.0.0.1:0", "127.0.0.1:", "127.0.0.1:x"):
             self.refused(f"--broker must be HOST:PORT, not {broker}", "--broker", broker)
 

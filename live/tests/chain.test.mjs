@@ -1,23 +1,23 @@
-// What Z takes back and Redo puts again, while something is pending.
+// What Undo undoes and Redo redoes while something is pending.
 
 import assert from "node:assert/strict";
 import {test} from "node:test";
 
-import {nextOf, takenBack} from "../page/chain.mjs";
-import {keep, kept} from "../page/kept.mjs";
+import {findUndone, nextOf} from "../page/chain.mjs";
+import {loadPending, storePending} from "../page/kept.mjs";
 
 const NONE = {undo: null, redo: null};
 const acts = (...list) => list.map(([key, does]) => ({key, does}));
 
-test("without anything pending it is what the server says", () => {
+test("if nothing is pending, Undo and Redo do what the server says", () => {
   assert.deepEqual(nextOf({undo: [3, 65], redo: [2, 65]}, []), {undo: [3, 65], redo: [2, 65]});
   assert.deepEqual(nextOf(NONE, []), NONE);
 });
 
-test("what is pending is taken back first, once for each press", () => {
-  const laid = acts(["a", "apply"], ["b", "apply"]);
-  assert.deepEqual(nextOf({undo: [3, 65], redo: [2, 65]}, laid), {undo: "b", redo: null});
-  const once = [...laid, ...acts(["c", "undo"])];
+test("pending acts are undone first, one with each press", () => {
+  const put = acts(["a", "apply"], ["b", "apply"]);
+  assert.deepEqual(nextOf({undo: [3, 65], redo: [2, 65]}, put), {undo: "b", redo: null});
+  const once = [...put, ...acts(["c", "undo"])];
   assert.deepEqual(nextOf(NONE, once), {undo: "a", redo: "c"});
   const twice = [...once, ...acts(["d", "undo"])];
   assert.deepEqual(nextOf(NONE, twice), {undo: null, redo: "d"});
@@ -26,22 +26,22 @@ test("what is pending is taken back first, once for each press", () => {
   assert.deepEqual(nextOf(NONE, again), {undo: "e", redo: "c"});
 });
 
-test("what only the server knows is waited for", () => {
+test("if only the server knows what comes next, the page waits for its answer", () => {
   assert.equal(nextOf({undo: [3, 65], redo: null}, acts(["a", "undo"])).undo, undefined);
   assert.equal(nextOf({undo: [3, 65], redo: null}, acts(["a", "undo"])).redo, "a");
   assert.equal(nextOf({undo: null, redo: [2, 65]}, acts(["a", "redo"])).redo, undefined);
 });
 
-test("what is pending and taken back is known, and what is put again is not", () => {
+test("a pending act that is undone is found, and one that is redone is not", () => {
   const undo = (key, undoes) => ({key, does: "undo", undoes});
   const pending = [...acts(["a", "apply"], ["b", "apply"]), undo("c", "b"), undo("d", "a")];
-  const gone = (list) => ["a", "b", "c", "d", "e"].filter((key) => takenBack(list).has(key));
+  const gone = (list) => ["a", "b", "c", "d", "e"].filter((key) => findUndone(list).has(key));
   assert.deepEqual(gone(pending.slice(0, 2)), []);
   assert.deepEqual(gone(pending), ["a", "b"]);
   assert.deepEqual(gone([...pending, {key: "e", does: "redo", undoes: "d"}]), ["b", "d"]);
 });
 
-/** A tab's storage; one that is full takes nothing. */
+/** Return a tab's storage; a full one stores nothing. */
 function storage(isFull = false) {
   const items = new Map();
   const setItem = (name, text) => {
@@ -51,26 +51,26 @@ function storage(isFull = false) {
   return {getItem: (name) => items.get(name) ?? null, setItem};
 }
 
-test("what is pending is kept in its order until nothing is", () => {
+test("pending acts are stored in their order until none is pending", () => {
   const there = storage();
   const pending = new Map([["k2", {note: "two", does: "apply"}], ["k1", {note: "one", does: "undo"}]]);
-  assert.ok(keep(there, "seat1", pending));
-  assert.deepEqual(kept(there), {at: "seat1", acts: [...pending]});
-  keep(there, "seat1", new Map());
-  assert.deepEqual(kept(there), {at: "seat1", acts: []});
+  assert.ok(storePending(there, "seat1", pending));
+  assert.deepEqual(loadPending(there), {at: "seat1", acts: [...pending]});
+  storePending(there, "seat1", new Map());
+  assert.deepEqual(loadPending(there), {at: "seat1", acts: []});
 });
 
-test("what an older page kept is read: its shape is not drawn, and what it did is called as now", () => {
+test("what an older page stored is read: its shape is not drawn, and its acts have their present names", () => {
   const there = storage();
   const shape = {kind: "block", first: 1, last: 1, from: 0, to: null, value: 1};
-  keep(there, "seat1", new Map([["k1", {shape: ["block", 1, 1, 0, null, 1], does: "lay"}], ["k2", {shape, does: "redo"}]]));
-  assert.deepEqual(kept(there).acts, [["k1", {shape: null, does: "apply"}], ["k2", {shape, does: "redo"}]]);
+  storePending(there, "seat1", new Map([["k1", {shape: ["block", 1, 1, 0, null, 1], does: "lay"}], ["k2", {shape, does: "redo"}]]));
+  assert.deepEqual(loadPending(there).acts, [["k1", {shape: null, does: "apply"}], ["k2", {shape, does: "redo"}]]);
 });
 
-test("a tab knows when nothing is stored", () => {
-  assert.ok(!keep(storage(true), "seat1", new Map([["k", {}]])));
-  assert.ok(!keep(storage(true), "seat1", new Map()));
+test("a tab knows when storing failed or nothing can be read", () => {
+  assert.ok(!storePending(storage(true), "seat1", new Map([["k", {}]])));
+  assert.ok(!storePending(storage(true), "seat1", new Map()));
   const broken = storage();
   broken.setItem("pending", "{");
-  assert.deepEqual(kept(broken), {at: "", acts: []});
+  assert.deepEqual(loadPending(broken), {at: "", acts: []});
 });

@@ -1,4 +1,5 @@
-"""Two roads over many days: their means and intervals, one such question at a time, gently, and ended with who asks."""
+"""Test comparisons of two roads over many days: their means and intervals; one at a time, at low priority, and ended when the
+asking tab leaves."""
 from __future__ import annotations
 
 import asyncio
@@ -15,7 +16,7 @@ from server.settings import Settings
 # Student's t for 95 %, by degrees of freedom, from a printed table.
 T_OF = {1: 12.706205, 2: 4.302653}
 SPAN = {"from": 20, "to": 200}
-# A program that answers of the first days, which are the seeds from 1 on, of no others, and of the demand, whose seeds are far above.
+# A program that answers only for the first days (seeds from 1 on), and for measurements of inlets, whose seeds are above 1000.
 PROGRAM_OF_DAYS = """read -r plan
 seed=${{plan##*'"words":'}}
 [ "${{seed%%,*}}" -le {days} ] || [ "${{seed%%,*}}" -ge 1000 ] || sleep 600
@@ -53,7 +54,7 @@ class Days(Case):
         return str(path), wrote
 
     async def of_days(self, days: int) -> dict[str, list[list[float]]]:
-        """Return the figures of this many days, before and after, each computed on a road of its own with another seed."""
+        """Return the figures of this many days, before and after, each day computed on a road of its own with another seed."""
         found = []
         for words in range(1, days + 1):
             async with Here(plan={**SMALL, "words": words}) as here:
@@ -93,7 +94,7 @@ class Days(Case):
         self.assertEqual(self.heard, [(self.ada, done, 3) for done in (1, 2, 3)])
 
     async def test_stopping_returns_the_days_that_are_done(self) -> None:
-        """Days behind the first ones never end."""
+        """Only the first days ever end."""
         await self.change(self.here, self.ada)
         for days in (1, 2):
             self.here.keeper.path, _ = self.program_that(PROGRAM_OF_DAYS.format(days=days, program=program()))
@@ -118,14 +119,14 @@ class Days(Case):
         self.assertEqual(*of_both)
         self.assertEqual(self.here.entries(), entries)
 
-    async def test_steady_words_have_one_day(self) -> None:
+    async def test_a_road_with_fixed_random_numbers_has_only_one_day(self) -> None:
         async with Here(plan={**SMALL, "words": "steady"}) as here:
             seat, = await here.join("Ada")
             with self.assertRaises(Refused) as caught:
                 await here.ask(seat, "days", of="mine", **SPAN)
         self.assertIn("fixed random numbers (no seed), so all days are the same", caught.exception.why)
 
-    async def test_it_is_nice_and_leaves_a_processor_free(self) -> None:
+    async def test_its_programs_have_low_priority_and_leave_a_processor_free(self) -> None:
         before = self.here.keeper.path
         self.here.keeper.path, wrote = self.program_that(
             f'echo "$(nice) $(grep Cpus_allowed_list /proc/self/status | cut -f2)" >> $WROTE; exec {program()}')
@@ -137,13 +138,13 @@ class Days(Case):
         allowed = set().union(*(range(int(part.split("-")[0]), int(part.split("-")[-1]) + 1)
                                 for part in places[0].split(",")))
         self.assertEqual(allowed, mine - {min(mine)} if len(mine) > 1 else mine)
-        wrote.unlink()  # and so are the figures of a day
+        wrote.unlink()  # and so do the figures of one day
         await soon(self.here.ask(self.ada, "figures", of="mine", **SPAN))
         self.assertEqual({line.split()[0] for line in wrote.read_text().splitlines()}, {str(os.nice(0) + 5)})
         self.here.keeper.path = before
 
     async def asks(self, seat: int) -> tuple[asyncio.Future[Any], list[int]]:
-        """Ask a question that gets no answer. Return it, and the processes that run for it."""
+        """Ask a question whose program never answers. Return the task of asking, and the processes that run for it."""
         self.here.keeper.path, wrote = self.program_that("echo $$ >> $WROTE; exec sleep 1000")
         question = asyncio.ensure_future(self.here.ask(seat, "days", of="mine", **SPAN))
 
@@ -168,32 +169,32 @@ class Days(Case):
         self.assertEqual(caught.exception.text, "Busy")
         self.assertIn("Ada asks about 20 days just now (0 done)", caught.exception.why)
         self.assertEqual(await soon(self.here.ask(self.ben, "days", of=None)), {"stopped": False})
-        await soon(self.here.put(self.ben, ["limit", 2, 50, 3]))  # who edits does not wait for it
-        other, more = await self.asks(self.ada)  # her next one takes its place
+        await soon(self.here.put(self.ben, ["limit", 2, 50, 3]))  # edits do not wait for it
+        other, more = await self.asks(self.ada)  # her next question replaces it
         await self.ended(question, processes)
         self.assertEqual(await soon(self.here.ask(self.ada, "days", of=None)), {"stopped": True})
         await self.ended(other, more)
 
     async def test_it_ends_when_the_asking_tab_leaves(self) -> None:
         question, processes = await self.asks(self.ada)
-        self.here.questions.left(self.ben)
+        self.here.questions.drop_seat(self.ben)
         self.assertFalse(question.done())
-        self.here.questions.left(self.ada)
+        self.here.questions.drop_seat(self.ada)
         await self.ended(question, processes)
         self.here.keeper.path = str(program())
-        self.over(2)  # and another may ask
+        self.over(2)  # then somebody else may ask
         await soon(self.here.ask(self.ben, "days", of="mine", **SPAN))
 
 
 class Leaving(Case):
-    async def test_a_tab_that_goes_is_one_who_leaves(self) -> None:
+    async def test_closing_the_tab_ends_the_question(self) -> None:
         server = self.server(LIVE_DAYS="4")
         async with server.seat("Ben") as ben:
             async with server.seat("Ada") as ada:
                 await ada.say("clock", to=3_600)
                 await ben.ask("advance", to=3_600)
                 asked = asyncio.ensure_future(ada.reply("days", at=ada.at, of="mine", **{"from": 0, "to": 3_600}))
-                await ada.reply("ping")  # (what she asks is begun in its order)
+                await ada.reply("ping")  # (her questions are begun in their order)
                 busy = await self.refusal(ben)
                 self.assertIn("Ada asks about 4 days", busy)
                 asked.cancel()

@@ -1,13 +1,13 @@
-// The connection to the server, by sockets that a test opens, answers and breaks.
+// The connection to the server, with sockets that a test opens, answers and breaks.
 
 import assert from "node:assert/strict";
 import {test} from "node:test";
 
 import {Connection, Disconnected, TAKEN_OVER} from "../page/connection.mjs";
 
-/** Return an open connection, what it sent, what it received, and the waits that it made. */
-function standing() {
-  const found = {sockets: [], sent: [], heard: [], lost: [], waits: []};
+/** Return an open connection, and a record of its sockets, what it sent and received, and its waits. */
+function openConnection() {
+  const found = {sockets: [], sent: [], pushed: [], lost: [], waits: []};
   const connection = new Connection({
     open: () => {
       const socket = {readyState: 1, send: (text) => found.sent.push(JSON.parse(text)),
@@ -16,7 +16,7 @@ function standing() {
       return socket;
     },
     onOpen: () => connection.admit(),
-    onPush: (value) => found.heard.push(value),
+    onPush: (value) => found.pushed.push(value),
     onLost: (...words) => found.lost.push(words),
     later: (act, wait) => found.waits.push([act, wait]),
   });
@@ -27,8 +27,8 @@ function standing() {
 
 const answer = (found, value) => found.sockets.at(-1).onmessage({data: JSON.stringify(value)});
 
-test("an answer goes to its question, and what has no number is heard", async () => {
-  const {connection, found} = standing();
+test("an answer goes to its question, and a message without a number is pushed", async () => {
+  const {connection, found} = openConnection();
   const [one, other] = [connection.ask({cells: {step: 1}}), connection.ask({cells: {step: 2}})];
   assert.deepEqual(found.sent, [{id: 1, cells: {step: 1}}, {id: 2, cells: {step: 2}}]);
   answer(found, {clock: {now: 5}});
@@ -37,11 +37,11 @@ test("an answer goes to its question, and what has no number is heard", async ()
   answer(found, {id: 9, cells: "nobody's"});
   assert.equal((await one).cells, "a");
   assert.equal((await other).cells, "b");
-  assert.deepEqual(found.heard, [{clock: {now: 5}}]);
+  assert.deepEqual(found.pushed, [{clock: {now: 5}}]);
 });
 
-test("six questions are open, and what comes first goes before those that wait", async () => {
-  const {connection, found} = standing();
+test("six questions are open at most, and one of the first turn is sent before those that wait", async () => {
+  const {connection, found} = openConnection();
   for (let step = 1; step <= 7; step++) connection.ask({cells: {step}});
   connection.ask({gesture: {key: "k"}}, "first");
   assert.equal(found.sent.length, 6);
@@ -51,8 +51,8 @@ test("six questions are open, and what comes first goes before those that wait",
   assert.deepEqual(found.sent.at(-1), {id: 8, cells: {step: 7}});
 });
 
-test("of acts without an answer three are open, and looking goes on", () => {
-  const {connection, found} = standing();
+test("three acts are open at most, so that other questions are sent meanwhile", () => {
+  const {connection, found} = openConnection();
   for (let key = 1; key <= 9; key++) connection.ask({gesture: {key}}, "first");
   for (let step = 1; step <= 3; step++) connection.ask({cells: {step}});
   assert.deepEqual(found.sent.map(({gesture}) => gesture?.key), [1, 2, 3, undefined, undefined, undefined]);
@@ -63,8 +63,8 @@ test("of acts without an answer three are open, and looking goes on", () => {
   assert.deepEqual(found.sent.at(-1), {id: 8, gesture: {key: 4}});
 });
 
-test("what takes seconds is asked one at a time, after all others", () => {
-  const {connection, found} = standing();
+test("questions that take seconds are sent one at a time, after all others", () => {
+  const {connection, found} = openConnection();
   for (let inlet = 1; inlet <= 30; inlet++) connection.ask({admission: {inlet}}, "last");
   assert.deepEqual(found.sent, [{id: 1, admission: {inlet: 1}}]);
   connection.ask({clock: {to: 3600}}, "first");
@@ -78,8 +78,8 @@ test("what takes seconds is asked one at a time, after all others", () => {
   assert.equal(found.sent.length, 12);
 });
 
-test("what comes first keeps its own order, whatever its number", () => {
-  const {connection, found} = standing();
+test("questions of the first turn keep their own order, however many there are", () => {
+  const {connection, found} = openConnection();
   for (let step = 1; step <= 7; step++) connection.ask({cells: {step}});
   for (let key = 1; key <= 9; key++) connection.ask({gesture: {key}}, "first");
   for (let id = 1; id <= 16; id++) answer(found, {id});
@@ -89,8 +89,8 @@ test("what comes first keeps its own order, whatever its number", () => {
   assert.equal(found.sent.length, 16);
 });
 
-test("a break ends what was asked, and it is tried again after growing waits", async () => {
-  const {connection, found} = standing();
+test("a lost connection fails all questions, and is tried again after growing waits", async () => {
+  const {connection, found} = openConnection();
   const asked = Array.from({length: 8}, (_, step) => connection.ask({cells: {step}}));
   found.sockets[0].onclose({code: 1006, reason: ""});
   for (const one of asked) await assert.rejects(one, Disconnected);
@@ -104,19 +104,19 @@ test("a break ends what was asked, and it is tried again after growing waits", a
   found.waits.at(-1)[0]();
   found.sockets.at(-1).onopen();
   found.sockets.at(-1).onclose({code: 1006, reason: ""});
-  assert.equal(found.waits.at(-1)[1], 200);     // it stood in between
+  assert.equal(found.waits.at(-1)[1], 200);     // it was open in between
 });
 
-test("what was closed for good is not tried again", () => {
+test("a connection that was closed for good is not tried again", () => {
   for (const code of [1008, 4000, TAKEN_OVER]) {
-    const {found} = standing();
+    const {found} = openConnection();
     found.sockets[0].onclose({code, reason: "why"});
     assert.deepEqual([found.waits, found.lost], [[], [[false, "why", code]]]);
   }
 });
 
-test("a connection that rests is not lost, and can be asked for a name alone", async () => {
-  const {connection, found} = standing();
+test("a connection that the page itself closes is not reported as lost", async () => {
+  const {connection, found} = openConnection();
   connection.disconnect();
   assert.ok(found.sockets[0].isClosed);
   assert.equal(found.sockets[0].onclose, null);

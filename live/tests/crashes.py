@@ -1,4 +1,4 @@
-"""kill -9 in bursts of three seats: each gesture that was confirmed is there afterwards, and none twice."""
+"""Test `kill -9` during bursts of three seats: each confirmed gesture is there afterwards, and none is there twice."""
 from __future__ import annotations
 
 import asyncio
@@ -24,7 +24,7 @@ ORACLE = oracle_of(PLAN, LAST + 1)
 
 
 class Engineer:
-    """A seat that puts gestures without a pause, and knows which were confirmed."""
+    """A seat that puts one gesture after another, and notes which were confirmed."""
 
     def __init__(self, name: str, chance: random.Random) -> None:
         self.name, self.key, self._chance = name, "", chance
@@ -36,7 +36,7 @@ class Engineer:
         return server.seat(key=self.key) if self.key else server.seat(self.name)
 
     async def burst(self, seat: Seat, is_enough: Callable[[], bool] = lambda: False) -> None:
-        """Until the server is gone, or that is enough."""
+        """Put gestures until the server is gone, or enough are confirmed."""
         try:
             while not is_enough():
                 key = f"{self.name}-{self._chance.getrandbits(60):x}"
@@ -84,14 +84,15 @@ class Crashes(Case):
             await self.look(server, engineers)
 
     async def more(self, engineers: list[Engineer]) -> None:
-        """Wait until each has had more gestures confirmed."""
+        """Wait until each seat has more confirmed gestures."""
         async def has_more() -> bool:
             return all(len(one.confirmed) > count for one, count in zip(engineers, counts))
         counts = [len(one.confirmed) + 1 for one in engineers]
         await until(has_more, "gestures are confirmed")
 
     async def look(self, server: Server, engineers: list[Engineer]) -> None:
-        """Check that every confirmed gesture is there with its edits, and that each other one is sent again and is there once."""
+        """Check that every confirmed gesture is there with its edits. Send each other one again, and check that it is there
+        once."""
         for engineer in engineers:
             async with engineer.seat(server) as seat:
                 for key in engineer.sent.keys() - engineer.confirmed.keys():
@@ -126,7 +127,7 @@ class Crashes(Case):
 
         async def kill(tasks: list[asyncio.Task[None]]) -> None:
             os.kill(server.program, signal.SIGKILL)
-            await self.more(engineers)  # by another program
+            await self.more(engineers)  # another program
             self.assertFalse(any(task.done() for task in tasks), "a tab was let go with the program")
             for task in tasks:
                 task.cancel()
@@ -134,7 +135,7 @@ class Crashes(Case):
         await self.rounds(server, engineers, kill)
 
     async def test_the_broker_is_killed(self) -> None:
-        """Changes that were shared meanwhile still reach the other site."""
+        """Changes that are shared while it is down still reach the other site."""
         broker = self.broker()
         server = self.server("--broker", broker.address, plan=PLAN)
         other = self.server("--broker", broker.address, "--site", "2", plan=PLAN)
@@ -158,7 +159,7 @@ class Crashes(Case):
             await until(are_same, "both hold the same")
             self.assertGreater(len((await shared())[0]), ROUNDS)
 
-    async def test_nobody_notices_a_replaced_program(self) -> None:
+    async def test_a_program_near_its_limit_is_replaced_unnoticed(self) -> None:
         """Near its limit of lines the program gets a successor: no question is refused, and rows stay what they are."""
         server = self.server(plan=PLAN, LIVE_MOST_LINES="60")
         async with server.seat("Ada") as ada, server.seat("Ben") as ben:
@@ -182,10 +183,10 @@ class Crashes(Case):
             self.assertEqual(len((await ben.ask("scenario"))["edits"]), 2 + min(made, LAST))
 
     def changes(self, seat: Seat) -> int:
-        return max((one["program"]["changes"] for one in seat.told if "program" in one), default=0)
+        return max((one["program"]["changes"] for one in seat.received if "program" in one), default=0)
 
-    async def test_an_interrupt_ends_it_with_tabs_open(self) -> None:
-        """One of the tabs does not read."""
+    async def test_an_interrupt_ends_the_server_with_tabs_open(self) -> None:
+        """It does so even if one of the tabs does not read."""
         server = self.server(plan=PLAN)
         ada, deaf = [await server.seat(name).__aenter__() for name in ("Ada", "deaf")]
         await ada.ask("gesture", key="1", edits=[["block", 30, 10, 1]])
@@ -193,7 +194,7 @@ class Crashes(Case):
         transport.pause_reading()
         began = time.monotonic()
         self.assertEqual(await asyncio.get_running_loop().run_in_executor(None, server.stop), 0)
-        self.assertLess(time.monotonic() - began, PATIENCE / 2)  # it does not wait until that one reads
+        self.assertLess(time.monotonic() - began, PATIENCE / 2)  # the server does not wait until that tab reads
         with self.assertRaisesRegex(ConnectionError, "1012"):
             await ada.reply("ping")
         transport.resume_reading()

@@ -8,7 +8,7 @@ import {DayClock} from "../page/dayclock.mjs";
 const COUNTED = new DayClock();
 const MORNING = new DayClock({begin: 6.5 * 3600});
 
-test("times of a clock that counts are written and read alike", () => {
+test("times of a clock that counts from 0:00:00 are read as they are written", () => {
   for (const [step, text] of [[0, "0:00:00"], [59, "0:00:59"], [3661, "1:01:01"],
                               [360000, "100:00:00"]]) {
     assert.equal(COUNTED.timeText(step), text);
@@ -24,7 +24,7 @@ test("times of a clock that counts are written and read alike", () => {
   assert.equal(COUNTED.spanText(1200, null), "from 0:20:00 on");
 });
 
-test("times are those of the day where the road's clock has one", () => {
+test("times are times of day if the road's clock has a beginning", () => {
   for (const [step, text, file] of [[0, "06:30", "0630"], [1800, "07:00", "0700"], [1830, "07:00:30", "070030"],
                                     [63_000, "00:00 (day 2)", "0000"]]) {
     assert.equal(MORNING.timeText(step), text);
@@ -47,7 +47,7 @@ test("times are those of the day where the road's clock has one", () => {
 const SPRING = new DayClock({begin: 1.5 * 3600, date: "2026-03-29", zone: "Europe/Berlin"});
 const AUTUMN = new DayClock({begin: 1.5 * 3600, date: "2026-10-25", zone: "Europe/Berlin"});
 
-test("an hour that a clock change skips is never written, and is refused as a time", () => {
+test("an hour that a clock change skips is never written, and cannot be read", () => {
   for (const [step, text] of [[0, "01:30"], [1799, "01:59:59"], [1800, "03:00"], [5400, "04:00"],
                               [79_200, "00:30 (day 2)"]]) {
     assert.equal(SPRING.timeText(step), text);
@@ -59,7 +59,7 @@ test("an hour that a clock change skips is never written, and is refused as a ti
   assert.ok(!MORNING.isSkipped("02:30"));
 });
 
-test("an hour that comes twice is written with its offset, and is read as the first one without", () => {
+test("an hour that occurs twice is written with its offset; without one it is read as the first", () => {
   for (const [step, text, axis] of [[0, "01:30", "01:30"], [1800, "02:00+02:00", "02:00"], [3600, "02:30+02:00", "02:30"],
                                     [5400, "02:00+01:00", "02:00"], [7200, "02:30+01:00", "02:30"], [9000, "03:00", "03:00"],
                                     [90_000, "01:30 (day 2)", "01:30"]]) {
@@ -71,7 +71,7 @@ test("an hour that comes twice is written with its offset, and is read as the fi
   assert.ok(Number.isNaN(AUTUMN.readStep("02:30+03:00")));
 });
 
-test("a clock change days after the beginning is met, too", () => {
+test("a clock change days after the beginning is found, too", () => {
   const before = new DayClock({begin: 0, date: "2026-10-20", zone: "Europe/Berlin"});
   const change = 5 * 86_400 + 3 * 3600;         // the step at which it is 3:00 for the first time
   assert.equal(before.timeText(change - 1), "02:59:59+02:00 (day 6)");
@@ -79,19 +79,19 @@ test("a clock change days after the beginning is met, too", () => {
   assert.equal(before.timeText(change + 7200), "04:00 (day 6)");
 });
 
-test("without a date nobody knows of a clock change", () => {
+test("without a date there are no clock changes", () => {
   const clock = new DayClock({begin: 1.5 * 3600, zone: "Europe/Berlin"});
   assert.equal(clock.timeText(1800), "02:00");
 });
 
-test("a day is named unless it is today", () => {
+test("the time of a change has its date, unless it is today", () => {
   assert.equal(COUNTED.dateText(0), "");
   const now = Math.floor(Date.now() / 1000);
   assert.match(COUNTED.dateText(now), /^\d\d[:.]\d\d$/);     // of 24 hours
   assert.ok(COUNTED.dateText(now - 3 * 86400).length > COUNTED.dateText(now).length);
 });
 
-/** The seconds of a processor that something takes, the least of three times. */
+/** Return the processor time of a function in microseconds, the smallest of three runs. */
 function taken(does) {
   return Math.min(...[1, 2, 3].map(() => {
     const before = process.cpuUsage();
@@ -100,7 +100,7 @@ function taken(does) {
   }));
 }
 
-test("a time of day is written by formats that are kept: lists have hundreds, twice a gesture", () => {
+test("times of day are written quickly, by formats that are kept: a list has hundreds of them", () => {
   const now = Math.floor(Date.now() / 1000);
   const kept = new Intl.DateTimeFormat([], {hour: "2-digit", minute: "2-digit"});
   const many = (write) => taken(() => { for (let each = 0; each < 500; each++) write(); });

@@ -6,12 +6,12 @@ import {test} from "node:test";
 import {decodeAnswer, decodeChange, decodeParts, decodeShape, decodeStamp, encodeShape, encodeStamp}
   from "../page/decoding.mjs";
 
-const TOLD = ["limit", 4, 5, 1200, null, 2];
+const SENT = ["limit", 4, 5, 1200, null, 2];
 const SHAPE = {kind: "limit", first: 4, last: 5, from: 1200, to: null, value: 2};
 
-test("a shape and a stamp have named fields, and are sent back as they came", () => {
-  assert.deepEqual(decodeShape(TOLD), SHAPE);
-  assert.deepEqual(encodeShape(SHAPE), TOLD);
+test("a shape and a stamp have named fields, and are encoded as they were sent", () => {
+  assert.deepEqual(decodeShape(SENT), SHAPE);
+  assert.deepEqual(encodeShape(SHAPE), SENT);
   assert.deepEqual(decodeStamp([7, 65]), {count: 7, number: 65});
   assert.deepEqual(encodeStamp({count: 7, number: 65}), [7, 65]);
 });
@@ -19,23 +19,23 @@ test("a shape and a stamp have named fields, and are sent back as they came", ()
 test("a malformed shape is refused, whichever field is wrong", () => {
   for (const [place, wrong] of [[0, "speed"], [0, null], [1, -1], [2, "5"], [3, 0.5], [4, "x"],
                                 [4, undefined], [5, null], [5, NaN]]) {
-    assert.equal(decodeShape(TOLD.map((field, at) => (at === place ? wrong : field))), null, `${place}`);
+    assert.equal(decodeShape(SENT.map((field, at) => (at === place ? wrong : field))), null, `${place}`);
   }
-  for (const wrong of [null, undefined, "limit", {}, [], TOLD.slice(0, 5)]) {
+  for (const wrong of [null, undefined, "limit", {}, [], SENT.slice(0, 5)]) {
     assert.equal(decodeShape(wrong), null);
   }
 });
 
-test("a part says what covers it; malformed ones are left out", () => {
-  assert.deepEqual(decodeParts([[...TOLD, null], [...TOLD, [7, 65]]]),
+test("a part says what covers it; malformed parts are left out", () => {
+  assert.deepEqual(decodeParts([[...SENT, null], [...SENT, [7, 65]]]),
                    [{...SHAPE, by: null}, {...SHAPE, by: {count: 7, number: 65}}]);
-  assert.deepEqual(decodeParts([TOLD, [...TOLD, [7]], [...TOLD, "7,65"], null, 3]), []);
+  assert.deepEqual(decodeParts([SENT, [...SENT, [7]], [...SENT, "7,65"], null, 3]), []);
   assert.deepEqual(decodeParts("all"), []);
 });
 
-test("a change has named fields throughout, and a site that it excludes", () => {
-  const told = {name: [7, 65], kind: "limit", shape: TOLD, shown: [[...TOLD, [8, 66]]], note: "a",
-                edits: [["block", 1, 0, null], ["block", 1], "x"], was: [[...TOLD, null]],
+test("a change has named fields throughout, and the site that it excludes", () => {
+  const told = {name: [7, 65], kind: "limit", shape: SENT, shown: [[...SENT, [8, 66]]], note: "a",
+                edits: [["block", 1, 0, null], ["block", 1], "x"], was: [[...SENT, null]],
                 operations: [{stamp: [7, 65], lost: [8, 66], undoes: [6, 65]}]};
   const change = decodeChange(told);
   assert.deepEqual([change.name, change.shape, change.note], [{count: 7, number: 65}, SHAPE, "a"]);
@@ -52,7 +52,7 @@ test("a change has named fields throughout, and a site that it excludes", () => 
   assert.deepEqual(decodeChange({name: [7, 65], gone: true}), {name: {count: 7, number: 65}, gone: true});
 });
 
-test("an answer is decoded by its command", () => {
+test("an answer is decoded as its command requires", () => {
   assert.deepEqual(decodeAnswer("send", {touched: 3}), {touched: 3});
   assert.deepEqual(decodeAnswer("preview", {}), {layers: []});
   const list = {layers: [{name: [7, 65], gone: true}], next: 4, since: 2, undo: [7, 65], redo: null,

@@ -1,4 +1,4 @@
-// The page has the elements that its modules ask for, each of the kind that its type says.
+// The page has the elements that its modules use, and each is of the kind that its type says.
 
 import assert from "node:assert/strict";
 import {readFileSync} from "node:fs";
@@ -12,7 +12,7 @@ const KINDS = {button: "Button", canvas: "Canvas", details: "Details", dialog: "
 const MADE = {previewTitles: "p", previewList: "ul", previewDays: "span", previewCovers: "div",
               previewOver: "div", previewFigures: "div"};      // by preview.mjs
 
-/** The tags of the elements that have an id. */
+/** Return the tags of the elements that have an id, by their ids. */
 function tagsOf(html) {
   const tags = [...html.matchAll(/<(\w+)\s[^>]*?\bid="(\w+)"/g)].map(([, tag, id]) => [id, tag]);
   return new Map([...tags, ...Object.entries(MADE)]);

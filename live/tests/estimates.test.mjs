@@ -1,17 +1,17 @@
-// Means of days with their intervals, as they are written.
+// Means over days with their intervals, as text.
 
 import assert from "node:assert/strict";
 import {test} from "node:test";
 
 import {changeText, halfText, meanText, sureText} from "../page/estimates.mjs";
 
-test("a mean stands beside how far its interval reaches", () => {
+test("a mean is written with half the width of its interval", () => {
   assert.equal(meanText({mean: 1246.45, half: 10.26}), "1,246.5");
   assert.equal(halfText({mean: 1246.45, half: 10.26}), "± 10.3");
   assert.equal(changeText({mean: -27.85, half: 4.4}), "−27.9");
 });
 
-test("a difference may be chance where its interval has 0 in it, and only there", () => {
+test("a difference may be chance if its interval contains 0, and only then", () => {
   assert.equal(sureText({mean: 42.92, half: 0.98}), "± 1.0");
   assert.equal(sureText({mean: -42.92, half: 0.98}), "± 1.0");
   assert.equal(sureText({mean: 3, half: 4.2}), "± 4.2, may be chance");
@@ -23,7 +23,7 @@ test("a figure that is the same each day is not called chance", () => {
   assert.equal(sureText({mean: 0, half: 0}), "the same each day");
 });
 
-test("of one day it is not known how sure it is", () => {
+test("one day has no interval", () => {
   const [five, less, none] = [5, -2, 0].map((mean) => ({mean, half: null}));
   assert.deepEqual([meanText(five), halfText(five), changeText(less), sureText(less), sureText(none)],
                    ["5.0", "", "\u22122.0", "", ""]);

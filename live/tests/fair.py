@@ -1,4 +1,4 @@
-"""Turns: a job of each seat at a time, a long one in pieces, in the order of each seat."""
+"""Test fair turns: seats take turns with one job each, a long job runs in pieces, and the jobs of a seat run in their order."""
 from __future__ import annotations
 
 import asyncio
@@ -59,7 +59,7 @@ class FairTurns(unittest.IsolatedAsyncioTestCase):
         self.assertEqual("".join(self.done), "fgrff")
 
     async def test_background_jobs_wait_for_a_second_at_most(self) -> None:
-        await self.beside()
+        await self.use_test_clock()
         rows = [asyncio.create_task(self.always(1, "r", 0.15)) for _ in range(2)]
         while not self.done:
             await asyncio.sleep(0)
@@ -74,7 +74,7 @@ class FairTurns(unittest.IsolatedAsyncioTestCase):
         async def work() -> None:
             self.done.append(name)
             for _ in range(5):
-                await asyncio.sleep(0)  # others may ask meanwhile
+                await asyncio.sleep(0)  # others may ask in between
             self.now += cost
         await self.turns.ask(seat, work, takes_long=takes_long)
 
@@ -82,23 +82,23 @@ class FairTurns(unittest.IsolatedAsyncioTestCase):
         while True:
             await self.asks(seat, name, cost)
 
-    async def beside(self) -> None:
+    async def use_test_clock(self) -> None:
         """Let the turns use the test's clock from now on."""
         self.task.cancel()
         self.now, self.waits = 0.0, 0
         test = self
 
         class Counted(Turns):
-            """Counts how often it waits for who may ask next."""
+            """Turns that count how often they wait for a seat that may ask next."""
 
-            async def _asked_within(self, seconds: float) -> bool:
+            async def _wait_for_job(self, seconds: float) -> bool:
                 test.waits += 1
-                return await super()._asked_within(seconds)
+                return await super()._wait_for_job(seconds)
         self.turns = Counted(self.around, lambda: self.now, 1.0)
         self.task = asyncio.create_task(self.turns.run())
 
     async def test_a_gesture_and_its_rows_wait_for_one_long_turn(self) -> None:
-        await self.beside()
+        await self.use_test_clock()
         far = asyncio.create_task(self.always(1, "F", 0.15))
         while self.done.count("F") < 3:
             await asyncio.sleep(0)
@@ -108,11 +108,11 @@ class FairTurns(unittest.IsolatedAsyncioTestCase):
             self.done.clear()
             await self.asks(2, "g", 0.005)
             await self.asks(2, "r", 0.005)
-            self.assertLessEqual(self.done.count("F"), 1)  # one that began while it was asked
+            self.assertLessEqual(self.done.count("F"), 1)  # a turn that began while it was asked
         far.cancel()
 
     async def test_questions_asked_at_once_wait_for_one_long_turn(self) -> None:
-        await self.beside()
+        await self.use_test_clock()
         far = asyncio.create_task(self.always(1, "F", 0.15))
         while self.done.count("F") < 3:
             await asyncio.sleep(0)
@@ -122,7 +122,7 @@ class FairTurns(unittest.IsolatedAsyncioTestCase):
         far.cancel()
 
     async def test_long_turns_get_their_turn_among_many_short_ones(self) -> None:
-        await self.beside()
+        await self.use_test_clock()
         busy = [asyncio.create_task(self.always(1, "F", 0.15)),
                 *(asyncio.create_task(self.always(seat, "s", 0.002)) for seat in range(2, 64))]
         while self.now < 2:
@@ -132,8 +132,8 @@ class FairTurns(unittest.IsolatedAsyncioTestCase):
             one.cancel()
 
     async def test_a_job_announced_as_short_waits_for_one_long_turn_at_most(self) -> None:
-        """Though its seat has used more than they, and none of theirs was long before."""
-        await self.beside()
+        """It does so even if its seat has used more time than the others, and none of their jobs was long before."""
+        await self.use_test_clock()
         for _ in range(9):
             await self.asks(63, "F", 0.15)
         takes = [asyncio.create_task(self.asks(seat, "t", 0.2, takes_long=True)) for seat in range(1, 63)]
@@ -182,7 +182,7 @@ class FairTurns(unittest.IsolatedAsyncioTestCase):
         self.assertEqual("".join(self.done[:5]), "Lcedl")
 
     async def test_a_turn_waits_only_for_seats_that_were_answered_since(self) -> None:
-        await self.beside()
+        await self.use_test_clock()
         for _ in range(3):
             await self.asks(1, "F", 0.15)
         self.assertEqual(self.waits, 0)

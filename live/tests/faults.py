@@ -1,6 +1,6 @@
-"""A fault at each call to the disk, each line of the program, each message, in turn, while people put, take back, share
-and take, others' changes come and the journal is shortened: what was confirmed is there, what was not was told to
-nobody, and nothing hangs. The gate tries some of them, `live/test --all` each.
+"""Test a fault at each call to the disk, each line of the program and each message, in turn, while people put, undo, share and
+take, others' changes arrive and the journal is compacted. What was confirmed is there, the server announces nothing else, and
+nothing hangs. The gate tries some of the faults, `live/test --all` each.
 """
 from __future__ import annotations
 
@@ -22,7 +22,7 @@ from server.journal import read_entries
 from server.program import Program
 from server.state import State
 
-FEW = 7  # of these the gate tries one: odd, so that both kinds of a fault are met
+FEW = 7  # the gate tries one of this many faults: odd, so that both kinds of fault occur
 LINES = ("killed before", "killed after", "stopped")
 
 
@@ -32,7 +32,7 @@ def each(of: Iterable[Any]) -> list[Any]:
 
 
 class Story:
-    """Two sites and a fixed series of acts; what was confirmed, refused and announced."""
+    """Two sites, a fixed series of acts, and a record of what was confirmed, refused and announced."""
 
     def __init__(self, disk: Disk | None = None) -> None:
         self.disk = disk or Disk()
@@ -41,7 +41,7 @@ class Story:
         self.durable = b""  # the part of the journal that is durable on the disk
         self.confirmed: list[tuple[Any, ...]] = []
         self.refused: list[str] = []
-        self.told: list[tuple[int, int]] = []  # the stamps that others have heard of
+        self.told: list[tuple[int, int]] = []  # the stamps that the server announced to others
         self.untrue: list[str] = []
 
     @property
@@ -70,15 +70,15 @@ class Story:
     async def __aexit__(self, *fault: Any) -> None:
         await self._all.__aexit__(*fault)
 
-    # What others hear
+    # What the server announces to others
 
     def _hears(self, message: Message) -> None:
         for stamp in stamps_in(message):
             self._tells(stamp)
 
     def _look(self) -> None:
-        """Note what the server announces to Cleo, who takes nothing."""
-        for change in self.here.lab.news(self.cleo, 1_000)["changes"]:
+        """Note what the server announces to Cleo, who takes no changes."""
+        for change in self.here.lab.unseen_shares(self.cleo, 1_000)["changes"]:
             self._tells(change["stamp"])
 
     def _tells(self, stamp: tuple[int, int]) -> None:
@@ -112,7 +112,7 @@ class Story:
         await self.act(f"take {seat}", self.here.take(seat))
 
     async def from_there(self, step: int) -> None:
-        """Let Sam share something, and wait until it arrives."""
+        """Let Sam share a change, and wait until it arrives."""
         await self.there.put(1, ["limit", 5, step, 2])
         await self.there.share(1)
         await soon(self.bus.carry())
@@ -144,7 +144,7 @@ class Story:
 
     async def ends(self) -> None:
         """Without faults, exchange until both sites hold all that was shared."""
-        await soon(self.here.keeper.until_writable())
+        await soon(self.here.keeper.wait_until_writable())
         for number in range(12):
             self.site._sent.clear()
             self.other._sent.clear()
@@ -155,7 +155,7 @@ class Story:
                 return
 
     def faults(self, state: State, confirmed: list[tuple[Any, ...]], told: list[tuple[int, int]]) -> list[str]:
-        """Return what a state is missing of what was confirmed or announced."""
+        """Return the operations that were confirmed or announced, and that a state does not have."""
         lacking = [f"{name} is not there" for name, result in confirmed if not is_there(state, name, result)]
         known = shared(state)
         return lacking + [f"{stamp} was announced, and is not there" for stamp in told if stamp[1] // 64 == 1
@@ -200,7 +200,7 @@ class Faults(Case):
         self.addCleanup(logging.disable, logging.NOTSET)
 
     async def whole(self) -> Story:
-        """Run the story without a fault: all is confirmed."""
+        """Run the story without a fault, and check that all is confirmed."""
         async with Story() as story:
             await story.runs()
             await story.ends()
@@ -209,8 +209,8 @@ class Faults(Case):
         return story
 
     def look(self, story: Story, what: str, may_refuse: bool) -> None:
-        """Check that what was confirmed is there, that what was announced was on the disk, and that the sites agree; then check a
-        state that is read from the disk."""
+        """Check that what was confirmed is there, that what was announced was on the disk, and that the sites agree. Then check
+        the same for a state that is read from the disk."""
         for state in (story.here.keeper.state, replayed(story.journal)):
             self.assertEqual(story.faults(state, story.confirmed, story.told), [], what)
             done = sum(len(seat.done) for seat in state.seats[1:])
@@ -237,7 +237,7 @@ class Faults(Case):
         self.assertGreater(refused, len(some) // 3)
 
     async def test_power_failure_at_each_call_to_the_disk(self) -> None:
-        """After a power failure the durable part of the disk is there, and any part of the rest, or zeros."""
+        """After a power failure the disk has its durable part, and any part of the rest, or zeros in its place."""
         moments: list[tuple[bytes, bytes, list[Any], list[Any]]] = []
         async with Story() as story:
             def moment(name: str, given: Any) -> None:
@@ -248,7 +248,7 @@ class Faults(Case):
             await story.runs()
         chance, path = random.Random(1), new_folder() / "journal.jsonl"
         for durable, there, confirmed, told in moments:
-            rest = there[len(durable):] if there.startswith(durable) else b""  # else another was put in its place
+            rest = there[len(durable):] if there.startswith(durable) else b""  # otherwise another one has replaced it
             cut = chance.randrange(len(rest) + 1)
             tails = {b"", rest, rest[:cut], rest[:cut] + bytes(len(rest) - cut), bytes(cut) + rest[cut:]}
             for data in {there, *(durable + tail for tail in tails)}:
@@ -267,7 +267,7 @@ class Faults(Case):
             await self.whole()
         for number, way in each((number, way) for number in range(1, lines + 1) for way in LINES):
             async with Story() as story:
-                with mock.patch.object(Program, "ask_all", ends_at(number, way)), mock.patch("server.program.HANGS", 0.4):
+                with mock.patch.object(Program, "ask_all", ends_at(number, way)), mock.patch("server.program.IDLE_PATIENCE", 0.4):
                     await story.runs()
                 await story.ends()
                 self.look(story, f"line {number}, {way}", False)

@@ -1,4 +1,4 @@
-"""A laboratory in this process whose disk and program can be held up, fail, or end at any call."""
+"""Run a laboratory in this process whose disk and program can be held up, fail, or end at any call."""
 from __future__ import annotations
 
 import argparse
@@ -15,7 +15,7 @@ from unittest import mock
 
 from running import PATIENCE, SMALL, new_folder, program
 from server import verbs
-from server.asked import Asked
+from server.asked import CommandFields
 from server.keeper import Keeper
 from server.lab import Lab
 from server.model.operations import Operation
@@ -27,15 +27,15 @@ CALLS = ("write", "fsync", "rename", "ftruncate")
 
 
 class Disk:
-    """A replacement of `os` in the journal: counts the calls that change a folder, and asks before each."""
+    """Replaces `os` in the journal: counts the calls that change a folder, and calls a function before each."""
 
     def __init__(self, folder: Path | None = None) -> None:
         self.folder = folder  # None: all folders
         self.calls: list[str] = []
-        self.fault: Callable[[int, str], int | None] = lambda number, name: None  # the number of an error, or none
+        self.fault: Callable[[int, str], int | None] = lambda number, name: None  # the number of the error, or None
         self.before: Callable[[str, Any], None] = lambda name, given: None
         self.after: Callable[[str, Any], None] = lambda name, given: None
-        self.free = multiprocessing.Event()  # else each call waits, also in the process that shortens the journal
+        self.free = multiprocessing.Event()  # if it is not set, each call waits, also in the process that compacts the journal
         self.free.set()
         self.is_asked = threading.Event()  # by a call of this process
 
@@ -60,7 +60,7 @@ class Disk:
         return call
 
     def is_full(self, is_so: bool = True) -> None:
-        """Refuse every write, but let files be cut."""
+        """Refuse every write, but let files be truncated."""
         self.fault = lambda _, name: errno.ENOSPC if is_so and name == "write" else None
 
     def is_read_only(self, is_so: bool = True) -> None:
@@ -77,14 +77,14 @@ class Disk:
 
 
 class Here:
-    """A laboratory without sockets."""
+    """A laboratory in this process, without sockets."""
 
     def __init__(self, folder: Path | None = None, plan: dict[str, Any] | None = None, site: int | None = None) -> None:
         self.folder, self.plan, self.site = folder or new_folder(), plan or SMALL, site
         self.keys: dict[int, str] = {}
 
     async def __aenter__(self) -> Here:
-        self.keeper = Keeper(self.folder, str(program()), Settings.of())
+        self.keeper = Keeper(self.folder, str(program()), Settings.read())
         self.lab = Lab(self.keeper)
         self.questions = Questions(self.lab)
         self.heard: list[Any] = []
@@ -109,7 +109,7 @@ class Here:
 
     async def ask(self, seat: int, verb: str, **fields: Any) -> Any:
         """Ask a question as a tab of the seat. Return the answer; raise `Refused` if it is refused."""
-        asked = Asked(verb, {"at": f"seat{seat}", **fields})
+        asked = CommandFields(verb, {"at": f"seat{seat}", **fields})
         reply = await verbs.answer(self.lab, self.questions, seat, asked, {})
         return json.loads(reply) if isinstance(reply, bytes) else reply
 
@@ -130,7 +130,7 @@ class Here:
 
 
 async def soon(waited_for: Any) -> Any:
-    """Wait for a result that nothing should delay. Return it; the test fails if it takes too long."""
+    """Wait for a result that nothing should delay, and return it. The test fails if that takes too long."""
     return await asyncio.wait_for(waited_for, PATIENCE)
 
 
@@ -161,7 +161,7 @@ class Bus:
         with mock.patch.object(Sites, "_new_client", lambda _: self):
             site = Sites(here.lab, lambda: None, options)
         site._loop, site._connected = asyncio.get_running_loop(), True
-        here.keeper.listeners.shared.on(lambda touched: site.shared())
+        here.keeper.listeners.shared.on(lambda touched: site.send_shared())
         self.sites.append(site)
         return site
 
@@ -183,7 +183,7 @@ class Bus:
                 await self.give(site, message)
 
     async def give(self, site: Sites, message: Message) -> None:
-        """Give a message to a site, as the broker's thread does."""
+        """Hand a message to a site, as the broker's thread does."""
         await asyncio.get_running_loop().run_in_executor(None, site._on_message, None, None, message)
         await asyncio.sleep(0)
 

@@ -1,7 +1,8 @@
-"""Journals that servers of form 2 wrote, kept as they were: no road differs, whatever text reads them.
+"""Test journals that servers of form 2 wrote, which are kept as they were: every later version of the server reads the same
+roads.
 
-`former_journals/histories.jsonl.gz` has journals of random histories of sites, as they were written and as they were
-shortened, each with a checksum of every road, step by step, by the edits of its time. `load.json.gz` has what two servers
+`former_journals/histories.jsonl.gz` has journals of random histories of sites, as they were written and as they were compacted,
+each with a checksum of every road, step by step, computed from the edits of that time. `load.json.gz` has what two servers
 wrote while four people put, changed, withdrew, undid, shared and took, with all rows of each replica.
 """
 from __future__ import annotations
@@ -18,7 +19,7 @@ import running
 from oracle import by_rows, oracle_of
 from readers import LAST, PLAN
 from running import Case, Server
-from server.model.projection import timeline
+from server.model.projection import all_edits
 from server.screen import rows_of
 from server.state import State
 
@@ -30,7 +31,7 @@ ORACLE = oracle_of(ROADS, 44)
 
 def checksum(state: State, index: int) -> str:
     """Return the checksum of a road, computed as when the journals were written."""
-    values = ORACLE.by_the_program(by_rows(rows_of(timeline(state.replica(index).road))))
+    values = ORACLE.by_the_program(by_rows(rows_of(all_edits(state.replica(index).road))))
     told = [([kind, at, step], value) for (kind, at), line in values.items() for step, value in enumerate(line)]
     return hashlib.sha256(json.dumps(sorted(told)).encode()).hexdigest()[:16]
 
@@ -45,7 +46,7 @@ def state_of(entries: list[Any]) -> State:
 
 class Journals(unittest.TestCase):
     def test_no_road_of_a_former_journal_differs(self) -> None:
-        """Nor after it was rewritten in the present form."""
+        """Nor does one after the journal was rewritten in the present form."""
         compared = 0
         with gzip.open(HERE / "histories.jsonl.gz", "rt") as lines:
             for line in lines if running.ALL else random.Random(1).sample(list(lines), 40):
@@ -59,7 +60,7 @@ class Journals(unittest.TestCase):
         self.assertGreater(compared, 150)
 
     def test_entries_of_this_form_are_read_back(self) -> None:
-        """Each entry is read, and a compacted journal says the same as the longer one."""
+        """Each entry is read, and a compacted journal gives the same state as the longer one."""
         with gzip.open(HERE / "load.json.gz", "rt") as file:
             for kept in json.load(file):
                 state = state_of([entry_of(line) for line in kept["journal"].splitlines()])

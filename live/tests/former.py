@@ -1,5 +1,5 @@
-"""Test a folder of form 1, whose gestures are only edits: it has the same roads, row by row, after the first start, its journal
-rewritten and the old one kept."""
+"""Test a folder of form 1, whose gestures are only edits: after the first start it has the same roads, row by row; its journal is
+rewritten, and the old one kept."""
 from __future__ import annotations
 
 import hashlib

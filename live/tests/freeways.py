@@ -1,4 +1,4 @@
-"""The road of a new folder: a plan line, or a freeway in km with its works, and files that are neither."""
+"""Test the road of a new folder: from a plan line, from a freeway in km with its works, and from files that are neither."""
 from __future__ import annotations
 
 import asyncio
@@ -32,7 +32,7 @@ def value_at(edits: Sequence[WrittenEdit], plan: PlanLine, inlet: int, step: int
 
 class Freeways(Case):
     async def test_a_freeway_in_km_gives_the_road_of_the_recipe(self) -> None:
-        """Compare its rows with those of the edits that the recipe makes from the same figures."""
+        """Compare its rows with those of the edits that the recipe makes from the same file."""
         server = self.server(plan=KM)
         async with server.seat() as ada:
             await ada.ask("take", message="shared")
@@ -53,7 +53,7 @@ class Freeways(Case):
                              stdout=subprocess.PIPE, check=True)
         self.assertEqual(rows, json.loads(ran.stdout.splitlines()[-1])["rows"])
         self.assertTrue(any("#" in row for row in rows) and plan["inlets"][0][1] > 0)
-        async with server.seat("Eve") as eve:  # the works are on each new seat's road from the start
+        async with server.seat("Eve") as eve:  # each new seat's road has the works from the start
             roads = [numbers((await eve.ask("scenario", at=at))["edits"]) for at in (eve.at, "shared")]
             self.assertEqual(roads[0], roads[1])
             self.assertEqual((await eve.ask("take", message="shared"))["size"], 0)
@@ -63,15 +63,15 @@ class Freeways(Case):
         self.assertNotIn("another plan", server.said())
         async with server.seat("Cleo") as cleo:
             shared = (await cleo.ask("operations", at="shared"))["operations"]
-            self.assertNotIn(cleo.welcome["number"], [one["stamp"][1] for one in shared])  # else they would be hers
+            self.assertNotIn(cleo.welcome["number"], [one["stamp"][1] for one in shared])  # otherwise they would count as hers
         server.stop()
         (server.folder / "plan.json").write_text(json.dumps({**KM, "main": 800}), encoding="utf-8")
         server.start()
-        self.assertIn("has another plan than", server.said())
+        self.assertIn("has another road than", server.said())
 
     async def test_demand_and_clock_are_those_of_the_file(self) -> None:
-        """900 cars an hour, and 600 from 7:05 on; 200 at a ramp beside them: to half a per cent, and the curve that the page asks for
-        gives the ramp's demand back."""
+        """900 cars an hour, 600 from 7:05 on, and 200 at an on-ramp are admitted to within half a per cent, and the curve that
+        the page asks for gives the ramp's demand back."""
         server = self.server(plan={**KM, "main": [["7:00", 900], ["7:05", 600]], "ramps": [[0.45, 200]], "begin": "07:00",
                                    "date": "2026-03-02", "timezone": "Europe/Berlin"})
         async with server.seat() as ada:
@@ -95,9 +95,9 @@ class Freeways(Case):
                 said = await ada.reply("admission", inlet=inlet, start=None, before=before)
                 self.assertEqual(said["refused"], "Range")
 
-    async def test_the_inlet_is_widened_for_its_demand(self) -> None:
-        """1,750 cars an hour are more than slowed drivers admit: nobody is slowed on the first 0.3 km. The demand is that of the file, also
-        at a ramp beside it."""
+    async def test_no_driver_is_slowed_at_an_inlet_with_a_large_demand(self) -> None:
+        """1,750 cars an hour are more than an inlet with slowed drivers admits, so nobody is slowed on the first 0.3 km. The
+        demand is that of the file, also at an on-ramp."""
         server = self.server(plan={**KM, "slowing": 0.2, "main": 1_750, "ramps": [[0.6, 40]], "stalled": []})
         async with server.seat() as ada:
             plan = ada.welcome["plan"]
@@ -110,17 +110,17 @@ class Freeways(Case):
                                              if one[0] <= plan["inlets"][1][1] <= other[0])
             self.assertAlmostEqual(less + (more - less) * (plan["inlets"][1][1] - low) / (high - low), 40, delta=1)
 
-    def test_a_demand_of_many_values_is_told_with_its_peak(self) -> None:
-        """Write ten values, which are all there, and fifty: then the report writes their range and when the greatest begins."""
+    def test_a_report_gives_the_peak_of_a_demand_with_many_values(self) -> None:
+        """A report lists all of ten values. Of fifty values it gives their range, and the time from which the largest applies."""
         clock = Clock(25_200)
         said = demand_text([(300 * place, 400 + 10 * place) for place in range(10)], clock, 9_000)
         self.assertRegex(said, r"^400 from 07:00, 410 from 07:05, .*, 490 from 07:45 cars/h$")
         self.assertEqual(demand_text([(60 * place, 400 + 90 * place % 7) for place in range(50)], clock, 3_000),
                          "400 to 406 cars/h, with the peak from 07:01 on")
 
-    async def test_what_an_inlet_admits_is_measured_once(self) -> None:
-        """Ask for one curve twice, from two tabs, and once more after a restart: the folder keeps it in a line, also beside a line that was
-        not written whole."""
+    async def test_each_curve_of_an_inlet_is_measured_once(self) -> None:
+        """Ask for one curve twice, from two tabs, and once more after a restart. The folder keeps it in a line of a file, even if
+        the file has a line that was not written whole."""
         server = self.server()
         asked: dict[str, Any] = {"inlet": 0, "start": None, "before": []}
         path = server.folder / "admissions.jsonl"
@@ -135,9 +135,10 @@ class Freeways(Case):
             again = await cleo.say("admission", **asked)
             self.assertEqual((again["points"], again["capacity"]), (curve["points"], 1_234.5))
 
-    async def test_the_demand_is_what_was_asked_for(self) -> None:
-        """Compare list and figures with the demand of the file and with what people put and change: on the own road, the shared one and
-        in a preview, before and after a restart. Only the demand of a chance for which nobody has said one is measured."""
+    async def test_each_demand_is_the_one_that_was_asked_for(self) -> None:
+        """Compare lists and figures with the demand of the file and with the demands that people put and change: on the own road,
+        on the shared road and in a preview, before and after a restart. Only for a chance that was put without a demand is the
+        demand measured."""
         ramp = [["7:00", 200], ["7:10", 310.5]]
         server = self.server(plan={**KM, "main": [["7:00", 900], ["7:05", 600.25]], "ramps": [[0.45, ramp]], "begin": "07:00", "sections": []})
         window = {"from": 0, "to": 900}
@@ -189,9 +190,9 @@ class Freeways(Case):
             self.assertEqual(await demands(cleo), [asked, [main, of_file]])  # she has not taken it
 
     async def test_a_freeway_that_was_only_partly_set_up_is_set_up_again(self) -> None:
-        """The server was killed before the works were shared."""
+        """Here the server was killed before the works were shared."""
         folder, keys = new_folder(), dict[Path, dict[str, str]]()
-        (folder / "token").write_text("a token of twenty signs")
+        (folder / "token").write_text("a token of 24 characters")
         (folder / "stalled").write_text("journal.jsonl")
         (folder / "road.json").write_text(json.dumps(KM), encoding="utf-8")
         process = started([sys.executable, str(LIVE / "tests" / "stalling.py"), "--folder", str(folder), "--port", "0",
@@ -214,7 +215,7 @@ class Freeways(Case):
             server.stop()
 
     async def test_a_file_may_have_any_name(self) -> None:
-        """Even one that is not valid text: its works are named by the characters that can be shown."""
+        """Even if the name is not valid text: its works are named with the characters that can be shown."""
         folder = new_folder()
         path = os.fsencode(folder) + b"/r\xff d.json"
         with open(path, "w", encoding="utf-8") as file:
@@ -255,10 +256,10 @@ class Freeways(Case):
             self.assertNotIn("Traceback", ran.stderr)
             self.assertEqual([path.name for path in folder.iterdir()], ["road.json"], said)
 
-    def test_a_folder_that_was_there_stays(self) -> None:
+    def test_a_folder_that_existed_before_is_not_removed(self) -> None:
         folder = new_folder()
         (folder / "mine").write_text("kept", encoding="utf-8")
         ran = subprocess.run([LIVE / "serve", "--folder", folder, "--port", "0", folder / "none.json"],
                              stderr=subprocess.PIPE, text=True, timeout=100, check=False)
-        self.assertIn("no plan at", ran.stderr)
+        self.assertIn("cannot read the road from", ran.stderr)
         self.assertEqual((folder / "mine").read_text(encoding="utf-8"), "kept")

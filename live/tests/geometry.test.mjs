@@ -1,4 +1,4 @@
-// What lies where on the road of live/plan.json: 800 cells in zones of 50, inlets at 0 and 200.
+// Where things are on the road of live/plan.json: 800 cells in zones of 50, inlets at 0 and 200.
 
 import assert from "node:assert/strict";
 import {readFileSync} from "node:fs";
@@ -6,12 +6,12 @@ import {test} from "node:test";
 
 import {decodeShape} from "../page/decoding.mjs";
 import {cellsOf, edgeNear, isTooLate, nearestIn, objectsIn, objectsNearest, rectangleBetween,
-        shapeWithEdge, snapped, zonesIn} from "../page/geometry.mjs";
+        shapeWithEdge, snap, zonesIn} from "../page/geometry.mjs";
 
 const shapeOf = (...told) => decodeShape(told);
 const PLAN = JSON.parse(readFileSync(new URL("../plan.json", import.meta.url), "utf8"));
 
-test("objects lie in cells", () => {
+test("each object has its cells", () => {
   assert.deepEqual([PLAN.length, PLAN.zone], [800, 50]);
   assert.deepEqual(PLAN.inlets.map(([cell]) => cell), [0, 200]);
   assert.deepEqual(cellsOf(PLAN, "limit", 7, 8), [350, 450]);
@@ -21,7 +21,7 @@ test("objects lie in cells", () => {
   assert.deepEqual(cellsOf(PLAN, "watch", 0, 0), [PLAN.detectors[0], PLAN.detectors[0] + 1]);
 });
 
-test("a stretch of cells has objects", () => {
+test("a stretch of cells has the objects that it touches, or the nearest inlet", () => {
   assert.deepEqual(objectsIn(PLAN, "limit", [360, 430]), [7, 8]);
   assert.deepEqual(objectsIn(PLAN, "limit", [350, 450]), [7, 8]);
   assert.deepEqual(objectsIn(PLAN, "limit", [350, 351]), [7, 7]);
@@ -30,8 +30,8 @@ test("a stretch of cells has objects", () => {
   assert.deepEqual(objectsIn(PLAN, "inflow", [90, 500]), [0, 0]);
 });
 
-test("a stretch in figures goes to the nearest bounds of zones", () => {
-  // 3.375 km is cell 450, nearer to 3.5 km (466.7) than 3.75 (500) is; 3.4 to 3.5 lies in one zone.
+test("a typed stretch is rounded to the nearest zone boundaries", () => {
+  // 3.375 km is cell 450, nearer to 3.5 km (466.7) than 3.75 (500) is; 3.4 to 3.5 is within one zone.
   for (const [cells, objects] of [[[400, 467], [8, 8]], [[453, 467], [9, 9]], [[448, 455], [9, 9]],
                                   [[773, 800], [15, 15]], [[0, 800], [0, 15]],
                                   [[400, 450], [8, 8]]]) {
@@ -50,7 +50,7 @@ test("a rectangle between two places has the objects and the time between them",
   assert.deepEqual(between("inflow", [190, 0], [20, 9]), [1, 1, 0, 9]);
 });
 
-test("a drag takes zones that it covers at least by half; with a key held, all that it touches", () => {
+test("a drag takes zones that it covers at least by half; with Shift, all that it touches", () => {
   // Zones have 50 cells, 375 m: half a kilometre is 66 cells.
   for (const [cells, half, all] of [
     [[360, 426], [7, 8], [7, 8]],         // 40 of zone 7, 26 of zone 8
@@ -71,15 +71,15 @@ test("a drag takes zones that it covers at least by half; with a key held, all t
   assert.ok(!rectangleBetween(PLAN, "block", [400, 0], [401, 60]).few);
 });
 
-test("places snap to 25 m and to round seconds, unless they are to be exact", () => {
+test("places snap to 25 m and to round seconds, unless exact ones are wanted", () => {
   const place = [401.4, 1213];
-  assert.deepEqual(snapped(place, {span: 3600, scale: 1, exact: false}), [400, 1200]);
-  assert.deepEqual(snapped(place, {span: 900, scale: 1, exact: false}), [400, 1210]);
-  assert.deepEqual(snapped(place, {span: 150, scale: 9, exact: false}), [401, 1213]);
-  assert.deepEqual(snapped([401.6, 1213.4], {span: 3600, scale: 1, exact: true}), [402, 1213]);
+  assert.deepEqual(snap(place, {span: 3600, scale: 1, exact: false}), [400, 1200]);
+  assert.deepEqual(snap(place, {span: 900, scale: 1, exact: false}), [400, 1210]);
+  assert.deepEqual(snap(place, {span: 150, scale: 9, exact: false}), [401, 1213]);
+  assert.deepEqual(snap([401.6, 1213.4], {span: 3600, scale: 1, exact: true}), [402, 1213]);
 });
 
-test("an edge is drawn to a place, at least one cell and one step from the other", () => {
+test("an edge is moved to a place, at least one cell and one step from the opposite edge", () => {
   const shape = shapeOf("block", 24, 30, 12, 24, 1);
   const drawn = (edge, place) => shapeWithEdge(PLAN, shape, edge, place);
   assert.deepEqual(drawn("bottom", [0, 30]), shapeOf("block", 24, 30, 12, 30, 1));
@@ -102,7 +102,7 @@ test("an edge is drawn to a place, at least one cell and one step from the other
   assert.deepEqual(shapeWithEdge(PLAN, demand, "right", [90, 0]), demand);
 });
 
-test("an edge is taken within a few pixels", () => {
+test("an edge is found within a few pixels", () => {
   const corners = [100, 200, 300, 400];
   assert.equal(edgeNear(corners, [200, 403], 6, false), "bottom");
   assert.equal(edgeNear(corners, [200, 403], 6, true), undefined);
@@ -111,13 +111,13 @@ test("an edge is taken within a few pixels", () => {
   assert.equal(edgeNear(corners, [200, 407], 6, false), undefined);
 });
 
-test("the clock ends at step 1,048,575", () => {
+test("a shape after step 1,048,575, at which the clock ends, is too late", () => {
   assert.ok(!isTooLate(shapeOf("block", 0, 0, 0, 1048575, 1)));
   assert.ok(isTooLate(shapeOf("block", 0, 0, 0, 1048576, 1)));
   assert.ok(isTooLate(shapeOf("block", 0, 0, 1048576, null, 1)));
 });
 
-test("what of a shape is nearest to a place", () => {
+test("the nearest object and step of a shape are found for each place", () => {
   const limit = shapeOf("limit", 4, 5, 1200, 2400, 2);
   assert.deepEqual(nearestIn(PLAN, limit, [199, 1190.4]), [4, 1200]);
   assert.deepEqual(nearestIn(PLAN, limit, [260.5, 1300.7]), [5, 1300]);

@@ -1,4 +1,4 @@
-"""Test hostile sites and tabs: what they send is checked and bounded, and a flood is ignored."""
+"""Test hostile sites and tabs: what they send is checked and bounded, and floods are ignored."""
 from __future__ import annotations
 
 import json
@@ -12,10 +12,10 @@ from crashes import numbers
 from faulty import Bus, Here, message_of, soon, told
 from running import ALL, LIVE, SMALL, Case
 from server import stamps, verbs
-from server.asked import Asked
+from server.asked import CommandFields
 from server.refusals import MEANINGS, OF_THE_FORMAT, Refused
 from server.model.operations import Operation, Shape, put
-from server.model.projection import timeline
+from server.model.projection import all_edits
 from server.screen import rows_of
 from server.floods import Floods
 
@@ -24,7 +24,7 @@ JUNK: list[Any] = [None, True, -1, 0, 1, 5, 119, 1 << 20, 1 << 48, 10 ** 30, 0.5
 
 
 def asked_well(number: int) -> list[tuple[str, dict[str, Any]]]:
-    """Return valid questions of a tab."""
+    """Return valid questions that a tab may ask."""
     made = {"key": f"{number}", "note": ""}
     former = f"{number - 1}"
     return [
@@ -56,10 +56,10 @@ class Bounds(Case):
         now = [0.0]
         first._floods = Floods(lambda: now[0])
         await bus.rounds()
-        with mock.patch("server.floods.BURST", 20), mock.patch("server.floods.A_SECOND", 1):
+        with mock.patch("server.floods.MESSAGE_BURST", 20), mock.patch("server.floods.MESSAGES_PER_SECOND", 1):
             first._floods = Floods(lambda: now[0])
             for _ in range(30):
-                second._present()
+                second._announce_site()
             await bus.carry()
             self.assertIn("Site 2 sends too many messages: they are ignored for 30 seconds", " ".join(first.state()["stays"]))
             await two.join("Ben")
@@ -69,7 +69,7 @@ class Bounds(Case):
             self.assertEqual(one.lab.state.shared.size, 0)
             now[0] += 29
             first._peers.known.clear()
-            second._present()
+            second._announce_site()
             await bus.carry()
             self.assertEqual(first._peers.known, {})
             now[0] += 2
@@ -78,8 +78,8 @@ class Bounds(Case):
             self.assertEqual(one.lab.state.shared.size, 1)
             self.assertNotIn("too much", " ".join(first.state()["stays"]))
 
-    async def test_a_site_that_makes_much_work_is_ignored_for_a_while_too(self) -> None:
-        """The limit is 6 seconds of work at once, and half of the time: a second counts as 1,000 messages."""
+    async def test_a_site_whose_messages_take_much_work_is_ignored_for_a_while(self) -> None:
+        """The limit is 6 seconds of work in a burst, and half of the time in the long run; a second counts as 1,000 messages."""
         bus = Bus()
         one, two = [await self.enterAsyncContext(Here(site=number)) for number in (1, 2)]
         first, second = bus.site(one), bus.site(two)
@@ -92,17 +92,18 @@ class Bounds(Case):
             work[0] += 2.9  # once before, and once after
             return work[0]
         with mock.patch("server.lab.time.thread_time", worked):
-            for step, seconds in ((50, 0), (51, 6), (52, 0), (53, 0), (54, 0)):  # 9 seconds may be worked in all
+            for step, seconds in ((50, 0), (51, 6), (52, 0), (53, 0), (54, 0)):  # 9 seconds of work are allowed in all
                 await two.put(1, ["limit", 2, step, 3])
                 await two.share(1)
                 await bus.carry()
                 now[0] += seconds
         self.assertEqual(one.lab.state.shared.size, 4)
         self.assertIn("Site 2 sends too many messages: they are ignored for 30 seconds", " ".join(first.state()["stays"]))
-        self.assertEqual(second._floods.paused(), [])  # not by its own
+        self.assertEqual(second._floods.ignored_senders(), [])  # the site does not ignore its own messages
 
     async def test_every_site_accepts_exactly_the_operations_that_a_tab_may_make(self) -> None:
-        """One gate for all: a closure of 600 cells in raw edits, and the drag of its end, which withdraws them all."""
+        """Sites and tabs have the same limits: here a closure of 600 cells in raw edits, and a drag of its end, which withdraws
+        them all."""
         bus, plan = Bus(), {**SMALL, "length": 1_300, "zone": 100, "zones": [[5, 0]] * 13, "detectors": []}
         one, two = [await self.enterAsyncContext(Here(site=number, plan=plan)) for number in (1, 2)]
         first, _ = bus.site(one), bus.site(two)
@@ -118,10 +119,24 @@ class Bounds(Case):
         large = Operation(stamp, {(stamp[0] - place, stamp[1]): Shape("block", 0, 300, 5, None, 1) for place in range(2)})
         good = put((stamp[0] + 1, stamp[1]), Shape("block", 700, 700, 5, None, 1))
         message = message_of(first, large, good)
-        await first._came(message.topic, "f", message.payload)
+        await first._receive(message.topic, "f", message.payload)
         self.assertIn("at most 600 objects, not 602", told(first))
-        self.assertIn(good.stamp, [each.stamp for each in one.lab.state.shared.places])  # the others of the message came
+        self.assertIn(good.stamp, [each.stamp for each in one.lab.state.shared.places])  # valid operations of the message came
         self.assertEqual(first._early, {})
+
+    async def test_an_undo_that_does_something_else_is_refused(self) -> None:
+        """It would be in force and in no list; the other operations of its message are taken."""
+        here = await self.enterAsyncContext(Here(site=1, plan=SMALL))
+        site, number = Bus().site(here), 2 * 64 + 1
+        good = put((1, number), Shape("limit", 1, 1, 5, None, 1))
+        layer = Operation((2, number), {(2, number): Shape("limit", 2, 2, 5, None, 1)}, undoes=good.stamp)
+        height = Operation((3, number), heights={good.stamp: (3, number)}, undoes=good.stamp)
+        exclusion = Operation((4, number), undoes=good.stamp, excludes=(3, True))
+        message = message_of(site, layer, good, height, exclusion)
+        await site._receive(message.topic, "f", message.payload)
+        self.assertEqual([one.stamp for one in here.lab.state.shared.places], [good.stamp])
+        for one in (layer, height, exclusion):
+            self.assertIn(f"the operation {list(one.stamp)} undoes another one, so it must do nothing else", told(site))
 
     async def test_an_operation_without_an_effect_is_refused_with_a_sentence(self) -> None:
         here = await self.enterAsyncContext(Here(site=1))
@@ -165,15 +180,15 @@ class Bounds(Case):
                 *({**good, "stamp": other} for other in ([stamp[0], 70_000], [stamp[0], 3], [1 << 49, 70], [0, 70], "x"))):
             site._told.clear()
             body = json.dumps({"form": 3, "operations": [{"stamp": stamp, "who": "Eve", **wrong}]}).encode()
-            await site._came(f"road/{site._road}/operations", "", body)
+            await site._receive(f"road/{site._road}/operations", "", body)
             self.assertEqual((len(site._told), here.lab.state.shared.size), (1, 0), wrong)
             self.assertIn("was ignored", site._told[0])
         body = json.dumps({"form": 3, "operations": [{"stamp": stamp, "who": "Eve", **good}, 7]}).encode()
-        await site._came(f"road/{site._road}/operations", "", body)
+        await site._receive(f"road/{site._road}/operations", "", body)
         self.assertEqual([one.about.who for one in here.lab.state.shared.places], ["Eve"])
 
-    async def test_whatever_is_changed_in_a_message_is_taken_or_reported(self) -> None:
-        """The program accepts all that the server accepted."""
+    async def test_a_changed_message_is_taken_or_reported_whatever_was_changed(self) -> None:
+        """The program accepts everything that the server accepted."""
         here = await self.enterAsyncContext(Here(site=1))
         site, chance = Bus().site(here), random.Random(1)
         with mock.patch("logging.error") as error, mock.patch("logging.exception", error):
@@ -188,14 +203,14 @@ class Bounds(Case):
                     parent, key = chance.choice(places)
                     parent[key] = chance.choice([*JUNK, "\ud800"])
                 topic = chance.choice(["operations", "operations", "sum"])
-                await site._came(f"road/{site._road}/{topic}", "f", json.dumps(message).encode())
+                await site._receive(f"road/{site._road}/{topic}", "f", json.dumps(message).encode())
         self.assertEqual(error.call_args_list, [])
         reply = await here.keeper.ask(0, (0,), lambda: here.keeper.say(b'{"scenario":{"at":"shared"}}', {}))
-        self.assertEqual(numbers(json.loads(reply)["edits"]), numbers(rows_of(timeline(here.lab.state.shared.road))))
+        self.assertEqual(numbers(json.loads(reply)["edits"]), numbers(rows_of(all_edits(here.lab.state.shared.road))))
         self.assertGreater(here.lab.state.shared.size, 10)
 
     async def test_missing_operations_are_sent_after_a_hash_is_heard_twice(self) -> None:
-        """A site that is missing operations gets them once; a site with another version of the protocol gets nothing."""
+        """A site that lacks operations gets them once. A site with another version of the protocol gets nothing."""
         bus = Bus()
         here = await self.enterAsyncContext(Here(site=1))
         site = bus.site(here)
@@ -206,24 +221,24 @@ class Bounds(Case):
         for form, sent in ((2, []), (3, ["operations"])):
             for _ in range(3):
                 body = json.dumps({"folder": "f", "form": form, "sum": "0", "numbers": {"all": "0"}, "timeline": "?"}).encode()
-                await site._came(f"road/{site._road}/sum", "f", body)
+                await site._receive(f"road/{site._road}/sum", "f", body)
             self.assertEqual([one.topic.rpartition("/")[2] for one in bus.sent], sent)
 
     async def test_two_sites_that_derive_different_roads_from_the_same_changes_say_so(self) -> None:
         bus = Bus()
         here = await self.enterAsyncContext(Here(site=1))
         site = bus.site(here)
-        numbers_here = site._numbers()
+        numbers_here = site._hash_numbers()
         body = json.dumps({"folder": "f", "form": 3, "sum": numbers_here["all"], "numbers": numbers_here,
-                           "timeline": await site._timeline()}).encode()
-        await site._came(f"road/{site._road}/sum", "f", body)
+                           "timeline": await site._hash_road()}).encode()
+        await site._receive(f"road/{site._road}/sum", "f", body)
         self.assertNotIn("another road", told(site))
-        await site._came(f"road/{site._road}/sum", "f", body.replace(b'"timeline": "', b'"timeline": "x'))
-        self.assertIn("has the same changes but derives a different road from them", told(site))
+        await site._receive(f"road/{site._road}/sum", "f", body.replace(b'"timeline": "', b'"timeline": "x'))
+        self.assertIn("has the same changes but computes a different road from them", told(site))
         self.assertEqual(bus.sent, [])
 
 
-    async def test_announcements_of_strangers_are_bounded(self) -> None:
+    async def test_announcements_of_unknown_sites_are_bounded(self) -> None:
         bus = Bus()
         here = await self.enterAsyncContext(Here(site=1))
         site = bus.site(here)
@@ -232,14 +247,14 @@ class Bounds(Case):
             for topic, value in (("road/sites", {"site": number % 1_000 + 2, "road": name, "run": name}),
                                  (f"road/{site._road}/sum", {"form": 3, "sum": name, "numbers": {}}),
                                  (f"road/{site._road}/sum", {"form": 3, "sum": name, "numbers": {"all": name}})):
-                await site._came(topic, "", json.dumps({"folder": name, **value}).encode())
+                await site._receive(topic, "", json.dumps({"folder": name, **value}).encode())
         everything: list[Mapping[Any, object]] = [site._peers.known, site._sums, site._pauses, here.lab.state.bound]
         for kept in everything:
             self.assertLessEqual(len(kept), 1_024)
             self.assertLess(len(str(kept)), 200_000)
         self.assertLess(len(json.dumps(site.state())), 100_000)
         for wrong in (0, -1, 1_024, True, "7", None, 1 << 70):
-            await site._came("road/sites", "", json.dumps({"folder": "f", "site": wrong, "road": "r"}).encode())
+            await site._receive("road/sites", "", json.dumps({"folder": "f", "site": wrong, "road": "r"}).encode())
         self.assertIn("it does not say which site sent it", told(site))
 
     async def test_an_operation_that_does_not_come_back_is_resent_after_growing_pauses(self) -> None:
@@ -261,7 +276,7 @@ class Bounds(Case):
         self.assertEqual(gaps[:4], [3, 6, 12, 24])
         self.assertEqual((max(gaps), gaps), (300, sorted(gaps)))
 
-    async def test_a_site_that_lacks_much_is_told_piece_by_piece(self) -> None:
+    async def test_a_site_that_lacks_many_operations_gets_them_in_pieces(self) -> None:
         bus = Bus()
         one, two = [await self.enterAsyncContext(Here(site=number)) for number in (1, 2)]
         bus.site(one)
@@ -271,7 +286,7 @@ class Bounds(Case):
         await one.share(1)
         await bus.carry()
         bus.site(two)
-        with mock.patch("server.sites.AT_ONCE", 10):
+        with mock.patch("server.sites.OPERATIONS_AT_ONCE", 10):
             counts = []
             for _ in range(6):
                 bus.seen.clear()
@@ -282,17 +297,17 @@ class Bounds(Case):
 
 
 class Refusals(unittest.TestCase):
-    """One table of names, which is the same in PROTOCOL.md, the server and FORMAT.md."""
+    """The table of refusals is the same in PROTOCOL.md, the server and FORMAT.md."""
 
     def rows(self, page: str) -> dict[str, str]:
         text = (LIVE.parent / page).read_text().partition("## Refusals\n")[2].partition("\n## ")[0]
         return dict(re.findall(r"^\| `([^`]+)` \| (.+) \|$", text, re.MULTILINE))
 
-    def test_the_pages_have_the_same_names(self) -> None:
+    def test_the_pages_name_the_same_refusals(self) -> None:
         self.assertEqual(self.rows("live/PROTOCOL.md"), MEANINGS)
         self.assertEqual(set(self.rows("docs/FORMAT.md")), OF_THE_FORMAT)
 
-    def test_each_name_is_used_and_no_other(self) -> None:
+    def test_each_refusal_is_used_and_no_other(self) -> None:
         texts = [path.read_text() for path in (LIVE / "server").rglob("*.py")]
         used = {name for text in texts for name in re.findall(r'(?:[rR]efused|super\(\).__init__)\(\s*"([^"]+)"', text)}
         self.assertEqual(used - OF_THE_FORMAT, MEANINGS.keys() - OF_THE_FORMAT)
@@ -303,8 +318,8 @@ class Refusals(unittest.TestCase):
 
 
 class Tabs(Case):
-    async def test_whatever_a_tab_asks_is_answered_or_refused(self) -> None:
-        """A refusal has a sentence, and the program accepts all that the server accepted."""
+    async def test_every_question_of_a_tab_is_answered_or_refused(self) -> None:
+        """A refusal has a sentence, and the program accepts everything that the server accepted."""
         here = await self.enterAsyncContext(Here(site=1))
         chance = random.Random(1)
         await here.join("Eve")
@@ -317,7 +332,7 @@ class Tabs(Case):
                     parent, key = chance.choice(list(places_in(asked["command"])) or [(asked, "command")])
                     parent[key] = chance.choice(JUNK)
                 try:
-                    await soon(verbs.answer(here.lab, here.questions, 1, Asked(verb, asked["command"]), {}))
+                    await soon(verbs.answer(here.lab, here.questions, 1, CommandFields(verb, asked["command"]), {}))
                 except Refused as fault:
                     refused += 1
                     self.assertGreater(len(fault.why), 10)
@@ -327,4 +342,4 @@ class Tabs(Case):
             replica = here.lab.state.replica(seat)
             line = json.dumps({"scenario": {"at": replica.at}}).encode()
             reply = await here.keeper.ask(1, (seat,), lambda: here.keeper.say(line, {}))
-            self.assertEqual(numbers(json.loads(reply)["edits"]), numbers(rows_of(timeline(replica.road))))
+            self.assertEqual(numbers(json.loads(reply)["edits"]), numbers(rows_of(all_edits(replica.road))))

@@ -1,11 +1,11 @@
-// While a button is held down, nothing moves it or replaces it.
+// While a button is held down, nothing moves or replaces it.
 
 import assert from "node:assert/strict";
 import {test} from "node:test";
 
 import {notify, holdButton, releaseButton, tell, watch} from "../page/store.mjs";
 
-test("what moves buttons waits until none is held down, and is shown once", () => {
+test("parts that move buttons are shown once no button is held down, and only once", () => {
   const shown = [];
   watch(["changes"], () => shown.push("lines"));
   watch(["news", "preview"], () => shown.push("news"));

@@ -12,10 +12,10 @@ from unittest import mock
 import aiohttp
 
 from server import verbs
-from server.asked import Asked
+from server.asked import CommandFields
 from server.refusals import Refused
 from server.client import Seat
-from server.doors import Strangers, neighbourhood
+from server.doors import Strangers, address_group
 from server.tabs import Tab, parse_frame
 from running import PATIENCE, SMALL, Case, Server, transport_of, until
 from working import takes_at_most
@@ -94,7 +94,7 @@ class Frames(Case):
         self.assertEqual((await self.raw('{"id":1,"hello":{"name":"x"}}'))[0]["refused"], "not a command")
 
     async def test_a_person_may_take_long_to_say_a_name(self) -> None:
-        """A tab with the token may take its time; one without it is disconnected."""
+        """A tab with the token may take its time. A tab without it is disconnected."""
         self.a6 = self.server(LIVE_HELLO="5")
         self.base, _, self.token = self.a6.address.partition("/#")
         known = await self.session.ws_connect(self.base + "/live", headers={"Origin": self.base})
@@ -107,14 +107,14 @@ class Frames(Case):
         await known.close()
 
     async def test_a_tab_that_never_sends_a_name_is_disconnected_at_last(self) -> None:
-        """Even with the token: there are 200 such sockets."""
+        """Even a tab with the token is: there may be 200 such sockets."""
         self.enterContext(mock.patch("server.tabs.NAMED", 0.1))
         tab = Tab(mock.Mock(**{"lab.keeper.settings.hello": 0.1}), mock.Mock(), mock.Mock())
         tab.has_token = True
-        await asyncio.wait_for(tab._hello_in_time(), PATIENCE)
+        await asyncio.wait_for(tab._require_hello(), PATIENCE)
         self.assertEqual(tab.close_reason, (1008, "no hello"))
 
-    async def test_malformed_frames(self) -> None:
+    async def test_malformed_frames_get_a_refusal(self) -> None:
         for number, frame in enumerate((
                 "", "x", "[]", "7", "null", "[" * 60_000, '{"id":1}', '{"id":"1","ping":{}}', '{"id":1.5,"ping":{}}',
                 '{"id":true,"ping":{}}',
@@ -151,11 +151,11 @@ class Frames(Case):
                 writer.write(bytes(1 << 20))
                 await writer.drain()
                 await asyncio.sleep(0.01)
-        with self.assertRaises(ConnectionError):  # at last it is let go
+        with self.assertRaises(ConnectionError):  # in the end it is disconnected
             await asyncio.wait_for(sends_on(), PATIENCE)
         self.assertLess(memory(self.a6), before + 30)
 
-    async def test_commands_that_are_refused_or_changed_nothing(self) -> None:
+    async def test_malformed_commands_are_refused_and_change_nothing(self) -> None:
         async with self.a6.seat("good") as good, self.a6.seat("bad") as bad:
             edits = [["limit", 1, 5, 1]]
             for verb, fields, refusal in (
@@ -223,7 +223,7 @@ class Frames(Case):
 class Long(Case):
     """Malformed frames of 64 KB delay nobody."""
 
-    def test_faults_are_found_fast(self) -> None:
+    def test_faults_of_large_frames_are_found_quickly(self) -> None:
         def many(one: str) -> str:
             return "[" + ",".join([one] * (64_000 // (len(one) + 1))) + "]"
         wrong = [*map(many, ("1", "[]", "[1]", '["x",1,1,1]', '["limitt",1,1,1]', '["limit",1,1,1.5]', '["limit",1,1,1]', '"x"',
@@ -231,18 +231,18 @@ class Long(Case):
                  json.dumps("limit" * 12_000), f'["{"limit " * 10_000}",1]', '[["' + "limit" * 12_000 + '",1,1,1]]',
                  "[" * 900 + "]" * 900, json.dumps("7" * 60_000), json.dumps(" " * 60_000 + "7"), json.dumps('"' * 30_000)]
         reads: dict[str, Any] = {
-            "edits": Asked.edits, "stamps": Asked.stamps, "shape": Asked.shape, "layer": lambda asked: asked.stamp_or_key("layer"),
-            "to": lambda asked: asked.whole("to"), "key": Asked.key, "note": lambda asked: asked.text("note", 200)}
+            "edits": CommandFields.edits, "stamps": CommandFields.stamps, "shape": CommandFields.shape, "layer": lambda asked: asked.stamp_or_key("layer"),
+            "to": lambda asked: asked.whole("to"), "key": CommandFields.key, "note": lambda asked: asked.text("note", 200)}
         frames = [(f'{{"id":1,"x":{{"{name}":{value}}}}}', read) for name, read in reads.items() for value in wrong]
         frames += [(f'{{"id":1,"x":{{"object":{value},"step":1}}}}', verbs.read_edit) for value in wrong]
         for frame, read in frames:
             with takes_at_most(0.05, frame[:40]), contextlib.suppress(Refused, RecursionError):
                 _, verb, fields = parse_frame(frame)
-                read(Asked(verb, fields))
+                read(CommandFields(verb, fields))
 
 
 class Connection(asyncio.Transport):
-    """A connection from an address, until it is cut."""
+    """A connection from an address, which may be cut."""
 
     def __init__(self, address: str) -> None:
         super().__init__()
@@ -261,10 +261,10 @@ class Crowds(Case):
         for one, other, is_one in (("1.2.3.4", "1.2.3.5", False), ("2001:db8::1", "2001:db8::ffff:2", True), ("::1", "::1", True),
                                    ("2001:db8::1", "2001:db8:0:1::1", False), ("fe80::1%eth0", "fe80::2%eth0", True),
                                    ("::ffff:1.2.3.4", "1.2.3.4", True), ("::ffff:1.2.3.4", "::ffff:1.2.3.5", False)):
-            self.assertEqual(neighbourhood(one) == neighbourhood(other), is_one, (one, other))
+            self.assertEqual(address_group(one) == address_group(other), is_one, (one, other))
 
-    def test_strangers_are_64_of_an_address_and_512_of_all_for_a_minute(self) -> None:
-        """The oldest are cut; a tab with the token does not count as a stranger."""
+    def test_strangers_are_at_most_64_of_an_address_and_512_in_all_for_a_minute(self) -> None:
+        """Beyond these numbers the oldest are cut. A tab with the token does not count as a stranger."""
         ones: list[Connection] = []
         strangers = Strangers(lambda: ones, lambda: set(ones[:2]))
 
@@ -277,11 +277,11 @@ class Crowds(Case):
         self.assertEqual(come(["a"] * 67, 0), [True] * 2 + [False] * 1 + [True] * 64)
         there = come([f"b{number}" for number in range(449)], 30)
         self.assertEqual(there, [True] * 2 + [False] * 2 + [True] * (63 + 449))
-        self.assertEqual(come(["c"], 62).count(True), 2 + 449 + 1)  # of the first none is left
+        self.assertEqual(come(["c"], 62).count(True), 2 + 449 + 1)  # none of the first ones is left
         self.assertEqual(come(["c"], 123).count(True), 2 + 1)
 
     async def test_sockets_without_a_token_lock_nobody_out(self) -> None:
-        """Many send nothing, never finish a request, or never say hello; tabs that were there stay."""
+        """Many sockets send nothing, never finish a request, or never say hello. Tabs that had joined stay."""
         server = self.server()
         base, _, _ = server.address.partition("/#")
         host = base.rpartition("/")[2]
@@ -305,10 +305,10 @@ class Crowds(Case):
 
 
 class Neighbours(Case):
-    """A tab's gesture and rows next to one that floods, one that never reads, one that edits the first step."""
+    """One tab makes gestures and asks for rows while others flood the server, never read, or edit the first step."""
 
     async def goes_on(self, seat: Seat) -> None:
-        """Make gestures and wait for their rows; live/measure measures how long that takes."""
+        """Make gestures, and wait for their rows. (live/measure measures how long that takes.)"""
         for number in range(15):
             await seat.ask("gesture", key=f"{number}", edits=[["limit", 3, 150, number % 5]])
             await seat.ask("diagram", **{"from": 140, "to": 200})
@@ -319,7 +319,7 @@ class Neighbours(Case):
         return seat
 
     async def test_nobody_waits_for_questions_of_tabs_that_have_gone(self) -> None:
-        """The tab of a seat is reopened again and again, and each asks questions that take long."""
+        """The tab of a seat is reopened again and again, and each time it asks questions that take long."""
         plan = {**SMALL, "length": 2_000, "zone": 1_000, "zones": [[5, 6_554]] * 2}
         server = self.server(plan=plan)
         async with server.seat("Ada") as ada:

@@ -1,4 +1,4 @@
-"""Test the journal: cuts, broken lines, a full disk, one server a folder, compaction."""
+"""Test the journal: cuts, broken lines, a full disk, a single server for each folder, compaction."""
 from __future__ import annotations
 
 import asyncio
@@ -21,7 +21,7 @@ from unittest import mock
 import running
 from faulty import Disk
 from server.client import Seat
-from server.journal import Broken, Entries, Journal, NotWritten, lock, put_in_place, read_entries
+from server.journal import CannotStart, Entries, Journal, NotWritten, lock, put_in_place, read_entries
 from server.keeper import Keeper
 from server.settings import Settings
 from crashes import numbers
@@ -48,7 +48,7 @@ class Reading(unittest.TestCase):
         self.lines = [line_of(entry) for entry in GESTURES]
 
     def test_each_cut_of_the_last_two_lines_leaves_whole_lines(self) -> None:
-        """Entries that were confirmed before the cut are there, and nothing else."""
+        """The entries that were confirmed before the cut are there, and nothing else is."""
         data = b"".join(self.lines)
         for cut in range(len(self.lines[0]), len(data) + 1):
             self.path.write_bytes(data[:cut])
@@ -64,7 +64,7 @@ class Reading(unittest.TestCase):
             # A last line with zeros is a write that was cut off, and no fault.
             for rest in (good, line_of(GESTURES[1], None), *([] if 0 in broken else [b""])):
                 self.path.write_bytes(self.lines[0] + broken + rest)
-                with self.assertRaisesRegex(Broken, "line 2"):
+                with self.assertRaisesRegex(CannotStart, "line 2"):
                     read_entries(self.path)
 
     def test_older_lines_have_no_checksum(self) -> None:
@@ -75,7 +75,7 @@ class Reading(unittest.TestCase):
         self.assertEqual(read_entries(self.path), (GESTURES[:2], len(b"".join(old))))
 
     def test_zeros_in_a_write_were_never_confirmed(self) -> None:
-        """After a power failure the disk may have any of the blocks of the last write: the others are zero."""
+        """After a power failure the disk may have some of the blocks of the last write; the others are zeros."""
         whole, last = self.lines[0], line_of(GESTURES[1]) + line_of(GESTURES[2], "and")
         for begin in range(0, len(last), 7):
             for end in (begin + 1, begin + 40, len(last)):
@@ -84,8 +84,8 @@ class Reading(unittest.TestCase):
                 entries, size = read_entries(self.path)
                 kept = 1 + (begin >= len(line_of(GESTURES[1])))
                 self.assertEqual((entries, size), (GESTURES[:kept], sum(map(len, self.lines[:kept]))), (begin, end))
-        self.path.write_bytes(whole + bytes(len(last)) + self.lines[2])  # a later write: the zeros were confirmed
-        with self.assertRaisesRegex(Broken, "line 2"):
+        self.path.write_bytes(whole + bytes(len(last)) + self.lines[2])  # a later line follows: the zeros were confirmed
+        with self.assertRaisesRegex(CannotStart, "line 2"):
             read_entries(self.path)
 
     def test_10_000_operations_are_read_in_a_second(self) -> None:
@@ -101,7 +101,7 @@ class Reading(unittest.TestCase):
             self.assertEqual(len(state.shared.road.layers), size)
 
     def test_only_one_server_locks_a_folder(self) -> None:
-        with lock(self.path.parent), self.assertRaisesRegex(Broken, "another server"), lock(self.path.parent):
+        with lock(self.path.parent), self.assertRaisesRegex(CannotStart, "another server"), lock(self.path.parent):
             self.fail("held twice")
         with lock(self.path.parent):
             pass
@@ -124,22 +124,22 @@ class Writing(unittest.IsolatedAsyncioTestCase):
         resource.setrlimit(resource.RLIMIT_FSIZE, (journal.size + 20, old[1]))
         try:
             waiting = [journal.write(entry) for entry in GESTURES[1:]]
-            results = await asyncio.gather(*waiting, journal.settled(), return_exceptions=True)
+            results = await asyncio.gather(*waiting, journal.wait_until_written(), return_exceptions=True)
             with self.assertRaises(OSError):
-                await journal.mend(GESTURES[1])
+                await journal.probe_disk(GESTURES[1])
         finally:
             resource.setrlimit(resource.RLIMIT_FSIZE, old)
         self.assertEqual([type(one) for one in results], [NotWritten] * 3)
         self.assertEqual(self.path.read_bytes(), line_of(GESTURES[0]))
         with self.assertRaises(NotWritten):  # the entry before it may be missing
             await journal.write(GESTURES[1])
-        self.assertEqual(journal.confirmed(), GESTURES[:1])
-        await journal.mend(GESTURES[1])
+        self.assertEqual(journal.read_confirmed(), GESTURES[:1])
+        await journal.probe_disk(GESTURES[1])
         await journal.write(GESTURES[2])
         self.assertEqual(read_entries(self.path)[0], GESTURES)
 
     async def test_a_fault_after_a_write_keeps_nobody_waiting(self) -> None:
-        """Entries on the disk are confirmed, and later ones are written."""
+        """Entries that are on the disk are confirmed, and later ones are written."""
         journal = Journal(self.path, 0)
 
         def fails() -> None:
@@ -149,7 +149,7 @@ class Writing(unittest.IsolatedAsyncioTestCase):
         await journal.write(GESTURES[2])
         self.assertEqual(read_entries(self.path)[0], GESTURES)
 
-    async def test_lines_of_one_write_are_marked(self) -> None:
+    async def test_lines_that_are_written_together_are_marked(self) -> None:
         journal = Journal(self.path, 0)
         await journal.write(GESTURES[0])
         await asyncio.gather(*map(journal.write, GESTURES[1:]))
@@ -168,7 +168,8 @@ class Writing(unittest.IsolatedAsyncioTestCase):
         self.assertEqual(self.path.stat().st_mode & 0o777, 0o600)
 
     async def test_nobody_waits_for_a_compaction(self) -> None:
-        """Entries written during compaction follow the compacted ones; changes made during it are not in the compacted ones."""
+        """Entries that are written during a compaction follow the compacted ones, which contain no change that was made during
+        it."""
         journal, held, gate = Journal(self.path, 0), [GESTURES[1]], running.new_folder() / "gate"
         await journal.write(GESTURES[0])
 
@@ -191,7 +192,7 @@ class Writing(unittest.IsolatedAsyncioTestCase):
         self.assertEqual([one.name for one in self.path.parent.iterdir()], [self.path.name])
 
     async def test_a_compaction_that_fails_leaves_the_old_journal(self) -> None:
-        """Whichever call fails in the process that writes it, or in this one."""
+        """It does so whichever call fails, in the process that writes the new journal or in this one."""
         journal, here = Journal(self.path, 0), os.getpid()
         await journal.write(GESTURES[0])
 
@@ -207,7 +208,7 @@ class Writing(unittest.IsolatedAsyncioTestCase):
         self.assertEqual(read_entries(self.path)[0], [GESTURES[0], *[GESTURES[2]] * 4])
 
     async def test_a_compacted_journal_that_may_not_be_durable_takes_no_entries(self) -> None:
-        """If the folder cannot be synced, the old file may be there again later, without newer entries."""
+        """If the folder cannot be synced, the old file may reappear later, without newer entries."""
         journal = Journal(self.path, 0)
         await journal.write(GESTURES[0])
         with Disk() as disk:
@@ -216,11 +217,11 @@ class Writing(unittest.IsolatedAsyncioTestCase):
             with self.assertRaises(NotWritten):
                 await journal.write(GESTURES[2])
             disk.fault = lambda *_: None
-            await journal.mend(GESTURES[2])
-        self.assertEqual(journal.confirmed(), GESTURES[1:])
+            await journal.probe_disk(GESTURES[2])
+        self.assertEqual(journal.read_confirmed(), GESTURES[1:])
 
     async def test_no_line_goes_to_a_strangers_socket_if_the_old_file_cannot_be_closed(self) -> None:
-        """Its descriptor is free nevertheless, and the next socket gets it."""
+        """The file's descriptor is free nevertheless, and the next socket gets it."""
         journal = Journal(self.path, 0)
         await journal.write(GESTURES[0])
 
@@ -235,7 +236,7 @@ class Writing(unittest.IsolatedAsyncioTestCase):
         sockets = [socket.socketpair() for _ in range(4)]
         with contextlib.suppress(NotWritten):
             await journal.write(GESTURES[2])
-        self.assertEqual(journal.confirmed(), read_entries(self.path)[0])
+        self.assertEqual(journal.read_confirmed(), read_entries(self.path)[0])
         for one in (one for pair in sockets for one in pair):
             self.addCleanup(one.close)
             one.setblocking(False)
@@ -244,7 +245,7 @@ class Writing(unittest.IsolatedAsyncioTestCase):
         self.assertEqual(read_entries(self.path)[0], GESTURES[1:])
 
     async def test_a_file_is_replaced_completely_or_not_at_all(self) -> None:
-        """Whichever call fails: the old file or the new one."""
+        """Whichever call fails, either the old file or the new one is there."""
         self.path.write_bytes(b"old")
         with Disk() as disk:
             disk.fault = lambda call, _: errno.ENOSPC if call == number else None
@@ -266,13 +267,13 @@ def seen(state: State) -> Any:
 
 
 class Folders(Case):
-    """Servers on folders that were killed, cut, filled."""
+    """Test servers on folders after kills, cuts and full disks."""
 
     async def shared(self, seat: Seat, number: int) -> None:
         await seat.ask("gesture", key=f"g{number}", edits=[["limit", number % 6, 10 + number, number % 5]])
 
-    async def test_twenty_cuts_by_a_server(self) -> None:
-        """A server starts from each cut, and has all complete lines."""
+    async def test_a_server_starts_from_each_of_twenty_cuts(self) -> None:
+        """A server starts from each cut journal, and has all complete lines."""
         server = self.server()
         async with server.seat() as seat:
             for number in range(4):
@@ -313,7 +314,7 @@ class Folders(Case):
         self.assertEqual((len(token), path.stat().st_mode & 0o777), (24, 0o600))
         for short in ("", "\n", token[:15]):
             path.write_text(short)
-            with self.assertRaisesRegex(RuntimeError, "token has [0-9]+ signs.*nobody is let in"):
+            with self.assertRaisesRegex(RuntimeError, "token has [0-9]+ characters.*makes a new token"):
                 server.start()
             self.assertEqual(path.read_text(), short)
         path.unlink()
@@ -324,7 +325,7 @@ class Folders(Case):
         self.assertFalse((server.folder / "token.new").exists())
 
     async def test_a_server_starts_on_an_almost_full_disk(self) -> None:
-        """Existing roads can be viewed."""
+        """The road that the folder already has can be viewed."""
         server = self.server()
         async with server.seat() as seat:
             await self.shared(seat, 1)
@@ -345,11 +346,11 @@ class Folders(Case):
 
     async def test_a_plan_that_is_refused_leaves_a_folder_that_can_be_used(self) -> None:
         folder = running.new_folder()
-        for plan, why in (({**SMALL, "length": 7}, "the program refuses the plan: Length"), ({"a": 1}, "refuses the plan")):
+        for plan, why in (({**SMALL, "length": 7}, r"the program refuses the plan line \(Length\)"), ({"a": 1}, "refuses the plan")):
             with self.assertRaisesRegex(RuntimeError, why):
                 running.Server(folder, plan)
             self.assertEqual(read_entries(folder / "journal.jsonl"), ([], 0))
-        (folder / "journal.jsonl").write_bytes(line_of({"lab": {}})[:-3])  # what was begun was never confirmed
+        (folder / "journal.jsonl").write_bytes(line_of({"lab": {}})[:-3])  # the write that was begun was never confirmed
         server = running.Server(folder, SMALL)
         self.addCleanup(lambda: running.end(server.process))
         async with server.seat() as seat:
@@ -360,11 +361,11 @@ class Folders(Case):
         ran = subprocess.run([sys.executable, LIVE / "serve", "--folder", server.folder, "--port", "0"],
                              capture_output=True, text=True, timeout=running.PATIENCE, check=False)
         self.assertEqual((ran.returncode, ran.stdout), (1, ""))
-        self.assertIn("another server runs in", ran.stderr)
+        self.assertIn("another server is running in", ran.stderr)
         self.assertNotIn("Traceback", ran.stderr)
 
     async def test_a_second_server_says_so_even_if_the_lock_file_was_removed(self) -> None:
-        """Also after a compaction, which makes the journal a new file."""
+        """It says so also after a compaction, which makes the journal a new file."""
         server = self.server(LIVE_MOST_JOURNAL="2000")
         path = server.folder / "journal.jsonl"
         first = path.stat().st_ino
@@ -381,11 +382,11 @@ class Folders(Case):
                 ran = subprocess.run([sys.executable, LIVE / "serve", "--folder", server.folder, "--port", "0"],
                                      capture_output=True, text=True, timeout=running.PATIENCE, check=False)
                 self.assertEqual((ran.returncode, ran.stdout), (1, ""))
-                self.assertIn("another server runs in", ran.stderr)
+                self.assertIn("another server is running in", ran.stderr)
             await self.shared(ada, 5)
 
     async def test_a_server_starts_on_a_read_only_disk(self) -> None:
-        """All can be viewed, and changes are refused until the disk accepts them."""
+        """Everything can be viewed, and changes are refused until the disk accepts them."""
         server = self.server()
         async with server.seat() as ada:
             await self.shared(ada, 1)
@@ -400,9 +401,9 @@ class Folders(Case):
             said = await ada.reply("gesture", at=ada.at, key="x", edits=[["limit", 2, 50, 1]])
             self.assertEqual(said["refused"], "NotWritten")
             self.assertIn("Read-only file system", said["why"])
-            trouble = ada.welcome["trouble"] or next(one["trouble"] for one in reversed(ada.told) if "trouble" in one)
+            trouble = ada.welcome["trouble"] or next(one["trouble"] for one in reversed(ada.received) if "trouble" in one)
             self.assertIn("Read-only file system", str(trouble))
-            async with server.seat("Ben") as ben:  # who comes now looks, too
+            async with server.seat("Ben") as ben:  # somebody who joins now can look, too
                 self.assertEqual((await ben.ask("scenario"))["edits"], [])
                 said = await ben.reply("gesture", at=ben.at, key="x", edits=[["limit", 2, 50, 1]])
                 self.assertEqual(said["refused"], "NotWritten")
@@ -434,7 +435,7 @@ class Folders(Case):
                                                      edits=[["block", 60, step, 1], ["limit", 0, step, 0]])
                                           for step in range(10, 13) for seat in (ada, ben)))
             self.assertEqual({one.get("refused") for one in said}, {"NotWritten"})
-            self.assertTrue(all("could not be kept" in one["why"] for one in said))
+            self.assertTrue(all("was not saved, so it was not made" in one["why"] for one in said))
             self.assertEqual((server.folder / "journal.jsonl").stat().st_size, size)
             after = await ada.ask("diagram", **{"from": 0, "to": 60}), await ada.ask("scenario")
             self.assertEqual([one.get("rows") or one["edits"] for one in before], [one.get("rows") or one["edits"] for one in after])
@@ -442,7 +443,7 @@ class Folders(Case):
             resource.prlimit(server.process.pid, resource.RLIMIT_FSIZE, (resource.RLIM_INFINITY, resource.RLIM_INFINITY))
             self.assertEqual((await ada.ask("gesture", key="full 10", edits=[["block", 60, 10, 1]]))["stamp"], [2, 65])
             await ada.reply("ping")  # pushed messages come after the reply
-            troubles = [one["trouble"] for one in ada.told if "trouble" in one]
+            troubles = [one["trouble"] for one in ada.received if "trouble" in one]
             self.assertEqual([bool(one) for one in troubles][-2:], [True, False])
             held = numbers((await ada.ask("scenario"))["edits"])
         server.restart()
@@ -488,7 +489,7 @@ class Folders(Case):
             await ben.ask("undo", stamp=[1, 65], key="u")
             await ben.ask("send", name="shared")
             await ada.say("clock", rate=70)
-            async with server.seat("Cleo") as cleo:  # who leaves before what she shared has come back
+            async with server.seat("Cleo") as cleo:  # she leaves before what she shared has come back
                 await self.shared(cleo, 1)
                 await cleo.ask("send", name="shared", title="of one who left")
                 await cleo.reply("leave", at=cleo.at)

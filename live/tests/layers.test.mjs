@@ -1,5 +1,5 @@
-// Lines of changes, which parts are in force, and what the lists say about them. The lines are written
-// as the server would tell them.
+// Changes, which of their parts are in force, and what the lists say about them. The lines are written as the server would send
+// them.
 
 import assert from "node:assert/strict";
 import {readFileSync} from "node:fs";
@@ -14,7 +14,7 @@ import {store} from "../page/store.mjs";
 const PLAN = JSON.parse(readFileSync(new URL("../plan.json", import.meta.url), "utf8"));
 const [ADA, BEN] = [65, 66];
 
-/** A line that one put, shared unless it is said otherwise; `parts` are [from, to, by]. */
+/** Return a line with one put, which is shared unless `more` says otherwise; `parts` are [from, to, by]. */
 function line(name, who, shape, parts, more = {}) {
   const [kind, first, last, , , value] = shape;
   const put = {stamp: name, who, note: "put", when: 0, does: "put", shared: true, lost: null};
@@ -49,7 +49,7 @@ test("what is in force has frames and values; what is covered has none", () => {
   assert.equal(layers.valueAt("start", 4, 1300), null);
 });
 
-test("a line is in force where nothing lies above it", () => {
+test("a line is in force where nothing covers it", () => {
   const found = road(ada(COVERED)).find(nameOf(1, ADA));
   assert.deepEqual([1199, 1200, 1499, 1500, 1799, 1800, 2399, 2400].map((step) =>
     isInForce(found, 5, step)), [false, true, true, false, false, true, true, false]);
@@ -58,7 +58,7 @@ test("a line is in force where nothing lies above it", () => {
   assert.ok(isInForce(road(ada([[1200, null, null]])).find(nameOf(1, ADA)), 4, 99999));
 });
 
-test("a line replaces the one of its name; one that is gone leaves the list", () => {
+test("a line replaces the one with its name, and a line that is gone leaves the list", () => {
   const layers = road(ada([[1200, 2400, null]]));
   layers.update(decodeList({layers: [ada(COVERED), ben([[1500, 1800, null]])], next: 9, undo: null,
                           redo: null}));
@@ -70,7 +70,7 @@ test("a line replaces the one of its name; one that is gone leaves the list", ()
   assert.equal(layers.changes.size, 1);
 });
 
-test("what is not of this road is left out, whatever it is", () => {
+test("parts that do not fit this road are left out, whatever they are", () => {
   const parts = [["limit", 4, 5, 0, 60, 2, null], ["limit", 4, 99, 0, 60, 2, null],
                  ["speed", 0, 0, 0, 60, 2, null], ["limit", -1, 2, 0, 60, 2, null],
                  ["limit", 5, 4, 0, 60, 2, null], ["limit", 4, 5, 60, 60, 2, null],
@@ -86,7 +86,7 @@ test("what is not of this road is left out, whatever it is", () => {
   assert.deepEqual(road({...ada([]), shown: "all"}).frames, []);
 });
 
-test("a site that is excluded has a line, and nothing of it is drawn", () => {
+test("an excluded site has a line, and nothing is drawn for it", () => {
   const out = {...ada([]), kind: "site", shape: ["site", 3, 3, 0, null, 1],
                shown: [["site", 3, 3, 0, null, 1, null]], isRaw: false};
   const layers = road(out);
@@ -94,7 +94,7 @@ test("a site that is excluded has a line, and nothing of it is drawn", () => {
   assert.equal(new Words(layers, ADA).text(layers.find(nameOf(1, ADA))), "Site 3 is excluded");
 });
 
-test("edits that are one rectangle have its shape, so that they can be changed", () => {
+test("raw edits that form one rectangle have its shape, so that they can be changed", () => {
   const of = (...shown) => road({...ada([]), shape: null, note: "", shown,
                                  edits: [["block", 100, 600, 1]]}).find(nameOf(1, ADA));
   const closure = ["block", 100, 101, 600, 700, 1];
@@ -109,7 +109,7 @@ test("edits that are one rectangle have its shape, so that they can be changed",
     + "0:10:00 on");
 });
 
-test("an edit that sets what the plan has needs no frame, a shape that does has one", () => {
+test("a raw edit that sets the plan's value has no frame, and a shape that does has one", () => {
   const edit = line([3, ADA], "Cron", ["limit", 4, 4, 0, null, 5], [[0, null, null]]);
   assert.deepEqual(road({...edit, shape: null, edits: [["limit", 4, 0, 5]]}).frames, []);
   assert.equal(road(edit).frames.length, 1);
@@ -131,7 +131,7 @@ test("a line that is wholly covered says so", () => {
                "Wholly covered by Ben's limit of 27 km/h.");
 });
 
-test("places are said where parts of the road differ", () => {
+test("places are named if the parts of a line are at different places", () => {
   const shown = [["limit", 4, 4, 1200, 2400, 2, null], ["limit", 5, 5, 1200, 2400, 2, [2, BEN]]];
   const layers = road({...ada([]), shown}, ben([[1500, 1800, null]]));
   assert.equal(new Words(layers, ADA).cover(layers.find(nameOf(1, ADA))),
@@ -139,14 +139,14 @@ test("places are said where parts of the road differ", () => {
     + "0:20:00\u20130:40:00 by Ben's limit of 81 km/h.");
 });
 
-test("four of many parts are listed", () => {
+test("of many parts only four are listed", () => {
   const parts = Array.from({length: 9}, (_, turn) =>
     [1200 + 60 * turn, 1260 + 60 * turn, turn % 2 ? [2, BEN] : null]);
   const layers = road(ada(parts), ben([[1500, 1800, null]]));
   assert.match(new Words(layers, ADA).cover(layers.find(nameOf(1, ADA))), /; and 5 more\.$/);
 });
 
-test("the lists have what stands and what is not shared, newest first", () => {
+test("the lists have changes in force and unshared withdrawals, newest first", () => {
   const change = {stamp: [5, ADA], who: "Ada", note: "changed", when: 0, does: "change",
                   shared: false, lost: null};
   const mine = ada([[1200, 2400, null]]);
@@ -197,7 +197,7 @@ test("the list names who undid or redid a change, each with its own word", () =>
   assert.deepEqual(metas("redo"), ["you; redone by Ben", "Ada; redone by you"]);
 });
 
-test("an operation has one time at all seats", () => {
+test("an operation has the same time at all seats", () => {
   const when = 1_767_225_600;
   const late = ada([[1200, 2400, null]], {operations: [{...ada([]).operations[0], when}]});
   const [own, others] = [ADA, BEN].map((number) => listChanges(road(late), number)[0].meta);
@@ -205,7 +205,7 @@ test("an operation has one time at all seats", () => {
   assert.match(own, /\d:\d\d/);
 });
 
-test("edits that were changed have one line: that of the shape in their place", () => {
+test("raw edits that a shape has replaced have one line, that of the shape", () => {
   const edits = {...ada([]), standing: false, shape: null};
   const done = {stamp: [9, ADA], who: "Ada", note: "", when: 0, does: "put", shared: false,
                 lost: null};
@@ -214,7 +214,7 @@ test("edits that were changed have one line: that of the shape in their place", 
   assert.deepEqual(listChanges(road(edits, shape), ADA).map(({change: {name}}) => name), [nameOf(9, ADA)]);
 });
 
-test("all that was done is listed, withdrawals too", () => {
+test("the history lists all operations, withdrawals too", () => {
   const withdrawn = {...ben([]), standing: false, shape: null, note: "81 km/h"};
   withdrawn.operations = [...withdrawn.operations,
     {stamp: [6, ADA], who: "Ada", note: "Withdrew: 81 km/h", when: 0, does: "withdraw",
@@ -232,7 +232,7 @@ test("the list names who won at the same time, until the change is put again", (
     {stamp: [5, 67], who: "Cleo", note: "", when: 0, does: "withdraw", shared: true, lost: null}];
   Object.assign(mine, {standing: false, shape: null});
   const [one] = listChanges(road(mine), BEN);
-  assert.equal(one.lost, "Cleo withdrew it at the same time, and that counts.");
+  assert.equal(one.lost, "Cleo withdrew it at the same time, and that takes precedence.");
   assert.deepEqual(lostOf(decodeChange(mine), BEN).mine.stamp, nameOf(5, BEN));
   assert.equal(lostOf(decodeChange(mine), ADA), null);
   mine.operations.push({stamp: [6, BEN], who: "Ben", note: "", when: 0, does: "put", shared: true,
@@ -240,7 +240,7 @@ test("the list names who won at the same time, until the change is put again", (
   assert.equal(lostOf(decodeChange(mine), BEN), null);
 });
 
-test("before it is done it is said what would be covered, and what would be in force again", () => {
+test("a preview says what would be covered, and what would be in force again", () => {
   const was = [["limit", 4, 5, 1200, 2400, 2, null]];
   const layers = road().with([{...ada(COVERED), was}, {...ben([[1500, 1800, null]]), was: null}]
     .map(decodeChange));
@@ -255,7 +255,7 @@ test("before it is done it is said what would be covered, and what would be in f
   assert.deepEqual(affectedBy([{...ada([]), shown: was, was}]), []);
 });
 
-test("what is to be shared and what is to be taken is listed newest first", () => {
+test("changes to share and changes to take are listed newest first", () => {
   const made = [3, 1, 2].map((count) => line([count, BEN], "Ben", BS, [[1500, 1800, null]]));
   const own = made.map((one) => ({...one, operations: [{...one.operations[0], shared: false}]}));
   const [mine, shared] = [road(...own), road(...made)];
@@ -266,7 +266,7 @@ test("what is to be shared and what is to be taken is listed newest first", () =
   assert.deepEqual(counts(untaken()), [3, 2, 1]);
 });
 
-test("a change that is lost when it is taken is described as it was, with who won", () => {
+test("a change that would have no effect when taken is described as it was, with who won", () => {
   const [put] = ada([]).operations;
   const theirs = {...put, stamp: [5, BEN], who: "Ben", does: "change", lost: [6, ADA], shape: BS};
   const mine = {...put, stamp: [6, ADA], does: "change", shared: false};
@@ -275,7 +275,7 @@ test("a change that is lost when it is taken is described as it was, with who wo
   const [, ben, own] = then.operations;
   const said = (number, ...fresh) => new Words(layers, number).losing(then, fresh);
   assert.deepEqual(said(ADA, ben), ["81 km/h, 1.5\u20132.25 km, 0:25:00\u20130:30:00",
-    "Ben: no effect, you changed it at the same time, and that counts"]);
+    "Ben: no effect, you changed it at the same time, and that takes precedence"]);
   assert.match(said(67, ben)[1], /no effect, Ada changed it/);
   assert.deepEqual([said(ADA, own), said(ADA)], [null, null]);
 });

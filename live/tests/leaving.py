@@ -1,4 +1,5 @@
-"""Test excluding a site: its changes, past and future, are ignored for all, whoever excludes it, and come back."""
+"""Test excluding a site: its past and future changes are ignored at all sites, whoever excludes it, and come back when it is
+included."""
 from __future__ import annotations
 
 import contextlib
@@ -14,7 +15,7 @@ from running import ALL, SMALL, Case
 from server import stamps
 from server.refusals import Refused
 from server.model.operations import Operation, Shape, exclude, put
-from server.model.projection import timeline
+from server.model.projection import all_edits
 from server.screen import rows_of
 from server.state import State
 from server.records import read_plan_line
@@ -86,19 +87,19 @@ class LeftOut(Case):
         await self.everywhere(self.road(limit, *closure))
 
         said = await self.here[1].ask(1, "site", key="out", site=3, out=True)
-        self.assertEqual(await self.rows(self.here[1], "seat1"), self.road(limit))  # private at first
+        self.assertEqual(await self.rows(self.here[1], "seat1"), self.road(limit))  # the exclusion is private at first
         await self.everywhere(self.road(limit, *closure))
         await self.share(1)
         await self.everywhere(self.road(limit))
 
-        await self.shape(2, "block", 80, 80, 10, None, 1)  # what it sends from then on
+        await self.shape(2, "block", 80, 80, 10, None, 1)  # what the excluded site sends from then on
         stamp_of_3 = stamps.next_count(0, stamps.milliseconds(), 0), 3 * 64
         await self.bus.give(self.sites[0], message_of(self.sites[0], put(stamp_of_3, Shape("block", 20, 20, 5, None, 1))))
         await self.bus.rounds(4)
         await self.everywhere(self.road(limit))
         key, = self.here[1].keys.values()
         await self.here[1].keeper.close()
-        again = await self.enterAsyncContext(Here(self.here[1].folder))  # so by its journal
+        again = await self.enterAsyncContext(Here(self.here[1].folder))  # as its journal says
         self.assertEqual(await self.rows(again), self.road(limit))
         await again.keeper.close()
         self.here[1] = await self.enterAsyncContext(Here(self.here[1].folder))
@@ -115,7 +116,7 @@ class LeftOut(Case):
         await self.everywhere(self.road(limit, later, extra))
 
     async def test_a_seat_that_excluded_a_site_has_the_road_without_it_after_a_restart(self) -> None:
-        """The seat took that site's changes, and not yet the exclusion on the shared road."""
+        """The seat took that site's changes, but has not yet taken the exclusion that is on the shared road."""
         await self.shape(2, "block", 52, 53, 30, 45, 1)
         await self.here[1].take(1)
         await self.here[1].ask(1, "site", key="out", site=3, out=True)
@@ -128,7 +129,7 @@ class LeftOut(Case):
             self.assertEqual(await self.rows(here), rows, f"site {place}")
 
     async def test_random_histories_give_the_road_of_the_active_shapes(self) -> None:
-        """All sites have the same road, whoever is excluded when, and in whatever order messages arrive."""
+        """All sites have the same road, whichever site is excluded and when, and in whatever order messages arrive."""
         for seed in range(24 if ALL else 8):
             chance = random.Random(seed)
             for number in range(24):
@@ -158,7 +159,7 @@ class LeftOut(Case):
         for entry in here.entries():
             state.read(entry)
         for seat in (state.shared, state.seats[1]):
-            self.assertEqual(closed(rows_of(timeline(seat.road))), by_shapes(seat.places), f"{what} {seat.at}")
+            self.assertEqual(closed(rows_of(all_edits(seat.road))), by_shapes(seat.places), f"{what} {seat.at}")
 
     async def act(self, here: Here, chance: random.Random, key: str) -> None:
         what, first, begin = chance.random(), chance.choice(CELLS), chance.choice(STEPS)
@@ -181,7 +182,7 @@ class LeftOut(Case):
         reply = await here.keeper.ask(0, (0,), lambda: here.keeper.say(b'{"scenario":{"at":"shared"}}', {}))
         return closed(json.loads(reply)["edits"])
 
-    async def test_the_excluded_site_warns_its_users_and_goes_on(self) -> None:
+    async def test_an_excluded_site_warns_its_users_and_goes_on_working(self) -> None:
         await self.shape(2, "block", 60, 60, 30, None, 1)
         await self.here[2].ask(1, "gesture", key="private", note="", shape=["limit", 1, 1, 20, None, 2])
         await self.here[0].ask(1, "site", key="out", site=3, out=True)
@@ -217,8 +218,8 @@ class LeftOut(Case):
             await self.bus.give(self.sites[0], Message(f"road/{self.sites[0]._road}/operations", body))
             self.assertNotIn((9, 70), self.here[0].lab.state.by_stamp)
 
-    async def test_all_sites_choose_the_same_of_two_twins(self) -> None:
-        """One twin excludes a site, the other includes it; they arrive in either order."""
+    async def test_all_sites_choose_the_same_one_of_two_twins(self) -> None:
+        """One twin excludes a site, and the other includes it. They arrive in either order."""
         await self.shape(2, "block", 60, 60, 30, None, 1)
         stamp = [stamps.next_count(0, stamps.milliseconds(), 0), 70 * 64 + 1]
         twins = [message_of(self.sites[0], exclude((stamp[0], stamp[1]), 3, out)) for out in (True, False)]
@@ -229,5 +230,5 @@ class LeftOut(Case):
         roads = [await self.rows(here) for here in self.here]
         self.assertEqual(roads, [roads[0]] * 3)
         self.bus.seen.clear()
-        await self.bus.rounds(3)  # and there is silence
+        await self.bus.rounds(3)  # and no more messages are sent
         self.assertEqual([one for one in self.bus.seen if one.topic.endswith("operations")], [])

@@ -1,4 +1,4 @@
-"""Test surprising cases of the model. A rule decides each case, and gives it its name."""
+"""Test surprising cases of the model. Each test is named after the rule that decides its case."""
 from __future__ import annotations
 
 import itertools
@@ -9,9 +9,9 @@ from painted import EMPTY
 from working import takes_at_most
 from server.model import changes, choices, seen
 from server.model.operations import About, Json, Operation, Shape, Stamp, edit, exclude, lift, put, undo
-from server.model.projection import difference, timeline
+from server.model.projection import difference, all_edits
 from server.model.reading import Malformed, read_operation
-from server.model.road import Road, change, repeat, stands
+from server.model.road import Road, change, repeat, is_standing
 
 ADA, BEN, CLEO = 65, 129, 193
 SHAPE, LONGER, WIDE = Shape("block", 2, 4, 5, 15, 1), Shape("block", 2, 4, 5, 25, 1), Shape("block", 1, 6, 5, 15, 1)
@@ -40,7 +40,7 @@ class Cases(unittest.TestCase):
             bens = change(BASE, (changed, BEN), LINE, LONGER)
             road = in_every_order([CLOSURE, withdrawal, back, bens])
             self.assertEqual(road.layers, BASE.adding([bens]).layers)
-            self.assertEqual(seen.lost(road, LINE), {})
+            self.assertEqual(seen.find_overruled(road, LINE), {})
 
     def test_a_private_undone_pair_is_not_shared_and_has_no_effect(self) -> None:
         withdrawal = change(BASE, (2, ADA), LINE, None)
@@ -58,7 +58,7 @@ class Cases(unittest.TestCase):
         bens = change(BASE, (2, BEN), LINE, LONGER)
         road = BASE.adding([bens])
         self.assertFalse(choices.would_change(road, CLOSURE))
-        self.assertEqual(choices.overruling(road, CLOSURE), [bens])
+        self.assertEqual(choices.find_overruling(road, CLOSURE), [bens])
         self.assertEqual(road.layers, road.adding([undo((3, ADA), CLOSURE)]).layers)
 
     def test_a_change_that_is_undone_while_another_builds_on_it_leaves_his_shape(self) -> None:
@@ -66,19 +66,19 @@ class Cases(unittest.TestCase):
         taken, on_it = undo((3, ADA), adas), change(BASE.adding([adas]), (4, BEN), LINE, SHAPE)
         road = in_every_order([CLOSURE, adas, taken, on_it])
         self.assertEqual(road.layers[LINE].end, 15)
-        self.assertEqual(seen.lost(road, LINE), {taken: on_it})
+        self.assertEqual(seen.find_overruled(road, LINE), {taken: on_it})
 
     def test_one_of_two_changes_at_once_wins_and_its_undo_shows_the_other(self) -> None:
         adas, bens = change(BASE, (2, ADA), LINE, WIDE), change(BASE, (2, BEN), LINE, LONGER)
         road = in_every_order([CLOSURE, adas, bens])
-        self.assertEqual((seen.lost(road, LINE), road.layers[LINE].end), ({adas: bens}, 25))
+        self.assertEqual((seen.find_overruled(road, LINE), road.layers[LINE].end), ({adas: bens}, 25))
         self.assertEqual(road.adding([undo((3, BEN), bens)]).layers, BASE.adding([adas]).layers)
 
-    def test_a_change_and_a_lift_at_once_both_take_effect(self) -> None:
+    def test_a_change_and_put_on_top_at_once_both_take_effect(self) -> None:
         bens, adas = change(BASE, (2, BEN), LINE, LONGER), lift((2, ADA), LINE)
         road = in_every_order([CLOSURE, bens, adas])
         self.assertEqual((road.layers[LINE].end, road.layers[LINE].height), (25, (2, ADA)))
-        self.assertEqual(seen.lost(road, LINE), {})
+        self.assertEqual(seen.find_overruled(road, LINE), {})
 
     def test_z_goes_back_and_redo_goes_forward(self) -> None:
         road, past = BASE, [{}, BASE.layers]
@@ -87,16 +87,16 @@ class Cases(unittest.TestCase):
             past.append(road.layers)
         for count in range(5, 9):
             past.pop()
-            undone = choices.undoable(road, ADA).undo
+            undone = choices.find_undoable(road, ADA).undo
             assert undone is not None
             road = road.adding([undo((count, ADA), undone)])
             self.assertEqual(road.layers, past[-1])
-        self.assertIsNone(choices.undoable(road, ADA).undo)
+        self.assertIsNone(choices.find_undoable(road, ADA).undo)
         for count in range(9, 13):
-            redone = choices.undoable(road, ADA).redo
+            redone = choices.find_undoable(road, ADA).redo
             assert redone is not None
             road = road.adding([undo((count, ADA), redone)])
-        self.assertIsNone(choices.undoable(road, ADA).redo)
+        self.assertIsNone(choices.find_undoable(road, ADA).redo)
         self.assertEqual((road.layers[LINE].first, road.layers[LINE].last), (1, 6))
 
     def test_z_names_who_has_changed_the_last_own_change(self) -> None:
@@ -105,33 +105,33 @@ class Cases(unittest.TestCase):
         first, bens = change(BASE, (2, ADA), LINE, LONGER), None
         road = BASE.adding([first, other])
         bens = change(road, (3, BEN), LINE, SHAPE)
-        found = choices.undoable(road.adding([bens]), ADA)
+        found = choices.find_undoable(road.adding([bens]), ADA)
         self.assertEqual((found.undo, found.blocked), (None, [first, CLOSURE]))
-        self.assertEqual(choices.overruling(road.adding([bens]), first), [bens])
+        self.assertEqual(choices.find_overruling(road.adding([bens]), first), [bens])
 
-    def test_z_where_an_older_change_by_another_lies_between(self) -> None:
-        """Z restores the other's shape, which is not undone."""
+    def test_z_does_not_undo_an_older_change_by_somebody_else(self) -> None:
+        """Z restores the shape of the other's change, which is not undone itself."""
         bens = change(BASE, (2, BEN), LINE, WIDE)
         last = change(BASE, (3, ADA), LINE, LONGER)
         road = BASE.adding([last, bens])
-        self.assertEqual(choices.undoable(road, ADA).undo, last)
+        self.assertEqual(choices.find_undoable(road, ADA).undo, last)
         road = road.adding([undo((4, ADA), last)])
         self.assertEqual(road.layers, BASE.adding([bens]).layers)
-        self.assertEqual((choices.undoable(road, ADA).undo, choices.undoable(road, ADA).blocked), (None, [CLOSURE]))
+        self.assertEqual((choices.find_undoable(road, ADA).undo, choices.find_undoable(road, ADA).blocked), (None, [CLOSURE]))
 
     def test_two_who_undo_one_operation_must_both_redo(self) -> None:
         adas, bens = undo((2, ADA), CLOSURE), undo((2, BEN), CLOSURE)
         road = BASE.adding([adas, bens])
-        self.assertIsNone(choices.undoable(road, ADA).redo)
+        self.assertIsNone(choices.find_undoable(road, ADA).redo)
         road = road.adding([undo((3, BEN), bens)])
-        self.assertEqual((road.layers, choices.undoable(road, ADA).redo), ({}, adas))
+        self.assertEqual((road.layers, choices.find_undoable(road, ADA).redo), ({}, adas))
 
-    def test_two_withdraw_at_once_and_one_undoes_it(self) -> None:
+    def test_of_two_withdrawals_at_once_undoing_one_restores_nothing(self) -> None:
         """The closure stays withdrawn, since the other withdrawal is still active; Z says so."""
         adas, bens = change(BASE, (2, ADA), LINE, None), change(BASE, (2, BEN), LINE, None)
         road = in_every_order([CLOSURE, adas, bens])
-        self.assertEqual(seen.lost(road, LINE), {adas: bens})
-        self.assertEqual(choices.undoable(road, ADA).blocked, [adas, CLOSURE])
+        self.assertEqual(seen.find_overruled(road, LINE), {adas: bens})
+        self.assertEqual(choices.find_undoable(road, ADA).blocked, [adas, CLOSURE])
         self.assertEqual(road.adding([undo((3, ADA), adas)]).layers, {})
 
     def test_a_late_undo_of_an_old_operation_changes_the_old_road(self) -> None:
@@ -167,7 +167,7 @@ class Cases(unittest.TestCase):
         self.assertEqual(choices.sendable(road, BASE, ADA), [change_of_it])
         self.assertEqual(BASE.adding([change_of_it]).layers, road.layers)
 
-    def test_a_very_long_chain_of_undos_and_twins(self) -> None:
+    def test_a_very_long_chain_of_undos_is_worked_out_and_twins_have_one_winner(self) -> None:
         chain = [CLOSURE]
         for count in range(2, 5_002):
             chain.append(undo((count, ADA), chain[-1]))
@@ -184,9 +184,9 @@ class Cases(unittest.TestCase):
     def test_a_line_that_was_changed_very_often_is_shown_just_as_fast(self) -> None:
         many = [Operation((count, ADA), {LINE: LONGER}, seen=(count - 1, ADA)) for count in range(2, 20_002)]
         with takes_at_most(5):
-            self.assertEqual(seen.lost(BASE.adding(many), LINE), {})
+            self.assertEqual(seen.find_overruled(BASE.adding(many), LINE), {})
 
-    def test_only_what_a_step_changed_is_compared(self) -> None:
+    def test_the_difference_of_two_roads_is_that_of_all_their_operations(self) -> None:
         road = BASE.adding([put((2, ADA), WIDE)])
         self.assertEqual(difference(BASE, road), difference(BASE, EMPTY.adding(road.record.operations())))
         self.assertEqual(difference(road, road), {})
@@ -205,7 +205,7 @@ class Exclusions(unittest.TestCase):
         self.assertEqual(road.adding([undo((3, CLEO), out)]).record.excluded, {2})
         self.assertEqual(road.adding([exclude((3, CLEO), 2, False)]).layers.keys(), {(1, BEN)})
 
-    def test_an_exclusion_by_an_excluded_site_that_arrives_after_its_undo(self) -> None:
+    def test_an_exclusion_may_arrive_after_its_undo(self) -> None:
         late = exclude((2, BEN), 1, True)
         some = [undo((3, BEN), late), exclude((4, CLEO), 2, True)]
         self.assertEqual(EMPTY.adding(some).adding([late]).record.excluded, EMPTY.adding([late, *some]).record.excluded)
@@ -215,7 +215,7 @@ class Exclusions(unittest.TestCase):
         road = in_every_order([exclude((2, ADA), 2, True), exclude((3, BEN), 1, True), CLOSURE])
         self.assertEqual(road.record.excluded, {2})
 
-    def test_very_many_exclusions_are_soon_worked_out(self) -> None:
+    def test_very_many_exclusions_are_worked_out_quickly(self) -> None:
         road = EMPTY
         flips = [exclude((count, ADA), 2, count % 2 == 0) for count in range(2, 2_002)]
         with takes_at_most(5):
@@ -225,7 +225,7 @@ class Exclusions(unittest.TestCase):
 
 
 class Raw(unittest.TestCase):
-    """A line of raw edits is one line, whatever is done to it."""
+    """Raw edits that were made together are one line of the list, whatever is done to it."""
 
     VALUES = {("block", cell, step): value for cell in (3, 4) for step, value in ((5, 1), (15, 0))}
 
@@ -238,14 +238,14 @@ class Raw(unittest.TestCase):
         adas, bens = (change(self.base, (2, number), self.line, shape) for number, shape in ((ADA, WIDE), (BEN, LONGER)))
         road = in_every_order([self.edits, adas, bens])
         self.assertEqual(road.layers.keys(), {self.line})
-        self.assertEqual((road.layers[self.line].end, seen.lost(road, self.line)), (25, {adas: bens}))
+        self.assertEqual((road.layers[self.line].end, seen.find_overruled(road, self.line)), (25, {adas: bens}))
 
     def test_a_change_does_not_beat_a_later_withdrawal(self) -> None:
         adas, bens = change(self.base, (2, ADA), self.line, WIDE), change(self.base, (3, BEN), self.line, None)
         road = in_every_order([self.edits, adas, bens])
-        self.assertEqual((road.layers, seen.lost(road, self.line)), ({}, {adas: bens}))
+        self.assertEqual((road.layers, seen.find_overruled(road, self.line)), ({}, {adas: bens}))
 
-    def test_one_who_drags_twice_before_the_first_is_confirmed_gets_one_shape(self) -> None:
+    def test_two_drags_before_the_first_is_confirmed_give_one_shape(self) -> None:
         first = change(self.base, (2, ADA), self.line, WIDE)
         second = change(self.base.adding([first]), (3, ADA), self.line, LONGER)
         road = self.base.adding([first, second])
@@ -255,19 +255,19 @@ class Raw(unittest.TestCase):
         back = road.adding([undo((4, ADA), second), undo((5, ADA), first)])
         self.assertEqual(back.layers, self.base.layers)
 
-    def test_they_are_lifted_and_stay_one_line(self) -> None:
+    def test_raw_edits_that_are_put_on_top_stay_one_line(self) -> None:
         lid = put((2, BEN), Shape("block", 0, 9, 0, None, 0))
         road = self.base.adding([lid, lift((3, ADA), self.line)])
         self.assertEqual({layer.height for name, layer in road.layers.items() if name != lid.stamp}, {(3, ADA)})
         self.assertEqual(changes.all_lines(road), {self.line, lid.stamp})
-        self.assertEqual([one[:6] for one in seen.shown(road, self.line)],
+        self.assertEqual([one[:6] for one in seen.visible_rectangles(road, self.line)],
                          [("block", 3, 4, 5, 15, 1), ("block", 3, 4, 15, None, 0)])
 
-    def test_both_withdrawals_at_once_are_in_the_line(self) -> None:
+    def test_the_line_has_both_of_two_withdrawals_at_once(self) -> None:
         adas, bens = (change(self.base, (2, number), self.line, None) for number in (ADA, BEN))
         road = in_every_order([self.edits, adas, bens])
         self.assertEqual(changes.operations_on(road, self.line), [self.edits, adas, bens])
-        self.assertFalse(stands(road, self.line))
+        self.assertFalse(is_standing(road, self.line))
 
     def test_a_withdrawal_of_one_step_belongs_to_the_line_of_what_it_withdraws(self) -> None:
         one = edit((2, BEN), {("block", 3, 5): None})
@@ -281,18 +281,18 @@ class Raw(unittest.TestCase):
         self.assertEqual(changes.lines_of(road, bens), {self.line, bens.stamp})
         self.assertEqual(changes.operations_on(road, self.line), [self.edits, bens])
 
-    def test_an_act_on_an_empty_line(self) -> None:
-        """Others' raw edits have replaced all of it: a change puts a shape on top, and *put on top* changes nothing."""
+    def test_a_line_whose_edits_were_all_replaced_can_be_changed(self) -> None:
+        """Others' raw edits have replaced all of its edits. Changing it puts a shape on top, and *put on top* changes nothing."""
         others = edit((2, BEN), {**self.VALUES})
         road = self.base.adding([others])
-        self.assertFalse(stands(road, self.line))
+        self.assertFalse(is_standing(road, self.line))
         self.assertEqual(road.adding([lift((3, ADA), self.line)]).layers, road.layers)
         changed = road.adding([change(road, (3, ADA), self.line, WIDE)])
         self.assertEqual(changed.layers[self.line].height, (3, ADA))
         self.assertEqual(len(changed.layers), 5)
 
     def test_repeated_raw_edits_take_the_place_of_their_shape(self) -> None:
-        """Also if somebody withdraws the shape, or gives the line another one, at the same time."""
+        """They do so even if somebody gives the line another shape at the same time."""
         changed = change(self.base, (2, BEN), self.line, WIDE)
         road = self.base.adding([changed])
         again = repeat(road, (4, ADA), self.edits)
@@ -309,7 +309,7 @@ class Raw(unittest.TestCase):
         shape = change(road, (3, ADA), self.line, Shape("limit", 1, 2, 5, 25, 3))
         road = road.adding([shape, undo((4, BEN), bens)])
         self.assertEqual(road.layers.keys(), {self.line, ("block", 3, 5)})
-        self.assertEqual([one[:6] for one in seen.shown(road, self.line)],
+        self.assertEqual([one[:6] for one in seen.visible_rectangles(road, self.line)],
                          [("limit", 1, 2, 5, 25, 3), ("block", 3, 3, 5, None, 1)])
 
     def test_the_largest_line_can_be_dragged(self) -> None:
@@ -324,23 +324,23 @@ class Raw(unittest.TestCase):
 
 
 class Lists(unittest.TestCase):
-    def test_a_line_is_listed_again_when_its_cover_goes_by_a_change_that_was_never_taken(self) -> None:
+    def test_a_line_is_listed_again_when_a_change_of_its_cover_uncovers_it(self) -> None:
         """A puts P on top and shares; B, who has not taken that, withdraws P and shares: Q is no longer covered."""
         below, above = put((1, ADA), SHAPE), put((2, ADA), WIDE)
         base = EMPTY.adding([below, above])
         lifted, withdrawn = lift((3, ADA), above.stamp), change(base, (3, BEN), above.stamp, None)
         road = base.adding([lifted])
-        self.assertEqual([one.by for one in seen.shown(road, below.stamp)], [above.stamp])
+        self.assertEqual([one.by for one in seen.visible_rectangles(road, below.stamp)], [above.stamp])
         then = road.adding([withdrawn])
-        self.assertIn(below.stamp, changes.altered(road, then))
-        self.assertEqual([one.by for one in seen.shown(then, below.stamp)], [None])
+        self.assertIn(below.stamp, changes.find_altered_lines(road, then))
+        self.assertEqual([one.by for one in seen.visible_rectangles(then, below.stamp)], [None])
 
-    def test_who_puts_the_same_raw_edits_very_often_keeps_nobody_waiting(self) -> None:
+    def test_putting_the_same_raw_edits_very_often_keeps_nobody_waiting(self) -> None:
         road = EMPTY
         for count in range(1, 42):
             before, road = road, road.adding([edit((count, ADA), {("block", cell, 5): count % 2 for cell in range(1_200)})])
         with takes_at_most(0.1):
-            self.assertEqual(changes.altered(before, road), {(40, ADA), (41, ADA)})
+            self.assertEqual(changes.find_altered_lines(before, road), {(40, ADA), (41, ADA)})
 
     def test_an_undo_of_twins_belongs_to_the_lines_of_both(self) -> None:
         first, second = put((1, ADA), SHAPE), put((2, ADA), WIDE)
@@ -348,21 +348,21 @@ class Lists(unittest.TestCase):
         twins = [change(base, (3, ADA), one.stamp, LONGER) for one in (first, second)]
         road = base.adding(twins)
         back = undo((4, BEN), twins[0])
-        self.assertEqual(changes.altered(road, road.adding([back])), {first.stamp, second.stamp})
+        self.assertEqual(changes.find_altered_lines(road, road.adding([back])), {first.stamp, second.stamp})
         self.assertEqual(changes.lines_of(road.adding([back]), back), {first.stamp, second.stamp})
 
     def test_an_older_exclusion_of_a_site_renames_its_line(self) -> None:
-        """The line loses its old name."""
+        """The line of the site is named after the older exclusion, and no longer after the newer one."""
         before = EMPTY.adding([exclude((8, ADA), 2, False)])
         older = exclude((4, CLEO), 2, False)
         after = before.adding([older])
         self.assertEqual((changes.all_lines(before), changes.all_lines(after)), ({(8, ADA)}, {(4, CLEO)}))
-        self.assertEqual(changes.altered(before, after), {(8, ADA), (4, CLEO)})
+        self.assertEqual(changes.find_altered_lines(before, after), {(8, ADA), (4, CLEO)})
         self.assertEqual(changes.operations_on(after, (8, ADA)), [])
 
 
 class Reading(unittest.TestCase):
-    """Written operations are read, and all else is refused with a sentence."""
+    """Written operations are read, and everything else is refused with a sentence."""
 
     def some(self) -> list[Operation]:
         return [CLOSURE, change(BASE, (2, ADA), LINE, None), lift((3, ADA), LINE), undo((4, BEN), CLOSURE),
@@ -379,10 +379,10 @@ class Reading(unittest.TestCase):
         one = read_operation({**value, "colour": "red"})
         self.assertEqual(one.written()["colour"], "red")
         self.assertFalse(one.is_same(CLOSURE))
-        with self.assertRaisesRegex(Malformed, "more than 1000 bytes"):
+        with self.assertRaisesRegex(Malformed, "at most 1000 bytes"):
             read_operation({**value, "colour": "r" * 1_000})
 
-    def test_whatever_is_changed_in_one_is_read_or_refused(self) -> None:
+    def test_a_changed_operation_is_read_or_refused_whatever_was_changed(self) -> None:
         strange: list[Json] = [None, True, -1, 1 << 60, "x", "x" * 300, [], [1], {}, 0.5, [[1, 2], 3], [[1, ADA], "x"]]
         for one in self.some():
             value = json.loads(json.dumps(one.written()))
@@ -393,13 +393,13 @@ class Reading(unittest.TestCase):
                     except Malformed as fault:
                         self.assertTrue(str(fault))
                     else:
-                        timeline(EMPTY.adding([found]) if name == "who" else EMPTY)
+                        all_edits(EMPTY.adding([found]) if name == "who" else EMPTY)
 
     def test_an_operation_refers_only_to_older_ones(self) -> None:
         cases: list[dict[str, Json]] = [
             {"undoes": [2, ADA]}, {"seen": [3, ADA]}, {"heights": [[[1, ADA], [3, ADA]]]}, {"sets": [[[3, ADA], None]]}]
         for more in cases:
-            with self.assertRaisesRegex(Malformed, "older ones"):
+            with self.assertRaisesRegex(Malformed, "older operations"):
                 read_operation({"stamp": [2, ADA], **more})
 
     def test_an_operation_without_effect_is_refused(self) -> None:

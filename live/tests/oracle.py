@@ -1,8 +1,8 @@
-"""Paint what operations mean, object by object and step by step: from their definition alone, without the model.
+"""Compute what operations mean, object by object and step by step: from their definition alone, without the model.
 
     oracle = Oracle({"limit": 3, ..}, plan, last)     how many objects there are, their values by the plan, how many steps
     oracle.painted(operations)                        the value of each object at each step
-    oracle.by_the_program(edits)                      the same by the program's rule for edits
+    oracle.by_the_program(edits)                      the same values, by the program's rule for edits
 """
 from __future__ import annotations
 
@@ -63,7 +63,8 @@ class Oracle:
         self.there, self.plan, self.last = there, plan, last
 
     def tops(self, held: Iterable[Operation]) -> dict[tuple[str, int], list[tuple[Any, Any]]]:
-        """Return for each object and step the value and the line of the topmost layer; (None, None): the plan's value."""
+        """Return, for each object and step, the value and the line of the topmost layer; (None, None) if the plan's value
+        applies."""
         shapes: dict[Any, Shape | None] = {}
         lines: dict[Any, Stamp] = {}
         heights: dict[Any, Stamp] = {}
@@ -94,7 +95,7 @@ class Oracle:
                             for thing, line in self.tops(held).items()})
 
     def by_the_program(self, edits: dict[tuple[str, int], dict[int, tuple[int, Any]]]) -> Values:
-        """Return the values by the program's rule: at each step the last value that was not withdrawn."""
+        """Return the values by the program's rule: at each step that of the latest edit that is not withdrawn."""
         found: Values = {}
         for kind, many in self.there.items():
             for index in range(many):

@@ -20,7 +20,7 @@ LONG: dict[str, Any] = {**SMALL, "length": 2_000, "zone": 1_000, "zones": [[5, 6
 
 
 def marked(mark: str) -> set[int]:
-    """Return the running processes that have a mark among their environment variables."""
+    """Return the running processes whose environment has a mark."""
     found = set()
     for path in Path("/proc").glob("[0-9]*"):
         with contextlib.suppress(OSError):
@@ -61,7 +61,7 @@ class Orphans(Case):
             await until(lambda: self.are(8), "all is under way")
             await asyncio.sleep(0.5)
             for process in descendants(self.a6.process.pid):
-                # A younger one may not have asked the kernel yet to end it with the server.
+                # A younger process may not yet have asked the kernel to end it with the server.
                 if age_of(process) > 0.3:
                     os.kill(process, signal.SIGSTOP)
             self.a6.process.send_signal(by)

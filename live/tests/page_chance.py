@@ -1,4 +1,5 @@
-"""Is it the change, or chance? Two browsers that ask over many days: 3 here, 20 without the setting."""
+"""Test comparisons over many days in two browsers: is a difference due to the change, or to chance? Here they have 3 days instead
+of 20."""
 from __future__ import annotations
 
 import contextlib
@@ -7,19 +8,19 @@ import subprocess
 from typing import Any
 from unittest import mock
 
-from browsers import FREE_ROAD, TOP, BrowserCase, Tab, before_rows
+from browsers import FREE_ROAD, TOP, BrowserCase, Tab, preview_rows
 from chances import PROGRAM_OF_DAYS
 from running import new_folder, program
 
-# 1.5 km, a car in some three steps, drivers who dawdle by a seed.
+# 1.5 km, with a car in some three steps, and drivers who are slowed at random, by a seed.
 SEEDED = {**FREE_ROAD, "length": 200, "zone": 200, "words": 1, "zones": [[3, 6_554]], "inlets": [[0, 30_000]]}
 
 
 def over_days(tab: Tab, within: str) -> dict[str, list[str]]:
-    """Return the table over many days, once it is there: each cell with its small line."""
+    """Return the table over many days, once it is there: each cell with its interval."""
     def is_there() -> bool:
         return bool(tab.script("return document.querySelector(`${arguments[0]} .over`) !== null", within))
-    for _ in range(3):  # what is nice comes late where the machine has other work
+    for _ in range(3):  # programs of low priority are late if the machine has other work
         with contextlib.suppress(AssertionError):
             tab.until(is_there, "the days")
             break
@@ -51,9 +52,9 @@ class TwoTabs(BrowserCase):
 
     def closed(self, tab: Tab) -> None:
         tab.tool("block")
-        tab.in_figures(kmFrom="0.18", kmTo="0.19", timeFrom="0:05", timeTo="0:07")
+        tab.type_and_apply(kmFrom="0.18", kmTo="0.19", timeFrom="0:05", timeTo="0:07")
 
-    def test_mine_against_shared_and_the_preview(self) -> None:
+    def test_many_days_compare_mine_with_shared_and_a_preview(self) -> None:
         ada, _ = self.over_three(SEEDED)
         self.run_a_quarter(ada)
         self.closed(ada)
@@ -63,7 +64,7 @@ class TwoTabs(BrowserCase):
         self.assertFalse(ada.part("oneDay").is_displayed())
         self.assertEqual(list(found), ["Vehicle hours", "Lost demand, cars", "Delay, vehicle hours", "Cars at 0.21 km",
                                        "Seconds to the road's end"])
-        # Below the cars stand their seconds from the inlet, with their interval.
+        # Below the cars is their travel time from the inlet, with its interval.
         trips = ada.script("return [...document.querySelectorAll('#over tbody .seconds')].map((one) => one.textContent)")
         self.assertEqual(len(trips), 3)
         for trip in trips:
@@ -71,25 +72,25 @@ class TwoTabs(BrowserCase):
         self.assertIn("Over 3 days, 0:00:00 to 0:15:00", ada.text("over"))
         mine, shared, more = map(numbers, found["Vehicle hours"])
         self.assertAlmostEqual(more[0], mine[0] - shared[0], delta=0.11)
-        # Some 0.4 cars come in a second: in two minutes 50, but those that stand before it.
+        # Some 0.4 cars arrive in a second, 50 in two minutes, apart from those that fit into the queue.
         lost = numbers(found["Lost demand, cars"][2])
         self.assertTrue(5 < lost[0] < 60 and lost[1] < lost[0], lost)
-        # Both roads have the drivers of a day, so the difference is far surer than either.
+        # Both roads have the same drivers on a day, so the interval of the difference is far narrower than theirs.
         self.assertLess(numbers(found["Cars at 0.21 km"][2])[1], numbers(found["Cars at 0.21 km"][1])[1])
         ada.press("Share…: Closed")
-        before_rows(ada)
+        preview_rows(ada)
         ada.press("Over 3 days", "#preview")
         before = over_days(ada, "#preview")
         self.assertEqual(before["Vehicle hours"], [found["Vehicle hours"][place] for place in (1, 0, 2)])
         ada.press("One day", "#preview")
         self.assertTrue(ada.part("previewFigures").is_displayed())
         ada.press("Not now")
-        self.closed(ada)  # another road: the answer was of the one before
+        self.closed(ada)  # the road changes, so the answer is out of date
         ada.until(lambda: ada.part("oneDay").is_displayed(), "one day")
         self.assertEqual(ada.lines("own"), ["Closed 0.18–0.188 km, 0:05:00–0:07:00 private"] * 2)
 
-    def test_it_can_be_stopped_and_a_refusal_names_who_asks(self) -> None:
-        """Stop many days while the third waits for a file to go."""
+    def test_a_comparison_can_be_stopped_and_a_refusal_names_who_asks(self) -> None:
+        """Stop the comparison while its third day waits for a file to be removed."""
         folder = new_folder()
         path, file = folder / "road_lab", folder / "wait"
         path.write_text("#!/bin/sh\n" + PROGRAM_OF_DAYS.format(days=2, program=program()).replace(
@@ -130,7 +131,7 @@ class TwoTabs(BrowserCase):
         ada.press("One day", "#days")
         self.assertTrue(ada.part("oneDay").is_displayed())
 
-    def test_saved_tables_of_both_roads_are_compared_unchanged(self) -> None:
+    def test_saved_scripts_of_both_roads_are_compared_unchanged(self) -> None:
         ada, = self.over_three(SEEDED)[:1]
         self.run_a_quarter(ada)
         self.closed(ada)
@@ -146,7 +147,7 @@ class TwoTabs(BrowserCase):
                 rows = dict(line.rsplit(",", 1) for line in ran.stdout.splitlines() if line.startswith("check: cars in all rows"))
                 self.assertEqual([f"{float(value):+.1f}" for value in rows.values()], [hours.replace("−", "-")])
 
-    def test_a_road_of_one_day_says_so(self) -> None:
+    def test_a_road_with_fixed_random_numbers_is_not_run_over_days(self) -> None:
         ada, = self.over_three(FREE_ROAD)[:1]
         self.run_a_quarter(ada)
         ada.press("Over 3 days")

@@ -1,6 +1,6 @@
-"""One browser on a road: what is drawn, read out and dragged; the picture that is saved.
+"""Test one browser on a road: what is drawn, described and dragged, and the picture that is saved.
 
-The rows that pixels are held against are those of `examples/closed_cell.out`; other values are worked out by hand.
+Pixels are compared with the rows of `examples/closed_cell.out`; other values are worked out by hand.
 """
 from __future__ import annotations
 
@@ -11,11 +11,11 @@ from browsers import COLOURS, FREE_ROAD, FREEWAY, BrowserCase, Tab, example_rows
 from selenium.webdriver.common.action_chains import ActionChains
 from selenium.webdriver.common.keys import Keys
 
-TWICE = 500  # milliseconds within which the page takes two clicks for one
+TWICE = 500  # milliseconds: within these the page takes two clicks for a double click
 
 
 class OnePicture(BrowserCase):
-    """One tab: what is drawn and read out."""
+    """One tab: what is drawn, and what the readout says."""
 
     names = ("Ada",)
 
@@ -32,12 +32,12 @@ class OnePicture(BrowserCase):
         tab = self.closed_by_a_drag()
         self.assertEqual(shapes_of(operations_of(self.server)[0]), [["block", 24, 24, 12, 24, 1]])
         tab.tool("look")
-        tab.script("store.layers.mine.frames = []; draw()")  # the frame lies over the pixels of its edges
+        tab.script("store.layers.mine.frames = []; draw()")  # the frame covers the pixels of its edges
         tab.settled()
         wanted = example_rows(0)[:12] + example_rows(1)[-17:]
-        self.assertEqual(tab.signs(12, len(wanted), 40), wanted)
+        self.assertEqual(tab.characters(12, len(wanted), 40), wanted)
 
-    def test_a_cell_is_read_out(self) -> None:
+    def test_the_readout_describes_a_cell(self) -> None:
         tab = self.closed_by_a_drag()
         # By the example's rows: at step 20 cell 23 has a standing car, cell 24 is closed, and 25 is empty.
         for cell, said in ((23, "a car at 0 km/h"), (24, "closed"), (25, "no car")):
@@ -48,7 +48,7 @@ class OnePicture(BrowserCase):
         tab.tool("look")
         tab.drag((24.5, 24), (24.5, 30.1))
         first, second = operations_of(self.server)
-        self.assertEqual(shapes_of(second), [["block", 24, 24, 12, 30, 1]])  # it opens later
+        self.assertEqual(shapes_of(second), [["block", 24, 24, 12, 30, 1]])  # the closure ends later
         self.assertEqual([name for name, _ in second["sets"]], [first["stamp"]])
         self.assertEqual(tab.lines("own"), ["Closed 0.18–0.188 km, 0:00:12–0:00:30 private"])
 
@@ -58,11 +58,11 @@ class OnePicture(BrowserCase):
         tab.settled()
         self.assertEqual(tab.lines("own"), [])
         free = tab.script("return store.roads.mine.level(1).rows[30]")
-        self.assertEqual(tab.signs(30, 1, 40), [free])
+        self.assertEqual(tab.characters(30, 1, 40), [free])
         self.assertNotIn("#", free)
         self.assertEqual(tab.point(24.5, 20.3), "0.18 km, 0:00:20: no car; limit 81 km/h")
 
-    def test_z_takes_back_one_drag_after_the_other(self) -> None:
+    def test_z_undoes_one_drag_after_the_other(self) -> None:
         tab = self.closed_by_a_drag()
         tab.tool("look")
         tab.drag((24.5, 24), (24.5, 30.1))
@@ -90,7 +90,7 @@ class OnePicture(BrowserCase):
         tab.open_part("asTable")
         tab.settled()
         cells = tab.script("return [...document.querySelectorAll('#speeds tbody tr:first-child td')].map((one) => one.textContent)")
-        # Ten stretches of four cells in the first minute, by the rows of the level that is shown.
+        # Ten stretches of four cells in the first minute, from the rows of the level that is shown.
         rows = tab.script("return store.roads.mine.level(1).rows.slice(0, 60)")
         for index, cell in enumerate(cells):
             signs = "".join(row[4 * index:4 * index + 4] for row in rows)
@@ -134,12 +134,12 @@ class OneFreeway(BrowserCase):
 
     names = ("Ada",)
 
-    def test_a_place_is_read_out_again_after_the_road_changed(self) -> None:
+    def test_the_readout_follows_changes_of_the_road(self) -> None:
         tab, = self.open(FREEWAY)
         tab.run_an_hour()
         self.assertNotIn("closed", tab.point(400, 1500))
         tab.tool("block")
-        tab.in_figures(kmFrom="2.9", kmTo="3.1", timeFrom="0:20", timeTo="0:40")
+        tab.type_and_apply(kmFrom="2.9", kmTo="3.1", timeFrom="0:20", timeTo="0:40")
         tab.settled()
         tab.until(lambda: ": closed; limit" in tab.text("readout"), "what is read")
         tab.press("Undo")
@@ -149,7 +149,7 @@ class OneFreeway(BrowserCase):
         tab, = self.open(FREEWAY)
         tab.run_an_hour()
         tab.tool("limit")
-        self.assertTrue(tab.text("toolHint").startswith("in whole zones of 375 m"))
+        self.assertTrue(tab.text("toolHint").startswith("sets whole zones of 375 m"))
         tab.begin_drag((360, 1200), (430, 1500))
         # 360 to 430 lie in the zones of the cells 350 to 449: the readout says so before the button is released.
         self.assertEqual(tab.text("readout"), "54 km/h, 2.625–3.375 km, 2 whole zones of 375 m, 0:20:00–0:25:00")
@@ -177,7 +177,7 @@ class OneFreeway(BrowserCase):
         tab.drop()
 
     def test_a_drag_does_what_its_text_says(self) -> None:
-        """Also where the diagram follows the clock meanwhile."""
+        """It does so even if the diagram follows the clock meanwhile."""
         tab, = self.open(FREEWAY)
         tab.run_an_hour()
         tab.tool("block")
@@ -191,7 +191,7 @@ class OneFreeway(BrowserCase):
         self.assertEqual(tab.lines("own"), ["Closed 3–3.3 km, 0:20:00–0:25:00 private"])
 
     def test_the_diagram_keeps_its_size_whatever_the_text_of_a_drag(self) -> None:
-        """Else its end lies elsewhere below the same pointer."""
+        """Otherwise the end of the drag would move to another place below the same pointer."""
         tab, = self.open(FREEWAY)
         tab.run_an_hour()
         tab.tool("limit")
@@ -206,7 +206,7 @@ class OneFreeway(BrowserCase):
             self.assertEqual(tab.script("return store.plot"), size, width)
             tab.drop()
 
-    def test_the_size_of_an_arrows_step_is_said(self) -> None:
+    def test_the_page_says_how_far_an_arrow_key_moves_the_cursor(self) -> None:
         tab, = self.open(FREEWAY)
         tab.run_an_hour()
         tab.keys(Keys.ARROW_UP)
@@ -224,15 +224,15 @@ class OneFreeway(BrowserCase):
             seen.add(said)
         self.assertEqual(len(seen), 3)
 
-    def test_rectangles_may_overlap(self) -> None:
+    def test_the_later_of_two_overlapping_rectangles_is_on_top(self) -> None:
         tab, = self.open(FREEWAY)
         tab.tool("limit")
         for limit, begin, end in (("2", "0:10", "0:30"), ("3", "0:20", "0:40")):
             tab.choose("limit", limit)
-            tab.in_figures(kmFrom="0", kmTo="0.3", timeFrom=begin, timeTo=end)
+            tab.type_and_apply(kmFrom="0", kmTo="0.3", timeFrom=begin, timeTo=end)
         self.assertEqual(shapes_of(operations_of(self.server)[1]), [["limit", 0, 0, 1200, 2400, 3]])
         self.assertEqual([tab.value_at("limit", 0, step) for step in (600, 1199, 1200, 2399, 2400)],
-                         [[2], [2], [3], [3], [5]])  # the later one has all of its rectangle
+                         [[2], [2], [3], [3], [5]])  # the later one is in force in all of its rectangle
 
     def test_too_large_a_closure_is_refused_before_the_drag_ends(self) -> None:
         tab, = self.open(FREEWAY)
@@ -268,8 +268,8 @@ class OneFreeway(BrowserCase):
         tab, = self.open(FREEWAY)
         tab.run_an_hour()
         tab.tool("block")
-        tab.in_figures(kmFrom="1.5", kmTo="1.507", timeFrom="0:50:03", timeTo="0:50:23")
-        tab.in_figures(kmFrom="3", kmTo="3.15", timeFrom="0:20", timeTo="0:30")
+        tab.type_and_apply(kmFrom="1.5", kmTo="1.507", timeFrom="0:50:03", timeTo="0:50:23")
+        tab.type_and_apply(kmFrom="3", kmTo="3.15", timeFrom="0:20", timeTo="0:30")
         tab.show(36000)
         for whose in ("mine", "both"):
             tab.script("document.querySelector(`input[name=whose][value=${arguments[0]}]`).click()", whose)
@@ -284,9 +284,9 @@ class OneFreeway(BrowserCase):
         tab.tool("block")
         for fields in (("3", "3.15", "0:20", "0:30"), ("5.9", "6", "0:10", "0:20"), ("1", "1.2", "0:58", ""),
                        ("3.2", "3.3", "0:21", "0:22"), ("0", "0.1", "0:40", "0:50")):
-            tab.in_figures(**dict(zip(("kmFrom", "kmTo", "timeFrom", "timeTo"), fields)))
+            tab.type_and_apply(**dict(zip(("kmFrom", "kmTo", "timeFrom", "timeTo"), fields)))
         tab.tool("limit")
-        tab.in_figures(kmFrom="2.625", kmTo="3.375", timeFrom="0:20", timeTo="0:40")
+        tab.type_and_apply(kmFrom="2.625", kmTo="3.375", timeFrom="0:20", timeTo="0:40")
         for seconds in (3600, 7200):
             tab.show(seconds)
             labels, closures, plot = tab.script("""
@@ -314,7 +314,7 @@ class OneFreeway(BrowserCase):
             tab.settled()
             self.assertEqual(tab.text("period"), "0:00:00 to 1:00:00", seconds)
 
-    def test_a_click_sets_a_value_from_there_on(self) -> None:
+    def test_a_click_sets_a_value_from_its_step_on(self) -> None:
         tab, = self.open(FREEWAY)
         tab.run_an_hour()
         tab.tool("limit")
@@ -339,12 +339,12 @@ class OneFreeway(BrowserCase):
             count += 1 if milliseconds < TWICE else 2
             self.assertEqual(len(operations_of(self.server)), count)
 
-    def test_a_road_of_8192_cells(self) -> None:
+    def test_a_road_of_8192_cells_is_drawn(self) -> None:
         tab, = self.open({**FREEWAY, "length": 8192, "zone": 128, "zones": [[5, 6554]] * 64, "detectors": [4000, 8000]})
         tab.run_an_hour()
         tab.tool("block")
-        tab.in_figures(kmFrom="30", kmTo="30.2", timeFrom="0:20", timeTo="0:40")
-        # Behind the closed cells, and the boxes of mean speeds in which they are, the road is empty meanwhile: white.
+        tab.type_and_apply(kmFrom="30", kmTo="30.2", timeFrom="0:20", timeTo="0:40")
+        # Downstream of the closed cells, and of the boxes of mean speeds that contain them, the road is empty, thus white.
         tab.script("store.layers.mine.frames = []; draw()")
         tab.settled()
         self.assertEqual(tab.pixel(4013, 2100), COLOURS["#"])

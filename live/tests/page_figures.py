@@ -1,4 +1,4 @@
-"""Test one browser on a freeway: the form in figures, the figures that it shows, what it saves; names and tokens."""
+"""Test one browser on a freeway: the form for typed values, the figures that it shows, what it saves; names and tokens."""
 from __future__ import annotations
 
 import csv
@@ -8,7 +8,7 @@ import re
 import subprocess
 from typing import Any
 
-from browsers import FREE_ROAD, FREEWAY, TOP, BrowserCase, Tab, before_rows, example_rows, free_server, operations_of, shapes_of
+from browsers import FREE_ROAD, FREEWAY, TOP, BrowserCase, Tab, preview_rows, example_rows, free_server, operations_of, shapes_of
 from running import program
 from selenium.webdriver.common.action_chains import ActionChains
 from selenium.webdriver.common.by import By
@@ -16,7 +16,7 @@ from selenium.webdriver.common.keys import Keys
 
 
 def demand_is(demand: float, chance: int, plan: dict[str, Any]) -> bool:
-    """Return whether a chance at the first inlet admits a demand, in 400,000 steps with another seed on a short road."""
+    """Return whether a chance at the first inlet admits a demand, in a run of 400,000 steps with another seed on a short road."""
     from zegdrut import RoadLab
     road: Any = {**plan, "length": 100, "zone": 100, "zones": [plan["zones"][0]], "inlets": [[0, chance]], "detectors": [50], "words": 77,
             "replicas": ["A"]}
@@ -32,23 +32,23 @@ class OneFreeway(BrowserCase):
 
     names = ("Ada",)
 
-    def test_tools_in_figures(self) -> None:
+    def test_each_tool_puts_what_is_typed(self) -> None:
         tab, = self.open(FREEWAY)
         tab.run_an_hour()
         tab.tool("limit")
         tab.choose("limit", "2")
-        tab.in_figures(kmFrom="1.5", kmTo="2.2", timeFrom="0:18", timeTo="0:36:30")
+        tab.type_and_apply(kmFrom="1.5", kmTo="2.2", timeFrom="0:18", timeTo="0:36:30")
         tab.tool("inflow")
-        tab.in_figures(demand="1500", timeFrom="10", timeTo="20")
+        tab.type_and_apply(demand="1500", timeFrom="10", timeTo="20")
         tab.tool("slow")
-        tab.in_figures(slow="25", kmFrom="0", kmTo="0.3", timeFrom="0:05", timeTo="")
+        tab.type_and_apply(slow="25", kmFrom="0", kmTo="0.3", timeFrom="0:05", timeTo="")
         tab.tool("start")
-        tab.in_figures(start="50", kmFrom="0.4", kmTo="0.5", timeFrom="0:05", timeTo="0:10")
+        tab.type_and_apply(start="50", kmFrom="0.4", kmTo="0.5", timeFrom="0:05", timeTo="0:10")
         tab.tool("watch")
         tab.choose("site", "2")
-        tab.in_figures(timeFrom="0:30", timeTo="0:40")
+        tab.type_and_apply(timeFrom="0:30", timeTo="0:40")
         gestures = operations_of(self.server)
-        # What that chance admits by a long run of another seed, within half a per cent, or two standard errors.
+        # A long run with another seed admits the demand within half a per cent, or two standard errors.
         demand = shapes_of(gestures[1])[0]
         self.assertTrue(demand_is(1_500, demand[5], FREEWAY), demand)
         # Zones have 50 cells, 375 m.
@@ -62,9 +62,9 @@ class OneFreeway(BrowserCase):
                  "Detector off, at 3.75 km, 0:30:00–0:40:00"]
         self.assertEqual(tab.lines("own"), [note + " private" for note in reversed(notes)])
 
-    def test_clicks_go_before_what_is_measured(self) -> None:
-        """Join a road with thirty demands that nobody has said in cars per hour: what each inlet admits is measured, for seconds each.
-        The clock runs at the first click all the same."""
+    def test_clicks_do_not_wait_for_measurements_of_inlets(self) -> None:
+        """Join a road with thirty inflow chances that were put without a demand. Measuring what the inlets admit takes seconds
+        for each. The clock runs at the first click all the same."""
         tab, = self.open(FREEWAY)
         tab.driver.execute_async_script("""
             const [done] = arguments;
@@ -86,11 +86,12 @@ class OneFreeway(BrowserCase):
         tab.tool("inflow")
         tab.choose("inlet", "1")
         tab.fill(timeFrom="1:00")
-        tab.until(lambda: "is being measured, " in tab.text("toolHint"), "how far it is")
-        self.assertRegex(tab.text("toolHint"), r"^What this inlet admits is being measured, \d+ of \d+\. Try again")
+        tab.until(lambda: "is measuring" in tab.text("toolHint"), "how far it is")
+        self.assertRegex(tab.text("toolHint"), r"^The server is measuring what this inlet admits, \d+ of \d+\. Try again")
 
     def test_a_demand_is_shown_as_it_was_asked_for(self) -> None:
-        """Show the demand of the road's file as a table, and not as lines of the lists and the report; that of a person as it was typed."""
+        """The demand of the road's file is a table, and not lines of the lists and the report. A demand that a person put is
+        shown as it was typed."""
         tab, = self.tabs
         self.server = free_server({"length": 1.5, "limit": 135, "slowing": 0.2, "main": [["7:00", 900], ["7:05", 612.3]],
                                    "ramps": [[0.45, [["7:00", 200], ["7:10", 310.5]]]], "minutes": 15, "begin": "07:00",
@@ -108,7 +109,7 @@ class OneFreeway(BrowserCase):
         self.assertEqual(tab.script("return framesShown().map(({kind}) => kind)"), ["limit"])
         tab.tool("inflow")
         tab.choose("inlet", "1")
-        tab.in_figures(demand="447.69", timeFrom="7:05", timeTo="7:10")
+        tab.type_and_apply(demand="447.69", timeFrom="7:05", timeTo="7:10")
         self.assertEqual(tab.lines("own"), ["Demand 448 cars/h, at 0.45 km, 07:05–07:10 private"])
         self.assertEqual(operations_of(self.server)[-1]["demand"], 447.69)
         self.assertEqual([row["what"] for row in self.changes(tab)], ["54 km/h, 0.9–1.2 km, 07:04–07:08",
@@ -129,40 +130,40 @@ class OneFreeway(BrowserCase):
         lines = tab.save("Changes as CSV", "changes.csv").read_text(encoding="utf-8").splitlines()
         return list(csv.DictReader(lines[1:]))
 
-    def test_a_stretch_in_figures_takes_the_nearest_zones(self) -> None:
+    def test_a_typed_stretch_takes_the_nearest_zones(self) -> None:
         tab, = self.open(FREEWAY)
         tab.tool("limit")
-        # The bounds of zones are 0.375 km apart: 3.375 is nearer to 3.5 than 3.75 is; 3.4 to 3.5 lies in one zone.
+        # Zone boundaries are 0.375 km apart: 3.375 is nearer to 3.5 than 3.75 is, and 3.4 to 3.5 is within one zone.
         for first, last, zone, taken in (("3", "3.5", 8, "3–3.375"), ("3.4", "3.5", 9, "3.375–3.75"),
                                          ("3.36", "3.41", 9, "3.375–3.75"), ("5.8", "6", 15, "5.625–6")):
-            tab.in_figures(kmFrom=first, kmTo=last, timeFrom="0:20", timeTo="")
+            tab.type_and_apply(kmFrom=first, kmTo=last, timeFrom="0:20", timeTo="")
             self.assertEqual(shapes_of(operations_of(self.server)[-1]), [["limit", zone, zone, 1200, None, 2]])
-            self.assertEqual(tab.text("said"), f"54 km/h, {taken} km, from 0:20:00 on: done. In whole zones: {taken} km.")
+            self.assertEqual(tab.text("said"), f"54 km/h, {taken} km, from 0:20:00 on: done. Rounded to whole zones: {taken} km.")
             tab.keys("z")
             tab.settled()
-        tab.in_figures(kmFrom="3", kmTo="3.375")
+        tab.type_and_apply(kmFrom="3", kmTo="3.375")
         self.assertEqual(tab.text("said"), "54 km/h, 3–3.375 km, from 0:20:00 on: done.")
         tab.tool("look")
         self.assertEqual(tab.text("apply"), "Close cells")  # what it does
         tab.tool("block")
-        tab.in_figures(kmFrom="3.3", kmTo="3.32")
-        self.assertEqual(tab.text("said"), "Closed 3.3–3.323 km, from 0:20:00 on: done. In whole cells of 7.5 m: about 3.3–3.323 km.")
+        tab.type_and_apply(kmFrom="3.3", kmTo="3.32")
+        self.assertEqual(tab.text("said"), "Closed 3.3–3.323 km, from 0:20:00 on: done. Rounded to whole cells of 7.5 m: about 3.3–3.323 km.")
         tab.keys("z")
         tab.settled()
-        tab.in_figures(kmFrom="3.3", kmTo="3.3")
+        tab.type_and_apply(kmFrom="3.3", kmTo="3.3")
         self.assertEqual(shapes_of(operations_of(self.server)[-1]), [["block", 440, 440, 1200, None, 1]])
 
-    def test_invalid_figures_are_reported_and_change_nothing(self) -> None:
+    def test_invalid_values_are_reported_and_change_nothing(self) -> None:
         tab, = self.open(FREEWAY)
         tab.tool("block")
         for fields, said in (
-                ({"kmFrom": "3", "kmTo": "2", "timeFrom": "7", "timeTo": "9"}, "Give two places from 0 to 6 km"),
+                ({"kmFrom": "3", "kmTo": "2", "timeFrom": "7", "timeTo": "9"}, "Type two places from 0 to 6 km"),
                 ({"kmFrom": "3", "kmTo": "3.1", "timeFrom": "9", "timeTo": "7"}, "The end must be later"),
-                ({"kmFrom": "3", "kmTo": "3.1", "timeFrom": "soon", "timeTo": "7"}, "A time is written as")):
-            tab.in_figures(**fields)
+                ({"kmFrom": "3", "kmTo": "3.1", "timeFrom": "soon", "timeTo": "7"}, "“soon” is not a time. Type 0:20,")):
+            tab.type_and_apply(**fields)
             self.assertIn(said, tab.text("said"))
         tab.tool("inflow")
-        tab.in_figures(demand="1710", timeFrom="0:05", timeTo="0:10")
+        tab.type_and_apply(demand="1710", timeFrom="0:05", timeTo="0:10")
         found = re.fullmatch(r"The demand is out of range: this inlet admits 0 to (1,7\d\d) cars per hour "
                              r"\(limit 135 km/h, slowing 10 %\).", tab.text("said"))
         self.assertTrue(found and demand_is(int(found[1].replace(",", "")), 65_536, FREEWAY), tab.text("said"))
@@ -185,51 +186,51 @@ class OneFreeway(BrowserCase):
         self.exact(tab)
         self.assertEqual(self.figures(tab, "Lost demand, cars")[2], 0)
         tab.tool("block")
-        tab.in_figures(kmFrom="0.3", kmTo="0.35", timeFrom="0:20", timeTo="0:50")
+        tab.type_and_apply(kmFrom="0.3", kmTo="0.35", timeFrom="0:20", timeTo="0:50")
         self.exact(tab)
         mine, shared, more = self.figures(tab, "Lost demand, cars")
-        # Some 1,250 cars an hour come, for 30 minutes but those that fill 300 m.
+        # Some 1,250 cars an hour arrive, for 30 minutes, apart from those that fill 300 m.
         self.assertTrue(480 <= more <= 640, more)
         self.assertAlmostEqual(more, mine - shared, delta=1)
         self.assertRegex(tab.text("warnings"), r"The inlet at 0 km admits [\d,]+ of [\d,]+ cars\. The other \d+ never enter")
 
-    def test_figures_wait_for_the_picture(self) -> None:
-        """The page asks for nothing else while visible rows are on their way, here for a second."""
+    def test_figures_are_asked_for_after_the_picture(self) -> None:
+        """While visible rows are on their way, here for a second, the page asks for nothing else."""
         tab, = self.open(FREEWAY)
         tab.run_an_hour()
         self.exact(tab)
         tab.script("""
-            window.beside = [];
+            window.meanwhile = [];
             const {connection} = store, {socket} = connection;
             const receive = connection.receive.bind(connection), send = socket.send.bind(socket);
             connection.receive = (value) => (value.rows ? setTimeout(() => receive(value), 1000) : receive(value));
             socket.send = (text) => {
-              if (store.openRowQuestions) beside.push(Object.keys(JSON.parse(text))[1]);
+              if (store.openRowQuestions) meanwhile.push(Object.keys(JSON.parse(text))[1]);
               send(text);
             };""")
         tab.tool("block")
-        tab.in_figures(kmFrom="3", kmTo="3.15", timeFrom="0:20", timeTo="0:30")
+        tab.type_and_apply(kmFrom="3", kmTo="3.15", timeFrom="0:20", timeTo="0:30")
         self.exact(tab)
-        self.assertEqual(set(tab.script("return beside")) - {"gesture", "diagram"}, set())
+        self.assertEqual(set(tab.script("return meanwhile")) - {"gesture", "diagram"}, set())
         self.assertNotEqual(self.figures(tab, "Vehicle hours")[2], 0)
 
     def test_a_demand_that_is_lowered_is_not_lost(self) -> None:
         tab, = self.open(FREEWAY)
         tab.run_an_hour()
         tab.tool("inflow")
-        tab.in_figures(demand="400", timeFrom="0:10", timeTo="0:50")
+        tab.type_and_apply(demand="400", timeFrom="0:10", timeTo="0:50")
         self.exact(tab)
         mine, shared, _ = self.figures(tab, "Lost demand, cars")
         self.assertLessEqual(mine, shared)
         self.assertEqual(tab.text("warnings"), "")
-        # At the first detector, 375 m behind the inlet, some 560 cars fewer come: 850 an hour for 40 minutes.
+        # At the first detector, 375 m downstream of the inlet, some 560 cars fewer pass: 850 an hour for 40 minutes.
         self.assertTrue(-640 <= self.figures(tab, "Cars at 0.375 km")[2] <= -480)
 
     def test_figures_are_the_same_at_each_zoom_and_before_sharing(self) -> None:
         tab, = self.open(FREEWAY)
         tab.run_an_hour()
         tab.tool("block")
-        tab.in_figures(kmFrom="0.6", kmTo="0.65", timeFrom="0:18", timeTo="0:26")
+        tab.type_and_apply(kmFrom="0.6", kmTo="0.65", timeFrom="0:18", timeTo="0:26")
         found = {}
         for seconds in (3600, 36000):
             tab.show(seconds)
@@ -239,9 +240,9 @@ class OneFreeway(BrowserCase):
         self.assertEqual(found[3600], found[36000])
         hours, lost, delay = (self.figures(tab, name) for name in
                               ("Vehicle hours", "Lost demand, cars", "Delay, vehicle hours"))
-        # Some 20 cars a minute come, for eight minutes but the four or so that fill 600 m.
+        # Some 20 cars a minute arrive, for eight minutes, apart from the four minutes or so in which 600 m fill up.
         self.assertTrue(50 <= lost[2] <= 130, lost)
-        # The rows of the steps 1 to n, each car a second.
+        # In the rows of the steps 1 to n each car counts a second.
         cars = sum(tab.driver.execute_async_script("""
             const done = arguments[0];
             Promise.all([1, 901, 1801, 2701].map((from) =>
@@ -249,25 +250,25 @@ class OneFreeway(BrowserCase):
               done(said.map(({rows}) => rows.join("").replace(/[.#]/g, "").length)));"""))
         self.assertEqual(hours[0], round(cars / 3600, 1))
         tab.press("Share…: Closed")
-        rows = before_rows(tab)
+        rows = preview_rows(tab)
         self.assertEqual(rows["Vehicle hours"], (hours[1], hours[0], hours[2]))
         self.assertEqual(rows["Lost demand, cars"], (lost[1], lost[0], lost[2]))
         self.assertEqual(rows["Delay of the cars that both roads have, vehicle hours"][2], delay[2])
         parts = [rows[name][2] for name in ("– at 0 km", "– at 1.5 km")]
         self.assertEqual(sum(parts), lost[2])
-        # On the free road no more is lost than by chance: two standard deviations of some 1,250 arrivals.
+        # On the free road no more is lost than may be due to chance: two standard deviations of some 1,250 arrivals.
         self.assertLess(abs(rows["– at 0 km"][0]), 2 * math.sqrt(1_250))
 
     def test_flow_and_speed_by_time_are_drawn_and_read(self) -> None:
         tab, = self.open(FREEWAY)
         tab.run_an_hour()
         tab.tool("block")
-        tab.in_figures(kmFrom="3", kmTo="3.15", timeFrom="0:20", timeTo="0:30")
+        tab.type_and_apply(kmFrom="3", kmTo="3.15", timeFrom="0:20", timeTo="0:30")
         tab.script("$('series').open = true")
         tab.choose("seriesSite", "1")
         tab.settled()
         tab.until(lambda: tab.script("return store.series.key.endsWith('0,3600')"), "the series")
-        # Rows of the table above that come later move the charts away from the pointer.
+        # Rows of the table above the charts that arrive later would move the charts away from the pointer.
         tab.until(lambda: tab.script("return store.figures.exactKey.startsWith('0,3600')"), "the figures")
         counts = tab.driver.execute_async_script("""
             const done = arguments[0];
@@ -296,7 +297,7 @@ class OneFreeway(BrowserCase):
         x = 44 + (wide - 50) * part - wide / 2
         ActionChains(tab.driver, duration=0).move_to_element_with_offset(tab.part(ident), round(x), 0).perform()
 
-    def test_the_token_leaves_the_address(self) -> None:
+    def test_the_token_is_removed_from_the_address(self) -> None:
         tab, = self.open(FREEWAY)
         self.assertNotIn("#", tab.driver.current_url)
         self.assertNotIn(self.server.address.split("#")[1], tab.driver.current_url)
@@ -306,25 +307,25 @@ class OneFreeway(BrowserCase):
     def test_an_address_without_its_token_gets_a_message(self) -> None:
         tab, = self.open(FREEWAY)
         tab.script("sessionStorage.clear()")
-        tab.driver.get(tab.driver.current_url)  # as it was copied from the address bar
-        said = "The server closed the connection: the address lacks the right token: open it as live/serve printed it."
+        tab.driver.get(tab.driver.current_url)  # as if it was copied from the address bar
+        said = "The server closed the connection: the address has a wrong token: open the address that live/serve printed."
         tab.until(lambda: tab.part("helloSaid").text == said, "the form that asks for a name says so")
         tab.script("$('helloSaid').textContent = ''")
         tab.part("name").send_keys("Ben", Keys.ENTER)
         tab.until(lambda: tab.part("helloSaid").text == said, "it is told to who joins")
 
-    def test_names_are_text(self) -> None:
+    def test_names_are_shown_as_text_and_not_as_markup(self) -> None:
         name = "<img src=x onerror=alert(1)>=1"
         tab, = self.open(FREEWAY, (name,))
         tab.tool("limit")
-        tab.in_figures(kmFrom="0", kmTo="0.3", timeFrom="0:20", timeTo="")
+        tab.type_and_apply(kmFrom="0", kmTo="0.3", timeFrom="0:20", timeTo="")
         self.assertEqual(tab.text("me"), f"{name} (seat 1)")
         self.assertEqual(tab.driver.find_elements(By.TAG_NAME, "img"), [])
 
-    def test_a_table_has_no_formula(self) -> None:
+    def test_no_cell_of_a_saved_table_is_a_formula(self) -> None:
         tab, = self.open(FREEWAY, ("=1+1,Ada",))
         tab.tool("limit")
-        tab.in_figures(kmFrom="0", kmTo="0.3", timeFrom="0:20", timeTo="")
+        tab.type_and_apply(kmFrom="0", kmTo="0.3", timeFrom="0:20", timeTo="")
         path = tab.save("Changes as CSV", "changes.csv")
         text = path.read_text(encoding="utf-8")
         self.assertIn("'=1+1,Ada", text)
@@ -332,16 +333,16 @@ class OneFreeway(BrowserCase):
         self.assertIn("# changes of the road of =1+1,Ada, plan.json, up to 0:00:00\n", text)
         self.assertRegex(text, r",20\d\d-\d\d-\d\d \d\d:\d\d:\d\d,put,")
 
-    def test_the_transcript_runs_again(self) -> None:
+    def test_a_saved_transcript_can_be_run_again(self) -> None:
         tab, = self.open(FREE_ROAD)
         tab.press("Run an hour")
         tab.show(60)
         tab.tool("limit")
         for limit, begin in (("2", "0:00:20"), ("3", "0:00:10"), ("1", "0:00:20")):
             tab.choose("limit", limit)
-            tab.in_figures(kmFrom="0", kmTo="0.3", timeFrom=begin, timeTo="0:00:40")
+            tab.type_and_apply(kmFrom="0", kmTo="0.3", timeFrom=begin, timeTo="0:00:40")
         tab.tool("start")
-        tab.in_figures(kmFrom="0", kmTo="0.3", timeFrom="0:00:20", timeTo="0:00:30")
+        tab.type_and_apply(kmFrom="0", kmTo="0.3", timeFrom="0:00:20", timeTo="0:00:30")
         tab.press("Withdraw")
         tab.settled()
         lines = tab.save("Transcript", "transcript.jsonl").read_text(encoding="utf-8").splitlines()
@@ -353,10 +354,10 @@ class OneFreeway(BrowserCase):
         self.assertEqual(json.loads(commands[-1]), {"advance": {"at": "Ada", "to": 3_600}})  # up to the clock
 
     def test_the_menu_closes_after_saving_and_on_escape(self) -> None:
-        """An open menu would cover the sentence that says what was saved."""
+        """An open menu would cover the message that says what was saved."""
         tab, = self.open(FREE_ROAD)
         tab.run_an_hour()
-        names = {tab.save("Counts", "counts.csv").name for _ in range(3)}  # none in the place of another
+        names = {tab.save("Counts", "counts.csv").name for _ in range(3)}  # no file replaces another one
         self.assertEqual(len(names), 3)
         for name in names:
             self.assertRegex(name, r"^counts-plan-Ada-0000-0100(-\d)?\.csv$")
@@ -367,8 +368,8 @@ class OneFreeway(BrowserCase):
             self.assertIsNone(tab.part("save").get_attribute("open"))
             self.assertEqual(tab.script("return document.activeElement.textContent"), "Save")
 
-    def test_a_road_with_a_clock_of_the_day(self) -> None:
-        """Times are those of the day where its freeway has a beginning: heading, form, lists, files."""
+    def test_a_road_with_a_beginning_shows_times_of_day(self) -> None:
+        """If the file of a freeway has a `begin`, times are times of day: in the heading, the form, the lists and saved files."""
         tab, = self.tabs
         self.server = free_server(FREE_ROAD)
         self.addCleanup(self.server.kill)
@@ -381,10 +382,10 @@ class OneFreeway(BrowserCase):
         self.assertEqual(tab.text("period"), "06:30 to 07:30")
         tab.tool("block")
         for time, wanted in (("7:00", "07:00"), ("07:05:30", "07:05:30"), ("20", "06:50")):
-            tab.in_figures(kmFrom="0.18", kmTo="0.187", timeFrom=time, timeTo="07:10")
+            tab.type_and_apply(kmFrom="0.18", kmTo="0.187", timeFrom=time, timeTo="07:10")
             self.assertEqual(tab.lines("own")[0], f"Closed 0.18–0.188 km, {wanted}–07:10 private")
-        tab.in_figures(timeFrom="soon")
-        self.assertEqual(tab.text("said"), "A time is written as 7:00, 07:00:30 or, in minutes after 06:30, 20.")
+        tab.type_and_apply(timeFrom="soon")
+        self.assertEqual(tab.text("said"), "“soon” is not a time. Type 7:00, 07:00:30 or, in minutes after 06:30, 20.")
         path = tab.save("Counts", "counts.csv")
         self.assertEqual(path.name, "counts-plan-Ada-0630-0730.csv")
         head, names, first, *_ = path.read_text(encoding="utf-8").splitlines()
@@ -421,7 +422,7 @@ class OneFreeway(BrowserCase):
         tab.press("Run an hour")
         tab.show(60)
         tab.tool("block")
-        tab.in_figures(kmFrom="0.18", kmTo="0.187", timeFrom="0:00:12", timeTo="0:00:24")
+        tab.type_and_apply(kmFrom="0.18", kmTo="0.187", timeFrom="0:00:12", timeTo="0:00:24")
         path = tab.save("Transcript", "transcript.jsonl")
         tab.driver.get((TOP / "viewer" / "index.html").as_uri())
         tab.part("files0").send_keys(str(path))

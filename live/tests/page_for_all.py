@@ -1,4 +1,4 @@
-"""Test the page for people who use no mouse, see little, or want less motion; names and tokens as they must be."""
+"""Test the page for people who use no mouse, see little, or want less motion; roles and names; what fits on which screen."""
 from __future__ import annotations
 
 from typing import Any
@@ -9,7 +9,7 @@ from selenium.webdriver.common.by import By
 from selenium.webdriver.common.keys import Keys
 
 
-LINE = 22  # pixels: one may break elsewhere by what stands in it
+LINE = 22  # pixels of a line of text, which may be broken at another word
 SHARE_NOW = """
     const {top, bottom} = [...document.querySelectorAll("#preview button")]
       .find((one) => one.textContent === "Share now").getBoundingClientRect();
@@ -21,11 +21,11 @@ class ForAll(BrowserCase):
 
     names = ("Ada",)
 
-    def test_roles_and_names(self) -> None:
+    def test_all_elements_have_roles_and_names(self) -> None:
         tab, = self.open(FREEWAY)
         tab.run_an_hour()
         tab.tool("limit")
-        tab.in_figures(kmFrom="0", kmTo="0.3", timeFrom="0:20", timeTo="0:30")
+        tab.type_and_apply(kmFrom="0", kmTo="0.3", timeFrom="0:20", timeTo="0:30")
         nodes = tab.driver.execute_cdp_cmd("Accessibility.getFullAXTree", {})["nodes"]
         found = [(node["role"]["value"], node.get("name", {}).get("value", "")) for node in nodes
                  if not node["ignored"] and "role" in node]
@@ -35,7 +35,7 @@ class ForAll(BrowserCase):
         self.assertEqual(nameless, [])
         for wanted in (("application", "Space-time diagram"), ("complementary", "Figures and changes"), ("timer", ""),
                        ("radio", "close C"), ("radio", "difference D"), ("spinbutton", None), ("list", "Not shared yet"),
-                       ("button", "Withdraw: 54 km/h, 0–0.375 km, 0:20:00–0:30:00"), ("checkbox", "follow it"),
+                       ("button", "Withdraw: 54 km/h, 0–0.375 km, 0:20:00–0:30:00"), ("checkbox", "follow"),
                        ("textbox", "from km"), ("columnheader", "mine −\u00a0shared"), ("status", ""), ("banner", ""), ("main", "")):
             role, name = wanted
             if wanted == ("spinbutton", None):
@@ -46,11 +46,11 @@ class ForAll(BrowserCase):
         self.assertEqual(live, ["helloSaid", "said"])
         self.assertEqual(tab.part("clock").get_attribute("aria-live"), "off")
 
-    def test_four_times_as_large(self) -> None:
+    def test_nothing_is_cut_off_at_four_times_the_size(self) -> None:
         tab, = self.open(FREEWAY)
         tab.run_an_hour()
         tab.tool("inflow")
-        tab.in_figures(demand="1000", timeFrom="0:20", timeTo="0:30")
+        tab.type_and_apply(demand="1000", timeFrom="0:20", timeTo="0:30")
         self.addCleanup(tab.driver.execute_cdp_cmd, "Emulation.clearDeviceMetricsOverride", {})
         for width in (320, 700, 1000):
             tab.driver.execute_cdp_cmd("Emulation.setDeviceMetricsOverride",
@@ -79,7 +79,7 @@ class ForAll(BrowserCase):
             tab.settled()
             top, bottom = tab.script(SHARE_NOW)
             self.assertTrue(0 <= top < bottom <= height, (width, top, bottom))
-            self.assertAlmostEqual(top, first, delta=LINE)  # what comes since moves no button
+            self.assertAlmostEqual(top, first, delta=LINE)  # what arrives since then moves no button
             tab.press("Not now")
 
     def test_figures_move_nothing_when_they_come(self) -> None:
@@ -101,9 +101,9 @@ class ForAll(BrowserCase):
         tab, = self.open(FREEWAY)
         tab.run_an_hour()
         tab.tool("block")
-        tab.in_figures(kmFrom="3", kmTo="3.15", timeFrom="0:20", timeTo="0:30")
+        tab.type_and_apply(kmFrom="3", kmTo="3.15", timeFrom="0:20", timeTo="0:30")
         tab.script("$('others').textContent = ', with Benjamin, Cleopatra and Dorothea'")
-        tab.script("$('stays').replaceChildren()")  # what is wrong, as that a program is unproved, takes a line of its own
+        tab.script("$('stays').replaceChildren()")  # a note, such as that the program is not proved, takes a line of its own
         self.addCleanup(tab.driver.execute_cdp_cmd, "Emulation.clearDeviceMetricsOverride", {})
         for width, height in ((1366, 768), (1920, 1080)):
             tab.driver.execute_cdp_cmd("Emulation.setDeviceMetricsOverride",
@@ -119,7 +119,7 @@ class ForAll(BrowserCase):
                     return {tools: parts("#tools, #values > *, #undo, #redo"), head: parts("header > *"),
                             form: parts("#exact > *:not(.hidden)"), figures: parts("#figures tr"),
                             diagram: parts("#diagram"), all: parts("html")};""")
-                for name in ("tools", "head", "form"):  # each a row: all of it stands beside each other
+                for name in ("tools", "head", "form"):  # each is one row: all its parts are next to each other
                     self.assertLess(max(top for _, top, _, _ in boxes[name]),
                                     min(bottom for _, _, _, bottom in boxes[name]), (name, kind, width))
                 (_, top, right, _), = boxes["diagram"]
@@ -129,11 +129,11 @@ class ForAll(BrowserCase):
             self.assertLess(top, 160)
 
     def test_figures_are_visible_below_a_warning(self) -> None:
-        """On a screen of 1366 x 768 less the browser's own bars."""
+        """They are on a screen of 1366 x 768 minus the browser's own bars."""
         tab, = self.open(FREEWAY)
         tab.run_an_hour()
         tab.tool("block")
-        tab.in_figures(kmFrom="3", kmTo="3.15", timeFrom="0:20", timeTo="0:30")
+        tab.type_and_apply(kmFrom="3", kmTo="3.15", timeFrom="0:20", timeTo="0:30")
         tab.script("store.programNote = arguments[0]; notify('siteFaults')", "road_lab_unproved is unproved, made without a proof, with "
                    "the compiler's checks in it, which make it slower: `tools/prove-program` proves it")
         self.addCleanup(tab.driver.execute_cdp_cmd, "Emulation.clearDeviceMetricsOverride", {})
@@ -169,7 +169,7 @@ class ForAll(BrowserCase):
             self.assertTrue(whole, width)
             self.assertTrue(tab.part("line").get_attribute("title").startswith("connected; the broker"))
 
-    def test_a_pressed_button_is_read_under_the_pointer_too(self) -> None:
+    def test_a_pressed_button_is_legible_under_the_pointer_too(self) -> None:
         tab, = self.open(FREEWAY)
         def pressed() -> list[Any]:
             return list(tab.driver.find_elements(By.CSS_SELECTOR, "#rates [aria-pressed=true]"))
@@ -201,7 +201,7 @@ class ForAll(BrowserCase):
             tab.driver.execute_cdp_cmd("Emulation.setDeviceMetricsOverride",
                                        {"width": width, "height": 768, "deviceScaleFactor": 1, "mobile": False})
             tab.settled()
-            tab.in_figures(kmFrom=f"{3 + place / 5}", kmTo=f"{3.1 + place / 5}", timeFrom="0:20", timeTo="0:30")
+            tab.type_and_apply(kmFrom=f"{3 + place / 5}", kmTo=f"{3.1 + place / 5}", timeFrom="0:20", timeTo="0:30")
             tab.script("window.scrollTo(0, 0)")
             said, diagram = tab.script("""
                 return ["said", "diagram"].map((id) => $(id).getBoundingClientRect()).map(({left, top, right, bottom}) =>
@@ -212,7 +212,7 @@ class ForAll(BrowserCase):
 
     def test_the_whole_menu_is_visible(self) -> None:
         tab, = self.open(FREEWAY)
-        tab.script("$('others').textContent = ', with Benjamin and Cleopatra'")  # who make the head wider
+        tab.script("$('others').textContent = ', with Benjamin and Cleopatra'")  # these names make the header wider
         tab.open_part("save")
         self.addCleanup(tab.driver.execute_cdp_cmd, "Emulation.clearDeviceMetricsOverride", {})
         for width in (320, 520, 600, 768, 1000, 1200, 1300, 1366, 1500):
@@ -222,11 +222,11 @@ class ForAll(BrowserCase):
                                      "return [left, right]")
             self.assertTrue(0 <= left < right <= width, (width, left, right))
 
-    def test_texts_stand_out(self) -> None:
+    def test_texts_have_enough_contrast(self) -> None:
         tab, = self.open(FREEWAY)
         tab.run_an_hour()
         tab.tool("block")
-        tab.in_figures(kmFrom="0.3", kmTo="0.35", timeFrom="0:20", timeTo="0:50")
+        tab.type_and_apply(kmFrom="0.3", kmTo="0.35", timeFrom="0:20", timeTo="0:50")
         faint = tab.script("""
             const parts = (text) => text.match(/[\\d.]+/g).map(Number);
             const light = (colour) => {
@@ -252,7 +252,7 @@ class ForAll(BrowserCase):
             return faint;""")
         self.assertEqual(faint, [])
 
-    def test_focus_is_seen(self) -> None:
+    def test_the_focus_is_visible(self) -> None:
         tab, = self.open(FREEWAY)
         seen = []
         for _ in range(20):
@@ -265,7 +265,7 @@ class ForAll(BrowserCase):
         self.assertEqual([name for name, ring in seen if not ring and name != "document"], [])
         self.assertIn("diagram", [name for name, _ in seen])
 
-    def test_less_motion(self) -> None:
+    def test_the_diagram_jumps_if_motion_is_to_be_reduced(self) -> None:
         tab, = self.open(FREEWAY)
         tab.driver.execute_cdp_cmd("Emulation.setEmulatedMedia",
                                    {"features": [{"name": "prefers-reduced-motion", "value": "reduce"}]})
@@ -277,11 +277,11 @@ class ForAll(BrowserCase):
             now, step = tab.script("return [now(), Math.round(store.extent.step)]")
             seen.add(step)
         tab.press("Pause")
-        # The diagram has stood still, or jumped by a quarter of its 300 seconds.
+        # The diagram did not move, or jumped by a quarter of its 300 seconds.
         self.assertLessEqual(len(seen), now // 75 + 1)
         self.assertGreater(max(seen), 0)
 
-    def test_forced_colours(self) -> None:
+    def test_choices_and_the_legend_are_visible_with_forced_colours(self) -> None:
         tab, = self.open(FREEWAY)
         tab.driver.execute_cdp_cmd("Emulation.setEmulatedMedia", {"features": [{"name": "forced-colors", "value": "active"}]})
         self.addCleanup(tab.driver.execute_cdp_cmd, "Emulation.setEmulatedMedia", {"features": []})

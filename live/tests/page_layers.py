@@ -1,4 +1,4 @@
-"""Shapes that lie on each other, in a browser: whose edges can be drawn, and what is written at them."""
+"""Test shapes that cover each other, in a browser: whose edges can be dragged, and how frames are labelled."""
 from __future__ import annotations
 
 import csv
@@ -20,7 +20,7 @@ class OneTab(BrowserCase):
     def limit(self, tab: Tab, value: str, begin: str, end: str) -> None:
         tab.tool("limit")
         tab.choose("limit", value)
-        tab.in_figures(kmFrom="0.75", kmTo="4.5", timeFrom=begin, timeTo=end)
+        tab.type_and_apply(kmFrom="0.75", kmTo="4.5", timeFrom=begin, timeTo=end)
 
     def pointer(self, tab: Tab, cell: float, step: float) -> str:
         """Return the shape of the pointer at a place."""
@@ -28,7 +28,7 @@ class OneTab(BrowserCase):
             tab.part("diagram"), *tab.place(cell, step)).perform()
         return str(tab.script("return $('diagram').style.cursor"))
 
-    def test_a_fully_covered_change_has_no_edges_to_draw(self) -> None:
+    def test_a_wholly_covered_change_has_no_edges_to_drag(self) -> None:
         tab, = self.open(FREEWAY)
         tab.run_an_hour()
         self.limit(tab, "2", "0:20", "0:30")
@@ -44,14 +44,14 @@ class OneTab(BrowserCase):
         self.assertEqual(tab.script(spans), [[1200, 1800], [600, 2400]])
         self.assertEqual(tab.script("return store.extent.step"), max(0, step - 200) if step else 0)
 
-    def test_hidden_edges_cannot_be_drawn(self) -> None:
+    def test_hidden_edges_cannot_be_dragged(self) -> None:
         tab, = self.open(FREEWAY)
         tab.run_an_hour()
         tab.tool("block")
-        tab.in_figures(kmFrom="3", kmTo="3.15", timeFrom="0:20", timeTo="0:30")
+        tab.type_and_apply(kmFrom="3", kmTo="3.15", timeFrom="0:20", timeTo="0:30")
         tab.tool("look")
         self.assertEqual(self.pointer(tab, 410, 1800), "ns-resize")
-        tab.script("document.querySelector('[name=whose][value=shared]').click()")  # which has no closure
+        tab.script("document.querySelector('[name=whose][value=shared]').click()")  # the shared road has no closure
         tab.settled()
         self.assertEqual(self.pointer(tab, 410, 1800), "grab")
         tab.drag((410, 1800), (410, 2400))
@@ -59,9 +59,9 @@ class OneTab(BrowserCase):
         tab.keys("z")
         tab.settled()
         said = "Undone: Closed 3–3.15 km, 0:20:00–0:30:00"
-        self.assertEqual(tab.text("said"), f"{said}, on your own road.")  # which the picture does not show
+        self.assertEqual(tab.text("said"), f"{said}, on your own road.")  # the picture does not show the own road
 
-    def test_one_rectangle_after_the_other_is_drawn_at_one_place(self) -> None:
+    def test_rectangles_of_several_kinds_are_drawn_at_one_place(self) -> None:
         tab, = self.open(FREEWAY)
         tab.run_an_hour()
         for kind in ("limit", "slow", "block"):
@@ -72,11 +72,11 @@ class OneTab(BrowserCase):
                                             "54 km/h, 2.625–3.375 km, 0:20:00–0:30:00 private"])
         self.assertEqual(self.pointer(tab, 400, 1800), "ns-resize")
 
-    def test_an_inlet_has_no_sides_to_draw(self) -> None:
+    def test_the_sides_of_an_inlet_cannot_be_dragged(self) -> None:
         tab, = self.open(FREEWAY)
         tab.run_an_hour()
         tab.tool("inflow")
-        tab.in_figures(timeFrom="0:10", timeTo="0:30")
+        tab.type_and_apply(timeFrom="0:10", timeTo="0:30")
         self.assertEqual(self.pointer(tab, 0, 1800), "ns-resize")
         self.assertEqual(self.pointer(tab, 0, 1200), "crosshair")
         tab.tool("slow")
@@ -85,7 +85,8 @@ class OneTab(BrowserCase):
                                             "Demand 1,000 cars/h, at 0 km, 0:10:00–0:30:00 private"])
 
     def test_all_of_many_lines_that_change_at_once_are_listed(self) -> None:
-        """The server sends a part with its answer, and the page asks for the rest, even after many gestures at once."""
+        """The server sends a part of the list with its answer, and the page asks for the rest, even after many gestures at
+        once."""
         tab, = self.open(FREEWAY)
         tab.script("""for (let put_ = 0; put_ < 120; put_++) {
             const shape = {kind: "limit", first: 0, last: 15, from: 10 * put_, to: 7200 - 10 * put_, value: put_ % 5};
@@ -96,7 +97,7 @@ class OneTab(BrowserCase):
         shown = """
             return [...store.layers.mine.changes.values()].sort((one, other) => byStamp(one.name, other.name))
               .map(({shown}) => shown.map(({by}) => by === null));"""
-        # Each is in force before and behind the next one, in which it is covered by all that follow; the last one is whole.
+        # Each is in force before and after the next one; in between, all that follow cover it. The last one is whole.
         wanted = [[True, *[False] * (2 * (119 - count) - 1), True] for count in range(119)] + [[True]]
         self.assertEqual(tab.script(shown), wanted)
         tab.script("put({shape: {kind: 'limit', first: 0, last: 15, from: 0, to: 7200, value: 5}, note: 'above all'})")
@@ -115,7 +116,7 @@ class OneTab(BrowserCase):
         tab.press("Change: 54 km/h")
         tab.press_in("#apply")
         tab.settled()
-        self.assertEqual(tab.text("said"), "54 km/h, 0.75–4.5 km, 0:20:00–0:30:00: nothing is changed.")
+        self.assertEqual(tab.text("said"), "54 km/h, 0.75–4.5 km, 0:20:00–0:30:00: it is so already, nothing was changed.")
         self.assertEqual(len(operations_of(self.server)), 1)
         tab.keys("z")
         tab.settled()
@@ -144,19 +145,19 @@ class OneTab(BrowserCase):
         self.assertEqual(self.written(tab), ["27 km/h", "27 km/h", "54 km/h"])
         for first, last in (("0.75", "1.125"), ("1.125", "1.5"), ("1.5", "1.875")):  # three changes, zone by zone
             tab.choose("limit", "4")
-            tab.in_figures(kmFrom=first, kmTo=last, timeFrom="0:40", timeTo="0:45")
+            tab.type_and_apply(kmFrom=first, kmTo=last, timeFrom="0:40", timeTo="0:45")
         self.assertEqual(self.written(tab), ["108 km/h", "27 km/h", "27 km/h", "54 km/h"])
 
 
 class OneForm(BrowserCase):
-    """One tab on a freeway: what stands in the form when a line is changed."""
+    """One tab on a freeway: what the form shows while a line is changed."""
 
     names = ("Ada",)
 
     def closed(self, tab: Tab) -> None:
         """Put a closure from 0:20 to 0:30, and begin to change it."""
         tab.tool("block")
-        tab.in_figures(kmFrom="3", kmTo="3.15", timeFrom="0:20", timeTo="0:30")
+        tab.type_and_apply(kmFrom="3", kmTo="3.15", timeFrom="0:20", timeTo="0:30")
         tab.press("Change: Closed")
 
     def test_a_change_in_the_form_starts_from_the_line(self) -> None:
@@ -164,48 +165,49 @@ class OneForm(BrowserCase):
         tab.run_an_hour()
         self.closed(tab)
         tab.fill(kmTo="3.3")
-        tab.drag((410, 1800), (410, 2400))  # from another end than is written by now
+        tab.drag((410, 1800), (410, 2400))  # this changes an end that the form shows
         values = [tab.part(name).get_attribute("value") for name in ("kmFrom", "kmTo", "timeFrom", "timeTo")]
         self.assertEqual(values, ["3", "3.3", "0:20:00", "0:40:00"])
         tab.press_in("#apply")
         tab.settled()
         self.assertEqual(tab.lines("own"), ["Closed 3–3.3 km, 0:20:00–0:40:00 private"])
 
-    def test_a_demand_is_shown_for_the_time_from_which_it_holds(self) -> None:
+    def test_the_chance_of_a_demand_is_shown_for_its_beginning(self) -> None:
         tab, = self.open(FREEWAY)
         tab.run_an_hour()
         tab.tool("inflow")
-        tab.in_figures(demand="0", timeFrom="0:50", timeTo="")
+        tab.type_and_apply(demand="0", timeFrom="0:50", timeTo="")
         tab.fill(inlet="1", demand="300")
         found = []
         for begin in ("0:49:59", "0:50", ""):
             tab.fill(timeFrom=begin)
             tab.until(lambda: tab.text("toolHint").startswith("inflow chance"), "it is measured")
-            said = re.fullmatch(r"inflow chance (0\.\d+); this inlet admits up to [\d,]+ cars/h here", tab.text("toolHint"))
+            said = re.fullmatch(r"inflow chance (0\.\d+); this inlet then admits up to [\d,]+ cars/h", tab.text("toolHint"))
             found.append(float(said[1]) if said else math.nan)
-        beside, alone, now = found
-        # Where nobody passes, a chance q lets in some q / (1 + q q) cars a step; beside the cars of the main road fewer.
+        merging, alone, now = found
+        # If nobody passes the inlet, a chance q admits some q / (1 + q q) cars a step; next to the cars of the main road it
+        # admits fewer.
         self.assertAlmostEqual(alone / (1 + alone ** 2), 300 / 3_600, delta=0.002)
-        self.assertGreater(beside, 1.05 * alone)
-        self.assertEqual(now, alone)  # without a time it is that of the clock, at 1:00
+        self.assertGreater(merging, 1.05 * alone)
+        self.assertEqual(now, alone)  # without a time the clock's time counts, 1:00
 
-    def test_a_line_that_is_not_in_force_is_not_changed(self) -> None:
+    def test_a_withdrawn_line_is_no_longer_changed_in_the_form(self) -> None:
         tab, = self.open(FREEWAY)
         self.closed(tab)
         tab.press("Withdraw: Closed")
         tab.settled()
         self.assertFalse(tab.part("dropChange").is_displayed())
         self.assertEqual(tab.text("apply"), "Close")
-        tab.in_figures(kmFrom="1.5", kmTo="1.65", timeTo="0:35")
+        tab.type_and_apply(kmFrom="1.5", kmTo="1.65", timeTo="0:35")
         self.assertEqual([line["does"] for gesture in tab.script("return [...store.layers.mine.changes.values()]")
                           for line in gesture["operations"]], ["put"])
 
-    def test_another_tool_leaves_the_line_as_it_is(self) -> None:
+    def test_choosing_another_tool_does_not_change_the_line(self) -> None:
         tab, = self.open(FREEWAY)
         self.closed(tab)
         tab.tool("limit")
         self.assertFalse(tab.part("dropChange").is_displayed())
-        tab.in_figures(kmFrom="1.5", kmTo="2.25", timeFrom="0:40", timeTo="0:50")
+        tab.type_and_apply(kmFrom="1.5", kmTo="2.25", timeFrom="0:40", timeTo="0:50")
         self.assertEqual(tab.lines("own"), ["54 km/h, 1.5–2.25 km, 0:40:00–0:50:00 private",
                                             "Closed 3–3.15 km, 0:20:00–0:30:00 private"])
 
@@ -223,12 +225,12 @@ class TwoTabs(BrowserCase):
         ada.run_an_hour()
         for tab, begin, end in ((ada, "0:20", "0:40"), (ben, "0:25", "0:30")):
             tab.tool("limit")
-            tab.in_figures(kmFrom="0.75", kmTo="4.5", timeFrom=begin, timeTo=end)
+            tab.type_and_apply(kmFrom="0.75", kmTo="4.5", timeFrom=begin, timeTo=end)
         ben.share_all()
-        self.assertEqual(ben.text("said"), "Shared 1 change.")  # of ten zones, each with a beginning and an end
+        self.assertEqual(ben.text("said"), "Shared 1 change.")  # it has ten zones, each with a beginning and an end
         ada.take()
         ada.tool("block")
-        ada.in_figures(kmFrom="3", kmTo="3.15", timeFrom="0:50", timeTo="0:55")
+        ada.type_and_apply(kmFrom="3", kmTo="3.15", timeFrom="0:50", timeTo="0:55")
         ada.press("Share…: Closed")
         ada.press("Share now")
         ada.press("Withdraw: Closed")
@@ -247,7 +249,7 @@ class TwoTabs(BrowserCase):
         self.assertEqual(covered[0], "0.75–4.5 km, 0:25:00–0:30:00 by Ben's limit of 54 km/h")
 
     def test_unchanged_lines_of_a_list_are_not_touched(self) -> None:
-        """Otherwise each gesture would lay out all lines again, which takes longer than the picture if there are a hundred."""
+        """Otherwise each gesture would lay out all lines again. With a hundred lines that takes longer than the picture."""
         ada, = self.open(FREE_ROAD, ("Ada",))
         for limit, begin, end in (("2", "0:10", "0:15"), ("1", "0:20", "0:25"), ("2", "0:30", "0:35")):
             ada.limit(limit, begin, end)
@@ -265,12 +267,13 @@ class TwoTabs(BrowserCase):
         self.assertEqual([line[:6] for line in ada.lines("own")], ["0 km/h", "54 km/", "27 km/"])
 
     def test_figures_are_complete_next_to_the_picture(self) -> None:
-        """Four digits on both roads, a warning that makes the column scroll, and over many days."""
+        """Both roads have figures of four digits, a warning makes the column scroll, and the figures over many days are shown,
+        too."""
         with mock.patch.dict(os.environ, {"LIVE_DAYS": "2"}):
             ada, _ = self.open(FREEWAY)
         ada.run_an_hour()
         ada.tool("block")
-        ada.in_figures(kmFrom="3", kmTo="3.15", timeFrom="0:20", timeTo="0:30")
+        ada.type_and_apply(kmFrom="3", kmTo="3.15", timeFrom="0:20", timeTo="0:30")
         self.addCleanup(ada.driver.execute_cdp_cmd, "Emulation.clearDeviceMetricsOverride", {})
         for place in ("figures", "over"):
             if place == "over":
@@ -296,7 +299,7 @@ class TwoTabs(BrowserCase):
         ada, _ = self.open(FREEWAY)
         ada.run_an_hour()
         ada.tool("block")
-        ada.in_figures(kmFrom="0.6", kmTo="0.65", timeFrom="0:18", timeTo="0:26")
+        ada.type_and_apply(kmFrom="0.6", kmTo="0.65", timeFrom="0:18", timeTo="0:26")
         ada.until(lambda: "…" not in ada.text("figures"), "the lost demand")
         shown = ada.script("return [...document.querySelectorAll('#figures tbody tr')].map((line) => "
                            "[...line.children].map((one) => one.firstChild?.data ?? ''))")

@@ -1,7 +1,7 @@
-"""Two browsers on one road: share, look first, take, overruled, put again, undo."""
+"""Test two browsers on one road: share, look first, take, lose to another change, put it again, undo."""
 from __future__ import annotations
 
-from browsers import FREE_ROAD, FREEWAY, BrowserCase, Tab, before_rows, example_rows
+from browsers import FREE_ROAD, FREEWAY, BrowserCase, Tab, preview_rows, example_rows
 from selenium.webdriver.common.action_chains import ActionChains
 from selenium.webdriver.common.by import By
 from selenium.webdriver.common.keys import Keys
@@ -10,7 +10,7 @@ from selenium.webdriver.common.keys import Keys
 class Sharing(BrowserCase):
     """Two browsers."""
 
-    def test_shared_previewed_and_taken(self) -> None:
+    def test_a_change_is_shared_previewed_and_taken(self) -> None:
         ada, ben = self.open(FREE_ROAD)
         ada.run_an_hour()
         for tab in (ada, ben):
@@ -20,32 +20,32 @@ class Sharing(BrowserCase):
         self.assertFalse(ben.part("news").is_displayed())
         ada.press("Share all")
         ada.settled()
-        self.assertIn("Nothing would be covered.", ada.text("previewBody"))
+        self.assertIn("Nothing would be covered or uncovered.", ada.text("previewBody"))
         self.assertIn("slower afteras fastfaster after", ada.text("legend"))
         jam = ada.pixel(17.5, 22.5)
         ada.press("Share now")
         ben.until(lambda: "Ada shared 1 change." in ben.text("news"), "news")
         ben.press("Look first")
         ben.settled()
-        self.assertFalse(ben.part("news").is_displayed())  # "Take now" is asked: there is one way to take
+        self.assertFalse(ben.part("news").is_displayed())  # the preview asks: only *Take now* takes
         self.assertIn("Closed 0.18–0.188 km, 0:00:12–0:00:24 Ada, ", ben.text("previewBody"))
-        # In the cells 15 to 19 of the steps 20 to 24 Ada's cars have, by the example's rows, the speeds 3, 1, 3, 0, 3, 0, 0,
-        # 2, 0, 0, 3, 0, 0, 0, and Ben's drive 3: hers are slower, by half of the scale, which is a middling red;
-        # for both, as the legend says.
+        # In the cells 15 to 19 and the steps 20 to 24, by the example's rows, Ada's cars have the speeds 3, 1, 3, 0, 3, 0, 0, 2,
+        # 0, 0, 3, 0, 0, 0, and Ben's the speed 3. Hers are slower by half of the scale, a medium red, for both viewers, as the
+        # legend says.
         red, green, blue = ben.pixel(17.5, 22.5)
         self.assertTrue(green < 160 and green < blue < red, (red, green, blue))
         self.assertEqual((red, green, blue), jam)
         self.assertIn("slower afteras fastfaster after", ben.text("legend"))
         ben.press("Take now")
-        ben.until(lambda: ben.text("said") == "Took 1 change from Ada. They cover nothing of yours.", "taken")
+        ben.until(lambda: ben.text("said") == "Took 1 change from Ada. They cover none of your changes.", "taken")
         ben.settled()
         ben.script("store.layers.mine.frames = []; draw()")
         ben.settled()
         wanted = example_rows(0)[:12] + example_rows(1)[-17:]
-        self.assertEqual(ben.signs(12, len(wanted), 40), wanted)
+        self.assertEqual(ben.characters(12, len(wanted), 40), wanted)
         self.assertEqual(ben.lines("held"), ["Closed 0.18–0.188 km, 0:00:12–0:00:24 shared"])
 
-    def test_covered_and_put_on_top(self) -> None:
+    def test_a_covered_change_is_put_on_top(self) -> None:
         ada, ben = self.open(FREE_ROAD)
         ada.run_an_hour()
         ada.limit("1", "0:20", "0:40")
@@ -73,7 +73,7 @@ class Sharing(BrowserCase):
         ada.settled()
         ben.take()
         self.assertEqual(ben.covers("held"), ["Wholly covered by Ada's limit of 27 km/h."])
-        # What is wholly covered can be withdrawn all the same; nothing of the road is other than before.
+        # A wholly covered change can be withdrawn all the same, which leaves the road as it was.
         ben.press("Withdraw: 54 km/h")
         ben.settled()
         self.assertEqual(ben.covers("held"), [])
@@ -108,7 +108,7 @@ class Sharing(BrowserCase):
         ada.until(lambda: ada.script("return store.news.text") == "Ben shared 2 changes.", "more news")
         self.assertTrue(ada.text("news").startswith("Ben shared 1 change."))
         ActionChains(ada.driver, duration=0).release().perform()
-        ada.until(lambda: ada.text("said") == "Took 2 changes from Ben. They cover nothing of yours.", "taken")
+        ada.until(lambda: ada.text("said") == "Took 2 changes from Ben. They cover none of your changes.", "taken")
 
     def test_a_double_click_does_not_press_a_button_that_appears_there(self) -> None:
         ada, _ = self.open(FREE_ROAD)
@@ -131,22 +131,22 @@ class Sharing(BrowserCase):
         ActionChains(ada.driver, duration=0).move_by_offset(0, 3).pause(1).click().perform()
         self.assertEqual(ada.script("return pressed"), 1)
 
-    def test_two_change_one_line_at_once(self) -> None:
+    def test_of_two_who_change_one_line_at_once_one_can_put_it_again(self) -> None:
         ada, ben = self.open(FREE_ROAD)
         ada.run_an_hour()
         ada.limit("1", "0:20", "0:30")
         ada.share_all()
         ben.take()
         ada.press("Change: 27 km/h")
-        ada.in_figures(timeTo="0:35")
+        ada.type_and_apply(timeTo="0:35")
         ben.press("Withdraw: 27 km/h")
         ben.settled()
         ada.share_all()
         ben.share_all()
         ada.take()
-        # Ben's is the later one.
+        # Ben's operation is the later one.
         self.assertEqual(ada.value_at("limit", 0, 1200, 2000), [3, 3])
-        self.assertEqual(ada.covers("held"), ["Ben withdrew it at the same time, and that counts."])
+        self.assertEqual(ada.covers("held"), ["Ben withdrew it at the same time, and that takes precedence."])
         ada.press("Put mine again")
         ada.settled()
         self.assertEqual(ada.value_at("limit", 0, 1200, 2000, 2100), [1, 1, 3])
@@ -156,14 +156,14 @@ class Sharing(BrowserCase):
         ada, ben = self.open(FREE_ROAD)
         ada.run_an_hour()
         ada.tool("block")
-        ada.in_figures(kmFrom="0.15", kmTo="0.21", timeFrom="0:20", timeTo="0:50")
+        ada.type_and_apply(kmFrom="0.15", kmTo="0.21", timeFrom="0:20", timeTo="0:50")
         ada.share_all()
         ben.take()
         ben.tool("block")
-        ben.in_figures(kmFrom="0.15", kmTo="0.18", timeFrom="0:10", timeTo="0:35")
+        ben.type_and_apply(kmFrom="0.15", kmTo="0.18", timeFrom="0:10", timeTo="0:35")
         self.assertEqual(ben.value_at("block", 20, 599, 600, 1200, 2099, 2100, 2999, 3000), [0, 1, 1, 1, 1, 1, 0])
         labels = "return framesShown().map((one, _, all) => labelOf(one, areOfSeveral(all))).sort()"
-        # A frame has the name of who made what is on top there.
+        # A frame is labelled with the name of the person whose change is on top there.
         self.assertEqual(set(ben.script(labels)), {"closed, you", "closed, Ada"})
         ben.share_all()
         ada.take()
@@ -185,12 +185,13 @@ class Sharing(BrowserCase):
         ada.run_an_hour()
         for tab, first, last in ((ada, "4.5", "4.6"), (ben, "3", "3.1")):
             tab.tool("block")
-            tab.in_figures(kmFrom=first, kmTo=last, timeFrom="0:20", timeTo="0:30")
+            tab.type_and_apply(kmFrom=first, kmTo=last, timeFrom="0:20", timeTo="0:30")
         ada.tool("block")
-        ada.in_figures(kmFrom="1.05", kmTo="1.2", timeFrom="0:20", timeTo="0:30")
+        ada.type_and_apply(kmFrom="1.05", kmTo="1.2", timeFrom="0:20", timeTo="0:30")
         ben.share_all()
         ada.until(lambda: ada.part("news").is_displayed(), "news")
-        # The jams before the closures, half way down: at cell 590 her own, at cell 390 Ben's, at cell 125 what she shares.
+        # The queues upstream of the closures, half way down: at cell 590 of her own, at cell 390 of Ben's, at cell 125 of the one
+        # that she shares.
         own, his, shared = (590, 1700), (390, 1700), (125, 1700)
         def is_jam(tab: Tab, place: tuple[float, float]) -> bool:
             red, green, _ = tab.pixel(*place)
@@ -199,7 +200,7 @@ class Sharing(BrowserCase):
             ada.press(what)
             ada.settled()
             self.assertEqual([is_jam(ada, place) for place in (own, his, shared)], wanted, what)
-            rows = before_rows(ada)
+            rows = preview_rows(ada)
             steps = ada.driver.execute_async_script("""
                 const done = arguments[0];
                 Promise.all(["before", "after"].map((at) => ask({sums: {at, from: 0, to: 3600}}))).then((said) =>
@@ -209,7 +210,7 @@ class Sharing(BrowserCase):
             ada.settled()
         self.assertEqual(ada.faults(), [])
 
-    def test_undo_and_redo(self) -> None:
+    def test_undo_and_redo_follow_the_own_operations(self) -> None:
         ada, _ = self.open(FREE_ROAD)
         ada.limit("1", "0:20", "")
         ada.limit("2", "0:20", "")
@@ -232,7 +233,7 @@ class Sharing(BrowserCase):
         self.assertEqual(ada.lines("own"), [])
         ada.limit("4", "0:30", "")
         self.assertFalse(ada.part("redo").is_enabled())
-        # What is shared is taken back by Z, too: for oneself, until that is shared.
+        # Z also undoes a change that is shared: on the own road, until the undo is shared.
         ada.share_all()
         ada.press("Withdraw", "#held")
         ada.settled()
@@ -243,7 +244,7 @@ class Sharing(BrowserCase):
         self.assertNotIn("Withdrew: Withdrew", ada.text("own"))
         self.assertEqual(ada.faults(), [])
 
-    def test_nothing_undone_is_shareable(self) -> None:
+    def test_what_was_undone_is_not_shareable(self) -> None:
         ada, ben = self.open(FREE_ROAD)
         ada.limit("1", "0:20", "0:30")
         ada.share_all()
@@ -255,9 +256,9 @@ class Sharing(BrowserCase):
         ben.settled()
         self.assertEqual((ben.lines("own"), ben.lines("held")), ([], ["27 km/h, 0–0.3 km, 0:20:00–0:30:00 shared"]))
         self.assertFalse(ben.part("shareAll").is_displayed())
-        for end in ("0:35", "0:30"):  # to and fro
+        for end in ("0:35", "0:30"):  # there and back
             ben.press("Change: 27 km/h")
-            ben.in_figures(timeTo=end)
+            ben.type_and_apply(timeTo=end)
         self.assertEqual((ben.lines("own"), ben.lines("held")), ([], ["27 km/h, 0–0.3 km, 0:20:00–0:30:00 shared"]))
         ben.press("Withdraw: 27 km/h")
         ben.settled()
@@ -265,7 +266,7 @@ class Sharing(BrowserCase):
         ben.share_all()
         ada.take()
         self.assertEqual((ada.text("said"), ada.lines("held"), ben.lines("own")),
-                         ("Took 1 change from Ben. They cover nothing of yours.", [], []))
+                         ("Took 1 change from Ben. They cover none of your changes.", [], []))
 
     def test_a_part_is_previewed_before_it_is_shared(self) -> None:
         ada, _ = self.open(FREE_ROAD)
@@ -273,7 +274,7 @@ class Sharing(BrowserCase):
         ada.limit("1", "0:20", "0:30")
         ada.limit("2", "0:40", "0:50")
         ada.press("Share…: 27 km/h")
-        rows = before_rows(ada)
+        rows = preview_rows(ada)
         self.assertEqual(list(rows), ["Vehicle hours", "Cars admitted", "Lost demand, cars",
                                       "Delay of the cars that both roads have, vehicle hours", "Cars an hour at 0.21 km", "Seconds to 0.21 km",
                                       "Seconds to the road's end"])
@@ -285,7 +286,7 @@ class Sharing(BrowserCase):
         self.assertEqual([text[-7:] for text in ada.lines("own") + ada.lines("held")], ["private", " shared"])
 
     def test_the_preview_shows_exactly_what_is_shared(self) -> None:
-        """Also if it was changed, or undone, during the preview."""
+        """It does so even if a change was changed or undone during the preview."""
         ada, ben = self.open(FREE_ROAD)
         ada.run_an_hour()
         ada.limit("1", "0:20", "0:30")
@@ -293,7 +294,7 @@ class Sharing(BrowserCase):
         ada.press("Share…: 27 km/h")
         ada.settled()
         ada.press("Change: 27 km/h")
-        ada.in_figures(timeTo="0:35")
+        ada.type_and_apply(timeTo="0:35")
         self.assertEqual(self.looked_at(ada), ["Share 1 change?", "27 km/h, 0–0.3 km, 0:20:00–0:35:00"])
         self.assertEqual(ada.script("return store.layers.after.valueAt('limit', 0, 2099)"), 1)
         ada.press("Share now")
@@ -341,9 +342,9 @@ class Sharing(BrowserCase):
         ada.share_all()
         ben.limit("2", "0:40", "0:50")
         ben.press("Look first")
-        # As in the test above: ten minutes at a third of the speed, beside ten at two thirds.
+        # As in the test above: ten minutes at a third of the speed, compared with ten at two thirds.
         free, slow, middle = (cars / 3_600 for cars in (300 * 13, 300 * 39, 300 * 19.5))
-        now, then, _ = before_rows(ben)["Vehicle hours"]
+        now, then, _ = preview_rows(ben)["Vehicle hours"]
         self.assertAlmostEqual(now, 5 * free + middle, delta=0.5)
         self.assertAlmostEqual(then, 4 * free + middle + slow, delta=0.5)
         self.assertEqual(ben.faults(), [])

@@ -1,4 +1,4 @@
-"""Two and three browsers on one road: beside a shell and other sites, by the keyboard alone; a server that died."""
+"""Test two and three browsers on one road: with a shell and other sites, with the keyboard alone, and with a server that ends."""
 from __future__ import annotations
 
 import asyncio
@@ -16,7 +16,7 @@ ACTIVE = "const one = document.activeElement; return one.getAttribute('aria-labe
 
 
 def tab_to(tab: Tab, name: str) -> None:
-    """Move the focus on until it is at the element with this name."""
+    """Press Tab until the focus is on the element whose name begins so."""
     for _ in range(80):
         if tab.script(ACTIVE).startswith(name):
             return
@@ -30,7 +30,7 @@ def type_in(tab: Tab, *keys: str) -> None:
 
 
 class TwoTabs(BrowserCase):
-    """Two browsers, or one and somebody without a browser."""
+    """Two browsers, or one browser and somebody without one."""
 
     def test_changes_from_the_shell_are_described(self) -> None:
         ada, = self.open(FREEWAY, ("Ada",))
@@ -45,7 +45,7 @@ class TwoTabs(BrowserCase):
         self.assertEqual(title, "“night”, “works”")
         closed, demand, limit = sorted(said)
         self.assertEqual((closed, limit), ("Closed 0.75–0.765 km, from 0:10:00 on, and 1 more edit", "Limit withdrawn"))
-        # At a slowing chance of 0.1 a chance of 0.588 admits some 1,500 cars an hour: within half a per cent.
+        # With a slowing chance of 0.1 an inflow chance of 0.588 admits 1,500 cars an hour, within half a per cent.
         self.assertRegex(demand, r"^Demand 1,(49[3-9]|50[0-7]) cars/h, at 0 km, from 0:10:00 on$")
 
     async def at_night(self) -> None:
@@ -69,8 +69,8 @@ class TwoTabs(BrowserCase):
         values = [ada.part(name).get_attribute("value") for name in ("limit", "kmFrom", "kmTo", "timeFrom", "timeTo")]
         self.assertEqual(values, ["2", "4.125", "4.5", "1:30:00", ""])
         ada.choose("limit", "3")
-        ada.in_figures(timeTo="1:40")
-        # In the place of zone 11's limit from 1:30 on, which was a raw edit: a shape, which ends.
+        ada.type_and_apply(timeTo="1:40")
+        # A shape, which ends, replaces zone 11's limit from 1:30 on, which was a raw edit.
         self.assertEqual(shapes_of(operations_of(self.server)[-1]), [["limit", 11, 11, 5400, 6000, 3], ["limit", 11, 5400, None]])
         self.assertEqual(ada.lines("own"), ["81 km/h, 4.125–4.5 km, 1:30:00–1:40:00 private"])
         ada.press("Change: Closed")
@@ -82,7 +82,8 @@ class TwoTabs(BrowserCase):
             await cron.ask("edit", object=["limit", 11], step=5400, value=2)
             for number, edits in enumerate((
                     [["block", 100, 600, 1], ["block", 101, 600, 1], ["block", 100, 700, 0], ["block", 101, 700, 0]],
-                    # No shape: two values, a gap, two kinds, another value than the plan's at the end, an end too few.
+                    # These have no shape: two values, a gap, two kinds, a value at the end that is not the plan's, one end too
+                    # few.
                     [["limit", 1, 600, 3], ["limit", 2, 600, 4]], [["limit", 4, 600, 3], ["limit", 6, 600, 3]],
                     [["limit", 7, 600, 3], ["slow", 7, 600, 3]], [["limit", 8, 600, 3], ["limit", 8, 700, 4]],
                     [["block", 300, 600, 1], ["block", 301, 600, 1], ["block", 300, 700, 0]],
@@ -90,7 +91,7 @@ class TwoTabs(BrowserCase):
                 await cron.ask("gesture", key=f"k{number}", edits=edits)
             await cron.ask("send", name="shared")
 
-    def test_late_comers_see_how_to_begin_too(self) -> None:
+    def test_everybody_who_joins_sees_how_to_begin(self) -> None:
         ada, ben = self.open(FREE_ROAD)
         self.assertTrue(ben.part("emptyHint").is_displayed())
         ada.run_an_hour()
@@ -102,16 +103,16 @@ class TwoTabs(BrowserCase):
         ben.until(lambda: ben.text("clock") == "1:00:00", "the same seat")
         self.assertFalse(ben.part("emptyHint").is_displayed())
 
-    def test_figures_stand_beside_each_other(self) -> None:
+    def test_figures_of_both_roads_are_next_to_each_other(self) -> None:
         ada, ben = self.open(FREE_ROAD)
         ada.run_an_hour()
         ada.show(3600)
         ada.tool("block")
-        ada.in_figures(kmFrom="0.18", kmTo="0.19", timeFrom="0:10", timeTo="")
+        ada.type_and_apply(kmFrom="0.18", kmTo="0.19", timeFrom="0:10", timeTo="")
         ada.until(lambda: "…" not in ada.text("figures"), "what is counted car by car")
         cells = ada.script("return [...document.querySelectorAll('#figures tbody tr:nth-last-child(2) > *')].map((one) => one.innerText)")
-        # A car in two steps (0..2...., .1......, by the example's rows), all at 3 cells a step; the first passes cell 28 at
-        # step 10 or so, and the last of mine some steps behind 0:10:00.
+        # A car enters every two steps (0..2...., .1......, by the example's rows), and drives at 3 cells a step. The first one
+        # passes cell 28 at about step 10, and the last one of mine some steps after 0:10:00.
         name, mine, shared, change = cells
         self.assertEqual(name, "Cars at 0.21 km")
         self.assertRegex(shared, r"^1,79[4-6]\n1[01] s\n1,79[4-6]/h, 81 km/h$")
@@ -119,7 +120,7 @@ class TwoTabs(BrowserCase):
         passed = [int(text.split()[0].replace(",", "")) for text in (mine, shared)]
         self.assertEqual(change, f"−{passed[1] - passed[0]:,}\n0 s")
 
-    def test_with_the_keyboard_alone(self) -> None:
+    def test_everything_can_be_done_with_the_keyboard_alone(self) -> None:
         ada, ben = self.open(FREE_ROAD)
         tab_to(ada, "Run an hour")
         type_in(ada, Keys.ENTER)
@@ -186,7 +187,7 @@ class TwoTabs(BrowserCase):
             if held:
                 tab_to(ada, "Withdraw: 54 km/h")
 
-    def test_a_server_that_died(self) -> None:
+    def test_changes_are_pending_while_the_server_is_down(self) -> None:
         ada, _ = self.open(FREE_ROAD)
         ada.run_an_hour()
         self.server.kill()
@@ -197,7 +198,7 @@ class TwoTabs(BrowserCase):
         ada.part("kmTo").send_keys("0.3")
         ada.press_in("#apply")
         ada.until(lambda: ada.lines("own") == ["54 km/h, 0–0.3 km, from 0:20:00 on pending"], "pending")
-        for limit in ("0", "1", "3", "4", "5", "6", "7"):  # more than go out at once
+        for limit in ("0", "1", "3", "4", "5", "6", "7"):  # more than are sent at a time
             ada.choose("limit", limit)
             ada.press_in("#apply")
         ada.keys("z", "z")
@@ -249,13 +250,13 @@ class TwoTabs(BrowserCase):
             ada.settled()
             self.assertEqual(ada.text("said"), wanted)
         ada.press("Change: 27 km/h")
-        ada.in_figures(timeTo="0:40")
+        ada.type_and_apply(timeTo="0:40")
         for name, wanted in (("Undo", "Undone"), ("Redo", "Redone")):
             ada.press(name)
             ada.settled()
             self.assertEqual(ada.text("said"), f"{wanted}: 27 km/h, 0–0.3 km, 0:20:00–0:40:00.")
 
-    def test_what_needs_the_line_is_not_done_later(self) -> None:
+    def test_what_needs_the_connection_is_refused_and_not_done_later(self) -> None:
         ada, ben = self.open(FREE_ROAD)
         ada.run_an_hour()
         ada.limit("1", "0:20", "0:30")
@@ -280,7 +281,7 @@ class TwoTabs(BrowserCase):
     def test_pending_changes_are_kept_in_the_tab(self) -> None:
         ada, _ = self.open(FREE_ROAD)
         ada.run_an_hour()
-        ada.script("store.connection.connect = () => {}")  # so that it stays away until it is reloaded
+        ada.script("store.connection.connect = () => {}")  # so that the page does not reconnect until it is reloaded
         self.server.kill()
         ada.until(lambda: "are stored in this tab, and sent once the connection is back" in ada.text("said"), "the page says so")
         ada.tool("limit")
@@ -295,7 +296,7 @@ class TwoTabs(BrowserCase):
         wanted = [f"{speed} km/h, 0–0.3 km, from 0:20:00 on private" for speed in (54, 27)]
         ada.until(lambda: ada.lines("own") == wanted, "what was pending")
         ada.settled()
-        # If nothing is stored, the page does not claim it.
+        # If pending changes cannot be stored, the page does not claim that they are.
         ada.script("Storage.prototype.setItem = () => { throw new Error('full') }; store.connection.connect = () => {}")
         self.server.kill()
         ada.until(lambda: "unless you close or reload this tab" in ada.text("said"), "the page says so")
@@ -322,7 +323,7 @@ class TwoTabs(BrowserCase):
         broker.kill()
         ada.limit("1", "0:20", "0:30")
         ada.share_all()
-        ada.until(lambda: ada.text("line") == "connected; the broker is unreachable, 1 change to be sent", "it is away")
+        ada.until(lambda: ada.text("line") == "connected; the broker is unreachable, 1 change not sent yet", "it is away")
         self.assertEqual(ada.part("line").get_attribute("class"), "away")
         broker.start()
         ada.until(lambda: ada.text("line") == "connected, with 1 other site (messages are not authenticated)", "it is back")
@@ -330,18 +331,18 @@ class TwoTabs(BrowserCase):
         ada.until(lambda: ada.text("said") == "A message from the broker was ignored: it is not JSON: good morning",
                   "the page reports garbage")
 
-    def test_a_seat_is_taken_over(self) -> None:
+    def test_a_seat_can_be_taken_over(self) -> None:
         ada, ben = self.open(FREE_ROAD, LIVE_HELLO="5")
         ada.limit("1", "0:20", "0:30")
         ada.script("sessionStorage.clear()")
         ada.driver.get("about:blank")
         ada.driver.get(self.server.address)
         ada.until(lambda: ada.part("seats").is_displayed(), "the seats")
-        time.sleep(6)  # who takes long to say a name is let in all the same
+        time.sleep(6)  # somebody who takes long to say a name can join all the same
         self.assertEqual([one.text for one in ada.part("seatList").find_elements(By.TAG_NAME, "button")],
                          ["Ada, seat 1, 1 change not shared"])
         ada.press("Ada, seat 1")
-        ada.until(lambda: "uses the seat of Ada now, a person or a script, loses it" in ada.text("seatList"), "it asks first")
+        ada.until(lambda: "is using the seat of Ada, a person or a script, will lose it" in ada.text("seatList"), "it asks first")
         self.assertEqual([entry["seat"]["seat"] for entry in self.server.journal() if "seat" in entry], [1, 2])
         ada.press("Take over Ada, seat 1")
         ada.until(lambda: ada.lines("own") == ["27 km/h, 0–0.3 km, 0:20:00–0:30:00 private"], "her changes")
@@ -353,7 +354,7 @@ class ThreeTabs(BrowserCase):
 
     names = ("Ada", "Ben", "Cleo")
 
-    def test_three_edit_at_once(self) -> None:
+    def test_three_who_edit_at_once_get_the_same_road(self) -> None:
         tabs = self.open(FREEWAY)
         tabs[0].run_an_hour()
         for index, tab in enumerate(tabs):

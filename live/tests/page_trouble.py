@@ -34,7 +34,7 @@ class OneTab(BrowserCase):
         began = time.monotonic()
         os.kill(self.server.program, signal.SIGSTOP)
         self.begin_limit(ada, "1")
-        sentence = f"The program was restarted: the program owed an answer and used no processor for {HANGS} seconds"
+        sentence = f"The program was restarted: the program did not answer and used no processor time for {HANGS} seconds"
         ada.until(lambda: ada.text("said").endswith(": done."), "it is confirmed, whatever the program does")
         ada.until(lambda: sentence in ada.text("stays"), "the page says so")
         self.assertGreater(time.monotonic() - began, HANGS * 0.8)
@@ -61,13 +61,13 @@ class OneTab(BrowserCase):
         self.assertEqual(ada.lines("own"), ["27 km/h, 0–0.3 km, 0:20:00–0:30:00 pending"])
         ada.choose("span", "60")
         ada.keys(Keys.HOME)
-        ada.until(lambda: "?" not in "".join(ada.signs(0, 30, 40)), "what was confirmed can be looked at")
+        ada.until(lambda: "?" not in "".join(ada.characters(0, 30, 40)), "what was confirmed can be looked at")
         stalled.unlink()
         ada.until(lambda: ada.lines("own") == ["27 km/h, 0–0.3 km, 0:20:00–0:30:00 private"], "it is confirmed")
         ada.until(lambda: "disk" not in ada.text("stays"), "the trouble is over")
 
-    def test_a_change_that_the_disk_refused_in_the_end_is_neither_listed_nor_drawn(self) -> None:
-        """Even if the page was reloaded while it was pending."""
+    def test_a_change_that_the_disk_refuses_is_neither_listed_nor_drawn(self) -> None:
+        """It is not, even if the page was reloaded while the change was pending."""
         with mock.patch.object(Server, "serve", LIVE / "tests" / "stalling.py"):
             ada, = self.open(FREE_ROAD)
         ada.run_an_hour()
@@ -78,7 +78,7 @@ class OneTab(BrowserCase):
         ada.until(lambda: ada.lines("own") and "1" in self.signs_at_35(ada), "it is seen")
         failing.touch()
         stalled.unlink()
-        ada.until(lambda: "the disk does not accept it" in ada.text("stays"), "the page says so")
+        ada.until(lambda: "the disk does not accept writes" in ada.text("stays"), "the page says so")
         ada.until(lambda: not ada.lines("own") and set(self.signs_at_35(ada)) == {"3", "."}, "it is gone")
         failing.unlink()
         ada.until(lambda: "disk" not in ada.text("stays"), "the trouble is over")
@@ -88,4 +88,4 @@ class OneTab(BrowserCase):
         """Return what is drawn of step 35 after the inlet, where cars drive at the limit."""
         tab.choose("span", "60")
         tab.keys(Keys.HOME)
-        return tab.signs(35, 1, 40)[0][10:]
+        return tab.characters(35, 1, 40)[0][10:]

@@ -1,7 +1,8 @@
-"""Compare the model with a painted oracle, on random histories of sites and seats, with messages late, twice and in any order.
+"""Compare the model with an oracle, on random histories of sites and seats, with messages that are late, doubled and in any
+order.
 
-The oracle paints what operations mean, object by object and step by step, from their definition alone. After each act the
-differences that a program was given, by its rule that the latest edit wins, must give the oracle's road.
+The oracle computes what operations mean, object by object and step by step, from their definition alone. After each act, the
+edits that a program was given must give the oracle's road, by the program's rule that the latest edit wins.
 """
 from __future__ import annotations
 
@@ -16,7 +17,7 @@ from running import ALL
 from server.model import changes, choices, projection, seen
 from server.model.operations import About, Operation, Shape, Stamp, edit, exclude, is_raw, lift, put, undo
 from server.model.reading import read_operation
-from server.model.road import Road, change, stands
+from server.model.road import Road, change, is_standing
 
 STEPS, LAST = 30, 43
 THERE = {"block": 10, "limit": 6, "slow": 6, "start": 6, "inflow": 4, "watch": 3}
@@ -50,7 +51,7 @@ class Replica:
         before, self.road = self.road, road
         wanted, said = ORACLE.painted(road.record.operations()), ORACLE.by_the_program(self.program)
         assert wanted == said, {thing: (wanted[thing], said[thing]) for thing in wanted if wanted[thing] != said[thing]}
-        self.check_list(changes.altered(before, road))
+        self.check_list(changes.find_altered_lines(before, road))
         self.counted["roads"] += 1
 
     def check_list(self, altered: set[Stamp]) -> None:
@@ -65,9 +66,9 @@ class Replica:
 
 
 def entry(road: Road, line: Stamp) -> Any:
-    """Return what a line of the list shows."""
-    losses = seen.lost(road, line)
-    return {"shown": seen.shown(road, line), "standing": stands(road, line), "operations": [
+    """Return what the list shows of a line."""
+    losses = seen.find_overruled(road, line)
+    return {"shown": seen.visible_rectangles(road, line), "standing": is_standing(road, line), "operations": [
         (one.text(), road.record.counts(one), losses[one].stamp if one in losses else None)
         for one in changes.operations_on(road, line)]}
 
@@ -107,7 +108,7 @@ class Site:
 
 
 def stamp_of(seat: Seat, chance: random.Random) -> Stamp:
-    """Return a stamp above all that are held, sometimes far above, as from clocks of other sites."""
+    """Return a stamp above all that are held; sometimes far above, as if from the clock of another site."""
     return max([0, *(stamp[0] for stamp in seat.road.record.held)]) + chance.choice([1, 1, 1, 2, 9]), seat.number
 
 
@@ -194,7 +195,7 @@ class History:
 
     def press(self, seat: Seat) -> None:
         for redo in (False, True):
-            found = choices.undoable(seat.road, seat.number)
+            found = choices.find_undoable(seat.road, seat.number)
             one = found.redo if redo else found.undo
             if one is not None and self.chance.random() < 0.7:
                 self.make(seat, undo(stamp_of(seat, self.chance), one))
@@ -208,7 +209,7 @@ class History:
             site.shares(some, self.chance)
 
     def twin(self, site: Site, seat: Seat) -> None:
-        """Let a copied folder use a stamp again."""
+        """Make an operation whose stamp was used before, as a copied folder does."""
         old = self.chance.choice(list(seat.road.record.operations()))
         if old.stamp[1] == seat.number and old.sets and not any(map(is_raw, old.sets)):
             site.shares([Operation(old.stamp, {next(iter(old.sets)): random_shape(self.chance)}, old.heights, seen=old.seen,
@@ -216,7 +217,7 @@ class History:
             self.counted["twins"] += 1
 
     def deliver(self, to: Site, likely: float = 0.5) -> None:
-        """Deliver messages of others in any order, some twice; many are late."""
+        """Deliver messages of others in any order, some twice, and many late."""
         some = [(other, at) for other in self.sites if other is not to for at in range(len(other.sent))
                 if (to.number, other.number, at) not in self.heard or self.chance.random() < 0.1]
         some = [one for one in some if self.chance.random() < likely]
@@ -260,20 +261,20 @@ class History:
     def check_seat(self, site: Site, seat: Seat) -> None:
         """Check that Z and Redo change something, and that the shareable operations are active and make the shared road the seat's."""
         road, shared, chance = seat.road, site.shared.road, self.chance
-        found = choices.undoable(road, seat.number)
+        found = choices.find_undoable(road, seat.number)
         for one in (found.undo, found.redo):
             if one is not None:
                 then = road.adding([undo(stamp_of(seat, chance), one)])
                 assert then.layers != road.layers or then.record.excluded != road.record.excluded, "Z does nothing"
         for one in found.blocked:
             assert road.adding([undo(stamp_of(seat, chance), one)]).layers == road.layers
-            assert any(other.stamp[1] != seat.number for other in choices.overruling(road, one)), "somebody else is named"
+            assert any(other.stamp[1] != seat.number for other in choices.find_overruling(road, one)), "somebody else is named"
         some = choices.shareable(road, shared, seat.number)
         assert all(map(road.record.counts, some)), "what is undone is not shared"
         everything = road.adding(site.order)
         then = shared.adding(choices.shareable(everything, shared, seat.number))
         assert then.layers == everything.layers and then.record.excluded == everything.record.excluded
-        gone = choices.forgettable(road, shared, seat.number, chance.randrange(4))
+        gone = choices.find_forgettable(road, shared, seat.number, chance.randrange(4))
         left = EMPTY.adding(one for one in road.record.operations() if one not in gone)
         assert left.layers == road.layers and left.record.excluded == road.record.excluded
         self.counted["forgettable"] += len(gone)
@@ -281,7 +282,8 @@ class History:
             seat.becomes(left, chance)
 
     def end(self) -> None:
-        """Share and deliver everything: all sites have one road, and no message was sent in reply to another."""
+        """Share and deliver everything. Check that all sites have the same road, and that no message was sent in reply to
+        another."""
         for site in self.sites:
             for seat in site.seats:
                 some = choices.shareable(seat.road, site.shared.road, seat.number)
@@ -295,13 +297,13 @@ class History:
             same(site.shared.road, self.sites[0].shared.road)
             for seat in site.seats:
                 site.takes(seat, len(site.order), self.chance)
-                # Another's undo may have uncovered something of the seat's that needed no sharing before.
+                # Somebody else's undo may have uncovered an operation of the seat that did not need to be shared before.
                 if not choices.shareable(seat.road, site.shared.road, seat.number):
                     assert seat.road.layers == site.shared.road.layers
 
 
 class Painted(unittest.TestCase):
-    def test_random_histories(self) -> None:
+    def test_random_histories_give_the_roads_of_the_oracle(self) -> None:
         counted: Counter[str] = Counter()
         for seed in range(HISTORIES):
             with self.subTest(seed=seed):

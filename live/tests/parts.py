@@ -42,24 +42,24 @@ class Parts(Case):
             await until(again, "it goes on")
         self.assertIn(f"A fault in the server has stopped {what}: it is started again", str(said))
         self.assertIn(what, str(tabs._trouble))
-        tabs._part_ended(None)
+        tabs._show_fault(None)
         self.assertIsNone(tabs._trouble)
 
     async def test_the_task_that_keeps_the_clock_goes_on(self) -> None:
         """So do compaction and the freeing of seats."""
         call = failing_once(lambda lab: None)
-        with mock.patch.object(Timing, "keep", call):
+        with mock.patch.object(Timing, "save", call):
             here = await self.enterAsyncContext(Here())
-            await self.ends(here, call, "the clock, seats that nobody uses and a long journal")
+            await self.ends(here, call, "the task that saves the clock, frees seats and shortens the journal")
 
     async def test_questions_are_answered(self) -> None:
         """Even the seat whose turn it was."""
         here = await self.enterAsyncContext(Here())
         ada, ben = await here.join("Ada", "Ben")
-        call = failing_once(Turns._one_turn)
-        with mock.patch.object(Turns, "_one_turn", call):
+        call = failing_once(Turns._run_turn)
+        with mock.patch.object(Turns, "_run_turn", call):
             asked = [asyncio.create_task(here.ask(seat, "scenario")) for seat in (ada, ben, ada)]
-            await self.ends(here, call, "what seats ask")
+            await self.ends(here, call, "the answers to tabs")
             self.assertEqual([one["edits"] for one in await soon(asyncio.gather(*asked))], [[]] * 3)
 
     async def test_it_is_started_again_after_growing_pauses(self) -> None:

@@ -1,4 +1,4 @@
-"""Rows, counts and what is saved, beside the same by plain questions."""
+"""Compare rows, counts and saved files with the answers to single questions."""
 from __future__ import annotations
 
 import csv
@@ -17,7 +17,7 @@ LAST = 150
 
 
 class Programs(unittest.TestCase):
-    def test_threads_are_for_long_roads(self) -> None:
+    def test_only_long_roads_are_run_by_threads(self) -> None:
         self.assertEqual(command_of("p", {"length": LONG_ROAD - 1}), ["p"])
         self.assertIn(command_of("p", {"length": LONG_ROAD})[1:2], ([], ["--workers"]))
 
@@ -36,23 +36,23 @@ class Pictures(Case):
         return (await self.ada.ask("diagram", **fields))["rows"]
 
     async def counts(self, **fields: int) -> Any:
-        """Return the counts of detectors: pairs, for each span if there are spans."""
+        """Return the counts of detectors: a pair for each, in each span if there are spans."""
         return (await self.ada.ask("counts", **fields))["counts"]
 
-    async def test_every_nth_row_and_stretches(self) -> None:
+    async def test_every_nth_row_of_a_stretch_is_that_of_the_whole_picture(self) -> None:
         self.assertEqual(await self.diagram(**{"from": 0, "to": LAST}), self.picture)
         for every, first, last in ((2, 0, LAST), (3, 10, 99), (7, 5, 5), (8, 0, LAST), (100, 3, LAST)):
             for left, right in ((0, 119), (50, 70), (119, 119)):
                 found = await self.diagram(**{"from": first, "to": last, "every": every, "cells": [left, right]})
                 self.assertEqual(found, [row[left:right + 1] for row in self.picture[first:last + 1:every]], (every, first))
 
-    async def test_sums_of_minutes(self) -> None:
-        """Steps 1 to 60 are the first minute's: the rows that its steps lead to."""
+    async def test_sums_are_the_cars_in_the_rows_of_each_minute(self) -> None:
+        """The first minute has the rows of the steps 1 to 60: those to which its steps lead."""
         wanted = [sum(cell.isdigit() for row in self.picture[first + 1:first + 61] for cell in row) for first in (0, 60)]
         self.assertEqual((await self.ada.ask("sums", **{"from": 0, "to": 120}))["sums"], wanted)
         self.assertEqual((await self.ada.ask("sums", **{"from": 60, "to": 120}))["sums"], wanted[1:])
 
-    async def test_counts(self) -> None:
+    async def test_counts_of_spans_equal_those_of_single_questions(self) -> None:
         found = await self.counts(**{"from": 10, "to": 130, "each": 50})
         for span, (first, last) in zip(found, ((10, 60), (60, 110), (110, 130))):
             for detector, pair in enumerate(span):
@@ -72,7 +72,7 @@ class Pictures(Case):
         shown = [row for line in lines[1::2] for row in json.loads(line).get("rows", [])]
         self.assertEqual(shown, self.picture[20:])
 
-    async def test_tables(self) -> None:
+    async def test_saved_tables_have_units_and_the_counted_values(self) -> None:
         said = await self.ada.ask("csv", what="counts", each=50, **{"from": 0, "to": 100})
         table = list(csv.reader(io.StringIO(said["csv"])))
         counts = await self.counts(**{"from": 0, "to": 100, "each": 50})
@@ -84,7 +84,7 @@ class Pictures(Case):
                   for span, pairs in enumerate(counts) for detector, (cars, speeds) in enumerate(pairs)]
         self.assertEqual(table[2:], [[str(cell) for cell in line] for line in wanted])
         for text in ("=a", "+a", "-a", "@a", " =a", "\t=a"):
-            self.assertEqual(saving.harmless(text), "'" + text)
-        self.assertEqual([saving.harmless(cell) for cell in ("a=", 7, "")], ["a=", 7, ""])
+            self.assertEqual(saving.escape_formula(text), "'" + text)
+        self.assertEqual([saving.escape_formula(cell) for cell in ("a=", 7, "")], ["a=", 7, ""])
         with self.assertRaises(RefusedReply):
             await self.ada.ask("csv", what="all")

@@ -1,4 +1,4 @@
-"""Compute the figures of two roads with numpy, from the cars of each step alone; and make random roads to test them on."""
+"""Compute the figures of two roads with numpy, from the cars of each step alone, and make random roads for tests of figures."""
 from __future__ import annotations
 
 import random
@@ -25,7 +25,7 @@ def random_plan(chance: random.Random) -> dict[str, Any]:
 
 
 def random_shapes(plan: dict[str, Any], chance: random.Random) -> list[list[Any]]:
-    """Return shapes of all kinds, with an end or without."""
+    """Return random shapes of all kinds, with an end or without."""
     found = []
     for kind, there in (("limit", len(plan["zones"])), ("slow", len(plan["zones"])), ("start", len(plan["zones"])),
                         ("block", plan["length"] - 1), ("inflow", len(plan["inlets"])), ("watch", 3)):
@@ -57,19 +57,19 @@ class Run:
             for number, cell, speed in row:
                 self.cells[step, place[number]], self.speeds[step, place[number]] = cell, speed
         self.entries, self.inlets = self.numbers // 16, self.numbers % 16
-        # Where a car stood before a step: at its inlet, in the step in which it enters.
+        # Where each car is before a step: at its inlet, if it enters in this step.
         self.before = self.cells[:-1].copy()
         starts = np.array([cell for cell, _ in plan["inlets"]])[self.inlets] if len(numbers) else self.inlets
         self.before[self.entries, np.arange(len(numbers))] = starts
 
     def left(self) -> Array:
-        """Return the step in which each car leaves, or one after the last."""
+        """Return the step in which each car leaves; for a car that does not leave, a step after the last one."""
         gone = (self.cells[:-1] >= 0) & (self.cells[1:] < 0)
         found: Array = np.where(gone.any(axis=0), gone.argmax(axis=0), 1 << 30)
         return found
 
     def passed(self, site: int) -> Array:
-        """Return the step in which each car passes a cell, or one after the last."""
+        """Return the step in which each car passes a cell; for a car that does not pass it, a step after the last one."""
         now = np.where((self.before >= 0) & (self.cells[1:] < 0), 1 << 20, self.cells[1:])
         crossed = (self.before >= 0) & (self.before < site) & (now >= site)
         found: Array = np.where(crossed.any(axis=0), crossed.argmax(axis=0), 1 << 30)
@@ -101,7 +101,8 @@ class Run:
         return [int((seen & (self.inlets == inlet)).sum()) for inlet in range(len(self.plan["inlets"]))]
 
     def travel(self, first: int, last: int) -> list[list[float | None]]:
-        """Return for each detector and the end the number of cars that arrive in a window, and their mean seconds."""
+        """Return, for each detector and the road's end, the number of cars that arrive in a window, and their mean travel time in
+        seconds."""
         found: list[list[float | None]] = []
         for steps in self.arrivals():
             seen = (steps >= first) & (steps < last)
@@ -121,7 +122,7 @@ class Run:
         return next((edit[-1] for edit in self.edits if edit[:3] == zone), None)
 
     def asked(self, inlet: int, first: int, last: int) -> float:
-        """Return the demand of an inlet in cars: what its chances admit on the planned road, from a long run."""
+        """Return the demand of an inlet in cars: what its chances admit on the plan's road, in a long run."""
         states = [tuple(self.chance_at(one, step) for one in range(len(self.plan["inlets"]))) for step in range(first, last)]
         return sum(states.count(state) / 3_600 * flow(self.plan, state, inlet, self.start(self.plan["inlets"][inlet][0]))
                    for state in sorted(set(states)))
@@ -131,7 +132,8 @@ KNOWN: dict[Any, float] = {}
 
 
 def flow(plan: dict[str, Any], chances: tuple[int, ...], inlet: int, start: int | None) -> float:
-    """Return the cars per hour that an inlet admits with some chances on a road without works, from a long run with another seed."""
+    """Return the cars per hour that an inlet admits with these chances on a road without works, in a long run with another
+    seed."""
     key = str(plan["zones"][0]), str([cell for cell, _ in plan["inlets"]]), chances[:inlet + 1], inlet, start
     if key not in KNOWN:
         cells = [cell for cell, _ in plan["inlets"]]
@@ -148,8 +150,8 @@ def flow(plan: dict[str, Any], chances: tuple[int, ...], inlet: int, start: int 
 
 
 def compare(before: Run, after: Run, first: int, last: int) -> dict[str, Any]:
-    """Return the cost of the change from one road to another in a window: delay in vehicle hours, and for each place the cars and how much
-    later they are."""
+    """Return the cost of the change from one road to another in a window: the delay in vehicle hours, and for each place the cars
+    that both roads have and their mean delay."""
     both, ones, others = np.intersect1d(before.numbers, after.numbers, return_indices=True)
     time = [(run.cells[first + 1:last + 1] >= 0).sum(axis=0)[index] for run, index in ((before, ones), (after, others))]
     is_early = both // 16 < last

@@ -1,4 +1,4 @@
-"""Runs a program of Python on a disk where a folder can only be read, until a file is there.
+"""Run a Python program on a disk where a folder can only be read, until a file exists.
 
     read_only.py FOLDER SWITCH PROGRAM [ARGUMENT ..]
 """
@@ -33,7 +33,7 @@ def opens_to_write(flags: int, *_: Any, **__: Any) -> bool:
 
 def open_here(path: Any, mode: str = "r", *given: Any, **named: Any) -> Any:
     if set(mode) & set("wax+") and not isinstance(path, int):
-        os.close(os.open(path, os.O_WRONLY | os.O_CREAT))  # fails where it must
+        os.close(os.open(path, os.O_WRONLY | os.O_CREAT))  # it fails on a read-only path
     return opened(path, mode, *given, **named)
 
 

@@ -1,7 +1,7 @@
-"""Let two seats on each of two sites put, change, raise, withdraw and undo closures and limits that overlap,
-look first, share some or all, and take, all at once, while servers and broker are killed. After each round each seat's road
-equals, row by row, the road of the shapes in force, given what the seat did and took, and its list says which change covers
-which; all of that is computed here, from the rules alone.
+"""Let two seats on each of two sites put, change, put on top, withdraw and undo closures and limits that overlap, look first,
+share some or all, and take, all at once, while servers and the broker are killed. After each round the road of each seat equals,
+row by row, that of the shapes in force, given what the seat did and took, and its list says which change covers which. The
+expected roads and lists are computed here, from the rules alone.
 """
 from __future__ import annotations
 
@@ -23,13 +23,13 @@ BASE = {"block": 0, "limit": 4}
 THERE = {"block": 60, "limit": 3}
 HOURS, ROUNDS = (12 if ALL else 1), (20 if ALL else 6)
 
-KEPT = 20  # of its own operations that are not shared the newest, after a restart too
+KEPT = 20  # a seat keeps at least this many of its own unshared operations, the newest, also after a restart
 NOT_THERE = "NoSuchChange"
 REFUSED = ("NothingToUndo", "NothingToPut", "NoEffect")
 
 
 class Reader:
-    """A seat, and what it holds."""
+    """A seat, and the operations that it holds."""
 
     def __init__(self, server: Server, seat: Seat, chance: random.Random, made: dict[Stamp, Operation]) -> None:
         self.server, self.seat, self.chance, self.made = server, seat, chance, made
@@ -56,7 +56,7 @@ class Reader:
         """Return height, name and shape of the layers in force, the highest first."""
         return sorted(((height, name, shape) for name, (height, shape) in self.layers().items() if shape), reverse=True)
 
-    # What it does
+    # What the seat does
 
     async def acts(self, count: int) -> None:
         for _ in range(count):
@@ -97,7 +97,7 @@ class Reader:
         self.private.append((count, number))
 
     def is_forgotten(self, name: Stamp | None, stamp: Stamp | None) -> bool:
-        """Return whether a line or an operation may be forgotten: it was put in private and withdrawn long ago."""
+        """Return whether a line or an operation may have been forgotten: it was private, and was withdrawn long ago."""
         return stamp in self.old if name is None else name in self.old and self.layers()[name][1] is None
 
     async def acts_on(self, some: Sequence[Stamp]) -> None:
@@ -109,7 +109,7 @@ class Reader:
         what = self.chance.choice(["change", "change", "top", "withdraw", "withdraw", "undo", "again"])
         if what == "change":
             new = self.shape()
-            if shape is not None and self.chance.random() < 0.5:  # an end is dragged
+            if shape is not None and self.chance.random() < 0.5:  # drag an end
                 new = [*shape[:4], shape[3] + self.chance.randrange(1, 40), shape[5]]
             await self.makes("gesture", lambda stamp: Operation(stamp, {name: Shape(*new)}, {} if shape else {name: stamp}),
                              layer=name, shape=new)
@@ -149,7 +149,7 @@ class Reader:
         await self.seat.ask("advance", at=at, to=LAST)
         return (await self.seat.ask("diagram", at=at, **{"from": 0, "to": LAST}))["rows"]
 
-    # What is so
+    # What must be so
 
     def covering(self, kind: str, index: int, step: int) -> tuple[Stamp, Shape] | None:
         return next(((name, shape) for _, name, shape in self.standing_now if shape[0] == kind
@@ -191,7 +191,7 @@ class Reader:
 
 
 class Readers(Case):
-    async def test_no_road_is_wrong_in_an_hour(self) -> None:
+    async def test_no_road_or_list_is_wrong_after_any_round(self) -> None:
         for seed in range(HOURS):
             await self.hour(seed, ROUNDS)
 
@@ -248,5 +248,5 @@ class Readers(Case):
         await until(is_one_road, "one road")
 
     async def unsent(self, reader: Reader) -> int:
-        told = [one["broker"] for one in reader.seat.told if one.get("broker")]
+        told = [one["broker"] for one in reader.seat.received if one.get("broker")]
         return int(told[-1]["unsent"]) if told else int((reader.seat.welcome["broker"] or {"unsent": 1})["unsent"])

@@ -29,10 +29,10 @@ class Programs(Case):
             told: list[Any] = []
             keeper.listeners.program.on(lambda: told.append((keeper.changes, keeper.why_changed)))
             os.kill(keeper.program._process.pid, signal.SIGSTOP)
-            with mock.patch("server.program.HANGS", 1.0):
+            with mock.patch("server.program.IDLE_PATIENCE", 1.0):
                 reply = await soon(keeper.ask(ada, (ada,), lambda: keeper.say(b'{"scenario":{"at":"seat1"}}', {})))
             self.assertEqual([[*edit[:3], edit[5]] for edit in json.loads(reply)["edits"]], [["limit", 2, 50, 3]])
-            self.assertEqual(told, [(1, "the program owed an answer and used no processor for 1 seconds")])
+            self.assertEqual(told, [(1, "the program did not answer and used no processor time for 1 seconds")])
 
     async def test_a_killed_program_is_replaced_and_users_are_warned(self) -> None:
         async with Here() as here:
@@ -44,10 +44,10 @@ class Programs(Case):
             self.assertEqual((keeper.changes, keeper.why_changed), (1, "the program ended with status -9"))
 
     async def test_a_busy_program_is_not_replaced(self) -> None:
-        """It works for much longer than the server waits for one that hangs."""
+        """It works for much longer than the server waits for a program that hangs."""
         here = await start([str(program())], json.dumps({**LONG, "replicas": ["A"]}).encode())
         self.addAsyncCleanup(here.close)
-        with mock.patch("server.program.HANGS", 0.2):
+        with mock.patch("server.program.IDLE_PATIENCE", 0.2):
             began = asyncio.get_running_loop().time()
             reply = await soon(here.ask(b'{"advance":{"at":"A","to":400000}}'))
             self.assertEqual(json.loads(reply), {"horizon": 400_000})

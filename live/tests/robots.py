@@ -1,5 +1,6 @@
-"""Let robots put, change, withdraw, raise and undo shapes and raw edits, share and take, on one server or on several with a broker.
-At the end every road equals, row by row, that of a program given the settings of the shapes, step by step."""
+"""Let robots put, change, withdraw, put on top and undo shapes and raw edits, share and take, on one server or on several with a
+broker. At the end every road equals, row by row, that of a program that is given the values of the shapes in force, step by
+step."""
 from __future__ import annotations
 
 import random
@@ -16,7 +17,7 @@ from server.records import read_plan_line
 LAST = 80
 ROBOTS = 4
 RUNS, ACTS = (20 if ALL else 3), 100
-SITE_RUNS = 12 if ALL else 3  # runs with several servers
+SITE_RUNS = 12 if ALL else 3  # runs of several servers
 PLAN: dict[str, Any] = {**SMALL, "length": 60, "zones": [[4, 9_000]] * 3, "inlets": [[0, 30_000], [25, 9_000]], "detectors": [20, 45]}
 OBJECTS = [("limit", 3, 5), ("slow", 3, 40_000), ("block", 60, 1), ("inflow", 2, 65_536), ("watch", 2, 1),
            ("start", 3, 50_000)]
@@ -64,7 +65,7 @@ class Acts(Case):
             self.assertIn(fault.reply["refused"], ("NothingToUndo", "NothingToPut", "NoEffect", "NoSuchChange"))
 
     async def act_on(self, seat: Seat, chance: random.Random, key: str) -> None:
-        """Change, raise, withdraw, undo or repeat a random line."""
+        """Change, put on top, withdraw, undo or repeat a random line."""
         held = (await seat.ask("layers"))["layers"]
         if not held:
             return
@@ -131,7 +132,7 @@ class Robots(Acts):
                     broker.start()
             while any([(await seat.ask("send", name="shared"))["size"] for _, seat in seats]):
                 await until(lambda: self.hold_the_same([seat for _, seat in seats]), "all have the same")
-                for _, seat in seats:  # a take can make further private operations worth sharing
+                for _, seat in seats:  # after a take, more private operations may have an effect that can be shared
                     await seat.ask("take", message="shared")
             roads = [await self.compare(site, seat, at) for site, seat in seats for at in (seat.at, "shared")]
             self.assertEqual(roads, [roads[0]] * len(roads), seed)
@@ -140,7 +141,7 @@ class Robots(Acts):
         """Return whether all sites hold the same operations and nothing is unsent."""
         # One seat of each site
         held = [{tuple(one["stamp"]) for one in (await seat.ask("operations", at="shared"))["operations"]} for seat in seats[::2]]
-        states = [next((one["broker"] for one in reversed(seat.told) if "broker" in one), {"unsent": 1})
+        states = [next((one["broker"] for one in reversed(seat.received) if "broker" in one), {"unsent": 1})
                   for seat in seats[::2]]
         return all(one == held[0] for one in held) and not any(one["unsent"] for one in states)
 

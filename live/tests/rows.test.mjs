@@ -1,11 +1,11 @@
-// Which rows the page has of a road, and which it still wants.
+// Which rows of a road the page has, and which are missing.
 
 import assert from "node:assert/strict";
 import {test} from "node:test";
 
 import {Road} from "../page/rows.mjs";
 
-test("rows are asked for once, in pieces, from above on", () => {
+test("rows are asked for once, in pieces, from the top on", () => {
   const level = new Road("seat1", 10).load(4);
   assert.deepEqual(level.findMissing(0, 100, 20), {from: 0, to: 76, count: 20});
   level.mark(0, 20, 1);
@@ -15,7 +15,7 @@ test("rows are asked for once, in pieces, from above on", () => {
   assert.deepEqual(level.findMissing(0, 104, 20), {from: 104, to: 104, count: 1});
 });
 
-test("from the first step of a change on rows are wanted again, and shown until they come", () => {
+test("rows from the first changed step on are missing, and the old ones are shown until new ones arrive", () => {
   const road = new Road("seat1", 2);
   const level = road.load(1);
   level.mark(0, 4, 1);
@@ -29,7 +29,7 @@ test("from the first step of a change on rows are wanted again, and shown until 
   assert.equal(level.put(2, [".1", "#."]), null);
 });
 
-test("three distances between rows are kept", () => {
+test("the three levels that were loaded last are kept", () => {
   const road = new Road("seat1", 2);
   const first = road.load(1);
   for (const every of [2, 4]) road.load(every);
@@ -38,7 +38,7 @@ test("three distances between rows are kept", () => {
   assert.deepEqual([...road.levels.keys()], [4, 1, 8]);
 });
 
-test("who looks at a level neither loads it nor keeps it", () => {
+test("looking at a level neither loads nor keeps it", () => {
   const road = new Road("seat1", 2);
   assert.deepEqual(road.level(16).rows, []);
   assert.deepEqual([...road.levels.keys()], []);
@@ -48,7 +48,7 @@ test("who looks at a level neither loads it nor keeps it", () => {
   assert.deepEqual([...road.levels.keys()], [2, 4, 8]);
 });
 
-test("minutes have the steps of the present edits", () => {
+test("the sums of minutes from the first changed step on are missing", () => {
   const {minutes} = new Road("seat1", 2);
   assert.deepEqual(minutes.findMissing([0, 300], 3), [0, 180]);
   minutes.put(0, ["a", "b", "c"]);

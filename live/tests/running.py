@@ -1,4 +1,4 @@
-"""Servers, brokers and tabs for the tests, which end with them whatever happens."""
+"""Start servers, brokers and tabs for the tests, and end them with the tests whatever happens."""
 from __future__ import annotations
 
 import asyncio
@@ -29,17 +29,17 @@ from working import is_too_long
 from zegdrut import program_path
 
 LIVE = Path(__file__).resolve().parent.parent
-PATIENCE = 120.0  # seconds; what is waited for comes far sooner where the machine has nothing else to do
+PATIENCE = 120.0  # seconds; on a machine with nothing else to do, every wait is far shorter
 SMALL: dict[str, Any] = {
     "length": 120, "exit": 1, "zone": 20, "zones": [[5, 6_554]] * 6, "inlets": [[0, 27_918], [40, 9_000]],
     "detectors": [30, 70, 110], "words": 1, "replicas": ["road"]}
 ALL = os.environ.get("LIVE_TEST") == "all"  # `live/test --all`
-FIXED = {"LIVE_MILLISECONDS": "0"}  # counts are the greatest that is held and one more, but where a test wants a clock
+FIXED = {"LIVE_MILLISECONDS": "0"}  # a new count is the largest held one plus 1; some tests use the clock instead
 STARTED: list[subprocess.Popen[Any]] = []
 LONGEST = 0.2  # seconds of processor that a piece of a server's work may take on a quiet machine
 PIECE = re.compile(rf"{SAID} for a piece of work of ([\d.]+) s")
-HELD_UP: list[str] = []  # by what of a server in this process all others waited for longer
-LOGS: dict[Path, int] = {}  # of servers, and how much of them was looked at
+HELD_UP: list[str] = []  # the work of servers in this process that kept all others waiting for longer
+LOGS: dict[Path, int] = {}  # logs of servers, and how many bytes of each were checked
 FOLDERS: list[Path] = []
 logging.getLogger("asyncio").setLevel(logging.ERROR)  # it warns where the machine is slow
 DIES_WITH_PARENT, GETS_ORPHANS = 1, 36  # PR_SET_PDEATHSIG, PR_SET_CHILD_SUBREAPER
@@ -47,7 +47,7 @@ ctypes.CDLL(None).prctl(GETS_ORPHANS, 1)
 
 
 def transport_of(seat: Seat) -> asyncio.Transport:
-    """Return what the socket of a seat goes through."""
+    """Return the transport of a seat's socket."""
     connection = seat._socket._response.connection
     assert connection is not None and connection.transport is not None
     return connection.transport
@@ -101,7 +101,7 @@ def end_all() -> None:
 
 
 def leave(*_: Any) -> None:
-    """End on a signal, wherever the program is: an exception would end only one test."""
+    """End the process on a signal, whatever it is doing: an exception would end only one test."""
     try:
         kill_all()
     finally:
@@ -133,7 +133,7 @@ class Server:
     def __init__(self, folder: Path | None = None, plan: dict[str, Any] | None = None, *more: str, **environment: str):
         self.folder = folder or new_folder()
         self.arguments, self.environment = list(more), environment
-        self.prefix: list[str] = []  # a program of Python that runs the server
+        self.prefix: list[str] = []  # a Python program that runs the server
         self.log = self.folder / "server.log"
         LOGS[self.log] = 0
         (self.folder / "plan.json").write_text(json.dumps(plan or SMALL))
@@ -217,7 +217,7 @@ class Broker:
         return f"127.0.0.1:{self.port}"
 
     def say(self, topic: str, message: str) -> None:
-        """Publish a message as somebody else would."""
+        """Publish a message, as a stranger would."""
         subprocess.run(["mosquitto_pub", "-h", "127.0.0.1", "-p", str(self.port), "-q", "1", "-t", topic,
                         *(["-s"] if message else ["-n"])], input=message.encode(), check=True, timeout=PATIENCE)
 
@@ -250,15 +250,15 @@ def watch() -> Watch:
 
 
 class Watched(unittest.TestCase):
-    """Fails where a piece of a server's work kept all others waiting: in this process, or by its log. Garbage is collected
-    between tests alone: a collection looks at all that the tests hold, and is none of the server's work."""
+    """Fails if a piece of a server's work kept all others waiting, in this process or according to a log. Garbage is collected
+    only between tests, since a collection scans all objects of the tests, which is not the server's work."""
 
     def run(self, result: Any = None) -> Any:
         watch()
         HELD_UP.clear()
         gc.collect()
         gc.disable()
-        self.addCleanup(self._held_nobody_up)  # what was added first is done last
+        self.addCleanup(self._held_nobody_up)  # the first one that was added runs last
         return super().run(result)
 
     def _held_nobody_up(self) -> None:
@@ -279,7 +279,7 @@ class Case(Watched, unittest.IsolatedAsyncioTestCase):
         self._asyncioRunner = asyncio.Runner()  # without the debug mode, in which 63 tabs take minutes
 
     def assertEqual(self, first: Any, second: Any, msg: Any = None) -> None:
-        """Show where the two differ; unittest's own search takes minutes for rows."""
+        """Show where two values differ. The search of unittest itself takes minutes for rows."""
         if first != second:
             texts = repr(first), repr(second)
             at = max(0, len(os.path.commonprefix(texts)) - 100)
@@ -301,11 +301,10 @@ def program() -> Path:
     return program_path()
 
 
-def told(what: str, values: list[float], goal: float | None = None, least: float | None = None, unit: str = "ms") -> None:
-    """Print a figure of live/measure or live/measure_page: the median, the goal, and what it must be at the
-    least."""
+def report(what: str, values: list[float], goal: float | None = None, least: float | None = None, unit: str = "ms") -> None:
+    """Print a figure of live/measure or live/measure_page: the median, the goal, and the limit that it must meet."""
     median = statistics.median(values)
-    greatest = f", greatest {max(values):.0f}" if len(values) > 1 else ""
+    largest = f", largest {max(values):.0f}" if len(values) > 1 else ""
     goals = f" | goal {goal:g}, at the least {least:g} | " if goal is not None and least is not None else " | no goal | "
     verdict = "" if goal is None or least is None else "met" if median <= goal else "enough" if median <= least else "MISSED"
-    print(f"{what} | {median:.3g} {unit}{greatest}{goals}{verdict}", flush=True)
+    print(f"{what} | {median:.3g} {unit}{largest}{goals}{verdict}", flush=True)

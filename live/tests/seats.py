@@ -1,4 +1,4 @@
-"""Test who gets which seat when many join at once, and a clock that is slow or fast."""
+"""Test who gets which seat when many join at once, how seats are freed, and the clock of the road."""
 from __future__ import annotations
 
 import asyncio
@@ -10,7 +10,7 @@ from unittest import mock
 from faulty import Here, soon
 from running import Case, new_folder
 from server import verbs
-from server.asked import Asked
+from server.asked import CommandFields
 from server.model.operations import edit
 from server.refusals import Refused
 from server.seating import SteadyClock
@@ -37,14 +37,15 @@ class Seats(Case):
         self.assertEqual(sorted(seats), list(range(1, 61)))
         self.assertEqual(sorted(map(str, await self.together("Ada", "Ada", "Ada"))), ["61", "NameTaken", "NameTaken"])
         for seat in (3, 5):
-            await self.here.lab.seating.give_back(seat)
-            self.here.keeper.here.discard(seat)
-        # Each free seat but 62 and 63 was somebody's, and the program still holds what they put.
+            await self.here.lab.seating.release_seat(seat)
+            self.here.keeper.connected.discard(seat)
+        # Each free seat but 62 and 63 was used before, and the program still holds what was put in it.
         self.assertEqual(len(set(await self.together("Ben", "Cleo", "Dan", "Eve"))), 4)
         self.assertEqual(await self.together("Fay"), ["AllSeatsTaken"])
 
     async def test_a_name_that_looks_like_anothers_is_refused(self) -> None:
-        """Names are compared without case, width, style, invisible characters, composition, and look-alikes of other scripts."""
+        """Names are compared regardless of case, width, style, invisible characters, composition, and similar characters of other
+        scripts."""
         await self.here.join("Ada", "Zoé 1", "straße", "Βίκα", "Cecil")
         for name in ("ada", "ADA", "Ａｄａ", "\U0001d400da", "A da", "Ad\ufe0fa", "Аdа", "Ad\u034fa", "Zoe\u0301 1",
                      "ZOÉ 1", "zoé  1", "Zoé ①", "STRASSE", "strasse", "Bίκα", "Сecil", "Ceсil", "Cec\u0131l", "Ceci\u04cf"):
@@ -54,20 +55,20 @@ class Seats(Case):
             self.assertIn(f"{name} looks like it", caught.exception.why)
         await self.here.join("Adam", "Zoe 1", "Zoé 2", "語", "語語", "Ad-a")
 
-    async def test_fewer_large_operations_are_applied_at_once(self) -> None:
+    async def test_large_operations_are_applied_in_smaller_groups(self) -> None:
         small, large = (edit((1, 65), {("block", cell, 5): 1 for cell in range(many)}) for many in (1, 1_200))
         for some, size in (([small] * 250, 100), ([large] * 3, 1), ([small, large], 1), ([small] * 3, 3)):
             self.assertEqual(size_of_part(some), size)
 
     async def test_one_of_two_tabs_that_take_a_seat_over_gets_it(self) -> None:
         index, = await self.here.join("Ada")
-        self.here.keeper.here.discard(index)
+        self.here.keeper.connected.discard(index)
         lab = self.here.lab
         said = await asyncio.gather(*(lab.seating.join("", "", index) for _ in range(2)), return_exceptions=True)
         self.assertEqual([getattr(one, "text", "seat") for one in said], ["seat", "SeatConnected"])
 
     async def test_a_seat_that_was_used_until_a_kill_is_not_free_after_it(self) -> None:
-        """Even if its tab joined days ago, and never left."""
+        """It is not, even if its tab joined days ago and never left."""
         now = [1_000_000.0]
         with mock.patch("server.seating.time.time", lambda: now[0]):
             self.here.lab.seating.steady = SteadyClock(3_600, lambda: now[0], lambda: now[0])
@@ -76,9 +77,9 @@ class Seats(Case):
             for _ in range(2 * 24 * 6):
                 now[0] += 600
                 self.here.lab.seating.free_unused()
-            await self.here.keeper.journal.settled()
+            await self.here.keeper.journal.wait_until_written()
             self.assertLess(len(self.here.entries()), 60)
-            again = await self.enterAsyncContext(Here(copied(self.here.folder)))  # as it is when the server is killed
+            again = await self.enterAsyncContext(Here(copied(self.here.folder)))  # as the folder is when the server is killed
             again.lab.seating.steady = SteadyClock(3_600, lambda: now[0], lambda: now[0])
             now[0] += 22 * 3_600
             again.lab.seating.free_unused()
@@ -87,7 +88,8 @@ class Seats(Case):
                 await again.lab.seating.join("", self.here.keys[ben], None)
 
     async def test_a_clock_that_jumps_frees_no_seats(self) -> None:
-        """The clock is three days ahead for a moment, or when the server starts; if days have passed, seats are freed an hour later."""
+        """The machine's clock is three days ahead for a moment, or when the server starts. If days have really passed, seats are
+        freed an hour later."""
         wall, passed = [1_000_000.0], [0.0]
         with mock.patch("server.seating.time.time", lambda: wall[0]):
             def looks(lab: Lab, minutes: int) -> str:
@@ -114,24 +116,24 @@ class Seats(Case):
         ada, = await self.here.join("Ada")
         await self.here.put(ada, ["limit", 2, 50, 3])
         await self.here.share(ada)
-        await self.here.lab.seating.give_back(ada)
-        self.here.keeper.here.discard(ada)
+        await self.here.lab.seating.release_seat(ada)
+        self.here.keeper.connected.discard(ada)
         others = await self.here.join(*(f"n{number}" for number in range(63)))  # one of them has her seat
         self.assertIn(ada, others)
         for keeper in (self.here.keeper, None):
-            if keeper is None:  # and after a start
+            if keeper is None:  # and after a restart
                 await self.here.keeper.close()
                 self.here = await self.enterAsyncContext(Here(self.here.folder))
             line, = (await self.here.ask(others[0], "layers", at="shared"))["layers"]
             self.assertEqual([line["who"], line["operations"][0]["who"]], ["Ada", "Ada"])
 
-    async def test_complete_lists_wait_for_their_turn(self) -> None:
-        """Earlier questions of the seat are answered first, and so are others while it waits."""
+    async def test_requests_for_whole_lists_wait_for_their_turn(self) -> None:
+        """Earlier questions of the seat are answered first, and questions of others while it waits."""
         keeper, is_free = self.here.keeper, asyncio.Event()
         ada, ben = await self.here.join("Ada", "Ben")
         busy = keeper.turns.ask(ada, is_free.wait)
         asked = [asyncio.create_task(self.here.ask(ada, verb)) for verb in ("layers", "operations", "scenario")]
-        asked.append(asyncio.create_task(verbs.answer(self.here.lab, self.here.questions, ada, Asked("seats", {}), {})))
+        asked.append(asyncio.create_task(verbs.answer(self.here.lab, self.here.questions, ada, CommandFields("seats", {}), {})))
         await asyncio.sleep(0.2)
         self.assertEqual([one for one in asked if one.done()], [])
         is_free.set()
@@ -151,15 +153,15 @@ class Seats(Case):
             await self.here.lab.timing.set_clock(to=now + 36_001)
 
     async def clock(self, rate: float, seconds: float) -> int:
-        """Return how far a clock of this rate goes in some seconds."""
+        """Return how many steps a clock of this rate advances in some seconds."""
         keeper, lab = self.here.keeper, self.here.lab
         with mock.patch("server.keeper.time.monotonic", lambda: self.time):
-            await verbs.answer(lab, self.here.questions, 1, Asked("clock", {"rate": rate}), {})
+            await verbs.answer(lab, self.here.questions, 1, CommandFields("clock", {"rate": rate}), {})
             before = keeper.now()
             for _ in range(int(seconds)):
                 self.time += 1
-                lab.timing.keep()
-                await keeper.journal.settled()
+                lab.timing.save()
+                await keeper.journal.wait_until_written()
                 await asyncio.sleep(0)
             return keeper.now() - before
 
@@ -188,12 +190,12 @@ class Seats(Case):
         self.assertEqual(await self.clock(60, 100), 6_000)
         self.assertEqual(await self.clock(600, 5), 3_000)
         self.assertEqual(told[-1], {"rate": 600, "now": 6_000, "stop": 9_600})
-        self.assertEqual(await self.clock(500, 20), 3_600)  # again from where it is
+        self.assertEqual(await self.clock(500, 20), 3_600)  # it can be set again from where it is
         self.assertEqual(told[-1], {"rate": 0, "now": 12_600})
         self.assertEqual(self.here.keeper.state.rate, 0)
 
     async def test_files_that_several_save_at_once_are_complete(self) -> None:
-        """They get pieces in turn; a tab that comes too late gets `Busy`."""
+        """Tabs get pieces in turn. A tab that comes too late gets `Busy`."""
         with mock.patch("server.saving.MOST_PIECE", 2_000):
             seats = await self.here.join("Ada", "Ben", "Cleo", "Dan", "Eve")
             alone = [await self.saved(seat) for seat in seats]
@@ -209,7 +211,7 @@ class Seats(Case):
             for seat in seats[:4]:
                 await self.piece(seat, 0)
             with mock.patch("server.saving.UNUSED", 0):
-                await self.piece(seats[4], 0)  # of those that nobody fetches
+                await self.piece(seats[4], 0)  # of files that nobody fetches
 
     async def piece(self, seat: int, number: int) -> Any:
         return await self.here.ask(seat, "transcript", **{"from": 0, "to": 60, "next": number})

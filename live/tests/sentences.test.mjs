@@ -1,4 +1,4 @@
-// What changes are called.
+// The words for changes and their values.
 
 import assert from "node:assert/strict";
 import {readFileSync} from "node:fs";
@@ -9,11 +9,11 @@ import {decodeChange, decodeShape} from "../page/decoding.mjs";
 import {editsText, placesText, shapeText, takenZonesText, thingText, valueText} from "../page/sentences.mjs";
 
 const PLAN = JSON.parse(readFileSync(new URL("../plan.json", import.meta.url), "utf8"));
-// Inlet 0 admits 1,500 cars per hour by a chance of 0.588, and 1,250 from step 600 on; inlet 1 is measured just now.
+// With a chance of 0.588, inlet 0 admits 1,500 cars per hour, and 1,250 from step 600 on. Inlet 1 is being measured.
 const ROAD = {plan: PLAN, day: new DayClock(), curveAt: (inlet, step) => (inlet ? null
   : {points: [[0, 0], [38535, step < 600 ? 1500 : 1250], [65536, 1800]], capacity: 1800})};
 
-test("places", () => {
+test("places are written in km, and zones are counted", () => {
   assert.equal(placesText(PLAN, "limit", 7, 8), "2.625\u20133.375 km");
   assert.equal(placesText(PLAN, "inflow", 1, 1), "at 1.5 km");
   assert.equal(takenZonesText(PLAN, "start", 7, 7), "1 whole zone of 375 m");
@@ -21,7 +21,7 @@ test("places", () => {
   assert.equal(takenZonesText(PLAN, "block", 7, 8), "");
 });
 
-test("values", () => {
+test("values are written with their units", () => {
   const text = (kind, value) => valueText(ROAD, kind, value, 0, 0);
   assert.equal(text("block", 1), "Closed");
   assert.equal(text("block", 0), "Open");
@@ -31,7 +31,7 @@ test("values", () => {
   assert.equal(text("start", 32768), "Slow to start 50 %");
 });
 
-test("a demand is in cars per hour: what was asked for, else what its inlet admits then", () => {
+test("a demand is in cars per hour: what was asked for, otherwise what the inlet admits then", () => {
   assert.equal(shapeText(ROAD, decodeShape(["inflow", 0, 0, 600, 1200, 38535])),
                "Demand 1,250 cars/h, at 0 km, 0:10:00\u20130:20:00");
   assert.equal(shapeText(ROAD, decodeShape(["inflow", 0, 0, 599, 1200, 38535])),
@@ -48,7 +48,7 @@ test("a demand is in cars per hour: what was asked for, else what its inlet admi
     demand: "many"}).shape.demand, undefined);
 });
 
-test("a shape in a few words", () => {
+test("a shape is described in a few words", () => {
   const text = (...shape) => thingText(ROAD, decodeShape(shape));
   assert.equal(text("limit", 0, 0, 0, null, 2), "limit of 54 km/h");
   assert.equal(text("block", 0, 0, 0, null, 1), "closure");

@@ -1,4 +1,4 @@
-// Flow and speed by time: a question keeps to the roads for which it was begun.
+// Flow and speed by time: a question is about the roads that were compared when it began.
 
 import assert from "node:assert/strict";
 import {test} from "node:test";
@@ -11,7 +11,7 @@ const [FROM, TO] = [0, 120];
 const SPAN = [[{cars: 3, speeds: 9, flow: 180, speed: 81, on: 60}]];
 const NO_PREVIEW = {refused: "NoPreview", why: "the two roads of the preview are no longer kept"};
 
-/** Open a preview whose roads are computed. Return the commands that the server gets, as it answers them.
+/** Open a preview whose roads are computed. Return the list of the commands that the server gets.
  * @param {(command: object) => object} answer
  */
 function inPreview(answer) {
@@ -31,7 +31,7 @@ function inPreview(answer) {
   return asked;
 }
 
-/** Let the roads of the preview go, as the page does when it closes. */
+/** Drop the roads of the preview, as the page does when the preview closes. */
 function closePreview() {
   Object.assign(store, {preview: null, outcome: null});
   delete store.roads.before;

@@ -1,4 +1,4 @@
-"""Test `live/road`, the command for the shell: what scripts do with it, six at once, and its error messages."""
+"""Test `live/road`, the command for the shell: in scripts, six at once, and its error messages."""
 from __future__ import annotations
 
 import asyncio
@@ -20,7 +20,7 @@ PLAN = read_plan_line(SMALL)
 
 
 class Written(unittest.TestCase):
-    """Changes in words; zones of this road have 20 cells, 150 m."""
+    """Changes as words of a command. Zones of this road have 20 cells, 150 m."""
 
     def test_changes_in_km_and_clock_times(self) -> None:
         clock = Clock.read("06:30")
@@ -37,12 +37,12 @@ class Written(unittest.TestCase):
         self.assertEqual(written.demand, 1_200.5)
 
     def test_a_wrong_change_is_refused_with_a_reason(self) -> None:
-        for words, why in ((("jump", "1"), "'jump' is not a change: write close, limit"), (("limit", "54", "0"), "write limit KMH"),
+        for words, why in ((("jump", "1"), "'jump' is not a kind of change: write one of close, limit"), (("limit", "54", "0"), "write limit KMH"),
                            (("limit", "300", "0", "0.1", "1"), "0 to 243 km/h, not 300"), (("close", "2", "3", "1"), "0 to 0.9 km"),
-                           (("close", "0.2", "0.1", "1"), "the smaller first"), (("slowing", "101", "0", "0.1", "1"), "between 0 and 100 %"),
+                           (("close", "0.2", "0.1", "1"), "the smaller first"), (("slowing", "101", "0", "0.1", "1"), "0 to 100 %"),
                            (("detector", "1", "0", "1"), "on or off"), (("close", "a", "0.1", "1"), "'a' is not a number of km"),
                            (("close", "0", "0.1", "soon"), "BEGIN: 'soon' is not a time"), (("close", "0", "0.1", "9", "8"), "not later than"),
-                           ((), "'' is not a change")):
+                           ((), "'' is not a kind of change")):
             with self.assertRaisesRegex(InvalidWords, re.escape(why)):
                 read_change(words, PLAN, Clock())
 
@@ -73,7 +73,7 @@ class Shell(Case):
 
     async def test_names_of_64_characters_in_any_script_have_their_own_seats(self) -> None:
         names = ["a b", "a_b", "a/b", "../a", "\U00013000" * 64, "\U00013000" * 63 + "b", "語" * 64]
-        for _ in range(2):  # the second time by the key that was kept
+        for _ in range(2):  # the second time with the stored key
             said = await asyncio.gather(*(self.road(name, "ask", '{"scenario":{}}') for name in names))
             self.assertEqual([status for status, _, _ in said], [0] * len(names))
         self.assertEqual([path.is_file() for path in (self.a6.folder / "keys").iterdir()], [True] * len(names))
@@ -97,7 +97,7 @@ class Shell(Case):
         said = [await self.road("cron", *words) for words in (("out", "2"), ("in", "2"), ("out", "1"))]
         self.assertEqual([status for status, _, _ in said], [0, 0, 1])
         self.assertIn("site 1 cannot exclude itself", said[2][2])
-        self.assertEqual((await self.road("cron", "tell"))[:2], (0, "all came back"))
+        self.assertEqual((await self.road("cron", "tell"))[:2], (0, "all shared changes came back from the broker"))
         self.here.kill()
         await self.road("cron", "share")
         status, _, why = await self.road("cron", "tell", PATIENCE="1")
@@ -126,12 +126,12 @@ class Shell(Case):
         async with self.a6.seat("Ada") as ada:
             self.assertEqual(ada.welcome["now"], 700)
 
-    async def test_six_at_once_get_six_stamps(self) -> None:
+    async def test_six_commands_at_once_get_six_stamps(self) -> None:
         said = await asyncio.gather(*(self.road("cron", "edit", "limit", "2", str(step), "1") for step in range(6)))
         self.assertEqual(sorted(json.loads(out) for _, out, _ in said), [[count, 65] for count in range(1, 7)])
 
     async def test_two_hundred_edits_after_an_advance_take_seconds(self) -> None:
-        """The program does not rerun a long log for each command."""
+        """The program does not run a long log again for each command."""
         await self.road("cron", "ask", '{"clock":{"to":200}}')
         await self.road("cron", "ask", '{"advance":{"to":200}}')
         async with self.a6.seat("Ada") as ada:
@@ -146,10 +146,10 @@ class Shell(Case):
                 (("cron", "edit", "limt", "2", "50", "1"), 1, "use `limit`"),
                 (("cron", "edit", "limit", "2", "50"), 2, "unknown command or wrong arguments"),
                 (("cron", "edit", "limit", "2", "x", "1"), 2, "is not a whole number"),
-                (("cron", "ask", "nonsense"), 2, "expected JSON"),
+                (("cron", "ask", "nonsense"), 2, "write JSON"),
                 (("cron", "ask", '{"scenario":{"at":"cron"}}'), 1, 'here `at` must be "seat1" or "shared"'),
                 (("cron", "ask", '{"take":{"at":"shared","message":"shared"}}'), 1, 'here `at` must be "seat1"'),
-                (("cron", "ask", '{"crowd":{}}'), 1, "is not a command of a tab"),
+                (("cron", "ask", '{"crowd":{}}'), 1, "there is no command `crowd`"),
                 (("cron",), 2, "NAME and a command"), (("cron",), 2, "live/road Cron edit limit 11 5400 2"),
                 (("cron", "dance"), 2, "unknown command or wrong arguments")):
             ended, _, said = await self.road(*words)

@@ -1,5 +1,5 @@
-"""`live/serve` on a disk that does not answer as long as a file `stalled` stands in the folder, for the file that it names or
-for all, unless it is empty; and fails as long as a file `failing` does."""
+"""Run `live/serve` on a disk that does not answer while the folder has a file `stalled`: for the file that it names, or for all
+files if it is empty. While the folder has a file `failing`, each sync fails."""
 from __future__ import annotations
 
 import errno
@@ -16,7 +16,7 @@ from server import journal  # noqa: E402
 
 
 class Stalling:
-    """In the place of `os` in the journal."""
+    """Replaces `os` in the journal."""
 
     def __getattr__(self, name: str) -> Any:
         return getattr(os, name)

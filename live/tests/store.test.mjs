@@ -1,4 +1,4 @@
-// The house: only actions change the store, and modules that are to be pure touch no page.
+// The structure of the page: only actions change the store, and pure modules touch neither store nor page.
 
 import assert from "node:assert/strict";
 import {readFileSync, readdirSync} from "node:fs";
@@ -10,7 +10,7 @@ const SOURCES = new Map(readdirSync(PAGE).filter((name) => name.endsWith(".mjs")
 const ACTIONS = ["acting", "days", "demand", "drafting", "fetching", "joining", "looking", "saving", "store"];
 const PURE = ["assign", "chain", "connection", "dayclock", "decoding", "estimates", "geometry", "kept", "labels",
               "layers", "listing", "messages", "rows", "sentences", "stamps", "tables", "units"];
-// The store's own watchers, and a cache of what is painted.
+// The store's watchers, and a cache of painted tiles.
 const KEPT_OUTSIDE = ["store watchers", "picture tilesKept"];
 const importsOf = (source) =>
   [...source.matchAll(/from "\.\/(\w+)\.mjs"/g)].map(([, name]) => name);
@@ -25,7 +25,7 @@ test("only actions change the store", () => {
   for (const name of ACTIONS) assert.match(SOURCES.get(name), writes, name);
 });
 
-test("actions know no view, and touch no element", () => {
+test("actions import no view, and touch no element", () => {
   for (const name of ACTIONS) {
     assert.doesNotMatch(SOURCES.get(name), /document\.|\belements\.mjs/, name);
     for (const other of importsOf(SOURCES.get(name))) {
@@ -34,7 +34,7 @@ test("actions know no view, and touch no element", () => {
   }
 });
 
-test("pure modules import pure ones alone", () => {
+test("pure modules import only pure modules", () => {
   for (const name of PURE) {
     const others = importsOf(SOURCES.get(name));
     assert.deepEqual(others.filter((other) => !PURE.includes(other)), [], name);
@@ -42,14 +42,14 @@ test("pure modules import pure ones alone", () => {
   }
 });
 
-test("what the page knows is in the store, and not in modules", () => {
+test("the state of the page is in the store, and not in modules", () => {
   const state = /^(?:export )?(?:let (\w+)|const (\w+) = (?:new (?!URL|RegExp)|\[\]|\{\}))/gm;
   const found = [...SOURCES].flatMap(([name, source]) =>
     [...source.matchAll(state)].map(([, one, other]) => `${name} ${one ?? other}`));
   assert.deepEqual(found.sort(), KEPT_OUTSIDE.sort());
 });
 
-test("one module loads levels of detail", () => {
+test("only one module loads levels of rows", () => {
   const loads = [...SOURCES].filter(([, source]) => /\.load\(/.test(source)).map(([name]) => name);
   assert.deepEqual(loads, ["fetching"]);
 });
@@ -63,12 +63,12 @@ test("no module opts out of its types", () => {
   }
 });
 
-test("fields are set so that their names are checked", () => {
+test("fields are set by `assign`, which checks their names", () => {
   for (const [name, source] of SOURCES) {
     if (name !== "assign") assert.doesNotMatch(source, /Object\.assign\(/, name);
   }
 });
 
-test("each module says what it is", () => {
+test("each module begins with a comment that says what it is", () => {
   for (const [name, source] of SOURCES) assert.match(source, /^\/\/ [A-Z].*/, name);
 });

@@ -1,4 +1,4 @@
-"""Test sites with another site's number, a wrong clock or no key, and sites that replay messages."""
+"""Test sites that have another site's number, a wrong clock or no key, or that replay messages."""
 from __future__ import annotations
 
 import argparse
@@ -15,10 +15,10 @@ from crashes import numbers
 from faulty import Bus, Here, Message, message_of, told
 from running import SMALL, Case, new_folder
 from server import seals, stamps, verbs
-from server.asked import Asked
+from server.asked import CommandFields
 from server.refusals import Refused
 from server.floods import Floods
-from server.journal import Broken
+from server.journal import CannotStart
 from server.model.operations import About, Shape, edit, is_raw, put
 from server.records import Came, Folder, read_plan_line
 from server.sites import Sites
@@ -71,7 +71,7 @@ class Strangers(Case):
         stamp = await self.put(again, "limit", 2, 50, 3)
         await self.bus.rounds(3)
         self.assertEqual((await self.shared(one), len(other.state()["sites"])), ([], 1))
-        self.assertIn("This site's number, 2, belongs to another folder: nothing is sent", " ".join(other.state()["stays"]))
+        self.assertIn("This site's number, 2, belongs to another folder, so nothing is sent", " ".join(other.state()["stays"]))
         self.assertEqual(first.state()["sites"], [])
         self.leave(other)
         await again.keeper.close()
@@ -81,7 +81,7 @@ class Strangers(Case):
         silent._send_unreturned()
         self.assertEqual((getattr(silent._client, "sent"), silent.state()["unsent"]), ([], 1))
         self.assertIn("nothing is sent", " ".join(silent.state()["stays"]))
-        # The folder that had it goes on, wherever it stands.
+        # The folder that had the number first goes on, even if it is moved.
         moved = new_folder() / "moved"
         shutil.copytree(two.folder, moved)
         back, _ = await self.here(2, moved)
@@ -123,14 +123,14 @@ class Strangers(Case):
 
     async def ask(self, here: Here, verb: str, **fields: Any) -> Any:
         """Ask a question as a tab. Return the answer."""
-        return await verbs.answer(here.lab, here.questions, 1, Asked(verb, fields), {})
+        return await verbs.answer(here.lab, here.questions, 1, CommandFields(verb, fields), {})
 
     async def announce(self, site: Sites, folder: str, number: int, **more: Any) -> None:
         value = {"folder": folder, "run": "r", "site": number, "road": site._road, "form": 3, **more}
         await self.bus.give(site, Message("road/sites", json.dumps(value).encode()))
 
     async def test_a_user_revokes_what_a_message_said_about_a_number(self) -> None:
-        """Otherwise the site would be mute for ever. It stays revoked after a restart, whatever is sent again."""
+        """Otherwise the site could never send again. The message stays revoked after a restart, even if it is sent again."""
         (one, first), (two, _) = await self.here(1), await self.here(2)
         await self.bus.rounds()
         with self.assertRaisesRegex(Refused, "NotBound"):
@@ -159,7 +159,7 @@ class Strangers(Case):
         bound = (await self.ask(one, "numbers"))["numbers"]
         self.assertEqual(len(bound), 64)
         self.assertIn("64 site numbers are bound to folders, which is the limit", told(first))
-        await self.put(two, "limit", 2, 50, 3)  # who came later exchanges all the same
+        await self.put(two, "limit", 2, 50, 3)  # sites that came later can exchange changes all the same
         await self.bus.rounds(2)
         self.assertEqual(len(await self.shared(one)), 1)
         self.assertNotIn({"site": 900, "folder": two.lab.state.folder}, bound)
@@ -171,8 +171,8 @@ class Strangers(Case):
         again = await self.enterAsyncContext(Here(one.folder))
         self.assertEqual(len((await self.ask(again, "numbers"))["numbers"]), 64)
 
-    async def test_two_clones_of_a_machine_have_two_names_at_the_broker(self) -> None:
-        """Otherwise the broker admits one and then the other, neither hears of the other, and both send."""
+    async def test_two_clones_of_a_machine_have_different_names_at_the_broker(self) -> None:
+        """Otherwise the broker would admit them in turn, so that neither hears of the other, and both send."""
         first, _ = await self.here(7)
         options = argparse.Namespace(broker="127.0.0.1:1", broker_user=None, broker_authority=None, site_key=None)
         names = {getattr(Sites(first.lab, lambda: None, options)._client, "_client_id") for _ in range(2)}
@@ -180,14 +180,14 @@ class Strangers(Case):
         for name in names:
             self.assertIn(first.lab.state.folder.encode(), name)
 
-    async def test_an_older_site_is_the_same_folder_when_it_is_new(self) -> None:
+    async def test_an_older_site_counts_as_the_same_folder_after_its_update(self) -> None:
         """Older sites add the place of the folder to its token, which moves with the folder."""
         (one, first), (two, second) = await self.here(1), await self.here(2)
         cases: list[tuple[dict[str, Any], str]] = [({"form": 2}, "site 2"), ({"form": 4}, "this site"), ({}, "site 2")]
         for form, update in cases:
             older = {"folder": f"{two.lab.state.folder}-12345678", "site": 2, "road": first._road, **form}
             await self.bus.give(first, Message("road/sites", json.dumps(older).encode()))
-            self.assertIn(f"Nothing is exchanged with site 2, whose server has another version: update {update}", told(first))
+            self.assertIn(f"Nothing is exchanged with site 2, whose server has a different version: update {update}", told(first))
             self.assertEqual(first.state()["sites"], [])
         await self.bus.rounds(2)
         self.assertNotIn("another folder", told(second))
@@ -195,7 +195,7 @@ class Strangers(Case):
         await self.bus.carry()
         self.assertEqual(len(await self.shared(one)), 1)
 
-    async def test_two_gestures_with_one_stamp_are_reported_and_all_have_one_road(self) -> None:
+    async def test_two_gestures_with_one_stamp_are_reported_and_all_sites_have_one_road(self) -> None:
         sites = [await self.here(number) for number in (1, 2, 3)]
         stamp = [stamps.next_count(0, stamps.milliseconds(), 0), 70 * 64 + 1]
         messages = [message_of(sites[0][1], edit((stamp[0], stamp[1]), {("limit", 2, 50): value}, About(who, note, 1)))
@@ -207,16 +207,16 @@ class Strangers(Case):
         roads = [numbers(await self.shared(here)) for here, _ in sites]
         self.assertEqual(roads, [roads[0]] * 3)
         for here, site in sites:
-            self.assertIn(f"Two changes have the same stamp, {stamp}: of Eva and of Eve, slow", told(site))
+            self.assertIn(f"Two changes have the same stamp, {stamp}, probably from a copied folder: of Eva and of Eve, slow", told(site))
             self.assertEqual(sorted(one.about.who for one in here.lab.state.shared.places), ["Eva", "Eve"])
 
-    async def test_a_gesture_is_one_message_and_then_there_is_silence(self) -> None:
-        """Two of five sites share overlapping changes at once."""
+    async def test_a_gesture_is_sent_in_one_message_and_no_other(self) -> None:
+        """Here two of five sites share overlapping changes at once."""
         sites = [await self.here(number) for number in range(1, 6)]
         await self.bus.rounds(2)
 
         async def told() -> int:
-            """Return the number of messages with operations until all sites have announced twice what they hold."""
+            """Return the number of messages with operations that are sent until all sites have announced twice what they hold."""
             self.bus.seen.clear()
             await self.bus.carry()
             await self.bus.rounds(4)
@@ -232,7 +232,7 @@ class Strangers(Case):
         await sites[0][0].ask(1, "gesture", key="w", note="", layer="61", shape=None)
         await sites[0][0].share(1)
         await sites[1][0].share(1)
-        self.assertEqual(await told(), 2)  # what was shared, and nothing because it came
+        self.assertEqual(await told(), 2)  # what was shared is sent once, and nothing is sent because it arrived
         self.assertEqual(await told(), 0)
         roads = [numbers(await self.shared(here)) for here, _ in sites]
         self.assertEqual(roads, [roads[0]] * 5)
@@ -269,7 +269,7 @@ class Strangers(Case):
         restored, fourth = await self.here(1, one.folder)
         await self.bus.rounds(3)
         self.assertEqual((restored.lab.state.shared.size, len(restored.lab.state.seats[1].own)), (1, 1))
-        self.assertEqual(fourth._numbers(), second._numbers())
+        self.assertEqual(fourth._hash_numbers(), second._hash_numbers())
         self.assertEqual((await restored.take(1))["size"], 0)
         self.assertEqual((await restored.share(1))["size"], 0)
         line, = (await restored.ask(1, "layers"))["layers"]
@@ -279,7 +279,7 @@ class Strangers(Case):
     # Clocks
 
     async def test_operations_more_than_a_day_ahead_are_reported_and_taken_on_their_day(self) -> None:
-        """All sites do so, whatever they hold."""
+        """All sites do so, whatever they hold already."""
         clock = [now := stamps.milliseconds()]
         with mock.patch("server.stamps.milliseconds", lambda: clock[0]):
             (one, first), (two, second) = await self.here(1), await self.here(2)
@@ -291,43 +291,45 @@ class Strangers(Case):
             self.assertEqual([here.lab.state.shared.size for here in (one, two)], [2, 2])
             for site in (first, second):
                 self.assertIn("of number 70 is more than a day ahead of the clock", told(site))
-                self.assertIn("1 changes are dated more than a day ahead", told(site))
+                self.assertIn("1 changes are stamped more than a day ahead", told(site))
             clock[0] += 1_000
             await self.bus.rounds()
             self.assertEqual([here.lab.state.shared.size for here in (one, two)], [2, 2])
             clock[0] += 2_000
             await self.bus.rounds()
             self.assertEqual([here.lab.state.shared.size for here in (one, two)], [3, 3])
-            self.assertNotIn("1 changes are dated more than a day ahead", told(first))
+            self.assertNotIn("1 changes are stamped more than a day ahead", told(first))
 
     async def test_early_operations_hold_up_no_others_and_wait_once(self) -> None:
-        """Another change of the same message is taken at once; what is sent again and again waits once, and not much waits."""
+        """Another change in the same message is taken at once. An operation that is sent again and again waits once, and only a
+        few operations may wait."""
         now = stamps.milliseconds()
         clock = [now]
         with mock.patch("server.stamps.milliseconds", lambda: clock[0]):
             here, site = await self.here(1)
 
             async def comes(*some: tuple[int, int]) -> None:
-                """Deliver operations this many milliseconds ahead, each with a limit from a step on."""
+                """Deliver operations whose stamps are this many milliseconds ahead, each with a limit from a step on."""
                 await self.bus.give(site, message_of(site, *(edit((32 * (now + ahead), 70), {("limit", 2, step): 3}, About("Eve"))
                                                              for ahead, step in some)))
             for _ in range(3):
                 await comes((0, 1), (DAY + 1_000, 2), (DAY + 2_000, 3))
             self.assertEqual(steps(here), [1])
-            self.assertIn("2 changes are dated more than a day ahead", told(site))
+            self.assertIn("2 changes are stamped more than a day ahead", told(site))
             await comes((DAY + 1_000, 1 << 20))
-            self.assertIn("2 changes are dated more than a day ahead", told(site))  # what is not of the plan does not wait
+            self.assertIn("2 changes are stamped more than a day ahead", told(site))  # an operation that does not fit the plan does not wait
             with mock.patch("server.sites.MOST_EARLY", 9), mock.patch("server.sites.LONGEST_EARLY", 650):
                 await comes(*((DAY + 3_000, step) for step in range(4, 30)))
-                self.assertIn("8 changes are dated more than a day ahead", told(site))
+                self.assertIn("8 changes are stamped more than a day ahead", told(site))
             await comes((DAY + 1_000, 2), (DAY + 2_000, 3))
             clock[0] += 1_500
             await self.bus.rounds()
             self.assertEqual(steps(here), [1, 2])
-            self.assertIn("9 changes are dated more than a day ahead", told(site))
+            self.assertIn("9 changes are stamped more than a day ahead", told(site))
 
     async def test_private_operations_stamped_by_a_wrong_clock_get_new_stamps(self) -> None:
-        """Three days ahead for one gesture: all goes on, and other sites take it as soon as it is shared."""
+        """The clock is three days ahead for one gesture. Everything goes on, and other sites take the gesture as soon as it is
+        shared."""
         clock = [stamps.milliseconds()]
         with mock.patch("server.stamps.milliseconds", lambda: clock[0]):
             (one, first), (two, _) = await self.here(1), await self.here(2)
@@ -351,20 +353,20 @@ class Strangers(Case):
             self.assertEqual(sorted(each.stamp for each in again.lab.state.seats[1].own), held)
 
     async def test_a_site_reports_that_its_clock_is_ahead_of_all_others(self) -> None:
-        """It is more than five minutes ahead of all sites that were heard in the last minute."""
+        """It is more than five minutes ahead of those of all sites that sent a message in the last minute."""
         (_, first), (_, second), (_, third) = [await self.here(number) for number in (1, 2, 3)]
         await self.bus.rounds()
         real, steady = time.time, time.monotonic
 
         async def told_ahead(site: Sites, seconds: float) -> bool:
-            """Return whether a site whose clock is this far ahead reports it, and no other does."""
+            """Return whether a site whose clock is this far ahead reports it, and no other site does."""
             self.bus.sites.remove(site)
             for other in self.bus.sites:
-                other._present()
+                other._announce_site()
             with mock.patch("server.peers.time.time", lambda: real() + seconds):
                 for message in self.bus.sent:
                     await self.bus.give(site, message)
-                site._present()
+                site._announce_site()
                 said = told(site)
             self.bus.sites.append(site)
             await self.bus.carry()
@@ -376,7 +378,7 @@ class Strangers(Case):
                 later[0] += 61
                 self.assertEqual(await told_ahead(first, seconds), is_told, seconds)
             later[0] += 61
-            await self.announce(first, "f" * 16, 9, time=1_000 * int(time.time() - 900))  # one alone is behind
+            await self.announce(first, "f" * 16, 9, time=1_000 * int(time.time() - 900))  # only one clock is behind
             await self.bus.rounds()
             self.assertNotIn("ahead of all", told(first))
             later[0] += 61
@@ -386,7 +388,7 @@ class Strangers(Case):
             self.assertNotIn("ahead of all", told(first))
 
     async def test_a_site_ahead_of_all_others_stamps_with_their_clocks(self) -> None:
-        """Stamps begin after the greatest one of the others, so a change made here beats no later change made there."""
+        """Its stamps begin after the greatest stamp of the others, so no change that is made here beats a later change there."""
         for seconds in (310, 86_000, 3 * 86_400):
             here, site = await self.here(1)
             await here.join("Ada")
@@ -397,7 +399,7 @@ class Strangers(Case):
             stamp = await here.put(1, ["limit", 2, 50, 3])
             self.assertGreater(stamp[0], came.stamp[0])
             self.assertLess(stamp[0], 32 * (theirs + 300_000))
-            await self.announce(site, "e" * 16, 8, time=stamps.milliseconds())  # one is as late as this one
+            await self.announce(site, "e" * 16, 8, time=stamps.milliseconds())  # one clock agrees with this one
             stamp = await here.put(1, ["limit", 2, 50, 1])
             self.assertGreater(stamp[0], 32 * (stamps.milliseconds() - 300_000))
 
@@ -415,7 +417,7 @@ class Strangers(Case):
 
     # Roads
 
-    async def test_a_site_with_another_road_is_not_counted(self) -> None:
+    async def test_the_clock_of_a_site_with_another_road_does_not_count(self) -> None:
         (_, first), _ = await self.here(1), await self.here(2, plan={**SMALL, "words": 2})
         await self.bus.rounds()
         self.assertEqual(first.state()["sites"], [])
@@ -427,7 +429,7 @@ class Strangers(Case):
 
 
 class Keys(Case):
-    """Sites with a shared key, and others at their broker."""
+    """Sites with a shared key, and strangers at their broker."""
 
     async def asyncSetUp(self) -> None:
         self.bus = Bus()
@@ -451,7 +453,7 @@ class Keys(Case):
         edits = next(one for one in self.bus.seen if one.topic.endswith("/operations"))
         head, _, body = edits.payload.partition(b"\n")
         fields = json.loads(head)
-        other = seals.Seal("x", b"another secret of others").sealed(edits.topic, body)
+        other = seals.Seal("x", b"another secret of others").seal(edits.topic, body)
         changed = body.replace(b"50]", b"51]")
         for number, payload in enumerate((
                 body, changed, head + b"\n" + changed, other,
@@ -464,13 +466,13 @@ class Keys(Case):
             self.assertEqual((self.held(self.two), self.second.state()["left_out"]), (1, number), payload)
         await self.bus.give(self.second, Message("road/sites", edits.payload))  # at another topic
         self.assertEqual(self.second.state()["left_out"], 10)
-        self.assertIn("10 messages were ignored: they have no seal of this site's --site-key", " ".join(self.second.state()["stays"]))
+        self.assertIn("10 messages were ignored: they are not sealed with this site's --site-key", " ".join(self.second.state()["stays"]))
 
     async def test_a_flood_without_a_seal_is_ignored_and_reported(self) -> None:
         """It costs the event loop nothing, and sealed messages are heard."""
         now = [0.0]
         await self.bus.rounds()
-        with mock.patch("server.floods.BURST", 20), mock.patch("server.floods.A_SECOND", 1):
+        with mock.patch("server.floods.MESSAGE_BURST", 20), mock.patch("server.floods.MESSAGES_PER_SECOND", 1):
             self.second._floods = Floods(lambda: now[0])
             said: list[str] = []
             with mock.patch.object(self.second, "_say", said.append):
@@ -485,14 +487,14 @@ class Keys(Case):
             self.assertNotIn("too much", told(self.second))
 
     async def test_a_flood_from_many_names_is_ignored_and_reported(self) -> None:
-        """If sites have no key, each message may name another folder; a known site is still heard."""
+        """If the sites have no key, each message may name a different folder. Messages of a known site are still read."""
         here = await self.enterAsyncContext(Here(site=3))
         bus, now, came = Bus(), [0.0], []
         site, _ = bus.site(here), bus.site(self.one)
         await bus.rounds()
-        with mock.patch("server.floods.BURST", 20), mock.patch("server.floods.A_SECOND", 1):
+        with mock.patch("server.floods.MESSAGE_BURST", 20), mock.patch("server.floods.MESSAGES_PER_SECOND", 1):
             site._floods = Floods(lambda: now[0])
-            with mock.patch.object(Sites, "_came", lambda _, topic, folder, body: came_in(folder)):
+            with mock.patch.object(Sites, "_receive", lambda _, topic, folder, body: came_in(folder)):
                 async def came_in(folder: str) -> None:
                     came.append(folder)
                 for number in range(300):
@@ -508,7 +510,7 @@ class Keys(Case):
     async def test_replayed_messages_are_ignored(self) -> None:
         await self.share(50)
         seen = []
-        with mock.patch.object(Sites, "_came", lambda _, topic, folder, body: came(body)):
+        with mock.patch.object(Sites, "_receive", lambda _, topic, folder, body: came(body)):
             async def came(body: bytes) -> None:
                 seen.append(body)
             for message in list(self.bus.seen):
@@ -516,8 +518,8 @@ class Keys(Case):
         self.assertEqual((seen, self.second.state()["left_out"]), ([], 0))
 
     async def test_messages_replayed_after_a_restart_are_ignored(self) -> None:
-        """Otherwise an announcement of this folder, or of another with its number, would mute it."""
-        with mock.patch("server.seals.AHEAD", 1):
+        """Otherwise a replayed announcement, of this folder or of another one with its number, would stop it from sending."""
+        with mock.patch("server.seals.NUMBERS_RESERVED", 1):
             await self.bus.rounds(2)
             await self.share(50)
             caught = list(self.bus.seen)
@@ -530,19 +532,19 @@ class Keys(Case):
             self.assertEqual((site.state()["sites"], told(site), site.state()["left_out"]), ([], "", 0))
             await self.share(51)
             self.assertEqual(self.held(again), 2)
-            await self.bus.rounds(2)  # and it is heard
+            await self.bus.rounds(2)  # and its messages are read
             self.assertEqual([one["site"] for one in self.first.state()["sites"]], [2])
 
-    async def test_messages_sent_after_a_restart_are_heard_at_once(self) -> None:
-        """The server ended, or was killed; messages from before are not heard."""
+    async def test_messages_sent_after_a_restart_are_read_at_once(self) -> None:
+        """Here the server ended, or was killed. Messages from before that are ignored."""
         for is_killed in (True, False):
-            with mock.patch("server.seals.AHEAD", 200 if is_killed else 3_600_000):
+            with mock.patch("server.seals.NUMBERS_RESERVED", 200 if is_killed else 3_600_000):
                 await self.bus.rounds(2)
                 await self.share(50 + is_killed)
                 caught, held = list(self.bus.seen), self.held(self.two)
                 self.bus.sites.remove(self.second)
                 if is_killed:
-                    await asyncio.sleep(0.3)  # as long as a start takes at the least
+                    await asyncio.sleep(0.3)  # a restart takes at least this long
                 else:
                     self.second._seal.end()
                 await self.two.keeper.close()
@@ -555,7 +557,7 @@ class Keys(Case):
                 self.assertEqual(self.held(self.two), held + 1)
 
     def test_a_number_above_a_taken_one_is_on_the_disk_first(self) -> None:
-        """Whenever the server is killed, although it is not written for each message."""
+        """This is so whenever the server is killed, although a number is not written for each message."""
         path = new_folder() / "seen.json"
         for number in range(10_000, 20_000, 100):
             seals.Taken(path).take("a1", number, 9_000)
@@ -571,23 +573,23 @@ class Keys(Case):
         self.assertEqual(seals.Taken(path).bound("b2"), 0)
 
     async def test_old_messages_are_ignored(self) -> None:
-        """A message was intercepted a quarter of an hour ago, and never arrived."""
+        """Here a message was intercepted a quarter of an hour ago, and never arrived."""
         with mock.patch.object(self.first._seal, "_clock", lambda: time.time() - 900):
             await self.share(50)
         self.assertEqual(self.held(self.two), 0)
         self.assertIn("more than 10 minutes old", told(self.second))
-        await self.bus.rounds(3)  # what it told comes again
+        await self.bus.rounds(3)  # its contents are sent again
         self.assertEqual(self.held(self.two), 1)
 
     async def test_messages_from_a_clock_far_ahead_are_ignored(self) -> None:
-        """Otherwise it could be replayed for longer."""
+        """Otherwise such a message could be replayed for longer."""
         with mock.patch.object(self.first._seal, "_clock", lambda: time.time() + 900):
             await self.share(50)
         self.assertEqual(self.held(self.two), 0)
         self.assertIn("more than 10 minutes old by this site's clock", told(self.second))
 
     async def test_a_clock_days_ahead_is_reported_even_though_others_messages_look_old_there(self) -> None:
-        self.first._present()
+        self.first._announce_site()
         clock = time.time
         with mock.patch("server.peers.time.time", lambda: clock() + 86_400), \
                 mock.patch.object(self.second._seal, "_clock", lambda: clock() + 86_400):
@@ -595,16 +597,16 @@ class Keys(Case):
                 await self.bus.give(self.second, message)
             self.assertIn("1440 minutes ahead of all other sites'", told(self.second))
 
-    async def test_without_a_key_the_page_says_so(self) -> None:
+    async def test_the_page_warns_that_messages_have_no_key(self) -> None:
         here = await self.enterAsyncContext(Here(site=3))
         site = Bus().site(here)
         self.assertFalse(site.state()["sealed"])
-        self.assertIn("Anybody who reaches the broker can send changes", " ".join(site.state()["stays"]))
+        self.assertIn("Anybody who can connect to the broker can send changes", " ".join(site.state()["stays"]))
         self.assertNotIn("trust", " ".join(self.first.state()["stays"]))
 
     def test_a_key_that_is_too_short_is_refused(self) -> None:
         self.key.write_text(" 15 bytes, here \n")
-        with self.assertRaisesRegex(Broken, "has 14 bytes, but the key of the sites must have at least 16"):
+        with self.assertRaisesRegex(CannotStart, "has 14 bytes, but the key of the sites must have at least 16"):
             seals.key_of(self.key)
 
 
@@ -614,16 +616,16 @@ class Counting(unittest.TestCase):
         self.assertEqual(stamps.next_count(7, 1_000, 5), 32_005)
         self.assertEqual(stamps.next_count(32_005, 1_000, 31), 32_031)
         self.assertEqual(stamps.next_count(40_000, 1_000, 31), 40_001)
-        self.assertLess(stamps.next_count(0, 4_102_444_800_000, 31), 1 << 48)  # in the year 2100, too
+        self.assertLess(stamps.next_count(0, 4_102_444_800_000, 31), 1 << 48)  # this holds in the year 2100, too
 
     def test_a_new_stamp_is_above_all_that_the_clock_allows_without_scanning_them(self) -> None:
-        """Counts more than a day ahead are ignored until their day, and again if the clock goes back."""
+        """Counts that are more than a day ahead are ignored until their day, and again if the clock is put back."""
         class Looked(dict[Any, Any]):
             def __iter__(self) -> Iterator[Any]:
                 looks.append(True)
                 return super().__iter__()
         clock, looks, soon, late = [0], list[bool](), 32 * DAY // 2, 32 * 3 * DAY
-        with mock.patch("server.stamps.milliseconds", lambda: clock[0]), mock.patch("server.stamps.some_bits", lambda: 0):
+        with mock.patch("server.stamps.milliseconds", lambda: clock[0]), mock.patch("server.stamps.random_bits", lambda: 0):
             state = State(stamps.StampClock())
             Folder(read_plan_line(SMALL), 1, "f").apply(state)
             state.by_stamp = Looked()

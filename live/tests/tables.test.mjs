@@ -16,7 +16,7 @@ const SAID = decodeFigures({delay_hours: 41.5025, later: [[1190, 12.25], [1180, 
   after: {vehicle_hours: 102.5, asked: [1224, 242.5], entered: [1216, 184], lost: [8, 58.5], flows: flows(1211, null, null, 0),
           travel: [[1211, 26.75], [1090, null]]}});
 
-test("a saved table says what it is of, and has units, mine beside the shared road", () => {
+test("a saved table has a title and units, with mine next to the shared road", () => {
   assert.deepEqual(csvOf("the road of Ada, 06:30 to 07:30", tableOfFigures(PLAN, "mine", SAID)).split("\n"), [
     "# the road of Ada, 06:30 to 07:30", "figure,unit,mine,shared,mine minus shared", "vehicle hours,h,102.5,62.25,40.25",
     "delay of the cars that both roads have,vehicle hours,,,41.5025", "demand,cars,1466.5,1466.5,0",
@@ -28,13 +28,13 @@ test("a saved table says what it is of, and has units, mine beside the shared ro
     "travel time to the road's end,s,,210,", "delay of the cars that both roads have to the road's end,s,,,", ""]);
 });
 
-test("before sharing or taking it is what is, and what would be", () => {
+test("a table of a preview has the road before, and the road after", () => {
   const [head, hours] = tableOfFigures(PLAN, "preview", SAID);
   assert.deepEqual(head, ["figure", "unit", "before", "after", "after minus before"]);
   assert.deepEqual(hours, ["vehicle hours", "h", "62.25", "102.5", "40.25"]);
 });
 
-test("many days are saved with their intervals", () => {
+test("figures over many days are saved with their intervals", () => {
   const figures = [{name: "lost", before: [29.75, 2.1], after: [84.8, 5.9], difference: [55.05, 4.5]},
                    {name: "cars 0", before: [2, 1], after: [1, 1], difference: [-1, 0]},
                    {name: "seconds 1", before: [200, 1], after: [201, 1], difference: [1, 0.5]}];
@@ -46,13 +46,13 @@ test("many days are saved with their intervals", () => {
   assert.equal(tableOfDays(PLAN, "preview", decodeDays({days: 20, figures}))[1][2], "29.75");
 });
 
-test("of one day, where it was stopped, no interval is known", () => {
+test("a comparison that was stopped after one day has no intervals", () => {
   const lost = {name: "lost", before: [30, null], after: [91, null], difference: [61, null]};
   assert.deepEqual(tableOfDays(PLAN, "mine", decodeDays({days: 1, figures: [lost]}))[1],
                    ["lost demand", "cars", "91", "", "30", "", "61", ""]);
 });
 
-test("changes are named as on the page, with real names, and what covers them", () => {
+test("changes are described as on the page, with the names of people and what covers them", () => {
   const stamp = [5, 65];
   const line = (name, who, begin, shown) => ({name, kind: "limit", shape: ["limit", 2, 3, begin, 1800, 2], who, note: "", when: 0,
     height: name, standing: true, shared: true, shown,
@@ -72,7 +72,7 @@ test("no cell of a saved table is run as a formula, and numbers stay numbers", (
   assert.equal(csvOf("", [["-12.5", "a=", '"']]), '# \n-12.5,a=,""""\n');
 });
 
-test("travel times are saved by the minute of entry and the place, with the cars", () => {
+test("travel times are saved by the minute of entry and the place, with the number of cars", () => {
   const travel = [[0, null], [0, null]];
   const said = decodeFigures({from: 120, to: 240, later: [], delay_hours: 0,
     before: {travel, travel_by_entry: {180: [[20, 14.5], [18, 210]], 120: [[10, 15], [0, null]]}},

@@ -6,7 +6,7 @@ import {test} from "node:test";
 import {cellOfKm, chanceOfDemand, demandOfChance, durationText, kmText, limitText, plural, roundedKm, signedText}
   from "../page/units.mjs";
 
-test("a cell is 7.5 m, a cell a step 27 km/h", () => {
+test("a cell is 7.5 m, and a cell a step is 27 km/h", () => {
   assert.equal(kmText(400), "3");
   assert.equal(cellOfKm(3), 400);
   assert.equal(cellOfKm(0.18), 24);
@@ -24,11 +24,11 @@ test("a half of the last digit of km is rounded up", () => {
   }
 });
 
-test("lengths of time are in minutes if they are whole ones", () => {
+test("durations are in minutes if they are whole minutes", () => {
   assert.deepEqual([30, 60, 90, 600].map(durationText), ["30 s", "1 min", "90 s", "10 min"]);
 });
 
-test("differences have a sign, unless they are nothing as written", () => {
+test("differences have a sign, unless they are rounded to 0", () => {
   assert.equal(signedText(1234.56, 1), "+1,234.6");
   assert.equal(signedText(-0.5, 1), "\u22120.5");
   assert.equal(signedText(-0.04, 1), "0");
@@ -36,11 +36,11 @@ test("differences have a sign, unless they are nothing as written", () => {
   assert.equal(plural(1200, "change"), "1,200 changes");
 });
 
-// Without slowing an inlet by itself admits q / (1 + q q) cars a step by a chance q.
+// Without slowing, a single inlet with chance q admits q / (1 + q q) cars a step.
 const CURVE = {points: Array.from({length: 129}, (_, place) =>
   [512 * place, 3600 * (place / 128) / (1 + (place / 128) ** 2)]), capacity: 1800};
 
-test("a chance is cars per hour by the curve of its inlet, and back", () => {
+test("chances are converted to cars per hour by the curve of an inlet, and back", () => {
   for (const [chance, cars] of [[0, 0], [0.142, 500], [0.302, 1000], [0.536, 1500], [1, 1800]]) {
     assert.ok(Math.abs(demandOfChance(65536 * chance, CURVE) - cars) < 4, `${chance}`);
     const found = chanceOfDemand(cars, CURVE) / 65536;
@@ -49,7 +49,7 @@ test("a chance is cars per hour by the curve of its inlet, and back", () => {
   for (const cars of [-1, 1801, NaN]) assert.ok(Number.isNaN(chanceOfDemand(cars, CURVE)));
 });
 
-test("where more chance admits no more, the first chance that does is taken", () => {
+test("if several chances admit the same demand, the smallest one is taken", () => {
   const full = {points: [[0, 0], [512, 600], [1024, 600]], capacity: 600};
   assert.equal(chanceOfDemand(600, full), 512);
   assert.equal(demandOfChance(800, full), 600);

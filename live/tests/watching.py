@@ -1,4 +1,4 @@
-"""Test the watch that is on in all tests: they fail if a piece of a server's work keeps all others waiting."""
+"""Test the watch that runs in all tests: a test fails if a piece of a server's work keeps all others waiting."""
 from __future__ import annotations
 
 import asyncio
@@ -49,7 +49,7 @@ class Watching(unittest.IsolatedAsyncioTestCase):
         for _ in range(20):
             works(0.02)
             await asyncio.sleep(0)
-        asyncio.get_running_loop().call_soon(time.sleep, 0.3)  # what waits uses no processor
+        asyncio.get_running_loop().call_soon(time.sleep, 0.3)  # waiting uses no processor
         await asyncio.sleep(0.4)
         self.assertEqual(len(said), 1, said)
         asyncio.get_running_loop().call_soon(works, 0.2)
@@ -65,8 +65,8 @@ class Watching(unittest.IsolatedAsyncioTestCase):
         asyncio.get_running_loop().call_soon(works, 0.2)
         await asyncio.sleep(0.01)
         self.assertEqual(said, [])
-        self.assertTrue(is_of_server(Tab._reader))
-        self.assertFalse(is_of_server(Seat._read))  # of a tab that the test has
+        self.assertTrue(is_of_server(Tab._read_frames))
+        self.assertFalse(is_of_server(Seat._read))  # this is the work of a tab of the test
 
 
 class Collections(unittest.TestCase):
@@ -74,7 +74,7 @@ class Collections(unittest.TestCase):
         gc.unfreeze()
 
     def test_living_objects_are_scanned_once(self) -> None:
-        """Both objects that are there from the start, and so many new ones that a collection takes long."""
+        """These are objects that exist from the start, and so many new ones that a collection takes long."""
         held: list[Any] = []
         self.addCleanup(gc.callbacks.pop)
         some: list[Callable[[], object]] = [keep_collections_short, gc.collect, gc.collect]
@@ -84,12 +84,12 @@ class Collections(unittest.TestCase):
             self.assertLess(len(gc.get_objects()), 290_000)
         held.append([[number] for number in range(100)])
         gc.collect()
-        self.assertGreater(len(gc.get_objects()), 100)  # a short one is followed by nothing
+        self.assertGreater(len(gc.get_objects()), 100)  # a short collection is not reported
 
 
 class Failing(Case):
-    async def test_the_watch_fails_a_test(self) -> None:
-        """A server in this process, or in another one, was too slow."""
+    async def test_the_watch_makes_a_test_fail(self) -> None:
+        """It does so if a server in this process, or in another one, was too slow."""
         class Example(Watched):
             def runTest(self) -> None:
                 HELD_UP.extend(f"{SAID} for a piece of work of {seconds} s: x" for seconds in said)
@@ -121,10 +121,10 @@ class Failing(Case):
 
 
 class Pieces(Case):
-    """Long work is done in pieces, and others are answered in between."""
+    """Long work is done in pieces, and questions of others are answered in between."""
 
-    async def test_operations_that_arrive_and_are_taken(self) -> None:
-        """Many operations of another site, and then a take of them."""
+    async def test_operations_arrive_and_are_taken_in_pieces(self) -> None:
+        """Many operations of another site arrive, and then a seat takes them."""
         here = await self.enterAsyncContext(Here())
         ada, = await here.join("Ada")
         await here.ask(ada, "layers")
@@ -136,8 +136,8 @@ class Pieces(Case):
             some = list(operations)
             added.append(len([one for one in some if one not in road]))
             return adding(road, some)
-        with mock.patch("server.state.AT_ONCE", 7), mock.patch.object(Road, "adding", counted):
-            await here.lab.came(many, "", {})
+        with mock.patch("server.state.APPLIED_AT_ONCE", 7), mock.patch.object(Road, "adding", counted):
+            await here.lab.receive(many, "", {})
             self.assertEqual((await here.take(ada))["size"], 60)
         self.assertEqual((max(added), sum(added)), (7, 120))
         with mock.patch("server.lab.LIST_AT_ONCE", 60):
@@ -145,7 +145,8 @@ class Pieces(Case):
                 self.assertEqual(len((await here.ask(ada, "layers", at=at))["layers"]), 60)
 
     async def test_news_for_many_tabs_is_computed_for_one_at_a_time(self) -> None:
-        """When its turn comes. The message has the first step of all that the tab has not heard of."""
+        """It is computed when the tab's turn comes. The message has the first step of all operations that the tab was not told
+        of."""
         here = await self.enterAsyncContext(Here())
         index, = await here.join("Ada")
         tabs, sent = Tabs(here.lab, "token"), list[str]()
@@ -158,16 +159,16 @@ class Pieces(Case):
         for tab in several:
             tab.index = index
         tabs._all.update(several)
-        news = here.lab.news
+        news = here.lab.unseen_shares
 
         def slowly(*given: Any) -> Any:
             works(0.005)
             return news(*given)
-        with mock.patch.object(here.lab, "news", slowly):
+        with mock.patch.object(here.lab, "unseen_shares", slowly):
             with takes_at_most(0.1):
                 for step in (70, 50, 60):
-                    here.keeper.listeners.shared.tell(step)
-            writers = [asyncio.create_task(tab._writer()) for tab in several]
+                    here.keeper.listeners.shared.notify(step)
+            writers = [asyncio.create_task(tab._write_frames()) for tab in several]
 
             async def all_are_told() -> bool:
                 return len(sent) == 63

@@ -3,8 +3,8 @@
     with takes_at_most(0.1):
         ..                          fails if this is more work than a quiet machine does in 0.1 s
 
-A slow or shared machine takes longer for the same work. A limit that is exceeded is therefore scaled by the time that a fixed
-piece of work takes at that moment, and doubled: what else the machine does comes in bursts.
+A slow or shared machine takes longer for the same work. If a limit is exceeded, it is therefore scaled by the time that a fixed
+piece of work takes at that moment, and doubled, since the other work of the machine comes in bursts.
 """
 from __future__ import annotations
 
@@ -28,7 +28,7 @@ def work() -> None:
 
 
 def slowness() -> float:
-    """Return how many times as long as a quiet machine this one takes now, at least 1."""
+    """Return how many times longer than a quiet machine this one takes now; at least 1."""
     began, count = time.thread_time(), 0
     while time.thread_time() - began < MEASURED:
         work()

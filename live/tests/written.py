@@ -1,4 +1,4 @@
-"""Test that everything confirmed is on the disk, and that nobody hears of anything else, whatever the disk does."""
+"""Test that everything that was confirmed is on the disk, and that the server announces nothing else, whatever the disk does."""
 from __future__ import annotations
 
 import asyncio
@@ -33,7 +33,7 @@ class Written(Case):
         self.ada, self.ben = await self.here.join("Ada", "Ben")
 
     async def start(self, act: Coroutine[Any, Any, Any]) -> asyncio.Task[Any]:
-        """Start an act, and wait until only the disk holds it up. Return its task."""
+        """Start an act, and wait until it waits for nothing but the disk. Return its task."""
         self.disk.is_asked.clear()
         self.disk.free.clear()
         task = asyncio.create_task(act)
@@ -44,7 +44,7 @@ class Written(Case):
         return task
 
     def release_disk(self, fault: int | None = None) -> None:
-        """Let the disk do what it was asked to, or fail."""
+        """Let the disk do what it was asked to do, or let it fail."""
         self.disk.fault = lambda _, name: fault if name == "write" else None
         self.disk.free.set()
 
@@ -69,7 +69,7 @@ class Written(Case):
         self.assertEqual(stamp, await self.here.put(self.ada, [*LIMIT, 3], key="b"))
         self.assertEqual([one["made"]["key"] for one in self.here.entries() if "made" in one], ["a", "b"])
 
-    async def test_a_take_and_a_share_across_a_failed_write_end(self) -> None:
+    async def test_a_take_and_a_share_end_if_a_write_fails_meanwhile(self) -> None:
         await self.here.put(self.ada, [*LIMIT, 3])
         share = await self.start(self.here.share(self.ada))
         take = asyncio.create_task(self.here.take(self.ben))
@@ -86,7 +86,7 @@ class Written(Case):
         self.assertEqual((await soon(self.here.take(self.ben)))["size"], 1)
 
     async def test_work_in_pieces_ends_if_a_write_fails(self) -> None:
-        """Each piece may depend on what is forgotten."""
+        """Each piece may depend on a change that is then forgotten."""
         keeper, rounds = self.here.keeper, 0
 
         async def piece() -> Any:
@@ -100,19 +100,19 @@ class Written(Case):
         self.assertEqual(rounds, 2)
 
     async def test_nothing_is_written_after_what_the_disk_refused(self) -> None:
-        """A job during which a write fails may depend on it: it is refused, even if the disk accepts more."""
+        """A job during which a write fails may depend on that write, so it is refused, even if the disk accepts later writes."""
         keeper = self.here.keeper
 
         async def body() -> None:
             self.release_disk(errno.EIO)
             await asyncio.wait([keeper.record(SeatUsed(1, 0))])
             self.release_disk()
-            await keeper.writable()
+            await keeper.require_writable()
         self.assertEqual(await self.refused(keeper.ask(self.ben, (), body)), "NotWritten")
         await self.here.put(self.ben, [*LIMIT, 3])
 
     async def test_a_change_on_the_disk_was_done_even_if_another_write_fails(self) -> None:
-        """The program gets the rest of it later, with another write."""
+        """The program gets the rest of the change later, with another write."""
         keeper, is_free = self.here.keeper, asyncio.Event()
         ask_all = Program.ask_all
 
@@ -136,12 +136,12 @@ class Written(Case):
         self.assertEqual((await self.here.take(self.ben))["size"], 3)
 
     async def test_a_change_on_the_disk_was_done_even_without_a_program(self) -> None:
-        """The program ended, and none can be started for a while: the next one gets it."""
+        """The program has ended, and none can be started for a while. The next one gets the change."""
         async def none(*_: Any) -> Program:
             raise ProgramExited("the program cannot be started")
         await self.here.put(self.ben, ["limit", 1, 50, 4])
         for act in (self.here.put(self.ada, [*LIMIT, 3]), self.here.share(self.ben), self.here.take(self.ada)):
-            for seat, at in ((self.ada, "seat1"), (self.ben, "seat2"), (self.ben, "shared")):  # it has what they hold so far
+            for seat, at in ((self.ada, "seat1"), (self.ben, "seat2"), (self.ben, "shared")):  # which hold this so far
                 await self.here.ask(seat, "scenario", at=at)
             self.here.keeper.program.kill()
             with mock.patch("server.keeper.start", none):
@@ -151,7 +151,7 @@ class Written(Case):
         self.assertEqual(self.here.heard[-1:], [50])
         self.assertEqual((await self.edits(self.ben), len((await self.here.ask(self.ada, "scenario"))["edits"])), (1, 2))
 
-    async def test_nobody_hears_of_a_change_before_it_is_on_the_disk(self) -> None:
+    async def test_nobody_is_told_of_a_change_before_it_is_on_the_disk(self) -> None:
         lab, keeper = self.here.lab, self.here.keeper
         cleo, = await self.here.join("Cleo")
         await self.here.put(self.ada, [*LIMIT, 3])
@@ -159,14 +159,14 @@ class Written(Case):
         await self.here.share(self.ben)
         for fault, edits in ((errno.EIO, 1), (None, 2)):
             self.release_disk()
-            await keeper.until_writable()
+            await keeper.wait_until_writable()
             self.here.heard.clear()
             share = await self.start(self.here.share(self.ada))
             questions: list[tuple[str, dict[str, Any]]] = [("layers", {}), ("operations", {}), ("transcript", {"from": 0, "to": 0})]
             looks = [asyncio.create_task(self.here.ask(cleo, verb, at="shared", **more)) for verb, more in questions]
-            self.assertEqual((lab.news(cleo, 9)["size"], lab.news(cleo, 9)["shares"][1:]), (1, []))
+            self.assertEqual((lab.unseen_shares(cleo, 9)["size"], lab.unseen_shares(cleo, 9)["shares"][1:]), (1, []))
             first = asyncio.create_task(self.first(cleo))
-            self.assertEqual(await self.edits(cleo), 1)  # the road is asked, and is what is there
+            self.assertEqual(await self.edits(cleo), 1)  # questions about the road are answered with what is on the disk
             await asyncio.sleep(0.2)
             self.assertEqual([look for look in (*looks, first) if look.done()], [])
             self.assertEqual(self.here.heard, [])
@@ -178,25 +178,25 @@ class Written(Case):
                 self.assertEqual(await self.refused(share), "NotWritten")
             else:
                 await soon(share)
-            self.assertEqual((lab.news(cleo, 9)["size"], (await soon(first))["size"], await self.edits(cleo)), (edits,) * 3)
+            self.assertEqual((lab.unseen_shares(cleo, 9)["size"], (await soon(first))["size"], await self.edits(cleo)), (edits,) * 3)
 
     async def test_a_tab_that_leaves_while_it_gets_a_seat_harms_nobody(self) -> None:
-        """Others, who wait for the same write, are answered, and the seat can be taken over."""
+        """Other tabs that wait for the same write are answered, and the seat can be taken over."""
         join = await self.start(self.here.lab.seating.join("Cleo", "", None))
-        looks = [asyncio.create_task(self.here.lab.seating.seats_kept(turn)) for turn in (self.ben, None)]
+        looks = [asyncio.create_task(self.here.lab.seating.list_saved_seats(turn)) for turn in (self.ben, None)]
         await asyncio.sleep(0.1)
         join.cancel()
-        looks.append(asyncio.create_task(self.here.lab.seating.seats_kept()))
+        looks.append(asyncio.create_task(self.here.lab.seating.list_saved_seats()))
         await asyncio.sleep(0.1)
         self.release_disk()
         for look in looks:
             self.assertEqual([one["name"] for one in await soon(look)][:2], ["Ada", "Ben"])
-        seats = {one["name"]: one for one in await soon(self.here.lab.seating.seats_kept())}
+        seats = {one["name"]: one for one in await soon(self.here.lab.seating.list_saved_seats())}
         self.assertEqual([seats[name]["here"] for name in ("Ada", "Ben", "Cleo")], [True, True, False])
         index, _ = await soon(self.here.lab.seating.join("", "", seats["Cleo"]["seat"]))
         await soon(self.here.put(index, [*LIMIT, 3]))
 
-    async def test_the_list_is_whole_after_a_failed_write(self) -> None:
+    async def test_the_list_is_complete_after_a_failed_write(self) -> None:
         """A tab that saw a pending change must not continue from that version."""
         await self.here.put(self.ada, ["limit", 1, 40, 3])
         put = await self.start(self.here.put(self.ada, [*LIMIT, 3]))
@@ -208,18 +208,18 @@ class Written(Case):
         said = await soon(self.here.ask(self.ada, "layers", **{"from": said["next"]}))
         self.assertEqual((said["layers"], said["since"]), ([], said["next"]))
 
-    async def test_nobody_hears_of_what_is_being_forgotten(self) -> None:
-        """A tab that asks while the journal is read again after a failed write gets what is there."""
+    async def test_nobody_is_told_of_a_change_that_is_being_forgotten(self) -> None:
+        """A tab that asks while the journal is read again after a failed write gets what is on the disk."""
         await self.here.put(self.ada, [*LIMIT, 3])
         share = await self.start(self.here.share(self.ada))
-        reads, is_read, may_read = Journal.confirmed, threading.Event(), threading.Event()
+        reads, is_read, may_read = Journal.read_confirmed, threading.Event(), threading.Event()
         self.addCleanup(may_read.set)
 
         def held_up(journal: Journal) -> list[Any]:
             is_read.set()
             may_read.wait()
             return reads(journal)
-        with mock.patch.object(Journal, "confirmed", held_up):
+        with mock.patch.object(Journal, "read_confirmed", held_up):
             self.release_disk(errno.EIO)
             await asyncio.get_running_loop().run_in_executor(None, is_read.wait)
             asked: list[tuple[str, dict[str, Any]]] = [
@@ -238,12 +238,12 @@ class Written(Case):
         lab = self.here.lab
         for fault, size in ((errno.EIO, 0), (None, 1)):
             self.release_disk()
-            await self.here.keeper.until_writable()
+            await self.here.keeper.wait_until_writable()
             self.here.heard.clear()
             operations = [new_operation()]
-            came = await self.start(lab.came(operations, "", {}))
-            again = asyncio.create_task(lab.came(operations, "", {}))
-            self.assertEqual((lab.news(self.ben, 9)["size"], lab.news(self.ben, 9)["shares"], self.here.heard), (0, [], []))
+            came = await self.start(lab.receive(operations, "", {}))
+            again = asyncio.create_task(lab.receive(operations, "", {}))
+            self.assertEqual((lab.unseen_shares(self.ben, 9)["size"], lab.unseen_shares(self.ben, 9)["shares"], self.here.heard), (0, [], []))
             self.assertEqual(await self.edits(self.ben), 0)
             self.assertEqual((await soon(self.here.take(self.ben)))["size"], 0)
             look = asyncio.create_task(self.first(self.ben))
@@ -252,17 +252,17 @@ class Written(Case):
             self.release_disk(fault)
             said = await soon(asyncio.gather(came, again, return_exceptions=True))
             self.assertEqual([getattr(one, "text", one) for one in said], ["NotWritten"] * 2 if fault else [True, False])
-            seen = (await soon(look))["size"], lab.news(self.ben, 9)["size"], await self.edits(self.ben)
+            seen = (await soon(look))["size"], lab.unseen_shares(self.ben, 9)["size"], await self.edits(self.ben)
             self.assertEqual(seen, (size,) * 3)
 
-    async def test_figures_are_of_what_is_on_the_disk(self) -> None:
+    async def test_figures_are_those_of_the_road_on_the_disk(self) -> None:
         """The share closes the first inlet, so the first detector counts no car if the share is on the disk."""
         span = {"from": 0, "to": 60}
         self.here.keeper.settings = Settings(days=2)
         await self.here.put(self.ada, ["inflow", 0, 0, 0])
         for fault in (errno.EIO, None):
             self.release_disk()
-            await self.here.keeper.until_writable()
+            await self.here.keeper.wait_until_writable()
             share = await self.start(self.here.share(self.ada))
             with counted() as computed:
                 looks = [asyncio.create_task(self.here.ask(self.ben, verb, of="mine", **span)) for verb in ("figures", "days")]
@@ -288,7 +288,7 @@ class Written(Case):
         await self.here.put(self.ada, [*LIMIT, 3])
         for fault, size in ((errno.EIO, 0), (None, 1)):
             self.release_disk()
-            await self.here.keeper.until_writable()
+            await self.here.keeper.wait_until_writable()
             share = await self.start(self.here.share(self.ada))
             preview = asyncio.create_task(self.first(self.ben))
             await asyncio.sleep(0.2)
@@ -326,7 +326,7 @@ class Written(Case):
         tries, since = self.disk.calls.count("write"), time.monotonic()
         await asyncio.sleep(5)
         passed = time.monotonic() - since
-        self.assertLessEqual(self.disk.calls.count("write") - tries, max(2, passed / 3))  # it is tried after 1, 2, 4 seconds
+        self.assertLessEqual(self.disk.calls.count("write") - tries, max(2, passed / 3))  # writing is tried again after 1, 2 and 4 seconds
         self.assertGreater(keeper.now(), began + 200)  # it goes on
         self.assertEqual((keeper.changes, len(told)), (1, 1))
         self.disk.is_full(False)
@@ -334,7 +334,7 @@ class Written(Case):
         self.assertEqual((keeper.changes, told[1:]), (1, [None]))
         self.assertEqual(len([one for one in self.here.entries() if "made" in one]), 2)
 
-    async def test_a_disk_that_is_free_again_is_found_by_the_clock(self) -> None:
+    async def test_the_clock_finds_that_the_disk_has_space_again(self) -> None:
         keeper = self.here.keeper
         self.disk.is_full()
         self.assertEqual(await self.refused(self.here.put(self.ada, [*LIMIT, 4])), "NotWritten")
@@ -367,7 +367,7 @@ class Written(Case):
 
 
     async def test_a_seat_given_while_the_disk_was_full_is_given_again_after_a_kill(self) -> None:
-        """With its key, as often as the server is killed, and with no other key."""
+        """It is given again with its key, as often as the server is killed, and with no other key."""
         self.disk.is_read_only()
         self.assertEqual(await self.refused(self.here.put(self.ada, [*LIMIT, 4])), "NotWritten")
         index, key = await soon(self.here.lab.seating.join("Zoé Ü", "", None))
@@ -382,8 +382,8 @@ class Written(Case):
                 self.assertEqual(await self.refused(there.lab.seating.join("", other, None)), "UnknownKey")
             self.assertEqual(await soon(there.lab.seating.join("", key, None)), (index, key))
             self.assertEqual(there.lab.state.seats[index].name, "Zoé Ü")
-        await there.lab.seating.give_back(index)
-        there.keeper.here.discard(index)
+        await there.lab.seating.release_seat(index)
+        there.keeper.connected.discard(index)
         await there.join("Zoe U", "Zoé ü")
         self.assertEqual(await self.refused(there.lab.seating.join("", key, None)), "UnknownKey")
 
@@ -398,7 +398,7 @@ def counted() -> Iterator[list[Any]]:
             computed.append(found := await does(*given))
             return found
         return also
-    with mock.patch.object(figures.Figures, "of", kept(figures.Figures.of)), mock.patch.object(
+    with mock.patch.object(figures.Figures, "compute", kept(figures.Figures.compute)), mock.patch.object(
             chance.Question, "answer", kept(chance.Question.answer)):
         yield computed
 
@@ -421,7 +421,7 @@ class Stalled(Case):
         await self.here.share(self.ben)
         await self.here.take(self.ben)
         await self.here.put(self.ben, ["limit", 1, 60, 3])
-        await self.here.lab.seating.seats_kept()
+        await self.here.lab.seating.list_saved_seats()
 
     async def stalls(self, *names: str) -> None:
         """Stall from the next call with such a name on."""
@@ -434,7 +434,7 @@ class Stalled(Case):
         def waits(name: str, _given: Any) -> None:
             if name in names:
                 is_stalled.set()
-                held.wait()  # without an end, but that of the test
+                held.wait()  # until the test ends
         self.disk.before = waits
         self.addCleanup(held.set)
         self.held = held
@@ -446,7 +446,7 @@ class Stalled(Case):
         self.assertEqual(len(self.told), count)
 
     async def looks(self, edits: int) -> None:
-        """Check that readers go on, and see what is confirmed."""
+        """Check that readers are answered, with what is confirmed."""
         ben, ask = self.ben, self.here.ask
         self.assertEqual(len((await soon(ask(ben, "scenario", at="shared")))["edits"]), edits)
         for at in (f"seat{ben}", "shared"):
@@ -454,7 +454,7 @@ class Stalled(Case):
                 await soon(ask(ben, verb, at=at, **fields))
         await soon(ask(ben, "layers"))
         for turn in (ben, None):
-            self.assertEqual([one["name"] for one in await soon(self.here.lab.seating.seats_kept(turn))], ["Ada", "Ben"])
+            self.assertEqual([one["name"] for one in await soon(self.here.lab.seating.list_saved_seats(turn))], ["Ada", "Ben"])
 
     async def test_changes_are_pending_and_all_else_goes_on(self) -> None:
         await self.here.lab.timing.set_clock(rate=60)
@@ -504,12 +504,12 @@ class Stalled(Case):
         await self.looks(2)
         second._peers.known.clear()
         await soon(first.announce())
-        first._tell_what_may_lack("another", {}, "")
+        first._send_missing("another", {}, "")
         told = [one for one in bus.sent if one.topic.endswith("operations")]
         self.assertEqual([len(json.loads(one.payload)["operations"]) for one in told], [2])  # what is on the disk
         bus.sent = [one for one in bus.sent if one not in told]
         await soon(bus.carry())
-        self.assertEqual([one["site"] for one in second.state()["sites"]], [1])  # it is there all the same
+        self.assertEqual([one["site"] for one in second.state()["sites"]], [1])  # the change is there all the same
         self.assertEqual(there.lab.state.shared.size, 2)
         self.assertEqual([one for one in (share, layers) if one.done()], [])
         self.held.set()
@@ -519,7 +519,7 @@ class Stalled(Case):
         self.assertEqual(there.lab.state.shared.size, 3)
         await self.looks(3)
 
-    async def test_a_stalled_retry_on_a_full_disk_and_a_stalled_compaction(self) -> None:
+    async def test_a_stalled_retry_and_a_stalled_compaction_keep_nobody_waiting(self) -> None:
         self.disk.is_full()
         with self.assertRaises(Refused):
             await self.here.put(self.ada, [*LIMIT, 3])
@@ -530,12 +530,12 @@ class Stalled(Case):
                 await soon(self.here.put(self.ada, [*LIMIT, 3]))
             await self.looks(1)
         self.held.set()
-        await soon(self.keeper.until_writable())
+        await soon(self.keeper.wait_until_writable())
         await soon(self.here.put(self.ada, [*LIMIT, 3], key="k"))
         for name in ("rename", "fsync"):
             await self.stalls(name)
             compacted = asyncio.create_task(self.keeper.compact())
-            if name == "rename":  # (what is synced first is written by a process of its own, for which nobody waits)
+            if name == "rename":  # (the file that is synced first is written by a separate process, for which nobody waits)
                 await soon(asyncio.to_thread(self.is_stalled.wait))
             gesture = asyncio.create_task(self.here.put(self.ada, [*LIMIT, 4]))
             await asyncio.sleep(0.4)

@@ -3,14 +3,14 @@ from __future__ import annotations
 
 from typing import AbstractSet, NamedTuple
 
-from .operations import SEATS, Operation, Stamp, in_order
-from .projection import changed
+from .operations import SEATS, Operation, Stamp, sort_by_stamp
+from .projection import changed_layers
 from .road import Road
 
 
 class Undoable(NamedTuple):
-    """The operation that Z undoes next, and the undo that Redo undoes. `blocked` are newer own operations that Z passes over,
-    because what they did was done again, otherwise, by somebody else since."""
+    """The operation that the key for undo undoes next, and the undo that the key for redo undoes. `blocked` are newer operations of the
+    seat that undo skips, because somebody else has changed their lines since."""
 
     undo: Operation | None
     redo: Operation | None
@@ -18,8 +18,8 @@ class Undoable(NamedTuple):
 
 
 def own_operations(road: Road, number: int) -> list[Operation]:
-    """Return the operations of a seat's number, the oldest first."""
-    return in_order(one for one in road.record.operations() if one.stamp[1] == number)
+    """Return the operations with a number in their stamps, the oldest first."""
+    return sort_by_stamp(one for one in road.record.operations() if one.stamp[1] == number)
 
 
 def would_change(road: Road, one: Operation) -> bool:
@@ -27,10 +27,10 @@ def would_change(road: Road, one: Operation) -> bool:
     return one not in road.record.void and road.is_changed_by(road.record.flipped_by_undo(one))
 
 
-def undoable(road: Road, number: int) -> Undoable:
-    """Return what Z and Redo of a seat do next. Both pass over what would change nothing."""
+def find_undoable(road: Road, number: int) -> Undoable:
+    """Return what undo and redo of a seat do next. Both skip operations whose undo would change nothing."""
     done: dict[Stamp, Operation] = {}
-    undone: dict[Stamp, tuple[Operation, Operation]] = {}  # by the undo: that, and what it undid
+    undone: dict[Stamp, tuple[Operation, Operation]] = {}  # by the stamp of an undo: the undo, and what it undid
     for one in own_operations(road, number):
         if one.undoes in done:
             undone[one.stamp] = one, done.pop(one.undoes)
@@ -46,14 +46,14 @@ def undoable(road: Road, number: int) -> Undoable:
         if would_change(road, one):
             undo = one
             break
-        if any(other.stamp[1] != number for other in overruling(road, one)):
+        if any(other.stamp[1] != number for other in find_overruling(road, one)):
             blocked.append(one)
     redo = next((one for one, _ in reversed(undone.values()) if would_change(road, one)), None)
     return Undoable(undo, redo, blocked)
 
 
-def overruling(road: Road, one: Operation) -> list[Operation]:
-    """Return the operations that leave nothing to the undo of this one, the newest first."""
+def find_overruling(road: Road, one: Operation) -> list[Operation]:
+    """Return the operations that overrule this one, so that its undo would change nothing; the newest first."""
     record = road.record
     root = record.root_of(one)
     found = {setter for name in root.sets for setter in [road.setter(name)] if setter is not None}
@@ -71,35 +71,35 @@ def private(road: Road, shared: Road, number: int) -> list[Operation]:
 
 
 def shareable(road: Road, shared: Road, number: int, then: Road | None = None) -> list[Operation]:
-    """Return the private operations that count and would change the shared road. An undo of what others never had is
-    not among them. `then` is the shared road with all private operations, if that is known."""
+    """Return the private operations that count and would change the shared road. Leave out undos of private operations. `then` is the
+    shared road with all private operations, if that is known."""
     own = sendable(road, shared, number)
     if number // SEATS in shared.record.excluded:
-        return own  # what they would change there is known once the site is let in again
+        return own  # what they would change is known only when the site is included again
     then = then or shared.adding(own)
-    names, excluded = changed(shared, then), then.record.excluded ^ shared.record.excluded
+    names, excluded = changed_layers(shared, then), then.record.excluded ^ shared.record.excluded
     names.update(road.layers[name].line for name in list(names) for road in (shared, then) if name in road.layers)
     return [one for one in own if any(each.names & names or each.excludes is not None and each.excludes[0] in excluded
-                                      for each in chain(road, one))]
+                                      for each in undo_chain(road, one))]
 
 
 def sendable(road: Road, shared: Road, number: int, stamps: AbstractSet[Stamp] | None = None) -> list[Operation]:
-    """Return the private operations that count, all or those of some stamps, but no undo of what others never had."""
+    """Return the private operations that count, all of them or those with these stamps. Leave out undos of private operations."""
     return [one for one in private(road, shared, number) if road.record.counts(one)
             and (one.undoes is None or one.undoes in shared.record.held) and (stamps is None or one.stamp in stamps)]
 
 
-def chain(road: Road, one: Operation) -> list[Operation]:
-    """Return an operation, what it undoes, what that undoes, and so on."""
+def undo_chain(road: Road, one: Operation) -> list[Operation]:
+    """Return an operation, the operation that it undoes, the one that this undoes, and so on."""
     found = [one]
     for each in found:
         found += road.record.undone_by(each)
     return found
 
 
-def forgettable(road: Road, shared: Road, number: int, kept: int) -> set[Operation]:
-    """Return the private operations of a seat without which no layer differs: those that are undone, with their undos, and
-    those on private layers that are withdrawn. The newest `kept` stay, since Z and Redo may need them."""
+def find_forgettable(road: Road, shared: Road, number: int, kept: int) -> set[Operation]:
+    """Return the private operations of a seat that can be forgotten without any effect on the road: those that are undone, with their
+    undos, and those on private layers that are withdrawn. Leave out the newest `kept`, which undo and redo may need."""
     own = private(road, shared, number)
     gone = set(own[:max(0, len(own) - kept)])
     while needed := {one for one in gone if is_needed(road, one, gone)}:
@@ -108,7 +108,7 @@ def forgettable(road: Road, shared: Road, number: int, kept: int) -> set[Operati
 
 
 def is_needed(road: Road, one: Operation, gone: set[Operation]) -> bool:
-    """Return whether an operation still says something, if all of these were forgotten with it."""
+    """Return whether an operation still has an effect if all operations in `gone` are forgotten together."""
     record = road.record
     if one.site in record.excluded or one.excludes is not None:
         return True

@@ -1,15 +1,17 @@
 """Decide which operations of a set count.
 
-An operation counts unless an operation that counts undoes it, or its site is excluded. This is worked out from the greatest
-stamp down, and again only where a new operation alters it. Exclusions come before all else: only their own site undoes
-them, excluded or not, so no two decisions wait for each other.
+An operation counts unless an operation that counts undoes it, or its site is excluded. This is decided from the greatest stamp down.
+After new operations, only those decisions are made again that may change. Exclusions are decided first: only their own site can undo
+them, whether it is excluded or not. So no two decisions depend on each other.
+
+Several functions take `flipped`, a set of operations, and answer as if each of these counted if it does not, and the reverse.
 """
 from __future__ import annotations
 
 from bisect import bisect
 from typing import AbstractSet, Iterable, Iterator
 
-from .operations import Operation, Stamp, in_order
+from .operations import Operation, Stamp, sort_by_stamp
 
 NONE: frozenset[Operation] = frozenset()
 
@@ -19,11 +21,11 @@ class Record:
 
     def __init__(self) -> None:
         self.held: dict[Stamp, tuple[Operation, ...]] = {}
-        self.void: set[Operation] = set()  # held, but they do not count
+        self.void: set[Operation] = set()  # operations that are held but do not count
         self.excluded: frozenset[int] = frozenset()  # sites
-        self.exclusions: tuple[Operation, ...] = ()  # operations that exclude sites or let them in, the oldest first
-        self._undos: dict[Stamp, tuple[Operation, ...]] = {}  # by the stamp of what they undo
-        self._of_exclusions: frozenset[Stamp] = frozenset()  # exclusions, their undos, the undos of those, and so on
+        self.exclusions: tuple[Operation, ...] = ()  # operations that exclude sites or include them again, the oldest first
+        self._undos: dict[Stamp, tuple[Operation, ...]] = {}  # undos by the stamp of the operation that they undo
+        self._of_exclusions: frozenset[Stamp] = frozenset()  # exclusions, their undos, the undos of these undos, and so on
 
     def copy(self) -> Record:
         """Return a copy that can be changed without changing this one."""
@@ -47,13 +49,13 @@ class Record:
         return () if one.undoes is None else self.held.get(one.undoes, ())
 
     def root_of(self, one: Operation) -> Operation:
-        """Follow undos down to what was undone first; an undo whose target is missing is its own root."""
+        """Follow undos down to the operation that was undone first. An undo whose target is missing is its own root."""
         while some := self.undone_by(one):
             one = some[0]
         return one
 
     def roots_of(self, one: Operation) -> set[Operation]:
-        """Return the same with its twins, and where twins lie between, what each of them undid first."""
+        """Return all operations that `root_of` can lead to if operations on the way have twins."""
         found, waiting = set[Operation](), [one]
         passed = {one}
         while waiting:
@@ -66,25 +68,25 @@ class Record:
         return found
 
     def counts(self, one: Operation, flipped: AbstractSet[Operation] = NONE) -> bool:
-        """Return whether an operation counts, were these the other way round."""
+        """Return whether an operation counts."""
         return (one in self.void) == (one in flipped)
 
     def add(self, operations: Iterable[Operation]) -> tuple[set[Operation], set[Operation]]:
-        """Add operations. Return those that are new, and those that count now and did not, or the other way round."""
+        """Add operations. Return those that are new, and those that now count but did not before, or the reverse."""
         before = self._of_exclusions
         fresh = {one for one in operations if self._hold(one)}
         waiting = fresh.union(one for stamp in self._of_exclusions - before for one in self.held.get(stamp, ()))
-        flipped = self._settle(in_order(waiting))
+        flipped = self._settle(sort_by_stamp(waiting))
         if len(fresh) > len(self.void):
-            self.void = set(self.void)  # which had room for all that are new
+            self.void = set(self.void)  # a smaller copy: the set had grown to hold all new operations
         excluded = self.excluded_if()
         if excluded != self.excluded:
             changed, self.excluded = excluded ^ self.excluded, excluded
-            flipped ^= self._settle(in_order(one for one in self.operations() if one.site in changed))
+            flipped ^= self._settle(sort_by_stamp(one for one in self.operations() if one.site in changed))
         return fresh, flipped
 
     def _hold(self, one: Operation) -> bool:
-        """Hold an operation, as one that does not count yet. Return whether it is new."""
+        """Hold an operation, for now as one that does not count. Return whether it is new."""
         if one in self:
             return False
         self.held[one.stamp] = *self.held.get(one.stamp, ()), one
@@ -92,7 +94,7 @@ class Record:
         if one.undoes is not None:
             self._undos[one.undoes] = *self._undos.get(one.undoes, ()), one
         if one.excludes is not None:
-            self.exclusions = inserted(self.exclusions, one)
+            self.exclusions = insert_in_order(self.exclusions, one)
         if one.excludes is not None or one.undoes in self._of_exclusions:
             chain = [one]
             for each in chain:
@@ -101,7 +103,8 @@ class Record:
         return True
 
     def _settle(self, waiting: list[Operation]) -> set[Operation]:
-        """Decide which of these count, the greatest last, and so for what they undo. Return those that flipped."""
+        """Decide whether these operations count, and all that they undo. `waiting` is sorted, and the greatest is decided first. Return
+        the operations whose decision has changed."""
         flipped: set[Operation] = set()
         while waiting:
             one = waiting.pop()
@@ -117,8 +120,7 @@ class Record:
         return one.site in self.excluded or any(self.counts(other, flipped) for other in self.undos_of(one))
 
     def excluded_if(self, flipped: AbstractSet[Operation] = NONE) -> frozenset[int]:
-        """Return the excluded sites, were these operations the other way round. From the oldest on, an excluded site has no
-        say."""
+        """Return the excluded sites. Exclusions are applied from the oldest on, and those of excluded sites are ignored."""
         says: dict[int, bool] = {}
         for one in self.exclusions:
             if one.excludes is not None and self.counts(one, flipped) and not says.get(one.site):
@@ -126,7 +128,7 @@ class Record:
         return frozenset(site for site, is_out in says.items() if is_out)
 
     def flipped_by_undo(self, one: Operation) -> set[Operation]:
-        """Return the operations that would count, or count no more, if an operation that counts were undone."""
+        """Return the operations whose decision would change if an operation that counts were undone."""
         flipped = {each for each in self.held[one.stamp] if each not in self.void}
         waiting = [other for each in flipped for other in self.undone_by(each)]
         while waiting:
@@ -137,7 +139,7 @@ class Record:
         return flipped
 
 
-def inserted(some: tuple[Operation, ...], one: Operation) -> tuple[Operation, ...]:
-    """Return operations in their order, with one more."""
+def insert_in_order(some: tuple[Operation, ...], one: Operation) -> tuple[Operation, ...]:
+    """Return sorted operations with one more in its place."""
     place = bisect(some, one)
     return *some[:place], one, *some[place:]

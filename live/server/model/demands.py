@@ -1,34 +1,35 @@
-"""The demand that was asked for, in cars per hour, on a road of inflow chances.
+"""Find the demands that were asked for, in cars per hour, on a road that has inflow chances.
 
-A shape of kind inflow has a chance. The operation that gave the line its shape may say for which demand: `demand` among the fields
-that other versions keep without reading them. What has another meaning than a demand there counts as if it were missing.
+A shape of kind inflow has a chance. The operation that gave the line its shape may have the demand that the chance stands for, in
+`demand`, one of the fields that other versions keep without reading them. A value there that is not a demand is ignored.
 """
 from __future__ import annotations
 
 import math
 from typing import Mapping, Sequence
 
-from .layers import pieces
+from .layers import split_by_topmost
 from .operations import END, Json, Operation, Shape, Stamp, is_line
 from .road import Road
 
 DEMAND, PLANNED = "demand", "planned"
-"""The fields of an operation: cars per hour; and whether its demand is that of the road's file."""
+"""The names of the fields of an operation: its demand in cars per hour; and whether that is the demand of the road's file."""
 MOST_DEMAND = 10_000.0  # cars per hour
 INFLOW = "inflow"
 Asked = Sequence[tuple[int, "float | None"]]
-"""The demand of an inlet over time, as (step, cars per hour), each until the next; None: nobody has said it."""
+"""The demand of an inlet over time, as (step, cars per hour), each in force until the next; None if nobody has asked for one."""
 
 
 def written_demand(demand: float | None, is_planned: bool = False) -> Mapping[str, Json]:
-    """Return the fields of an operation that say for which demand its chance is."""
+    """Return the fields of an operation for the demand that its chance stands for; none if there is no demand."""
     if demand is None:
         return {}
     return {DEMAND: demand, PLANNED: True} if is_planned else {DEMAND: demand}
 
 
 def stated_demand(one: Operation, line: Stamp) -> float | None:
-    """Return the demand for which an operation gave a line its chance, in cars per hour; None: it does not say."""
+    """Return the demand that the chance of a line stands for, according to an operation on the line, in cars per hour; None if the
+    operation does not say."""
     value, shape = one.about.more.get(DEMAND), one.sets.get(line)
     if shape is None or shape.kind != INFLOW or isinstance(value, bool) or not isinstance(value, (int, float)):
         return None
@@ -36,13 +37,13 @@ def stated_demand(one: Operation, line: Stamp) -> float | None:
 
 
 def demand_of(road: Road, line: Stamp) -> float | None:
-    """Return the demand of a line as it is, in cars per hour; None: it has none, or nobody has said it."""
+    """Return the present demand of a line, in cars per hour; None if nobody has asked for one."""
     setter = road.setter(line)
     return None if setter is None else stated_demand(setter, line)
 
 
 def kept_demand(road: Road, line: Stamp, shape: Shape) -> float | None:
-    """Return the demand of a line that gets another shape: the one it had, if its chance stays the same."""
+    """Return the demand of a line that is about to get another shape: the same as before if inlet and chance stay the same, else None."""
     layer = road.layers.get(line)
     is_same = layer is not None and (layer.kind, layer.first, layer.last, layer.value) == (
         shape.kind, shape.first, shape.last, shape.value)
@@ -50,19 +51,19 @@ def kept_demand(road: Road, line: Stamp, shape: Shape) -> float | None:
 
 
 def is_planned(done: Sequence[Operation]) -> bool:
-    """Return whether a line, given all that was done to it, is the demand of the road's file, and nobody has touched it."""
+    """Return whether a line, given all operations on it, is a demand of the road's file that nobody has changed."""
     return len(done) == 1 and done[0].about.more.get(PLANNED) is True
 
 
 def asked_demands(road: Road, inlets: int) -> list[Asked]:
-    """Return the demand of each inlet over time."""
+    """Return the demand of each inlet over time, as far as it was asked for."""
     return [asked_demand(road, inlet) for inlet in range(inlets)]
 
 
 def asked_demand(road: Road, inlet: int) -> Asked:
-    """Return the demand of an inlet over time: that of the topmost layer."""
+    """Return the demand of an inlet over time, which is the demand of the topmost layer at each step."""
     found: list[tuple[int, float | None]] = []
-    for begin, _, layer in pieces(road.on_object(INFLOW, inlet), 0, END):
+    for begin, _, layer in split_by_topmost(road.on_object(INFLOW, inlet), 0, END):
         demand = demand_of(road, layer.name) if layer is not None and is_line(layer.name) else None
         if not found or found[-1][1] != demand:
             found.append((begin, demand))

@@ -1,4 +1,4 @@
-"""Layers, and how they lie on each other: at each step an object has the value of the topmost layer that covers it."""
+"""Resolve layers: at each step an object has the value of the topmost layer that covers it."""
 from __future__ import annotations
 
 from bisect import bisect_left, insort
@@ -7,11 +7,11 @@ from typing import Iterable, Iterator, NamedTuple, Sequence
 from .operations import Name, Stamp
 
 Stretch = tuple[str, int, int, int, int]
-"""Kind, first and last object, from the first step to the last one that may change."""
+"""A part of a road: kind, first and last object, first and last step."""
 
 
 class Layer(NamedTuple):
-    """A layer that stands. `line` is the line of the list to which it belongs: of a shape its own name."""
+    """A layer of a road. `line` is the line of the list that it belongs to; for a shape that is its own name."""
 
     height: Stamp
     name: Name
@@ -25,28 +25,28 @@ class Layer(NamedTuple):
 
 
 Piece = tuple[int, int, "Layer | None"]
-"""From, to, and the topmost layer there."""
+"""A span of steps, from one to before another, and the topmost layer there; None if there is none."""
 Rank = tuple[Stamp, int, Name]
 
 
 def rank(layer: Layer) -> Rank:
-    """Return what orders layers: the greater rank lies on top. At equal heights a raw edit lies on a shape."""
+    """Return the rank of a layer: the layer with the greatest rank lies on top. At equal heights a raw edit lies above a shape."""
     return layer.height, len(layer.name), layer.name
 
 
-def from_the_top(layers: Iterable[Layer]) -> list[Layer]:
+def sort_from_top(layers: Iterable[Layer]) -> list[Layer]:
     return sorted(layers, key=rank, reverse=True)
 
 
 def touches(layer: Layer, stretch: Stretch) -> bool:
-    """Return whether a layer has an object and a step of a stretch, or begins or ends just beside it."""
+    """Return whether a layer has an object in a stretch, and a step in it or next to it."""
     kind, first, last, begin, end = stretch
     return (layer.kind == kind and layer.first <= last and layer.last >= first
             and layer.begin <= end and layer.end >= begin)
 
 
-def pieces(layers: Iterable[Layer], begin: int, end: int) -> list[Piece]:
-    """Return which layer is the topmost from when to when, given layers from the top down."""
+def split_by_topmost(layers: Iterable[Layer], begin: int, end: int) -> list[Piece]:
+    """Return the steps from `begin` to before `end` as spans with their topmost layers. `layers` are given from the top down."""
     found: list[Piece] = []
     free = [(begin, end)]
     for one in layers:
@@ -67,8 +67,8 @@ def pieces(layers: Iterable[Layer], begin: int, end: int) -> list[Piece]:
 
 
 def columns(layers: Sequence[Layer], first: int, last: int, cuts: Iterable[int]) -> Iterator[tuple[int, int, list[int]]]:
-    """Yield neighbours on which the same layers lie and between which no cut is: the first, the last, and the places of
-    these layers among those that were given."""
+    """Yield the objects from `first` to `last` as groups of neighbours with the same layers: the first object, the last one, and the
+    places of their layers in `layers`. A group also ends before each object in `cuts`."""
     comes: dict[int, list[int]] = {cut: [] for cut in (first, *cuts)}
     goes: dict[int, list[int]] = {}
     for place, one in enumerate(layers):

@@ -1,4 +1,4 @@
-"""Operations: what people do to a road. Operations never change.
+"""Define operations, which are what people do to a road. An operation never changes.
 
     put(stamp, shape)               puts a new layer on top
     lift(stamp, line)               puts a line on top
@@ -8,7 +8,8 @@
 
 `change` is in `road`, since it depends on the current layers.
 
-An operation has one stamp. It names layers by the stamp of their put; a raw edit's layer is named by kind, object and step.
+An operation has one stamp. A layer is named by the stamp of the operation that put it; the layer of a raw edit is named by kind, object
+and step.
 """
 from __future__ import annotations
 
@@ -25,20 +26,20 @@ RawName = tuple[str, int, int]
 Name = Union[Stamp, RawName]
 """The name of a layer."""
 
-SEATS = 64  # numbers of a site; 0 is the site itself
-END = 1 << 20  # after every step
+SEATS = 64  # numbers in the stamps of a site; number 0 belongs to no seat
+END = 1 << 20  # a step after all steps of a road
 SMALL = tuple(range(1 << 14))
 K = TypeVar("K")
 V = TypeVar("V", covariant=True)
 
 
-def same_int(value: int) -> int:
-    """Return the same object for equal small numbers: most objects and steps of a large road are among them."""
+def intern_int(value: int) -> int:
+    """Return the same object for equal small numbers, which saves memory: most indexes and steps are small."""
     return SMALL[value] if 0 <= value < len(SMALL) else value
 
 
 class Shape(NamedTuple):
-    """The objects `first` to `last` have a value from step `begin` until step `end`, or for ever."""
+    """The objects `first` to `last` have a value from the step `begin` to before the step `end` (None: without end)."""
 
     kind: str
     first: int
@@ -49,7 +50,7 @@ class Shape(NamedTuple):
 
 
 class Single(Mapping[K, V], Generic[K, V]):
-    """A mapping of one key, in 48 bytes where a dict takes 250: most operations set one layer."""
+    """A mapping with one key. It takes 48 bytes instead of the 250 of a dict. Most operations set one layer."""
 
     __slots__ = "_key", "_value"
 
@@ -71,8 +72,8 @@ class Single(Mapping[K, V], Generic[K, V]):
         return 1
 
 
-def small_mapping(some: Mapping[K, V], empty: Mapping[K, V]) -> Mapping[K, V]:
-    """Return a mapping in as few bytes as it needs."""
+def pack_mapping(some: Mapping[K, V], empty: Mapping[K, V]) -> Mapping[K, V]:
+    """Return an equal mapping that takes as few bytes as possible. `empty` is the empty one."""
     if len(some) > 1:
         return some
     return Single(*next(iter(some.items()))) if some else empty
@@ -81,12 +82,13 @@ def small_mapping(some: Mapping[K, V], empty: Mapping[K, V]) -> Mapping[K, V]:
 NO_LAYERS: Mapping[Name, Shape | None] = MappingProxyType({})
 NO_HEIGHTS: Mapping[Name, Stamp] = MappingProxyType({})
 NO_MORE: Mapping[str, Json] = MappingProxyType({})
-"""Most operations have none of these; so the empty ones are made once."""
+"""Empty values, which most operations share to save memory."""
 
 
 @dataclass(frozen=True, slots=True)
 class About:
-    """The maker of an operation, its time and note. `shape` is how raw edits were drawn; `more` are fields of later versions."""
+    """The author of an operation, its note and time. `shape` is the shape as which raw edits were drawn; `more` has all other fields,
+    also those of later versions."""
 
     who: str = ""
     note: str = ""
@@ -100,23 +102,23 @@ NOTHING = About()
 
 @dataclass(frozen=True, eq=False, slots=True)
 class Operation:
-    """An act of somebody. Two operations with one stamp are twins: the one with the greater text is the later one."""
+    """An operation. Two operations with the same stamp are twins; the one with the greater text counts as the later one."""
 
     stamp: Stamp
     sets: Mapping[Name, Shape | None] = field(default_factory=lambda: NO_LAYERS)  # the new shape of each layer; None withdraws it
     heights: Mapping[Name, Stamp] = field(default_factory=lambda: NO_HEIGHTS)  # the new height of each layer
     undoes: Stamp | None = None
     excludes: tuple[int, bool] | None = None  # a site, and whether it is excluded
-    seen: Stamp | None = None  # the latest change of the line that the maker had seen
+    seen: Stamp | None = None  # the latest change of the line that the author had seen
     about: About = NOTHING
 
     def __post_init__(self) -> None:
         older = [one for one in (self.undoes, self.seen) if one is not None]
         others = [*self.heights.values(), *(name for name in self.names if not is_raw(name))]
         if any(one >= self.stamp for one in older) or any(one > self.stamp for one in others):
-            raise ValueError("an operation may refer only to older ones, and may lift nothing above its own stamp")
-        object.__setattr__(self, "sets", small_mapping(self.sets, NO_LAYERS))
-        object.__setattr__(self, "heights", small_mapping(self.heights, NO_HEIGHTS))
+            raise ValueError("an operation must refer only to older operations, and must not set a height above its own stamp")
+        object.__setattr__(self, "sets", pack_mapping(self.sets, NO_LAYERS))
+        object.__setattr__(self, "heights", pack_mapping(self.heights, NO_HEIGHTS))
 
     def __lt__(self, other: Operation) -> bool:
         return self.stamp < other.stamp or self.stamp == other.stamp and self.text() < other.text()
@@ -126,7 +128,7 @@ class Operation:
 
     @property
     def names(self) -> set[Name]:
-        """Return the layers that it sets or lifts."""
+        """Return the names of the layers that the operation sets or puts on top."""
         return {*self.sets, *self.heights}
 
     @property
@@ -135,11 +137,11 @@ class Operation:
 
     @property
     def is_empty(self) -> bool:
-        """Return whether it has no effect at all."""
+        """Return whether the operation does nothing at all."""
         return not self.sets and not self.heights and self.undoes is None and self.excludes is None
 
     def written(self) -> dict[str, Json]:
-        """Return its JSON value, as in journals and messages. Empty fields are left out."""
+        """Return the operation as a JSON value, in the form of journals and messages. Leave out empty fields."""
         about = self.about
         fields: dict[str, Json] = {
             "sets": [[list(name), written_shape(name, shape)] for name, shape in self.sets.items()],
@@ -151,12 +153,12 @@ class Operation:
         return {"stamp": [*self.stamp], **{name: value for name, value in fields.items() if value not in (None, [], "")}}
 
     def text(self) -> str:
-        """Return a text that is the same for equal operations."""
+        """Return a text that is equal for equal operations, and different for different ones."""
         return json.dumps(self.written(), sort_keys=True)
 
 
-def in_order(operations: Iterable[Operation]) -> list[Operation]:
-    """Return operations in the order of their stamps, and twins in the order of their texts."""
+def sort_by_stamp(operations: Iterable[Operation]) -> list[Operation]:
+    """Return operations in the order of their stamps; twins in the order of their texts."""
     found = sorted(operations, key=lambda one: one.stamp)
     has_twins = any(one.stamp == other.stamp for one, other in zip(found, found[1:]))
     return sorted(found) if has_twins else found
@@ -167,7 +169,7 @@ def is_raw(name: Name) -> TypeGuard[RawName]:
 
 
 def is_line(name: Name) -> TypeGuard[Stamp]:
-    """Return whether a name is that of a line, and not of a raw edit."""
+    """Return whether a name is a stamp, which names a line, and not the name of a raw edit."""
     return len(name) == 2
 
 
@@ -189,8 +191,8 @@ def raw_shape(name: RawName, value: int) -> Shape:
 
 
 def line_of(one: Operation, name: Name) -> Stamp:
-    """Return the line of a layer that an operation set: for a shape its name; for a raw edit the operation's stamp, or the line
-    that form 2 gave it."""
+    """Return the line of a layer that an operation set. The line of a shape is its name. The line of a raw edit is the operation's stamp,
+    or its height if it has one, as in operations of form 2 and in repeated ones."""
     return name if is_line(name) else one.heights.get(name, one.stamp)
 
 
@@ -202,12 +204,12 @@ def put(stamp: Stamp, shape: Shape, about: About = NOTHING) -> Operation:
 
 
 def lift(stamp: Stamp, line: Stamp, about: About = NOTHING) -> Operation:
-    """Put a line on top, whatever its shape is and will be."""
+    """Put a line on top, with whatever shape it has now and later."""
     return Operation(stamp, heights={line: stamp}, about=about)
 
 
 def edit(stamp: Stamp, values: Mapping[RawName, int | None], about: About = NOTHING) -> Operation:
-    """Make raw edits. Each is in force until the next one of its object; None withdraws one."""
+    """Make raw edits. Each is in force until the next one of its object. The value None withdraws an edit."""
     return Operation(stamp, {name: None if value is None else raw_shape(name, value) for name, value in values.items()},
                      about=about)
 
@@ -218,13 +220,13 @@ def undo(stamp: Stamp, undone: Operation, about: About = NOTHING) -> Operation:
 
 
 def exclude(stamp: Stamp, site: int, is_out: bool, about: About = NOTHING) -> Operation:
-    """Ignore everything that a site made or makes, or include it again."""
+    """Ignore all past and future operations of a site if `is_out`; otherwise include them again."""
     return Operation(stamp, excludes=(site, is_out), about=about)
 
 
-def stamped_anew(operations: Iterable[Operation], stamps: Mapping[Stamp, Stamp]) -> list[Operation]:
-    """Return these operations with new stamps, which `stamps` maps from the old ones. They refer to each other by the new ones.
-    Raise ValueError if one refers to an operation that keeps a later stamp."""
+def restamp(operations: Iterable[Operation], stamps: Mapping[Stamp, Stamp]) -> list[Operation]:
+    """Return these operations with new stamps, also where they refer to each other. `stamps` maps old stamps to new ones. Raise ValueError
+    if one refers to an operation that keeps a later stamp."""
     def renamed(name: Name) -> Name:
         return stamps.get(name, name) if is_line(name) else name
     return [Operation(stamps[one.stamp], {renamed(name): shape for name, shape in one.sets.items()},

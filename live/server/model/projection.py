@@ -1,37 +1,37 @@
-"""Make the edits that bring a program from one road to another.
+"""Compute the edits that turn one road of a program into another.
 
-On each object there is a number at each step where the value changes, and nothing else. Where no layer covers an object any
-more, that number is the plan's.
+A program has an edit at each step at which the value of an object changes, and no others. At a step from which on no layer covers the
+object, the edit has the plan's value.
 """
 from __future__ import annotations
 
 from typing import AbstractSet, Iterable, Iterator
 
-from .layers import Layer, Stretch, columns, from_the_top, pieces
+from .layers import Layer, Stretch, columns, sort_from_top, split_by_topmost
 from .operations import END, Name, RawName, is_raw
 from .road import Road
 
 Edits = dict[RawName, "int | None"]
-"""A value, or None that withdraws the edit, by kind, object and step."""
+"""Edits by kind, object and step: the value, or None, which withdraws the edit."""
 
 MANY = 64  # stretches from which on whole kinds are compared
 
 
 def difference(before: Road, after: Road, within: set[Stretch] | None = None) -> Edits:
-    """Return the edits that bring a program from `before` to `after`; of some stretches, or everywhere."""
+    """Return the edits that turn `before` into `after`; only those in the stretches `within` if these are given."""
     if before is after:
         return {}
     edits: Edits = {}
-    names = changed(before, after)
+    names = changed_layers(before, after)
     objects = {name[:2] for name in names if is_raw(name)}
-    where = stretches(before, after, names)
-    for stretch in sorted(united(where if within is None else common(where, within))):
+    where = changed_stretches(before, after, names)
+    for stretch in sorted(merge_stretches(where if within is None else intersect(where, within))):
         kind, first, last, _, _ = stretch
         lines: Iterable[tuple[int, int, dict[int, int], dict[int, int]]]
         if kind == "start":
-            lines = ((index, index, starts(before, index), starts(after, index)) for index in range(first, last + 1))
+            lines = ((index, index, start_changes(before, index), start_changes(after, index)) for index in range(first, last + 1))
         else:
-            lines = compared(before, after, stretch, objects)
+            lines = compare_objects(before, after, stretch, objects)
         for low, high, old, new in lines:
             steps = sorted(step for step in old.keys() | new.keys() if old.get(step) != new.get(step))
             edits.update(((kind, index, step), new.get(step)) for index in range(low, high + 1) for step in steps)
@@ -39,10 +39,10 @@ def difference(before: Road, after: Road, within: set[Stretch] | None = None) ->
 
 
 def difference_like(known: tuple[Road, Road, Edits], before: Road, after: Road) -> Edits:
-    """Return the same, where the edits between two other roads are known. Only where those roads differ from these is
-    anything worked out again: so all seats that take the same operations share most of the work."""
-    own = (stretches(known[0], before, changed(known[0], before))
-           | stretches(known[1], after, changed(known[1], after)))
+    """Return the edits that turn `before` into `after`, given two other roads and their edits in `known`. Only stretches where these roads
+    differ from the other two are computed, so seats that take the same operations share most of the work."""
+    own = (changed_stretches(known[0], before, changed_layers(known[0], before))
+           | changed_stretches(known[1], after, changed_layers(known[1], after)))
     if len(own) >= MANY:
         return difference(before, after)
     by_kind: dict[str, list[Stretch]] = {}
@@ -53,12 +53,12 @@ def difference_like(known: tuple[Road, Road, Edits], before: Road, after: Road) 
     return {**edits, **difference(before, after, own)}
 
 
-def timeline(road: Road) -> Edits:
-    """Return all edits of a road, for a program that has none."""
+def all_edits(road: Road) -> Edits:
+    """Return all edits of a road, which turn the road of the plan into it."""
     return difference(road.empty(), road)
 
 
-def changed(before: Road, after: Road) -> set[Name]:
+def changed_layers(before: Road, after: Road) -> set[Name]:
     """Return the layers that differ between two roads."""
     old, new = before.layers, after.layers
     step = after.step
@@ -66,9 +66,9 @@ def changed(before: Road, after: Road) -> set[Name]:
     return {name for name in names if old.get(name) is not new.get(name) and old.get(name) != new.get(name)}
 
 
-def stretches(before: Road, after: Road, names: Iterable[Name]) -> set[Stretch]:
-    """Return where these layers are on two roads: nowhere else does anything differ. Slowing chances also decide those of cars
-    that start, at any step."""
+def changed_stretches(before: Road, after: Road, names: Iterable[Name]) -> set[Stretch]:
+    """Return the stretches of these layers on two roads. The roads do not differ elsewhere if these are all changed layers. A change of a
+    slowing chance can change the slow-to-start chance of its zone at any step."""
     found: set[Stretch] = set()
     for name in names:
         some = [layer for road in (before, after) for layer in [road.layers.get(name)] if layer is not None]
@@ -78,15 +78,15 @@ def stretches(before: Road, after: Road, names: Iterable[Name]) -> set[Stretch]:
         ("start", first, last, 0, END) for kind, first, last, *_ in found if kind in ("slow", "start")}
 
 
-def common(ones: Iterable[Stretch], others: Iterable[Stretch]) -> set[Stretch]:
-    """Return the stretches that two sets have in common."""
+def intersect(ones: Iterable[Stretch], others: Iterable[Stretch]) -> set[Stretch]:
+    """Return the intersections of the stretches of two sets."""
     parts = ((kind, max(first, low), min(last, high), max(begin, since), min(end, until))
              for kind, first, last, begin, end in ones for other, low, high, since, until in others if kind == other)
     return {part for part in parts if part[1] <= part[2] and part[3] <= part[4]}
 
 
-def united(some: set[Stretch]) -> set[Stretch]:
-    """Return few stretches as they are, and of many one for each kind, at all steps."""
+def merge_stretches(some: set[Stretch]) -> set[Stretch]:
+    """Return the stretches unchanged if there are few. Otherwise return one for each kind that covers all of them, at all steps."""
     if len(some) < MANY:
         return some
     kinds: dict[str, list[Stretch]] = {}
@@ -95,40 +95,41 @@ def united(some: set[Stretch]) -> set[Stretch]:
     return {(kind, min(one[1] for one in ones), max(one[2] for one in ones), 0, END) for kind, ones in kinds.items()}
 
 
-def compared(before: Road, after: Road, stretch: Stretch,
+def compare_objects(before: Road, after: Road, stretch: Stretch,
              objects: AbstractSet[tuple[str, int]]) -> Iterator[tuple[int, int, dict[int, int], dict[int, int]]]:
-    """Yield neighbours on which something may differ, by layers or by the raw edits of `objects`, with their numbers before
-    and after."""
+    """Yield groups of neighbouring objects that may differ between two roads in a stretch: the first object, the last one, and the value
+    changes of each before and after. `objects` are those whose raw edits differ."""
     kind, first, last, begin, end = stretch
     wide = kind, first, last, begin - 1, end
     olds, news = before.touching(wide), after.touching(wide)
     gone, come = set(olds).difference(news), set(news).difference(olds)
-    layers = from_the_top([*news, *gone])
+    layers = sort_from_top([*news, *gone])
     not_old, not_new = ({place for place, one in enumerate(layers) if one in some} for some in (come, gone))
     for low, high, here in columns(layers, first, last, single_objects((before, after), kind, first, last)):
         top = next((at for at, place in enumerate(here) if place in not_old or place in not_new), None)
-        if (kind, low) not in objects and (top is None or all(one is not None for _, _, one in pieces(
+        if (kind, low) not in objects and (top is None or all(one is not None for _, _, one in split_by_topmost(
                 (layers[place] for place in here[:top]), begin - 1, min(END, end + 1)))):
-            continue  # the same layers, or others that are covered as a whole
-        yield (low, high, numbers(before, kind, low, begin, end, (layers[place] for place in here if place not in not_old)),
-               numbers(after, kind, low, begin, end, (layers[place] for place in here if place not in not_new)))
+            continue  # the layers are the same, or those that differ are completely covered
+        yield (low, high, value_changes(before, kind, low, begin, end, (layers[place] for place in here if place not in not_old)),
+               value_changes(after, kind, low, begin, end, (layers[place] for place in here if place not in not_new)))
 
 
 def single_objects(roads: Iterable[Road], kind: str, first: int, last: int) -> set[int]:
-    """Return cuts around objects that differ from their neighbours, by the plan or by raw edits."""
+    """Return the objects at which groups of neighbours must be cut, since they may differ from their neighbours by the plan or by raw
+    edits."""
     if kind != "block":
         return set(range(first, last + 1))
     return {cut for road in roads if road.raws for index in range(first, last + 1) if (kind, index) in road.raws
             for cut in (index, index + 1)}
 
 
-def numbers(road: Road, kind: str, index: int, begin: int, end: int, shapes: Iterable[Layer]) -> dict[int, int]:
-    """Return the steps from `begin` to `end` at which an object's value changes, with the new values. `shapes` are all that
-    touch it then, from the top down."""
+def value_changes(road: Road, kind: str, index: int, begin: int, end: int, shapes: Iterable[Layer]) -> dict[int, int]:
+    """Return the steps from `begin` to `end` at which an object's value changes, with the new values. `shapes` are all shapes on the
+    object at these steps, from the top down."""
     found: dict[int, int] = {}
     plan = last = road.plan(kind, index)
     assert plan is not None
-    for since, _, layer in pieces(road.with_raws(kind, index, shapes), begin - 1, min(END, end + 1)):
+    for since, _, layer in split_by_topmost(road.with_raws(kind, index, shapes), begin - 1, min(END, end + 1)):
         value = plan if layer is None else layer.value
         if value != last:
             found[since] = last = value
@@ -136,13 +137,13 @@ def numbers(road: Road, kind: str, index: int, begin: int, end: int, shapes: Ite
     return found
 
 
-def starts(road: Road, index: int) -> dict[int, int]:
-    """Return the same for cars that start, about which the plan says nothing: from the first layer's end on, if there is none,
-    they have the slowing chance of their zone at that time."""
-    slow = numbers(road, "slow", index, 0, END, from_the_top(road.touching(("slow", index, index, 0, END))))
+def start_changes(road: Road, index: int) -> dict[int, int]:
+    """Return the steps at which the slow-to-start chance of a zone changes, with the new values. The plan has no such chance. After the
+    first layer of this kind has ended, the chance equals the slowing chance of the zone wherever no layer covers it."""
+    slow = value_changes(road, "slow", index, 0, END, sort_from_top(road.touching(("slow", index, index, 0, END))))
     found: dict[int, int] = {}
     plan, last = road.plan("slow", index), None
-    for since, until, layer in pieces(road.on_object("start", index), 0, END):
+    for since, until, layer in split_by_topmost(road.on_object("start", index), 0, END):
         if layer is not None:
             values: dict[int, int | None] = {since: layer.value}
         elif found:

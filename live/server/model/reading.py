@@ -1,7 +1,7 @@
-"""Operations as JSON, checked in every field: what is read here is safe for all other modules.
+"""Read operations from JSON values, and check every field, so that all other modules can rely on them.
 
-The same checks hold for what a tab asks, for what another site sends, and for what a journal has. Whether objects and values
-exist on a road is not known here.
+Operations of tabs, of other sites and of journals pass the same checks. Whether their objects and values exist on the road is checked
+elsewhere, by `server.checks`.
 """
 from __future__ import annotations
 
@@ -9,12 +9,12 @@ import json
 import sys
 from typing import Callable, Mapping, Sequence, TypeVar
 
-from .operations import (NO_MORE, About, Json, Name, Operation, RawName, Shape, Stamp, is_line, is_raw, raw_shape, same_int)
+from .operations import (NO_MORE, About, Json, Name, Operation, RawName, Shape, Stamp, is_line, is_raw, raw_shape, intern_int)
 
 GREATEST_COUNT, GREATEST_NUMBER, GREATEST_VALUE = 1 << 48, 65_535, (1 << 32) - 1
 MOST_RAW = 1_200  # raw edits of an operation
-MOST_SETS = MOST_RAW + 1  # layers of an operation: raw edits that are withdrawn, and the shape in their place
-MOST_OBJECTS = 600  # of all shapes of an operation
+MOST_SETS = MOST_RAW + 1  # layers of an operation: raw edits that it withdraws, and the shape in their place
+MOST_OBJECTS = 600  # objects of all shapes of an operation
 MOST_MORE = 1_000  # bytes of fields that this version does not know
 LONGEST_NAME, LONGEST_NOTE = 64, 200  # characters
 SITES = range(1, 1_024)
@@ -23,49 +23,49 @@ T = TypeVar("T")
 
 
 class Malformed(ValueError):
-    """A malformed operation. The text says what is wrong with it."""
+    """A malformed operation, or a malformed entry of a journal. The text says what is wrong with it."""
 
 
 def read_operation(value: Json) -> Operation:
-    """Return the operation that a JSON value says; raise `Malformed` if it says none."""
+    """Return the operation that a JSON value describes. Raise `Malformed` if it describes none."""
     if not isinstance(value, dict):
-        raise Malformed("an operation is an object")
+        raise Malformed("an operation must be a JSON object")
     more = {name: one for name, one in value.items() if name not in KNOWN} or NO_MORE
     if more and len(json.dumps(more)) > MOST_MORE:
-        raise Malformed(f"fields that this version does not know have more than {MOST_MORE} bytes")
+        raise Malformed(f"the fields that this version does not know must have at most {MOST_MORE} bytes")
     stamp = read_stamp(value.get("stamp"))
     about = About(read_text(value, "who", LONGEST_NAME), read_text(value, "note", LONGEST_NOTE), read_time(value.get("when")),
                   None if value.get("shape") is None else read_shape(value["shape"]), more)
     try:
         one = Operation(stamp, read_sets(value.get("sets"), stamp), read_heights(value.get("heights")),
-                        optional(value, "undoes", read_stamp), optional(value, "excludes", read_exclusion),
-                        optional(value, "seen", read_stamp), about)
+                        read_optional(value, "undoes", read_stamp), read_optional(value, "excludes", read_exclusion),
+                        read_optional(value, "seen", read_stamp), about)
     except ValueError as fault:
         raise Malformed(str(fault)) from None
     fault_of_size = why_too_large(one)
     if fault_of_size or one.is_empty:
-        raise Malformed(fault_of_size or "an operation that does nothing")
+        raise Malformed(fault_of_size or "the operation does nothing")
     return one
 
 
 def why_too_large(one: Operation) -> str | None:
-    """Return why an operation has more than any may have; None: it has not."""
+    """Return a sentence that says why an operation is too large; None if it is not."""
     objects = sum(shape.last - shape.first + 1 for name, shape in one.sets.items() if shape is not None and is_line(name))
     raws = sum(is_raw(name) for name in one.sets)
     if objects > MOST_OBJECTS:
-        return f"an operation has at most {MOST_OBJECTS} objects, not {objects}"
+        return f"the shapes of an operation can cover at most {MOST_OBJECTS} objects, not {objects}"
     if raws > MOST_RAW or len(one.sets) > MOST_SETS or len(one.heights) > MOST_SETS:
-        return f"an operation has at most {MOST_RAW} raw edits"
+        return f"an operation can have at most {MOST_RAW} raw edits"
     return None
 
 
-def optional(value: Mapping[str, Json], name: str, read: Callable[[Json], T]) -> T | None:
+def read_optional(value: Mapping[str, Json], name: str, read: Callable[[Json], T]) -> T | None:
     return None if value.get(name) is None else read(value[name])
 
 
 def read_stamp(value: Json) -> Stamp:
-    """Return a stamp, a count and a number."""
-    count, number = read_row(value, 2, "a stamp has a count and a number")
+    """Return a stamp: a count and a number."""
+    count, number = read_row(value, 2, "a stamp must be a count and a number")
     return whole(count, GREATEST_COUNT, "count"), whole(number, GREATEST_NUMBER, "number")
 
 
@@ -77,23 +77,23 @@ def read_name(value: Json) -> Name:
 
 
 def read_raw_name(value: Json) -> RawName:
-    kind, index, step = read_row(value, 3, "a raw edit has a kind, an object and a step")
+    kind, index, step = read_row(value, 3, "the name of a raw edit must be a kind, an object and a step")
     return word(kind), whole(index, GREATEST_VALUE, "object"), whole(step, GREATEST_VALUE, "step")
 
 
 def read_shape(value: Json) -> Shape:
     """Return a shape: kind, first and last object, from, until (or null), value."""
-    kind, first, last, begin, end, number = read_row(value, 6, "a shape has six parts")
+    kind, first, last, begin, end, number = read_row(value, 6, "a shape must have six parts: kind, first, last, from, until, value")
     shape = Shape(word(kind), whole(first, GREATEST_VALUE, "object"), whole(last, GREATEST_VALUE, "object"),
                   whole(begin, GREATEST_VALUE, "step"), None if end is None else whole(end, GREATEST_VALUE, "step"),
                   whole(number, GREATEST_VALUE, "value"))
     if shape.first > shape.last or shape.end is not None and shape.end <= shape.begin:
-        raise Malformed("a shape ends before it begins")
+        raise Malformed("a shape must begin before it ends, and its first object must not be after its last")
     return shape
 
 
 def read_sets(value: Json, stamp: Stamp) -> dict[Name, Shape | None]:
-    """Return what an operation sets, whose stamp is that of most of its layers."""
+    """Return the shapes that the operation with this stamp sets. Where the name of a layer equals the stamp, use the same object."""
     return {stamp if name == stamp else name: read_set(name, shape) for name, shape in read_pairs(value, "sets")}
 
 
@@ -108,12 +108,12 @@ def read_heights(value: Json) -> dict[Name, Stamp]:
 
 
 def read_pairs(value: Json, what: str) -> Sequence[tuple[Name, Json]]:
-    """Return pairs whose first part is a layer's name; none twice."""
+    """Return pairs whose first part is the name of a layer. No name may occur twice."""
     if value is None:
         return ()
     if not isinstance(value, (list, tuple)):
-        raise Malformed(f"`{what}` is a list of pairs")
-    pairs = [(read_name(name), one) for name, one in (read_row(pair, 2, f"`{what}` is a list of pairs") for pair in value)]
+        raise Malformed(f"`{what}` must be a list of pairs")
+    pairs = [(read_name(name), one) for name, one in (read_row(pair, 2, f"`{what}` must be a list of pairs") for pair in value)]
     if len({name for name, _ in pairs}) < len(pairs):
         raise Malformed(f"`{what}` names a layer twice")
     return pairs
@@ -121,9 +121,9 @@ def read_pairs(value: Json, what: str) -> Sequence[tuple[Name, Json]]:
 
 def read_exclusion(value: Json) -> tuple[int, bool]:
     """Return a site and whether it is excluded."""
-    site, is_out = read_row(value, 2, "an exclusion has a site, and true or false")
+    site, is_out = read_row(value, 2, "an exclusion must be a site and true or false")
     if type(site) is not int or site not in SITES or type(is_out) is not bool:
-        raise Malformed("an exclusion has a site, and true or false")
+        raise Malformed("an exclusion must be a site and true or false")
     return site, is_out
 
 
@@ -134,29 +134,29 @@ def read_row(value: Json, size: int, why: str) -> Sequence[Json]:
 
 
 def whole(value: Json, most: int, what: str) -> int:
-    """Return a whole number from 0 on."""
+    """Return a whole number from 0 to `most`. Raise `Malformed` if it is not one; `what` says what it is."""
     if type(value) is not int or not 0 <= value <= most:
         raise Malformed(f"{what} {str(value)[:40]} is not a whole number from 0 to {most}")
-    return same_int(value)
+    return intern_int(value)
 
 
 def word(value: Json) -> str:
     if type(value) is not str or len(value) > 16:
-        raise Malformed("a kind is a short word")
+        raise Malformed("a kind must be a string of at most 16 characters")
     return sys.intern(value)
 
 
 def read_text(value: Mapping[str, Json], name: str, most: int) -> str:
     text = value.get(name, "")
     if type(text) is not str or len(text) > most:
-        raise Malformed(f"`{name}` is a text of at most {most} characters")
+        raise Malformed(f"`{name}` must be a string of at most {most} characters")
     return sys.intern(text)
 
 
 def read_time(value: Json) -> float:
-    """Return when it was made, in seconds since 1970; 0: nobody knows."""
+    """Return a time in seconds since 1970; 0 if it is missing."""
     if value is None:
         return 0
     if not isinstance(value, (int, float)) or isinstance(value, bool) or not 0 <= value < 1 << 40:
-        raise Malformed("`when` is a time in seconds since 1970")
+        raise Malformed("`when` must be a time in seconds since 1970")
     return value

@@ -1,7 +1,7 @@
-"""A road: a set of operations, with the layers that stand because of them.
+"""Compute the road of a set of operations: its layers.
 
-    road = Road(plan)                      the plan alone; `plan` gives an object's value
-    road = road.adding([put(stamp, s)])    a road is a value: this is another one, and it shares what it can
+    road = Road(plan)                      the road of the plan alone; the function `plan` returns an object's value
+    road = road.adding([put(stamp, s)])    a new road; the old one does not change, and they share memory
 
 The order in which operations are added does not matter, and neither does adding one twice.
 """
@@ -10,16 +10,16 @@ from __future__ import annotations
 import weakref
 from typing import AbstractSet, Callable, Iterable
 
-from .counting import NONE, Record, inserted
-from .layers import Layer, Stretch, from_the_top, touches
-from .operations import END, NOTHING, About, Name, Operation, RawName, Shape, Stamp, in_order, is_line, is_raw, line_of
+from .counting import NONE, Record, insert_in_order
+from .layers import Layer, Stretch, sort_from_top, touches
+from .operations import END, NOTHING, About, Name, Operation, RawName, Shape, Stamp, sort_by_stamp, is_line, is_raw, line_of
 
 Plan = Callable[[str, int], "int | None"]
-"""The value of an object by the plan; None of cars that start, about which the plan says nothing."""
+"""Returns the plan's value of an object, given its kind and index; None for the kind `start`, for which the plan has no value."""
 
 
 class Step:
-    """The step that made one road out of another."""
+    """The step from one road to another: the new operations, those that now count or no longer count, and the layers that may differ."""
 
     def __init__(self, before: Road, fresh: set[Operation], flipped: set[Operation], names: set[Name]) -> None:
         self.before = weakref.ref(before)
@@ -27,17 +27,17 @@ class Step:
 
 
 class Road:
-    """A set of operations, and what follows from it."""
+    """A set of operations, and its layers."""
 
     def __init__(self, plan: Plan) -> None:
         self.plan = plan
         self.record = Record()
         self.layers: dict[Name, Layer] = {}
-        self.shapes: dict[str, dict[Name, Layer]] = {}  # by kind; without raw edits
-        self.raws: dict[tuple[str, int], dict[int, Layer]] = {}  # of an object the raw edits, by step
-        self.members: dict[Stamp, frozenset[RawName]] = {}  # the raw edits that stand, by line
-        self.step: Step | None = None  # how it was made
-        self._setters: dict[Name, tuple[Operation, ...]] = {}  # of a layer, the oldest first; not of one that was only put
+        self.shapes: dict[str, dict[Name, Layer]] = {}  # the layers that are not raw edits, by kind and name
+        self.raws: dict[tuple[str, int], dict[int, Layer]] = {}  # the raw edits, by object and step
+        self.members: dict[Stamp, frozenset[RawName]] = {}  # the raw edits that are in force, by line
+        self.step: Step | None = None  # how this road was made
+        self._setters: dict[Name, tuple[Operation, ...]] = {}  # by layer, the oldest first; layers that were only put are missing
         self._lifters: dict[Name, tuple[Operation, ...]] = {}
 
     def __contains__(self, one: Operation) -> bool:
@@ -49,7 +49,7 @@ class Road:
             return some or ()
         puts = self.record.held.get(name, ())
         return puts if all(name in one.sets for one in puts) and len(puts) < 2 else tuple(
-            in_order(one for one in puts if name in one.sets))
+            sort_by_stamp(one for one in puts if name in one.sets))
 
     def lifters_of(self, name: Name) -> tuple[Operation, ...]:
         return self._lifters.get(name, ())
@@ -66,7 +66,7 @@ class Road:
         return road
 
     def adding(self, operations: Iterable[Operation]) -> Road:
-        """Return the road that holds these operations as well; this road itself if all are held."""
+        """Return the road with these operations added; this road itself if it holds them all."""
         some = [one for one in operations if one not in self.record]
         if not some:
             return self
@@ -76,9 +76,9 @@ class Road:
             for name in one.sets:
                 others = road.setters_of(name)
                 if name != one.stamp or one not in others:
-                    road._setters[name] = inserted(others, one)
+                    road._setters[name] = insert_in_order(others, one)
             for name in one.heights:
-                road._lifters[name] = inserted(road.lifters_of(name), one)
+                road._lifters[name] = insert_in_order(road.lifters_of(name), one)
         names = {name for one in flipped for name in one.names}
         names.update(raw for name in list(names) if is_line(name) for raw in road.members.get(name, ()))
         road._lay(names)
@@ -88,20 +88,20 @@ class Road:
     # Layers
 
     def setter(self, name: Name, flipped: AbstractSet[Operation] = NONE) -> Operation | None:
-        """Return the operation that says what a layer is."""
+        """Return the operation that gives a layer its shape; None if there is none."""
         return next((one for one in reversed(self.setters_of(name)) if self.record.counts(one, flipped)), None)
 
     def height_of(self, line: Stamp, flipped: AbstractSet[Operation] = NONE) -> Stamp:
-        """Return the height of a line: what its last lifter says, else its own stamp."""
+        """Return the height of a line: as its last lifter says, or else its own name."""
         lifter = self.lifter(line, flipped)
         return line if lifter is None else lifter.heights[line]
 
     def lifter(self, name: Name, flipped: AbstractSet[Operation] = NONE) -> Operation | None:
-        """Return the operation that says at which height a layer lies."""
+        """Return the operation that gives a layer its height; None if it was never put on top."""
         return next((one for one in reversed(self.lifters_of(name)) if self.record.counts(one, flipped)), None)
 
     def layer(self, name: Name, flipped: AbstractSet[Operation] = NONE) -> Layer | None:
-        """Return a layer as it would be, were these operations the other way round; None: nothing stands."""
+        """Return a layer, as if the operations in `flipped` counted if they do not, and the reverse. None if there is no such layer."""
         setter = self.setter(name, flipped)
         shape = None if setter is None else setter.sets[name]
         if setter is None or shape is None:
@@ -111,14 +111,14 @@ class Road:
         return Layer(self.height_of(line, flipped), name, line, kind, first, last, begin, END if end is None else end, value)
 
     def is_changed_by(self, flipped: set[Operation]) -> bool:
-        """Return whether anything would differ, were these operations the other way round."""
+        """Return whether a layer or an exclusion would change if these operations counted if they do not, and the reverse."""
         names = {name for one in flipped for name in one.names}
         names.update(raw for name in list(names) if is_line(name) for raw in self.members.get(name, ()))
         return (any(self.layer(name, flipped) != self.layers.get(name) for name in names)
                 or self.record.excluded_if(flipped) != self.record.excluded)
 
     def _lay(self, names: Iterable[Name]) -> None:
-        """Make layers what the operations that count say."""
+        """Update these layers according to the operations that count."""
         raw_names = [name for name in names if is_raw(name)]
         members: dict[Stamp, set[RawName]] = {}
         for thing in {name[:2] for name in raw_names}:
@@ -142,7 +142,7 @@ class Road:
                 self.members[line] = frozenset(some)
 
     def _lay_raw(self, name: RawName, old: Layer | None, new: Layer | None, members: dict[Stamp, set[RawName]]) -> None:
-        """Make a raw edit what is said. `members` gets the raw edits of the lines that gain or lose some."""
+        """Replace a raw edit. Put the raw edits of each line that gains or loses one into `members`."""
         there = self.raws[name[:2]]
         there.pop(name[2], None)
         if new is not None:
@@ -160,13 +160,13 @@ class Road:
     # Where layers are
 
     def raws_at(self, kind: str, index: int) -> list[Layer]:
-        """Return the raw edits of an object by step, each with its end."""
+        """Return the raw edits of an object in the order of their steps, each with its end."""
         raws = sorted(self.raws.get((kind, index), {}).items())
         ends = [step for step, _ in raws[1:]] + [END]
         return [raw._replace(end=end) for (_, raw), end in zip(raws, ends)]
 
     def end_of(self, layer: Layer) -> int:
-        """Return the step at which a layer ends: a raw edit with the next one of its object."""
+        """Return the step at which a layer ends. A raw edit ends at the next one of its object."""
         steps = self.raws.get((layer.kind, layer.first), ()) if is_raw(layer.name) else ()
         return min((step for step in steps if step > layer.begin), default=layer.end)
 
@@ -175,28 +175,29 @@ class Road:
         return [one for one in self.shapes.get(stretch[0], {}).values() if touches(one, stretch)]
 
     def with_raws(self, kind: str, index: int, shapes: Iterable[Layer]) -> Iterable[Layer]:
-        """Return shapes, given from the top down, with the raw edits of an object among them."""
-        return from_the_top([*shapes, *self.raws_at(kind, index)]) if (kind, index) in self.raws else shapes
+        """Return shapes and the raw edits of an object, sorted from the top down. `shapes` are given in this order."""
+        return sort_from_top([*shapes, *self.raws_at(kind, index)]) if (kind, index) in self.raws else shapes
 
     def on_object(self, kind: str, index: int) -> Iterable[Layer]:
         """Return all layers on an object, from the top down."""
-        shapes = from_the_top(self.touching((kind, index, index, 0, END)))
+        shapes = sort_from_top(self.touching((kind, index, index, 0, END)))
         return self.with_raws(kind, index, shapes)
 
 
-# What people do to lines of a road
+# Operations on the lines of a road
 
 def parts_of(road: Road, line: Stamp) -> frozenset[RawName]:
-    """Return the raw edits of a line that still stand."""
+    """Return the raw edits of a line that are in force."""
     return road.members.get(line, frozenset())
 
 
-def stands(road: Road, line: Stamp) -> bool:
+def is_standing(road: Road, line: Stamp) -> bool:
     return line in road.layers or line in road.members
 
 
 def last_setter(road: Road, line: Stamp) -> Stamp | None:
-    """Return the operation that made a line what it is: a change of it has seen that one."""
+    """Return the stamp of the operation that gave a line its present shape; None if there is none. A new change of the line has it as
+    `seen`."""
     setter = road.setter(line)
     if setter is not None:
         return setter.stamp
@@ -205,16 +206,16 @@ def last_setter(road: Road, line: Stamp) -> Stamp | None:
 
 def change(road: Road, stamp: Stamp, line: Stamp, shape: Shape | None, on_top: bool = False,
            about: About = NOTHING) -> Operation:
-    """Give a line another shape at the height where it is, or none, which withdraws it. It takes the place of raw edits, and
-    the line's stamp goes on naming one layer. A line that does not stand comes on top."""
+    """Change the shape of a line; None withdraws the line. It keeps its height, unless `on_top` is true or the line has no layer in force.
+    The raw edits of a line are withdrawn, and a shape of the line's name replaces them."""
     sets: dict[Name, Shape | None] = {name: None for name in sorted(parts_of(road, line))}
     sets[line] = shape
-    is_lifted = shape is not None and (on_top or not stands(road, line))
+    is_lifted = shape is not None and (on_top or not is_standing(road, line))
     return Operation(stamp, sets, {line: stamp} if is_lifted else {}, seen=last_setter(road, line), about=about)
 
 
 def repeat(road: Road, stamp: Stamp, old: Operation, about: About = NOTHING) -> Operation:
-    """Do once more what an operation did to its lines, on top. Raw edits stay in their line, in the place of its shape."""
+    """Repeat what an operation did to its lines, on top of all. Raw edits belong to the same line as before, and replace its shape."""
     lines = {name for name in old.names if is_line(name)} or {line_of(old, name) for name in old.sets}
     gone: dict[Name, Shape | None] = {raw: None for line in lines if line in old.sets for raw in sorted(parts_of(road, line))}
     gone.update((line, None) for line in lines if line not in old.names and line in road.layers)

@@ -1,16 +1,17 @@
-"""Work out what people see of a layer: where it is in force, who covers the rest, and whose change of it was lost."""
+"""Work out what people see of a line: where it is in force, which lines cover it elsewhere, and which operations on it have lost."""
 from __future__ import annotations
 
 from typing import NamedTuple
 
-from .layers import Layer, columns, from_the_top, pieces, rank
+from .layers import Layer, columns, sort_from_top, split_by_topmost, rank
 from .operations import END, Operation, Stamp
 from .projection import single_objects
 from .road import Road, parts_of
 
 
 class Rectangle(NamedTuple):
-    """A part of a line. `by` is the line that covers it there; None where it is in force."""
+    """A part of a line: objects `first` to `last`, steps `begin` to before `end`. `by` is the line that covers it there; None if it is in
+    force there."""
 
     kind: str
     first: int
@@ -22,14 +23,14 @@ class Rectangle(NamedTuple):
 
 
 def shown_layer(road: Road, own: Layer) -> list[Rectangle]:
-    """Return a layer in rectangles."""
+    """Return the rectangles of a layer."""
     begin, end = own.begin, road.end_of(own)
-    over = from_the_top(one for one in road.touching((own.kind, own.first, own.last, begin, end)) if rank(one) > rank(own))
+    over = sort_from_top(one for one in road.touching((own.kind, own.first, own.last, begin, end)) if rank(one) > rank(own))
     found: list[tuple[int, int, list[tuple[int, int, Stamp | None]]]] = []
     for low, high, places in columns(over, own.first, own.last, single_objects((road,), own.kind, own.first, own.last)):
         here = [one for one in road.with_raws(own.kind, low, [over[place] for place in places]) if rank(one) > rank(own)]
-        line = joined_times([(since, until, None if one is None or one.line == own.line else one.line)
-                             for since, until, one in pieces(here, begin, end)])
+        line = merge_spans([(since, until, None if one is None or one.line == own.line else one.line)
+                             for since, until, one in split_by_topmost(here, begin, end)])
         if found and found[-1][2] == line:
             found[-1] = found[-1][0], high, line
         else:
@@ -38,8 +39,8 @@ def shown_layer(road: Road, own: Layer) -> list[Rectangle]:
             for low, high, line in found for since, until, by in line]
 
 
-def joined_times(line: list[tuple[int, int, Stamp | None]]) -> list[tuple[int, int, Stamp | None]]:
-    """Return spans of time, neighbours with one owner as one."""
+def merge_spans(line: list[tuple[int, int, Stamp | None]]) -> list[tuple[int, int, Stamp | None]]:
+    """Return spans of time with their owners; join neighbours that have the same owner."""
     found: list[tuple[int, int, Stamp | None]] = []
     for since, until, by in line:
         if found and found[-1][2] == by:
@@ -49,8 +50,9 @@ def joined_times(line: list[tuple[int, int, Stamp | None]]) -> list[tuple[int, i
     return found
 
 
-def shown(road: Road, line: Stamp) -> list[Rectangle]:
-    """Return a line in rectangles: its shape, and raw edits of neighbours that agree as one. Nothing where nothing stands."""
+def visible_rectangles(road: Road, line: Stamp) -> list[Rectangle]:
+    """Return the rectangles of a line: those of its shape, and those of its raw edits; equal raw edits of neighbouring objects are one
+    rectangle. Return none if the line has no layer."""
     own = shown_layer(road, road.layers[line]) if line in road.layers else []
     parts = [one for kind in sorted({name[0] for name in parts_of(road, line)}) for one in shown_raws(road, line, kind)]
     joined: list[Rectangle] = []
@@ -64,25 +66,26 @@ def shown(road: Road, line: Stamp) -> list[Rectangle]:
 
 
 def shown_raws(road: Road, line: Stamp, kind: str) -> list[Rectangle]:
-    """Return the raw edits of a line, of one kind, in rectangles."""
+    """Return the rectangles of a line's raw edits of one kind, one object each."""
     found: list[Rectangle] = []
     indexes = sorted({name[1] for name in parts_of(road, line) if name[0] == kind})
-    shapes = from_the_top(road.touching((kind, indexes[0], indexes[-1], 0, END)))
+    shapes = sort_from_top(road.touching((kind, indexes[0], indexes[-1], 0, END)))
     for index in indexes:
         here = list(road.with_raws(kind, index, [one for one in shapes if one.first <= index <= one.last]))
         for own in road.raws_at(kind, index):
             if own.line == line:
                 over = [one for one in here if rank(one) > rank(own)]
                 spans = [(since, until, None if one is None or one.line == line else one.line)
-                         for since, until, one in pieces(over, own.begin, own.end)]
+                         for since, until, one in split_by_topmost(over, own.begin, own.end)]
                 found += [Rectangle(kind, index, index, since, None if until == END else until, own.value, by)
-                          for since, until, by in joined_times(spans)]
+                          for since, until, by in merge_spans(spans)]
     return found
 
 
-def lost(road: Road, line: Stamp) -> dict[Operation, Operation]:
-    """Return the operations that had no say in what a line is now, because they were made at the same time as one that won:
-    each with that one. An undo is lost too if it takes back what the present shape goes back to."""
+def find_overruled(road: Road, line: Stamp) -> dict[Operation, Operation]:
+    """Return the operations on a line that have lost to another one, each with the operation that won. They count, but a later change
+    that was made without knowledge of them gives the line its shape. An undo has lost if a change that was based on the undone operation
+    is in force."""
     counts = road.record.counts
     setters = road.setters_of(line)
     by_stamp = {one.stamp: one for one in (*road.record.held.get(line, ()), *setters)}
@@ -90,7 +93,7 @@ def lost(road: Road, line: Stamp) -> dict[Operation, Operation]:
     at, gap = road.setter(line), None
     while at is not None:
         known.add(at)
-        gap = at.seen  # in the end one that is not here: all that is older counts as known
+        gap = at.seen  # in the end a stamp that is missing here; all older operations count as known
         at = by_stamp.get(gap) if gap is not None else None
     found = {one: min(other for other in known if one < other) for one in setters
              if counts(one) and one not in known and (gap is None or one.stamp > gap)}

@@ -1,4 +1,4 @@
-// Names that the store does not have, which the compiler must refuse. This file is compiled and never run:
+// Names that the store does not have. The compiler must refuse them. This file is compiled and never run:
 // `tsc -p live/page` fails if one of these lines compiles.
 
 import {assign} from "../../page/assign.mjs";
