@@ -1,8 +1,8 @@
-"""Lines and their answers: the road of the cases, and which plan lines and long lines the program accepts, by hand."""
+"""Lines and their expected answers, written by hand: the road of the cases, plan lines and long lines."""
 import functools
 import json
 
-# At the first cell of this road a car enters whenever it can. The speed limit is 2, and there is no random slowing.
+# A car enters at the first cell of this road whenever the cell is free. The speed limit is 2, and there is no random slowing.
 ROAD = {"detectors": [5], "exit": 1, "inlets": [[0, 65536]], "length": 12, "replicas": ["A", "B", "C"], "words": 7,
         "zone": 12, "zones": [[2, 0]]}
 LONGEST_LINE = 65_536
@@ -25,14 +25,14 @@ def padded(text, length):
 
 
 def script(road, *lines):
-    """Return the lines of a script, each a command and its answer, and its answers: both begin with the plan line's."""
+    """Return the lines and the answers of a script: the plan line of a road, and pairs of a command and its answer."""
     commands, answers = zip((line(road), line({"open": len(road["replicas"])})), *lines)
     return list(commands), b"".join(answers)
 
 
 PLAN, OPEN = line(ROAD), line({"open": 3})
 
-# Plan lines: what differs from the road above, and why the line is refused, or None.
+# Plan lines: the fields that differ from the road above, and why the line is refused (None: it is accepted).
 MOST = 2 ** 32 - 1
 FREE_ZONE = [2, 0]
 PLANS = [
@@ -62,7 +62,7 @@ PLANS = [
     ({"length": 64, "zone": 1, "zones": [FREE_ZONE] * 64}, None),
     ({"length": 65, "zone": 1, "zones": [FREE_ZONE] * 65}, "Zones"),
     ({"length": 8192, "exit": 64, "zone": 128, "zones": [FREE_ZONE] * 64}, None),
-    # The most of everything.
+    # Everything at its maximum.
     ({"length": 8192, "exit": 64, "zone": 128, "zones": [[9, 65536]] * 64, "inlets": [[8127, 65536]],
       "detectors": [8127] * 64, "words": "steady"}, None),
     # Inlets: 1 to 16, at different cells before the deleted zone.
@@ -91,7 +91,7 @@ PLANS = [
     ({"zones": [[10, 0]]}, "Default"),
     ({"zones": [[2, 65537]]}, "Default"),
     ({"inlets": [[0, 65537]]}, "Default"),
-    # Names: 1 to 64 different ones, of 1 to 64 bytes.
+    # Names: 1 to 64 different names of 1 to 64 bytes.
     ({"replicas": ["A", "B", "A"]}, "Names"),
     ({"replicas": ["A", "B", "B"]}, "Names"),
     ({"replicas": ["A", "A"]}, "Names"),
@@ -103,7 +103,7 @@ PLANS = [
     ({"replicas": [str(number) for number in range(65)]}, "Names"),
     ({"words": 0}, None),
     ({"words": 2 ** 64 - 1}, None),
-    # If there are two faults, the earlier one is named: each line has one fault fewer than the line before it.
+    # If there are several faults, the first in a fixed order is named: each line has one fault fewer than the line before it.
     ({"length": 7, "exit": 12, "zone": 0, "zones": [[10, 0]], "inlets": [[11, 0]], "detectors": [0], "replicas": []}, "Names"),
     ({"length": 7, "exit": 12, "zone": 0, "zones": [[10, 0]], "inlets": [[11, 0]], "detectors": [0]}, "Length"),
     ({"exit": 12, "zone": 0, "zones": [[10, 0]], "inlets": [[11, 0]], "detectors": [0]}, "Exit"),
@@ -113,7 +113,7 @@ PLANS = [
     ({"zones": [[10, 0]]}, "Default"),
 ]
 
-# Lines that are not a plan: a text of the plan line above, its replacement, and why the line is refused.
+# Changed plan lines: a text of the plan line above, its replacement, and why the line is refused.
 NO_PLANS = [
     ('"A","B","C"', '"A","B","\\u0041"', "Names"),
     ('"A","B","C"', '"A",1', "not a plan"),
@@ -133,23 +133,23 @@ NO_PLANS = [
 ]
 
 
-def replaced(old, new):
-    """Return the plan line with one text replaced by another."""
+def replace_text(old, new):
+    """Return the plan line with a text replaced; the text must occur once."""
     text = PLAN.decode()
     assert text.count(old) == 1, old
     return text.replace(old, new).encode()
 
 
 def plan_lines():
-    """Plan lines: a name, the line, how many replicas it opens, and why it is refused, or None."""
+    """Return the cases of plan lines: a name, the line, the number of replicas that it opens, and why it is refused (None: accepted)."""
     of_parts = [(json.dumps(parts), line({**ROAD, **parts}), len({**ROAD, **parts}["replicas"]), why) for parts, why in PLANS]
-    of_texts = [(f"{new or 'nothing'} for {old}", replaced(old, new), 0, why) for old, new, why in NO_PLANS]
+    of_texts = [(f"{new or 'nothing'} for {old}", replace_text(old, new), 0, why) for old, new, why in NO_PLANS]
     return of_parts + of_texts
 
 
 @functools.cache
 def long_import():
-    """Return a script of an import that fills a line, and the scenario after it: each edit has a step of its own."""
+    """Return a script with an import that fills a line, and a query of the scenario after it. Each edit has a different step."""
     fields = {"edits": [], "form": 1}
     size = len(command("import", **fields))
     while True:
@@ -163,7 +163,7 @@ def long_import():
 
 
 def long_crowd():
-    """Return a script of a crowd of as many shares as a line has room for."""
+    """Return a script with a crowd of as many shares as fit into a line."""
     shares = [[]] * 21_800 + [[["limit", 0, 0, 1, 64, 3]]]
     crowd = line({"crowd": {"form": 1, "shares": shares, "to": 6}})
     assert len(crowd) <= LONGEST_LINE + 1
@@ -172,7 +172,7 @@ def long_crowd():
 
 @functools.cache
 def half_of_many_edits():
-    """Return a script of an exchange by heads: one replica holds a newer limit at even steps, the other one at odd steps."""
+    """Return a script in which two replicas exchange edits by heads. The first has a newer limit at even steps, the second at odd steps."""
     held = [["limit", 0, step, 3 if step % 2 == 0 else 1, 64, 1] for step in range(2_600)]
     others = [[*edit[:3], 2, *edit[4:]] for edit in held]
     sent = [edit for edit in others if edit[2] % 2 == 1]

@@ -9,21 +9,21 @@ EXAMPLES = os.path.join(HERE, "..", "examples")
 CRATE = os.path.join(HERE, "..", "crates", "road_lab")
 
 
-def built():
-    """Return the path of the program, which is built first (proved)."""
+def build():
+    """Prove and build the program. Return its path."""
     with open(os.path.join(CRATE, "stdin")) as script:
         subprocess.run(["rt", "run"], cwd=CRATE, stdin=script, stdout=subprocess.DEVNULL, check=True)
     return os.path.join(CRATE, "out", "road_lab")
 
 
 def has_checks(program):
-    """Return whether a program has the compiler's checks in it, as one that was made without a proof may have."""
+    """Return whether a program has the compiler's run-time checks in it. A program that was made without a proof may have them."""
     with open(program, "rb") as file:
         return b"AddressSanitizer" in file.read()
 
 
 def first_difference(answers, wanted):
-    """Return the number of the first line that differs, from 1, and both lines."""
+    """Return a text with the number of the first line that differs, counted from 1, and both lines."""
     ours, theirs = answers.splitlines() + [b"(nothing)"], wanted.splitlines() + [b"(nothing)"]
     for number, (our, their) in enumerate(zip(ours, theirs), 1):
         if our != their:
@@ -33,16 +33,16 @@ def first_difference(answers, wanted):
 
 
 def excerpt(line, at):
-    """Return at most 200 bytes of a line, from a given one on."""
+    """Return at most 200 bytes of a line, from byte `at` on."""
     piece = line[at:at + 200].decode(errors="backslashreplace")
     return ("" if at == 0 else "..") + piece + ("" if at + 200 >= len(line) else "..")
 
 
 def run_cases(description, cases):
-    """Runs cases, each a name and a function from the program's path to what is wrong, or None; and ends the script."""
+    """Run cases and end the script. A case is a name and a function that takes the program's path and returns what is wrong, or None."""
     parser = argparse.ArgumentParser(description=description, formatter_class=argparse.RawDescriptionHelpFormatter)
     parser.add_argument("--program", metavar="P")
-    program = os.path.abspath(parser.parse_args().program or built())
+    program = os.path.abspath(parser.parse_args().program or build())
     failed = 0
     for name, fault_of in cases:
         fault = fault_of(program)

@@ -13,7 +13,7 @@ from built_programs import (CALLS, LABORATORY, PROGRAMS, WITHIN, current_path, i
 
 FIRST, GATE = "pages", "proof"  # FIRST takes seconds: if it fails, the proof, which takes an hour, does not begin
 NO_KIT = "there is no `rt` on the PATH: add the bin folder of the Rattle kit"
-MOST = 64  # processors: more than a machine has, for a part that needs all of them
+MOST = 64  # processors: stands for all processors of the machine
 MINUTES_OF_MUTANTS = 10
 
 

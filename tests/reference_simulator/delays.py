@@ -1,15 +1,15 @@
 #!/usr/bin/env python3
-"""Compute the delay between two scripts of one plan with the simulator: the expected output of recipes/delay/run.
+"""Compute the delay between two scripts with one plan, with the simulator: the expected output of recipes/delay/run.
 
     tests/reference_simulator/delays.py BEFORE AFTER > recipes/delay/expected
     tests/reference_simulator/delays.py BEFORE AFTER 5 > recipes/delay/days.expected
 
-With a number, over that many days: means and 95 % intervals, by Python's `statistics` and printed values of Student's t.
+With a number N, compute means and 95 % intervals over N days, with Python's `statistics` and published values of Student's t.
 
-Each script has a plan line, edits of one replica and an advance; both advance to the same step. This watches the ends of the road
-and not its rows: in which step each car enters and in which it leaves. The travel time of a car is the difference. The time that
-all cars spend is the sum over all steps of the cars that have entered and not left. A car that is still on the road at the end
-counts as leaving in the last step. A step is a second, a cell is 7.5 m, and entries are grouped by minutes.
+Each script has a plan line, edits of one replica and an advance; both scripts advance to the same step. Only the steps in which each
+car enters and leaves the road are used, not its rows. The travel time of a car is the difference of its two steps. The time that all
+cars spend is the sum, over all steps, of the number of cars that have entered and not left. A car that is still on the road at the
+end counts as leaving in the last step. A step is a second, a cell is 7.5 m, and cars are grouped by the minute of their entry.
 """
 import json
 import math
@@ -23,12 +23,12 @@ MINUTE = 60
 CELL = 7.5
 """The length of a cell in metres."""
 STUDENT = {4: 2.776445, 8: 2.306004}
-"""The value that Student's t exceeds by a chance of 2.5 %, by degrees of freedom."""
+"""The value that Student's t exceeds with a probability of 2.5 %, by degrees of freedom."""
 
 
 def gates(path, days=0, counted=None):
-    """Run a script. Return its plan, the steps of entry and of leaving by the cars' numbers, the last step, and the number of cars
-    on the road, summed over all steps. The seed is `days` above that of the plan. Append the detectors' counts to `counted`."""
+    """Run a script. Return its plan, the step of entry and the step of leaving by car number, the last step, and the number of cars on
+    the road, summed over all steps. The seed is that of the plan plus `days`. Append the detectors' counts of each step to `counted`."""
     with open(path, encoding="utf-8") as script:
         given, *commands = map(json.loads, script)
     given["words"] += days
@@ -67,18 +67,18 @@ def mean(total, cars):
     return f"{total / cars:.1f}" if cars else ""
 
 
-def most(values):
+def greatest(values):
     return max(values) if values else ""
 
 
 def interval(values, freedom):
-    """Return the mean, and half the width of its interval."""
+    """Return the mean and half the width of its 95 % interval, as text."""
     half = STUDENT[freedom] * statistics.stdev(values) / math.sqrt(len(values))
     return [f"{statistics.mean(values):.3f}", f"{half:.3f}"]
 
 
 def day(paths, number):
-    """Return each figure of a day, before and after."""
+    """Return each figure of a day as a pair: with the first script and with the second one."""
     counts = [], []
     (plan, come, gone, _, spent), (_, other, left, _, spent_after) = (
         gates(path, number, counted) for path, counted in zip(paths, counts))
@@ -123,7 +123,7 @@ def main():
         number, delay = len(through), sum(late[car] for car in through)
         comma(minute, number, mean(sum(took[car] for car in through), number),
               mean(sum(takes[car] for car in through), number), mean(delay, number),
-              most([late[car] for car in through]), hours(delay),
+              greatest([late[car] for car in through]), hours(delay),
               sum(car not in other for car in cars), sum(car not in come for car in cars))
     print()
 
@@ -138,7 +138,7 @@ def main():
     later = {car for car in ended if late[car] > 0}
     for name, cars in (("through in both runs", ended), ("of these, delayed", later), ("still on the road", late.keys() - ended)):
         total = sum(late[car] for car in cars)
-        comma(name, len(cars), mean(total, len(cars)), most([late[car] for car in cars]), hours(total))
+        comma(name, len(cars), mean(total, len(cars)), greatest([late[car] for car in cars]), hours(total))
     lost, gained = sum(took[car] for car in took.keys() - late), sum(takes[car] for car in takes.keys() - late)
     comma("only in the first run", len(took) - len(late), "", "", hours(-lost))
     comma("only in the second run", len(takes) - len(late), "", "", hours(gained))

@@ -1,9 +1,9 @@
 #!/usr/bin/python3
-"""The tables of recipes/known_results over 100,000 steps, by another program: many roads at once, and Python's `statistics`.
+"""Compute the tables of recipes/known_results over 100,000 steps with a different program: many roads at once, and Python's `statistics`.
 
     tests/reference_simulator/known_results.py > recipes/known_results/expected
 
-What is known is worked out here by other words of the same theory. It takes some minutes.
+The known results are computed here with differently written formulas of the same theories. It takes some minutes.
 """
 import math
 import statistics
@@ -45,8 +45,8 @@ def flows():
         line((limit, slowing, 100_000), [one], known, 3 * (known * (1 - part)) ** 0.5 + known * 3 / 1_024 if slowing else 0)
 
 
-def opened(roads, limit, cells, behind):
-    """Roads of (slowing, start, seed) in which a jam before a cell has just been opened, and that step."""
+def open_jams(roads, limit, cells, behind):
+    """Simulate roads with (slowing, start, seed) in which a jam upstream of a cell is released. Return them and the step of the release."""
     length, step = cells + behind + 2, 2 * cells + cells // limit + 100
     shape = (len(roads), length)
     lab = Roads([seed for *_, seed in roads], [65_536] * len(roads), numpy.full(shape, limit), numpy.zeros(shape, int))
@@ -65,7 +65,7 @@ def fronts():
     for limit in (1, 5):
         some = [point for point in points if point[0] == limit]
         roads = by_point([point[1:] for point in some], 4)
-        lab, step = opened(roads, limit, 2_400, 10)
+        lab, step = open_jams(roads, limit, 2_400, 10)
         before = lab.entry[:, :2_400].copy()
         lab.run(step + 2_000)
         stands = ((lab.speed[:, :2_400] >= 0) & (lab.entry[:, :2_400] == before)).sum(axis=1)
@@ -79,10 +79,10 @@ def fronts():
 def times():
     points = [4_096, 16_384, 36_864]
     roads = by_point([(slowing, slowing) for slowing in points], 16)
-    lab, step = opened(roads, 1, 500, 100)
+    lab, step = open_jams(roads, 1, 500, 100)
     left, took = numpy.zeros(len(roads), int), numpy.zeros(len(roads), int)
     while not took.all():
-        moved = lab.go()
+        moved = lab.simulate_step()
         left += moved[:, 499]
         took[(left == 400) & (took == 0)] = lab.step - step
     heading("steps until 400 cars have left a jam, at limit 1", ("slowing",))
@@ -97,7 +97,7 @@ def outflows():
     found = {}
     for limit in (2, 5):
         some = [start for one, start in points if one == limit]
-        lab, step = opened(by_point([(0, start) for start in some], 4), limit, 2_400, 200)
+        lab, step = open_jams(by_point([(0, start) for start in some], 4), limit, 2_400, 200)
         ((cars, _),), _ = lab.run(step + 400 + 1_500, [(2_600, step + 400, step + 1_900)])
         found.update({(limit, start): cars[4 * number:4 * number + 4] for number, start in enumerate(some)})
     heading("cars that leave a jam", ("limit", "start"))

@@ -1,8 +1,10 @@
 #!/usr/bin/env python3
-"""The simulator in the place of the program: it answers each line before it reads the next, and runs the road once for
-each set of edits. So the `expected` of a recipe is computed:
+"""Run the simulator in place of the program: it answers each line before it reads the next one, and runs the road only once for
+each set of edits. It computes the file `expected` of a recipe:
 
     ROAD_LAB=tests/reference_simulator/line_by_line.py recipes/NAME/run > recipes/NAME/expected
+
+Status 2: the plan line is refused.
 """
 import functools
 import itertools
@@ -10,14 +12,14 @@ import sys
 
 sys.dont_write_bytecode = True
 import lines
-from simulator import LAST_HORIZON, Laboratory, Plan, Refused, require, run, winners, written
+from simulator import LAST_HORIZON, Laboratory, Plan, Refused, reply_line, require, run, winners
 
 # The number of runs of a road that are kept.
 KEPT = 4
 
 
 class Course:
-    """The road's states by one list of edits, from step zero on, as far as they were asked for."""
+    """The states of the road under one list of edits, from step zero to the last step that was queried."""
 
     def __init__(self, plan, edits):
         self.steps, self.states = run(plan, edits, 0, LAST_HORIZON), []
@@ -29,7 +31,7 @@ class Course:
 
 
 class KeptLaboratory(Laboratory):
-    """A laboratory that keeps the courses that were asked for last."""
+    """A laboratory that keeps the courses that were queried last."""
 
     def __init__(self, plan):
         super().__init__(plan)
@@ -49,28 +51,28 @@ class KeptLaboratory(Laboratory):
         return {"cars": sum(cars for cars, _ in counts), "speeds": sum(speeds for _, speeds in counts)}
 
 
-def tell(reply):
-    sys.stdout.buffer.write(written(reply))
+def write(reply):
+    sys.stdout.buffer.write(reply_line(reply))
     sys.stdout.buffer.flush()
 
 
 def main():
-    """Status 2: the plan line is refused."""
+    """Answer the lines of standard input. Return the status."""
     answer = None
     for line in sys.stdin.buffer:
         try:
             if answer is None:
-                plan = Plan(lines.reading(line.rstrip(b"\n"), lines.plan))
+                plan = Plan(lines.read_line(line.rstrip(b"\n"), lines.plan))
                 answer, reply = KeptLaboratory(plan).answer, {"open": len(plan.names)}
             else:
-                reply = answer(*lines.reading(line.rstrip(b"\n"), lines.command))
+                reply = answer(*lines.read_line(line.rstrip(b"\n"), lines.command))
         except Refused as why:
             reply = {"refused": str(why)}
-        tell(reply)
+        write(reply)
         if answer is None:
             return 2
     if answer is None:
-        tell({"refused": "no plan"})
+        write({"refused": "no plan"})
         return 2
     return 0
 

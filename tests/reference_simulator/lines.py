@@ -1,4 +1,4 @@
-"""The grammar: what a line means, or why it is refused."""
+"""The grammar of lines: the meaning of a line, or why it is refused."""
 import json
 import re
 
@@ -9,31 +9,31 @@ KINDS = ("limit", "slow", "block", "inflow", "watch", "start")
 
 
 class Refused(Exception):
-    """Its text is what a line is refused by."""
+    """A line is refused, with this text."""
 
 
-def cut(script):
+def split(script):
     """Return the lines of an input. A last piece without a newline is a line unless it is empty."""
     lines = script.split(b"\n")
     return lines if lines[-1] else lines[:-1]
 
 
-def reading(line, otherwise):
-    """Return the command or plan that a line writes, as `otherwise` reads its JSON value."""
+def read_line(line, read_value):
+    """Return the command or plan of a line, whose JSON value `read_value` reads. Raise Refused if there is none."""
     if len(line) > LONGEST_LINE:
         raise Refused("line too long")
     try:
         value = json_value(line.decode())
     except (ValueError, RecursionError):
         raise Refused("not json") from None
-    return otherwise(value)
+    return read_value(value)
 
 
-# JSON, as strict as it is written
+# JSON, read strictly
 
 def json_value(text):
     hooks = {"parse_int": whole, "parse_float": finite, "parse_constant": no_number}
-    # Lists of pairs keep duplicate fields, so that a string with invalid Unicode is refused there, too.
+    # Lists of pairs keep duplicate fields, so that a string with invalid Unicode is refused in them, too.
     json.dumps(json.loads(text, object_pairs_hook=list, **hooks), ensure_ascii=False).encode()
     if depth(text) > DEEPEST:
         raise ValueError("too deep")
@@ -41,7 +41,7 @@ def json_value(text):
 
 
 def whole(text):
-    """Return a number without point and exponent: whole, unless it has a sign or is far too large for what it may mean."""
+    """Return a number that is written without point and exponent: an integer, or a float if it has a sign. Too large: ValueError."""
     number = finite(text)
     return int(text) if text.isdigit() else number
 
@@ -66,10 +66,10 @@ def depth(text):
     return deepest
 
 
-# The parts of plans and commands: each returns the meaning of a JSON value, or raises if it is not valid
+# The parts of plans and commands: each function returns the meaning of a JSON value, or raises Wrong
 
 class Wrong(Exception):
-    """A value is not a valid part."""
+    """A value is not valid here."""
 
 
 def number(value, most=2 ** 32 - 1):
@@ -120,12 +120,12 @@ def thing(value):
 
 
 def edit(value):
-    """Return an edit, as (kind, index, step, count, number, value), the value None for a withdrawal."""
+    """Return an edit, as (kind, index, step, count, number, value). The value of a withdrawal is None."""
     if type(value) is not list or len(value) != 6:
         raise Wrong
-    kind, index, step, count, replica, put = value
+    kind, index, step, count, replica, new = value
     return (*thing([kind, index]), number(step), long_number(count), number(replica, 65_535),
-            None if put is None else number(put))
+            None if new is None else number(new))
 
 
 def shares(value):

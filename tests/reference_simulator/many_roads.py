@@ -1,7 +1,7 @@
-"""Many roads side by side as numpy's arrays: a second simulator, for what would take the plain one hours.
+"""Simulate many roads at once with arrays of numpy: a second simulator, for runs that would take the plain one hours.
 
-A table of roads by cells has each car's speed, another its step of entry, from which its random words follow. It is written by
-what docs/FORMAT.md says of a step, and knows roads with one inlet at cell 0 and one deleted cell.
+One table (roads by cells) has the speed of each car, and another one its step of entry, which determines its random words. The program
+was written from the section on steps in docs/FORMAT.md. It supports roads with one inlet at cell 0 and one deleted cell.
 """
 import numpy
 
@@ -31,8 +31,8 @@ def words(seeds, streams, block):
 
 
 class Roads:
-    """Roads of one length, each with its seed, inflow, and the limit and slowing chance of each cell; `start` is the chance of
-    standing cars. The last cell is the deleted zone."""
+    """Roads of the same length. Each has a seed and an inflow, and for each cell a limit, a slowing chance, and a slowing chance of
+    standing cars (`starts`). The last cell is the deleted zone."""
 
     def __init__(self, seeds, inflows, limits, slowings, starts=None):
         self.seeds, self.inflows = numpy.array(seeds, dtype=numpy.uint64), numpy.array(inflows)
@@ -45,7 +45,7 @@ class Roads:
         self.step = 0
         self.words = numpy.zeros((self.count, self.length, 16), dtype=numpy.uint32)
 
-    def go(self):
+    def simulate_step(self):
         """Simulate one step. Return the cells and new speeds of the cars that moved, as tables (speed 0 without a car)."""
         place = self.step % 16
         if place == 0:
@@ -75,13 +75,13 @@ class Roads:
         return moved
 
     def draw_all(self):
-        """Draw the words of this block for all cars, again if chances were set within the block."""
+        """Draw the words of this block of 16 steps for all cars. Call it again if chances change within the block."""
         self.draw(*numpy.nonzero(self.speed >= 0))
 
     def draw(self, road, cell):
         """Draw the words of this block for the cars at some places."""
         if not self.slowings.any() and not self.starts.any():
-            return  # (nobody is slowed)
+            return  # no car is slowed
         numbers = (self.entry[road, cell] * 16).astype(numpy.uint64)
         self.words[road, cell] = words(self.seeds[road], numbers, self.step // 16)
 
@@ -92,8 +92,9 @@ class Roads:
         self.draw(road, numpy.zeros(len(road), dtype=int))
 
     def run(self, to, watch=(), areas=None):
-        """Runs to a step. Gives for each (site, first, last) of `watch` the cars that pass and their speeds, and for each road the
-        cars and speeds on the cells of its area (first, last, from, to) in the states of these steps."""
+        """Run to a step. Return for each (site, first, last) of `watch` the cars that pass the site in steps first to last - 1, and the sum
+        of their speeds; and the cars on the cells of the area, and their speeds, summed over the states of some steps. `areas` is
+        (first, last, table of the roads' cells)."""
         passed = [(numpy.zeros(self.count, int), numpy.zeros(self.count, int)) for _ in watch]
         there = numpy.zeros((2, self.count), int)
         cells = numpy.arange(self.length)
@@ -103,7 +104,7 @@ class Roads:
                 cars = (self.speed >= 0) & areas[2]
                 there[0] += cars.sum(axis=1)
                 there[1] += numpy.where(cars, self.speed, 0).sum(axis=1)
-            moved = self.go()
+            moved = self.simulate_step()
             for (site, first, last), (cars, speeds) in zip(watch, passed):
                 if first <= step < last:
                     past = (cells < site) & (cells + moved >= site)

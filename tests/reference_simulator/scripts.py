@@ -1,7 +1,7 @@
 #!/usr/bin/env python3
-"""Random scripts: a plan and commands at its replicas, most of them accepted, and lines that are to be refused.
+"""Write random scripts: a plan, commands at its replicas (most are accepted), and lines that are usually refused.
 
-    tests/reference_simulator/scripts.py --seed S        writes the script of the seed
+    tests/reference_simulator/scripts.py --seed S        writes the script of a seed
 """
 import argparse
 import json
@@ -15,23 +15,23 @@ GREATEST_COUNT = 2 ** 48
 KINDS = ("limit", "slow", "block", "inflow", "watch", "start")
 NAMES = ("A", "B", "C", "north ramp", "Ä", "\u8eca", "q\"\\\t\u0001/", "\b\f\n\r\x1f", "\U0001f697", "\x7f", "n" * 64, "\u8eca" * 21 + "n")
 BAD_NAMES = ("", "n" * 65, "\u8eca" * 22)
-# Texts of what is a JSON value or none, but nowhere a number, and texts that are a number at some places.
+# Texts, JSON values or not, that are nowhere accepted as a number; and texts that are accepted as a number in some fields.
 NO_NUMBERS = ("1.0", "1e2", "-0", "-1", "0.0", "1E+2", "18446744073709551616", "1" + "0" * 300, "true", "null", '"1"', "[]", "{}",
               "1e999", "-1e999", "1" + "0" * 400, "01", "+1", "1.", ".5", "NaN", "Infinity", "0x1", "1_0", "", "1e-999", "0e999")
-NUMERAL = "a number that is written by hand"
+NUMERAL = "a placeholder for the text of a number"
 LARGE_NUMBERS = ("4294967295", "4294967296", "18446744073709551615", "281474976710656", "281474976710657", "65535", "65536", "65537", "1048575",
                  "1048576", "1048577")
 
 
 class Writer:
-    """Writes one script, and keeps in mind what its replicas can be asked."""
+    """Writes one script, and records what its replicas can answer: their horizons, messages and edits."""
 
     def __init__(self, seed):
         self.random = random.Random(seed)
         self.plan = self.new_plan()
         self.horizons = dict.fromkeys(self.plan["replicas"][:2] + self.plan["replicas"][-1:], 0)
         self.furthest = self.random.choice((40, 100, 200)) if self.plan["length"] < 32 else 60
-        # One script in eight is about the last steps: up to them nobody enters.
+        # One script in eight is about the last steps of the longest run: no car enters before them.
         self.begin = LAST_HORIZON - self.furthest if self.chance(12) else 0
         if self.begin:
             self.furthest = LAST_HORIZON
@@ -41,8 +41,8 @@ class Writer:
     def chance(self, percent):
         return self.random.randrange(100) < percent
 
-    def some(self, least, most, of):
-        return [of() for _ in range(self.random.randint(least, most))]
+    def some(self, least, most, make):
+        return [make() for _ in range(self.random.randint(least, most))]
 
     # Plans
 
@@ -66,7 +66,7 @@ class Writer:
     def new_chance(self, often):
         return self.random.choice((*often, self.random.randint(0, ALWAYS), 16384, 32768))
 
-    def spoilt_plan(self):
+    def spoil_plan(self):
         draw, plan = self.random, self.plan
         length, kept = plan["length"], plan["length"] - plan["exit"]
         for _ in range(draw.randint(1, 2)):
@@ -107,7 +107,7 @@ class Writer:
                 "inflow": self.new_chance((0, ALWAYS)), "watch": draw.choice((0, 0, 1)), "start": self.new_chance((0, ALWAYS))}[kind]
 
     def outer_edit(self):
-        """Return an edit from outside, at times one that was there before with another value."""
+        """Return an edit from outside, sometimes an earlier one with a different value."""
         draw = self.random
         if self.outer and self.chance(25):
             edit = draw.choice(self.outer[-6:])
@@ -127,7 +127,7 @@ class Writer:
         return name if name not in taken or self.chance(2) else f"m{len(taken)}"
 
     def steps(self, at):
-        """Two steps up to the horizon, at times all of them."""
+        """Return the first and the last of some steps up to the horizon, sometimes of all of them."""
         horizon = self.horizons[at]
         begin = min(self.begin, horizon)
         return [begin, horizon] if self.chance(30) else sorted(self.some(2, 2, lambda: self.random.randint(begin, horizon)))
@@ -135,7 +135,7 @@ class Writer:
     # Commands
 
     def command(self):
-        """Return a command that is accepted, as far as its writer can see."""
+        """Return a command that is usually accepted."""
         draw = self.random
         weights = {"edit": 24, "withdraw": 7, "advance": 8, "cells": 6, "cars": 6, "count": 7, "diagram": 6, "scenario": 4,
                    "import": 6, "send": 7, "heads": 5, "beyond": 6, "take": 12, "crowd": 5}
@@ -208,8 +208,8 @@ class Writer:
     def new_take(self, at):
         return {"message": self.message(self.sent)}
 
-    def spoilt(self, fields):
-        """Spoil some fields of a command by values that are refused there or elsewhere."""
+    def spoil(self, fields):
+        """Replace some fields of a command with values that are refused in this command or in others."""
         draw = self.random
         refused = {
             "at": ("nobody", "D"), "object": ([draw.choice(KINDS), draw.choice((64, 8192, 2 ** 32 - 1))],),
@@ -247,7 +247,7 @@ class Writer:
         return text.encode()
 
     def hostile(self, value):
-        """Return a line that is near the one of a value. Some are accepted all the same."""
+        """Return a line that differs a little from the line of a value. Some of these lines are accepted nevertheless."""
         draw = self.random
         line = self.line(value)
         cut = draw.randrange(len(line) + 1)
@@ -264,11 +264,11 @@ class Writer:
                                                  b"\\ud83d\\ude97", b"\\x", b"\x01", b"\t", b"\\/", b"\\u00", b"\x7f")) + line[within:],
             lambda: draw.choice((b"", b" ", b"null", b"[]", b"{}", b"0", b'""', b"advance", b"{\"cells\"}", b"[" * 40_000, b"\xff",
                                  b'{"form":1}', b"1e999", b"1.0", deep, b'{"scenario":' + deep + b"}")),
-            lambda: self.inside(value, lambda fields: fields.update({"more": 1})),
-            lambda: self.inside(value, lambda fields: fields.pop(draw.choice(list(fields)))),
-            lambda: self.inside(value, lambda fields: fields.update({draw.choice(list(fields)): draw.choice(
+            lambda: self.with_change(value, lambda fields: fields.update({"more": 1})),
+            lambda: self.with_change(value, lambda fields: fields.pop(draw.choice(list(fields)))),
+            lambda: self.with_change(value, lambda fields: fields.update({draw.choice(list(fields)): draw.choice(
                 ([], {}, None, True, "A", 0, -1, [["limit", 0]], ["limit"], ["exit", 0], ["limit", 0, 0], *BAD_NAMES))})),
-            lambda: self.inside(value, lambda fields: fields.update({"form": draw.choice((0, 1, 2, 3))})),
+            lambda: self.with_change(value, lambda fields: fields.update({"form": draw.choice((0, 1, 2, 3))})),
             lambda: self.renumbered(value), lambda: self.renumbered(value), lambda: self.renumbered(value),
             lambda: self.doubled(value), lambda: self.doubled(value), lambda: self.doubled(value, deep),
             lambda: self.line({**value, "more": 1}), lambda: self.line([value]),
@@ -276,17 +276,18 @@ class Writer:
         ))()
 
     def fields_of(self, value):
-        """Return the fields of a command or plan, in a copy of it."""
+        """Return a copy of a command or plan, and the fields in this copy."""
         copy = json.loads(json.dumps(value))
         return copy, copy if "zones" in copy else next(iter(copy.values()))
 
-    def inside(self, value, change):
+    def with_change(self, value, change):
+        """Return a line in which the fields of a value are changed."""
         copy, fields = self.fields_of(value)
         change(fields)
         return self.line(copy)
 
     def renumbered(self, value):
-        """Return a line with one number replaced by something that is not a number, or by a large one."""
+        """Return a line in which one number is replaced with something that is not a number, or with a large number."""
         copy, fields = self.fields_of(value)
         places = []
 
@@ -306,7 +307,7 @@ class Writer:
         return self.line(copy).replace(json.dumps(NUMERAL).encode(), written.encode())
 
     def doubled(self, value, before=None):
-        """Return a line with a duplicate field: the last one counts."""
+        """Return a line with a duplicate field. (The last field with a name counts.)"""
         copy, fields = self.fields_of(value)
         if not fields:
             return self.line(copy)
@@ -320,9 +321,9 @@ class Writer:
         return line[:-1 if copy is fields else -2] + b"," + name + other + line[-1 if copy is fields else -2:]
 
     def plan_line(self):
-        """Return a plan line that is mostly refused."""
+        """Return a plan line that is usually refused."""
         if self.chance(60):
-            self.spoilt_plan()
+            self.spoil_plan()
         return self.line(self.plan) if self.chance(60) else self.hostile(self.plan)
 
     def script(self):
@@ -340,7 +341,7 @@ class Writer:
     def next_line(self):
         verb, fields = self.command()
         if self.chance(10):
-            self.spoilt(fields)
+            self.spoil(fields)
         line = self.line({verb: fields})
         return self.hostile({verb: fields}) if not self.begin and self.chance(10) else line
 

@@ -1,6 +1,6 @@
 #!/usr/bin/env python3
-"""The laboratory as plainly as it can be said: a set of edits for each replica, and a road that runs from step zero each time.
-The one short cut: steps that nobody asks for, in which no car is on the road and none can enter, are passed over.
+"""Simulate the laboratory as plainly as possible: each replica is a set of edits, and each query runs the road from step zero.
+There is one shortcut: steps that nobody queries are skipped if no car is on the road and no car can enter.
 
     tests/reference_simulator/simulator.py < SCRIPT
 """
@@ -23,14 +23,14 @@ GREATEST = {"limit": 9, "slow": ALWAYS, "block": 1, "inflow": ALWAYS, "watch": 1
 # The plan
 
 class Plan:
-    """The road that all replicas share, and what holds of it where no edit acts."""
+    """The road that all replicas share, and the values of its objects if no edit is in force."""
 
     def __init__(self, given):
         self.length, self.exit, self.zone_width = given["length"], given["exit"], given["zone"]
         self.zones, self.inlets, self.detectors = given["zones"], given["inlets"], given["detectors"]
         self.seed, self.names = given["words"], given["replicas"]
-        for fault, stands in self.faults():
-            if stands:
+        for fault, applies in self.faults():
+            if applies:
                 raise Refused(fault)
         self.defaults = {
             **{("limit", zone): limit for zone, (limit, _) in enumerate(self.zones)},
@@ -41,7 +41,7 @@ class Plan:
             **{("start", zone): None for zone in range(len(self.zones))}}
 
     def faults(self):
-        """Yield each refusal of a plan, and whether it applies, in order."""
+        """Yield each cause of refusal, in order, and whether it applies to this plan."""
         cells = [cell for cell, _ in self.inlets]
         yield "Names", not (1 <= len(self.names) <= MOST_REPLICAS and len(set(self.names)) == len(self.names)
                             and all(1 <= len(name.encode()) <= 64 for name in self.names))
@@ -59,26 +59,26 @@ class Plan:
         return self.length - self.exit
 
     def happens(self, chance, stream, step):
-        """Return whether the event of a chance happens, by the word of the stream at the step."""
+        """Return whether an event of this chance happens, according to the word of the stream at the step."""
         return word(self.seed, stream, step) >> 16 < chance
 
 
-# Edits: (kind, index, step, count, number, value), the value None for a withdrawal
+# Edits: (kind, index, step, count, number, value); the value of a withdrawal is None
 
 def place_of(edit):
-    """Kind, index and step, as they are listed."""
+    """Return the key that determines the order of lists: kind, index and step."""
     kind, index, step = edit[:3]
     return KINDS.index(kind), index, step
 
 
 def strength_of(edit):
-    """Return the key that decides between edits: the stamp, then the value, with a withdrawal below every number."""
+    """Return the key that decides which edit wins: the stamp, then the value, where a withdrawal is below every number."""
     *_, count, number, value = edit
     return count, number, -1 if value is None else value
 
 
 def winners(edits):
-    """Return the strongest edit of each object and step, listed."""
+    """Return the edit that wins for each object and step, in the order of lists."""
     best = {}
     for edit in sorted(edits, key=strength_of):
         best[place_of(edit)] = edit
@@ -90,24 +90,24 @@ def head_of(edit):
 
 
 def beyond(edits, heads):
-    """Return the winners that have no head, or one whose stamp is not greater."""
+    """Return the winners that have no head, or a head whose stamp is not greater."""
     stamps = {place_of(head): head[3:5] for head in heads}
     return [edit for edit in winners(edits) if stamps.get(place_of(edit), (0, 0)) <= edit[3:5]]
 
 
-def put(edits):
+def values_set(edits):
     """Return the value that is set for each object and step."""
     return {place_of(edit): edit[5] for edit in winners(edits) if edit[5] is not None}
 
 
 def touched(before, after):
-    """Return the first step at which a value has changed."""
-    changed = set(put(before).items()) ^ set(put(after).items())
+    """Return the first step at which a set value differs, or None."""
+    changed = set(values_set(before).items()) ^ set(values_set(after).items())
     return min((step for (_, _, step), _ in changed), default=None)
 
 
 def settings_at(plan, listed, step):
-    """Return the value of each object at a step: the latest one set up to it, or the plan's. (Winners are listed by step.)"""
+    """Return the value of each object at a step: the latest value set up to this step, or the plan's. (Winners are listed by step.)"""
     numbers = dict(plan.defaults)
     for kind, index, date, _, _, value in listed:
         if date <= step and value is not None:
@@ -118,11 +118,11 @@ def settings_at(plan, listed, step):
     return numbers
 
 
-# The road: for each cell None, or a car's number and speed
+# The road: each cell has None, or a car's number and speed
 
 def run(plan, edits, first, to):
-    """Yield, for each step from zero up to `to`, the step, the road, the settings, and what each detector counts in that step. Up to `first`
-    those steps are passed over in which no car is on the road and none can enter: so it stays up to the next edit."""
+    """Yield, for each step from zero up to `to`, the step, the road, the settings, and what each detector counts in this step. Before `first`,
+    steps are skipped in which no car is on the road and no car can enter: this remains so until the next edit."""
     road, listed, step = [None] * plan.length, winners(edits), 0
     while step <= to:
         numbers = settings_at(plan, listed, step)
@@ -141,7 +141,7 @@ def is_closed(plan, numbers):
 
 def one_step(plan, numbers, step, road):
     """Return the road after a step, and the cars that passed each detector with the sum of their speeds."""
-    road = entered(plan, numbers, step, road)
+    road = let_cars_enter(plan, numbers, step, road)
     after, counts = [None] * plan.length, [(0, 0)] * len(plan.detectors)
     for cell, car in enumerate(road):
         if car is None:
@@ -157,7 +157,7 @@ def one_step(plan, numbers, step, road):
     return after, counts
 
 
-def entered(plan, numbers, step, road):
+def let_cars_enter(plan, numbers, step, road):
     """Return the road with the cars that enter in a step."""
     road = list(road)
     for inlet, (cell, _) in enumerate(plan.inlets):
@@ -167,7 +167,7 @@ def entered(plan, numbers, step, road):
 
 
 def is_free(numbers, road, cell):
-    """Cells past the end of the road are free too."""
+    """Return whether a cell has no car and is not blocked. Cells past the end of the road are free, too."""
     return cell >= len(road) or road[cell] is None and not numbers["block", cell]
 
 
@@ -190,17 +190,17 @@ def row_of(road, numbers):
     return "".join(str(car[1]) if car else "#" if numbers["block", cell] else "." for cell, car in enumerate(road))
 
 
-# Replicas and messages, and what they answer
+# Replicas and messages, and answers about them
 
 class Replica:
-    """All edits that reached it, and how far it may be asked."""
+    """A replica: all edits that reached it, and its horizon."""
 
     def __init__(self, number):
         self.number, self.edits, self.horizon = number, frozenset(), 0
 
 
 class Laboratory:
-    """The replicas of a plan, and the messages between them: edits, or heads."""
+    """The replicas of a plan, and the messages between them: `sent` has edits, `asked` has heads."""
 
     def __init__(self, plan):
         self.plan = plan
@@ -282,7 +282,7 @@ class Laboratory:
         self.sent[name] = beyond(replica.edits, self.asked[heads])
         return {"edits": self.sent[name], "form": 2, "message": name}
 
-    # Crowds, which no replica sees
+    # Crowds, which do not change replicas
 
     def answer_crowd(self, shares, to):
         edits = [edit for share in shares for edit in share]
@@ -318,38 +318,38 @@ class Laboratory:
         return [row_of(road, numbers) for road, numbers, _ in self.states(replica, first, last)]
 
     def states(self, replica, first, last):
-        """Return the results of `run` for some steps."""
+        """Return the results of `run` for the steps `first` to `last`, without the step."""
         require(last <= replica.horizon, "NotSimulated")
         return [state for step, *state in run(self.plan, replica.edits, first, last) if step >= first]
 
 
-def require(stands, otherwise):
-    if not stands:
-        raise Refused(otherwise)
+def require(condition, refusal):
+    if not condition:
+        raise Refused(refusal)
 
 
 # From bytes to bytes
 
-def written(reply):
+def reply_line(reply):
     return json.dumps(reply, ensure_ascii=False, separators=(",", ":"), sort_keys=True).encode() + b"\n"
 
 
 def replies(script):
-    """Yield the reply to each line of an input, of at most a million lines. A refused plan line ends it."""
-    first, *others = lines.cut(script) or [None]
+    """Yield the reply to each line of an input that has at most a million lines. After a refused plan line there are no more replies."""
+    first, *others = lines.split(script) or [None]
     try:
         require(first is not None, "no plan")
-        plan = Plan(lines.reading(first, lines.plan))
+        plan = Plan(lines.read_line(first, lines.plan))
     except Refused as why:
-        yield written({"refused": str(why)})
+        yield reply_line({"refused": str(why)})
         return
-    yield written({"open": len(plan.names)})
+    yield reply_line({"open": len(plan.names)})
     laboratory = Laboratory(plan)
     for line in others:
         try:
-            yield written(laboratory.answer(*lines.reading(line, lines.command)))
+            yield reply_line(laboratory.answer(*lines.read_line(line, lines.command)))
         except Refused as why:
-            yield written({"refused": str(why)})
+            yield reply_line({"refused": str(why)})
 
 
 if __name__ == "__main__":

@@ -1,5 +1,5 @@
 #!/usr/bin/python3
-"""The tables of recipes/sweep, by another program: many roads side by side as numpy's arrays, and Python's `statistics`.
+"""Compute the tables of recipes/sweep with a different program: many roads at once as arrays of numpy, and Python's `statistics`.
 
     tests/reference_simulator/sweeps.py > recipes/sweep/expected
 
@@ -16,12 +16,12 @@ sys.dont_write_bytecode = True
 from many_roads import Roads  # noqa: E402
 
 STUDENT = 3.182446
-"""The value that Student's t exceeds by a chance of 2.5 %, by three degrees of freedom: four seeds."""
+"""The value that Student's t exceeds with a probability of 2.5 %, for three degrees of freedom (four seeds)."""
 SEEDS = (1, 2, 3, 4)
 
 
 def mean(values):
-    """Return the mean over four seeds, and half its interval."""
+    """Return the mean over four seeds, and half the width of its 95 % interval."""
     return statistics.mean(values), STUDENT * statistics.stdev(values) / math.sqrt(len(SEEDS))
 
 
@@ -30,7 +30,7 @@ def line(*words):
 
 
 def by_point(points, figures, formats):
-    """Yield each point with its figures, from four roads each, and as text with their ±."""
+    """Yield each point, its figures (means over four roads, with their intervals), and these as text."""
     for number, point in enumerate(points):
         found = [mean([float(values[4 * number + seed]) for seed in range(4)]) for values in figures]
         yield point, found, [format(one, how) for pair, how in zip(found, formats) for one in pair]

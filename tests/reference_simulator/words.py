@@ -10,7 +10,7 @@ QUARTERS = ((0, 4, 8, 12), (1, 5, 9, 13), (2, 6, 10, 14), (3, 7, 11, 15),
 
 
 def word(seed, stream, place):
-    """Return the word of a stream at a place; the seed is a number, or the text "steady"."""
+    """Return the word of a stream at a place. The seed is a number, or the string "steady"."""
     if seed == "steady":
         return (stream * 40503 + place * 30011) % 65536 * 65536
     return block(seed, stream, place // 16)[place % 16]
