@@ -1,6 +1,6 @@
 "use strict";
-// What the road costs in time, and cumulative curves: how many cars have passed two sites. Of two
-// pictures that are compared it is of the steps that both have.
+// The time that cars spend on the road, and cumulative curves: how many cars have passed two sites.
+// If two pictures are compared, both are over the steps that both pictures have.
 
 const SITES = ["siteUp", "siteDown"];
 const OF_SITE = [{width: 1.5}, {width: 3.5}];
@@ -11,8 +11,8 @@ const endSite = (plan) => plan.length - plan.exit;
 const inletsBetween = (plan, [up, down]) =>
   plan.inlets.map(([cell]) => cell).filter((cell) => up <= cell && cell < down);
 
-/** Offer the detectors and the end of the road; at first choose the two detectors that are
- * farthest apart without an inlet between them. */
+/** Offer the detectors and the end of the road. At first the two detectors are chosen that are
+ * farthest apart and have no inlet between them. */
 function offerSites() {
   const plan = shown.plans.find(Boolean);
   if (!plan) return;
@@ -38,9 +38,9 @@ function stepsCounted(picture) {
   return [from, to];
 }
 
-/** Return the curves of a picture: for each site, from upstream down, how many cars have passed
- * it before each step; the first begins with the cars that are between both. */
-function cumulative(which) {
+/** Return the curves of a picture: for each site, the upstream one first, how many cars have passed
+ * it before each step. The first curve begins with the number of cars between the sites. */
+function cumulativeCurves(which) {
   const [picture, plan] = [shown.pictures[which], shown.plans[which]];
   if (!picture || !plan || (which && shown.whyNot)) return [];
   const [from, to] = stepsCounted(picture);
@@ -49,7 +49,7 @@ function cumulative(which) {
   return sites.map((site, index) => {
     let cars = index ? 0 : carsBetween(picture, from, sites);
     const points = [[from, cars]];
-    passings(picture, site, plan, from, to).forEach((passed, step) => {
+    countPassings(picture, site, plan, from, to).forEach((passed, step) => {
       cars += passed;
       points.push([from + step + 1, cars]);
     });
@@ -58,7 +58,7 @@ function cumulative(which) {
 }
 
 function drawSpent() {
-  const curves = [0, 1].map(cumulative);
+  const curves = [0, 1].map(cumulativeCurves);
   const series = curves.flatMap((both, which) =>
     both.map((points, site) => ({points, ...SERIES[which], ...OF_SITE[site]})));
   page.cumulativePart.hidden = !series.length;
@@ -74,7 +74,7 @@ function drawSpent() {
     && `Cars enter between them (inlet at ${inlets}); only the thick curve includes these.`;
 }
 
-/** Return the curves minus the mean flow of the first one: over hours they would otherwise
+/** Draw the curves minus the mean flow of the first one: over hours they would otherwise seem to
  * coincide. */
 function drawSlanted(series, range) {
   const [[begin, before], [end, after]] = [series[0].points[0], series[0].points.at(-1)];
@@ -87,13 +87,13 @@ function drawSlanted(series, range) {
 
 // The time spent.
 
-/** Return how much more time the cars of the second picture spend on the road than those of the
- * first, and how many entered. Cars that wait before an inlet spend no time on the road. */
+/** Return a sentence on the time that the cars of both pictures spend on the road, and on the cars
+ * that entered. Cars that could not enter spend no time on the road. */
 function spentSentence() {
   if (!shown.comparison) return "";
   const {from, to} = shown.comparison;
   if (to < from) return "";
-  // Step s leads to row s + 1: the rows of the steps from `from` on begin behind it.
+  // Row s + 1 is the row after step s, so the rows of the steps begin after row `from`.
   const spent = shown.pictures.map((picture) => carsInRows(picture, from + 1, to));
   const name = unit.given ? "veh\u00b7h" : "car steps";
   const hours = (steps) =>
@@ -113,7 +113,7 @@ function enteredSentence(from, to) {
   const [plan] = shown.plans;
   if (!plan) return "The number of cars that entered is unknown without the script.";
   const counts = plan.inlets.map(([cell]) => ({cell, cars: shown.pictures.map((picture) =>
-    entries(picture, cell, plan, from, to))}));
+    countEntries(picture, cell, plan, from, to))}));
   const seen = counts.filter(({cars}) => cars[0] !== null);
   const sums = [0, 1].map((which) => seen.reduce((sum, {cars}) => sum + cars[which], 0));
   const apart = seen.map(({cell, cars}) => ({cell, change: cars[1] - cars[0]}))
@@ -158,7 +158,7 @@ function writeCumulative(curves) {
 }
 
 function saveCumulative() {
-  const {heads, lines} = cumulativeLines([0, 1].map(cumulative));
+  const {heads, lines} = cumulativeLines([0, 1].map(cumulativeCurves));
   saveAsCsv(heads, lines, "cumulative.csv");
 }
 

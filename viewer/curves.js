@@ -1,15 +1,16 @@
 "use strict";
-// The curves below the pictures, their table and their CSV: flow and mean speed by the counts of a
-// detector, density by the rows; or all three of a stretch by the rows alone.
+// The curves below the pictures, their table and their CSV: flow and mean speed from the counts of
+// a detector, and density from the rows; or all three for a stretch, from the rows alone.
 
-/** Return the counts of the chosen detector; in another plan, of the detector at its place. */
+/** Return the counts of the chosen detector, or in a different plan those of the detector at the
+ * same place. */
 const allCounts = (which) =>
   shown.runs[which]?.counts.get(detectorOf(which, Number(page.detector.value))) ?? [];
 const countsShown = (which) => equalSpans(allCounts(which));
 const byRows = () => page.detector.value === "stretch";
 
-/** Return the cells of the stretch, the end excluded, and the steps per point: from the fields,
- * by default the road before its deleted zone, and a round part of the steps. */
+/** Return the cells of the stretch, the end excluded, and the steps per point, from the fields. By
+ * default these are the road before its deleted zone, and a round number of steps. */
 function stretchOf(picture, plan) {
   const field = (name, factor) =>
     (page[name].value === "" ? null : Math.round(Number(page[name].value) / factor));
@@ -22,7 +23,7 @@ function stretchOf(picture, plan) {
 }
 
 /** Return the points of a picture's curves, each with its steps, flow, speed and density. */
-function measured(which) {
+function measurePoints(which) {
   const picture = shown.pictures[which];
   if (byRows()) return (picture ? edieSpans(picture, stretchOf(picture, shown.plans[which])) : []);
   return countsShown(which).map(({from, to, cars, speeds}) =>
@@ -31,7 +32,7 @@ function measured(which) {
 }
 
 function drawCharts() {
-  const lists = [0, 1].map(measured);
+  const lists = [0, 1].map(measurePoints);
   const points = (list, name) => list.filter((one) => one[name] !== null)
     .map((one) => [(one.from + one.to) / 2, one[name] * unit[name]]);
   const rows = shown.pictures.map((picture) => (picture?.cars ?? []).map((cars, index) =>
@@ -47,10 +48,10 @@ function drawCharts() {
     drawChart(charts[index], {title, series, range, unit});
   });
   writeTable(lists);
-  tellCounts(lists);
+  showCountNote(lists);
 }
 
-function tellCounts(lists) {
+function showCountNote(lists) {
   page.stretch.hidden = !byRows();
   page.placeUnit.textContent = unit.given ? "km" : "cells";
   page.timeUnit.textContent = unit.given ? "min" : "steps";
@@ -70,8 +71,8 @@ function tellCounts(lists) {
       (byRows() ? " The speed is the space-mean speed." : "");
 }
 
-/** Return a text that says where the curves are measured, and which mean their speed is; for a
- * stretch, that of the first picture. */
+/** Return the place where the curves are measured and the kinds of their speed and density, as
+ * texts. The cells of a stretch are those of the first picture. */
 function measuredWhere() {
   if (!byRows()) {
     const name = siteName(Number(page.detector.value), shown.plans.find(Boolean));
@@ -84,8 +85,8 @@ function measuredWhere() {
   return {at: `stretch, ${at}`, speed: "space-mean speed", density: "density"};
 }
 
-/** Return the lines of the table: heads, and a picture's points with numbers, null if there is
- * none. */
+/** Return the heads of the table, and for each picture a line of figures per point; an unknown
+ * figure is null. */
 function tableLines(lists) {
   const {at, speed, density} = measuredWhere();
   const heads = ["picture", `from, ${unit.names.time}`, `to, ${unit.names.time}`,
@@ -115,7 +116,7 @@ function newTable(heads, lines) {
 }
 
 function saveCsv() {
-  const {heads, lines} = tableLines([0, 1].map(measured));
+  const {heads, lines} = tableLines([0, 1].map(measurePoints));
   saveAsCsv(heads, lines.flat(), `${measuredWhere().at.replace(/[ ,]+/g, "-")}.csv`);
 }
 

@@ -1,5 +1,5 @@
-// Types of the names that drawing.mjs exports. The first lines of drawing.js say what is passed
-// around.
+// Types of the names that drawing.mjs exports. The first lines of drawing.js explain the
+// arguments.
 
 export interface Picture {
   from: number;                         // step of the first row

@@ -1,16 +1,17 @@
 "use strict";
-// Drawing of a road: colours, units, tiles, pictures, axes, plan, legend, charts. A classic script,
-// because browsers load no module from a file, and the viewer is opened as one; modules import the
-// same names from drawing.mjs. It reads no element and keeps no state of a page.
+// Drawing of a road: colours, units, tiles, pictures, axes, plan, legend, charts. This is a classic
+// script, because browsers do not load modules from files, and the viewer is opened as a file.
+// Modules import the same names from drawing.mjs. It uses no element and no state of a page.
 //
-// What is passed around:
+// Arguments:
 //   picture  {from, every, length, rows}: rows[i] is the row of step from + i * every, undefined
-//            where there is none; length in cells
-//   view     {cell, step, scale, tall}: what stands in the plot's upper left corner; pixels of a
-//            cell's width and of a step's height
+//            if it is missing; length in cells
+//   view     {cell, step, scale, tall}: the cell and the step in the upper left corner of the plot;
+//            the width of a cell and the height of a step in pixels
 //   part     {cells: [a, b], steps: [a, b]}, ends excluded
-//   unit     of unitOf: what a cell and a step are
-//   plan     a scenario's plan line; speeds are in cells a step, `greatest` ends the colours' scale
+//   unit     of unitOf: the lengths of a cell and a step
+//   plan     the plan line of a script
+//   greatest the speed at which the colour scale ends; speeds are in cells a step
 //
 // Colours    speedColour(speed, greatest)  cellColour(sign, greatest)  inkOn(colour)
 //            pixelOf(colour, alpha)  pixelTable(greatest)  meanPixel(part)  signedPixel(part)
@@ -21,7 +22,7 @@
 //            sizeOfCell(view)  inView(view, picture, width, height)  meansAreSeen(view)
 //            boxOf(view, pixels, least, every)
 // Canvas     cleared(canvas)  clip(context, top, width, height)  pen(context, align, baseline)
-// Painting   tiles = new Tiles(); tiles.forget(name, from, to) where rows have changed
+// Painting   tiles = new Tiles(); tiles.forget(name, from, to) if rows have changed
 //            paintCells(context, view, picture, part, {tiles, name, greatest})
 //            paintMarks(context, view, picture, other, part, {tiles, name})
 //            paintMeans(context, view, picture, part, {tiles, name, greatest})
@@ -53,8 +54,8 @@ const FONT = "13px system-ui, sans-serif";
 
 const bytesOf = (colour) => [1, 3, 5].map((at) => parseInt(colour.slice(at, at + 2), 16));
 
-/** Return the end of the colour scale in cells a step, from the greatest speed that is seen. If a
- * cell a step is 27 km/h, it is always 135 km/h, as on live's page. */
+/** Return the end of the colour scale in cells per step, from the highest speed in the pictures. If
+ * a cell per step is 27 km/h, the scale always ends at 135 km/h, as on live's page. */
 const FASTEST_COLOUR = 5;
 const scaleEnd = (seen, unit) =>
   (unit.given && Math.abs(unit.speed - 27) < 0.01 ? FASTEST_COLOUR : Math.max(1, seen));
@@ -63,7 +64,7 @@ const scaleEnd = (seen, unit) =>
 const hoursText = (hours) =>
   hours.toLocaleString("en", {minimumFractionDigits: 1, maximumFractionDigits: 1});
 
-/** Return the colour of a speed, whose place on the scale is its part of the greatest speed. */
+/** Return the colour of a speed on a scale that ends at the speed `greatest`. */
 const speedColour = (speed, greatest) =>
   "#" + VIRIDIS[Math.round(9 * Math.min(1, speed / greatest))];
 
@@ -94,7 +95,7 @@ function pixelTable(greatest) {
   return table;
 }
 
-/** Return the colour between two, as bytes. */
+/** Return a colour between two colours, as bytes. */
 const between = (one, other, part) =>
   one.map((byte, index) => Math.round(byte + (other[index] - byte) * part));
 
@@ -110,25 +111,25 @@ const MEANS = hundredths((part) => {
 const SIGNED = [SLOWER, FASTER].map((colour) =>
   hundredths((part) => pixelOfBytes(between(bytesOf(EMPTY), bytesOf(colour), part))));
 
-/** Return the pixel of a mean speed that is this part of the greatest; it follows viridis
- * smoothly. */
+/** Return the pixel of a mean speed, given as a part of the highest speed, on a smooth viridis
+ * scale. */
 const meanPixel = (part) => MEANS[rounded(part)];
 
 /** Return the pixel of a difference from -1 (magenta: slower) to 1 (blue: faster); small
  * differences are pale. */
 const signedPixel = (part) => SIGNED[part < 0 ? 0 : 1][rounded(Math.abs(part))];
 
-// 2. Units: cells and steps, or what metres a cell and seconds a step make of them.
+// 2. Units: cells and steps, or km and minutes if the lengths of a cell and a step are given.
 
 const PLAIN = {given: false, clock: false, place: 1, time: 1, flow: 1, speed: 1, density: 1,
                names: {place: "cell", time: "step", flow: "cars a step", speed: "cells a step",
                        density: "cars a cell"}};
 
-/** Return the unit of cells and steps: km, minutes, cars an hour, km/h and cars a km, from
- * metres a cell and seconds a step. With `clock`, times are written as h:mm:ss, or as times of
- * day if `begin` (the seconds after midnight of the first step) is known. Without metres and
- * seconds, the units are cells and steps. A page may give it `textOf`, which returns the text
- * of a step's time. */
+/** Return the units of km, minutes, cars an hour, km/h and cars a km, from the metres of a cell and
+ * the seconds of a step. With `clock`, times are written as h:mm:ss, or as times of day if `begin`
+ * (the time of step 0 in seconds after midnight) is known. Without metres and seconds, the units
+ * are cells and steps. A page may add a function `textOf`, which returns the text of the time of a
+ * step. */
 function unitOf(metres, seconds, clock = false, begin = null) {
   if (!(metres > 0 && seconds > 0)) return PLAIN;
   return {given: true, clock, begin, place: metres / 1000, time: seconds / 60, flow: 3600 / seconds,
@@ -150,7 +151,7 @@ function clockText(minutes, begin) {
   return `${Math.floor(seconds / 3600)}:${two(Math.floor(seconds / 60))}:${two(seconds)}`;
 }
 
-/** Return the figures of a step and of a cell in a unit, without the unit's name. */
+/** Return the text of a step and of a cell in a unit, without the name of the unit. */
 const momentText = (step, unit) => {
   if (unit.textOf) return unit.textOf(step);
   return unit.clock ? clockText(step * unit.time, unit.begin) : long(step * unit.time);
@@ -163,8 +164,8 @@ function niceAbove(value) {
   return power * [1, 2, 3, 4, 6, 8, 10].find((factor) => factor * power >= value * 0.9999);
 }
 
-/** Return numbers a round distance apart, at least `least`, so that their texts have room; whole
- * numbers without units. */
+/** Return multiples of a round number that is at least `least`, so that their texts have room.
+ * Without units they are whole numbers. */
 function ticks(from, to, least, unit) {
   let apart = unit.given ? 0.001 : 1;
   for (let turn = 0; apart < least; turn++) apart *= [2, 2.5, 2][turn % 3];
@@ -179,7 +180,7 @@ function multiples(from, to, apart) {
 
 const ON_CLOCK = [1, 2, 5, 10, 15, 30, 60, 120, 300, 600, 900, 1800, 3600, 7200, 14400, 36000];
 
-/** Return round times of a unit, in its minutes or steps. */
+/** Return round times in minutes or, without units, in steps. */
 function timeTicks(from, to, least, unit) {
   if (!unit.clock) return ticks(from, to, least, unit);
   const apart = ON_CLOCK.find((seconds) => seconds >= 60 * least) ?? ON_CLOCK.at(-1);
@@ -190,11 +191,11 @@ function timeTicks(from, to, least, unit) {
 // 3. Pictures and the view.
 
 const MARGIN = {left: 62, top: 48, right: 8, bottom: 6};   // pixels around the plot
-const PLAN_HIGH = 8;      // pixels above a picture, where detectors, inlets and zones stand
-const FRAMES_FROM = 5;    // pixels a cell from which on frames and crosses are drawn
+const PLAN_HIGH = 8;      // pixels of the strip of detectors, inlets and zones above a picture
+const FRAMES_FROM = 5;    // pixels per cell from which on frames and crosses are drawn
 const DIGITS_FROM = 12;   // and from which on speeds are written
 const BOX = 6;            // pixels of a box whose mean speed is painted
-const CLOSURE = 3;        // pixels of a box that is marked where a cell of it is closed
+const CLOSURE = 3;        // pixels of a box that is marked if one of its cells is closed
 
 const endOf = (picture) => picture.from + picture.rows.length * picture.every;
 const lastStep = (picture) => endOf(picture) - picture.every;
@@ -212,7 +213,7 @@ const cellAt = (view, x) => view.cell + (x - MARGIN.left) / view.scale;
 const stepAt = (view, y) => view.step + (y - MARGIN.top) / view.tall;
 const sizeOfCell = (view) => Math.min(view.scale, view.tall);
 
-/** Return the part of a picture that a canvas of a size shows. */
+/** Return the part of a picture that a canvas of this size shows. */
 function inView(view, picture, width, height) {
   const all = partOf(picture);
   const ends = [cellAt(view, width - MARGIN.right), stepAt(view, height - MARGIN.bottom)];
@@ -223,8 +224,8 @@ function inView(view, picture, width, height) {
   };
 }
 
-/** Return whether single cars would be noise: cells share a pixel, or a row is lower than 2
- * pixels. */
+/** Return whether mean speeds are shown because single cars would be noise: cells share a pixel, or
+ * a row is less than 2 pixels high. */
 const meansAreSeen = (view) => view.scale < 1 || view.tall < 2;
 
 /** Return a box of about N pixels: `wide` cells and `high` steps, at least `least` of each. */
@@ -236,7 +237,7 @@ function boxOf(view, pixels, least = 1, every = 1) {
 
 // 4. The canvas.
 
-/** Set ink, font and where texts are anchored. */
+/** Set ink, font and the anchor of texts. */
 function pen(context, textAlign, textBaseline = "middle") {
   const ink = {fillStyle: INK, strokeStyle: INK, lineWidth: 1};
   Object.assign(context, {...ink, font: FONT, textAlign, textBaseline});
@@ -264,15 +265,15 @@ function clip(context, top, width, height) {
   context.clip();
 }
 
-// 5. Tiles. What is costly to paint is painted once on tiles, a pixel a cell or a box; what is
-// shown is cut out of these tiles and enlarged.
+// 5. Tiles. Cells and boxes are painted only once, on tiles with a pixel per cell or box. The
+//    visible part is cut out of these tiles and enlarged.
 
 const TILE_ROWS = 256;    // rows of a tile of cells
 const TILE_BOXES = 16;    // and rows of boxes of a tile of boxes
 const MOST_PIXELS = 1e8;
 
-/** Canvases by the name of what they show and their steps, `most` pixels in all; those that were
-    wanted longest ago make room. */
+/** A cache of canvases by the name of what they show and their steps. It has at most `most` pixels;
+ * the canvases that were used longest ago make room for new ones. */
 class Tiles {
   constructor(most = MOST_PIXELS) {
     Object.assign(this, {most, pixels: 0, kept: new Map()});
@@ -363,23 +364,23 @@ function paintCells(context, view, picture, part, {tiles, name, greatest}) {
             {wide: 1, high: every, lines: TILE_ROWS}, paintRow);
 }
 
-/** Paint the cells that differ from another picture, over what is painted. */
+/** Paint marks on the cells that differ from another picture. */
 function paintMarks(context, view, picture, other, part, {tiles, name}) {
   const mark = pixelOf(DIFFERS, 150);
   context.imageSmoothingEnabled = sizeOfCell(view) < 1;
   const paintRow = (pixels, step) => {
     const row = rowAt(picture, step);
-    const beside = rowAt(other, step);
-    if (!row || !beside || row === beside) return;
+    const otherRow = rowAt(other, step);
+    if (!row || !otherRow || row === otherRow) return;
     for (let cell = 0; cell < row.length; cell++) {
-      if (row.charCodeAt(cell) !== beside.charCodeAt(cell)) pixels[cell] = mark;
+      if (row.charCodeAt(cell) !== otherRow.charCodeAt(cell)) pixels[cell] = mark;
     }
   };
   drawTiles(context, view, picture, part, {tiles, name, kind: "marks"},
             {wide: 1, high: picture.every, lines: TILE_ROWS}, paintRow);
 }
 
-// 6. Boxes: what some cells of some rows have together.
+// 6. Boxes: sums over some cells of some rows.
 
 /** Return the cars, the sums of their speeds and the closed cells of the boxes `wide` cells wide
  * in the steps `from` to `to - 1`, and the number of rows in these steps. */
@@ -422,8 +423,8 @@ function paintBoxes(context, view, picture, part, {tiles, name, kind}, box, sums
             {...box, lines: TILE_BOXES}, paintLine);
 }
 
-/** Paint mean speeds of boxes of some 6 by 6 pixels: a box without a car is white, one with a
- * closed cell orange. */
+/** Paint the mean speeds of boxes of about 6 by 6 pixels. A box without a car is white, and a box
+ * with a closed cell orange. */
 function paintMeans(context, view, picture, part, {tiles, name, greatest}) {
   const box = boxOf(view, BOX, 1, picture.every);
   const [closed, empty] = [BLOCKED, EMPTY].map((colour) => pixelOf(colour));
@@ -440,7 +441,7 @@ function paintMeans(context, view, picture, part, {tiles, name, greatest}) {
 }
 
 const LEAST_BOX = 5;      // cells and steps of a box of the difference: one car alone says little
-const FULL_AT = 0.8;      // the part of the greatest speed that has the full colour
+const FULL_AT = 0.8;      // the difference, as a part of the highest speed, with the full colour
 
 /** Return the speed of a free car on a cell: its zone's limit, if the plan is known. */
 function freeSpeed(cell, plan, greatest) {
@@ -448,10 +449,9 @@ function freeSpeed(cell, plan, greatest) {
   return Math.max(1, Math.min(limit, greatest));
 }
 
-/** Paint how much slower (magenta) or faster (blue) cars are than in another picture of the
- * road, over small boxes. A box without a car counts as free, so that free cars that have only
- * moved remain pale. A box with a closed cell in either picture is orange. The plan is
- * optional. */
+/** Paint how much slower (magenta) or faster (blue) cars are than in another picture of the road,
+ * over small boxes. A box without a car counts as free traffic, so free cars in different places
+ * remain pale. A box with a closed cell in either picture is orange. The plan is optional. */
 function paintDifference(context, view, picture, other, part, {tiles, name, greatest, plan}) {
   const box = boxOf(view, BOX, LEAST_BOX, picture.every);
   const closed = pixelOf(BLOCKED);
@@ -461,8 +461,8 @@ function paintDifference(context, view, picture, other, part, {tiles, name, grea
   };
   const mean = (sums, index) => (sums.cars[index] ? sums.speeds[index] / sums.cars[index]
     : freeSpeed(index * box.wide, plan, greatest));
-  const pixelAt = ([one, beside], index) => (one.closed[index] || beside.closed[index] ? closed
-    : signedPixel((mean(one, index) - mean(beside, index)) / greatest / FULL_AT));
+  const pixelAt = ([one, two], index) => (one.closed[index] || two.closed[index] ? closed
+    : signedPixel((mean(one, index) - mean(two, index)) / greatest / FULL_AT));
   paintBoxes(context, view, picture, part, {tiles, name, kind: "difference"}, box, sumsOf, pixelAt);
 }
 
@@ -482,7 +482,7 @@ function closedBoxes(picture, from, to, wide) {
   return closed;
 }
 
-/** Mark closed cells with 3 pixels if cells share a pixel, over what is painted. */
+/** Mark closed cells with 3 by 3 pixels if cells share a pixel. */
 function paintClosures(context, view, picture, part, {tiles, name}) {
   if (sizeOfCell(view) >= 1) return;
   const box = boxOf(view, CLOSURE, 1, picture.every);
@@ -492,7 +492,7 @@ function paintClosures(context, view, picture, part, {tiles, name}) {
              (boxes, index) => (boxes[index] ? closed : 0));
 }
 
-// 7. What shows only where cells are large: crosses, speeds in figures, frames.
+// 7. Details that are drawn only if cells are large: crosses, speeds as digits, frames.
 
 function drawCross(context, left, top, size) {
   context.strokeStyle = "#000000";
@@ -527,8 +527,8 @@ function drawDetails(context, view, picture, other, part, greatest) {
       context.fillStyle = inkOn(cellColour(sign, greatest));
       context.fillText(sign, left + scale / 2, top + tall / 2 + 1);
     }
-    const beside = rowAt(other, step)?.[cell];
-    if (beside === undefined || beside === sign) return;
+    const otherSign = rowAt(other, step)?.[cell];
+    if (otherSign === undefined || otherSign === sign) return;
     context.strokeStyle = DIFFERS;
     context.lineWidth = size < 14 ? 1 : 2;
     context.strokeRect(left + 1, top + 1, scale - 2, tall - 2);
@@ -537,9 +537,9 @@ function drawDetails(context, view, picture, other, part, greatest) {
 
 // 8. Around the plot.
 
-/** Draw figures of places above a part, and of times beside it. */
+/** Draw the axes: places above the plot, and times at its left. */
 function drawAxes(context, view, {cells, steps}, unit, end = Infinity) {
-  const inside = unit.given ? 0 : 0.5;   // a number is a cell's, or a place's
+  const inside = unit.given ? 0 : 0.5;   // a number names a cell (its middle) or a place
   const top = MARGIN.top - PLAN_HIGH;
   pen(context, "center", "bottom");
   const [left, right] = cells.map((cell) => cell * unit.place);
@@ -597,7 +597,7 @@ function drawInlet(context, middle, top) {
   context.fill();
 }
 
-/** Draw a small wedge at the left of a step's row, if that is in the plot. */
+/** Draw a small wedge at the left of the row of a step, if the row is in the plot. */
 function drawWedge(context, view, step, colour, height) {
   const middle = topOf(view, step) + view.tall / 2;
   if (middle < MARGIN.top || middle > height - MARGIN.bottom) return;
@@ -619,7 +619,7 @@ function drawFrame(context, view, step, cell) {
 
 const STRIP_HIGH = 34;
 
-/** Draw a row as a road; with `figures` also its speeds, if they have room. */
+/** Draw a row as a road, and with `figures` its speeds as digits, if they have room. */
 function drawStrip(context, view, row, {cells}, width, {greatest, figures}) {
   clip(context, 0, width, STRIP_HIGH);
   const [left, right] = cells.map((cell) => leftOf(view, cell));

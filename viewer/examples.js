@@ -1,6 +1,6 @@
 "use strict";
-// The examples of the page: lines of JSON, a line that begins with a blank going on with the one
-// before; the rows of a diagram stand each on its own line.
+// The examples of the page: lines of JSON. A line that begins with a blank continues the line
+// before. Each row of a diagram has its own line.
 
 const EXAMPLES = {
   closedCell: {title: "Closed cell", text: `

@@ -1,24 +1,26 @@
 "use strict";
-// Measures of pictures: where two differ, how many cars there are and how fast, and which enter,
-// pass and leave. It reads no element of the page. Steps are `from` to `to - 1`, unless noted.
+// Measures of pictures: where two pictures differ, how many cars they show and how fast these are,
+// and which cars enter, pass and leave. This script does not use the elements of the page. Steps
+// are `from` to `to - 1`, unless noted.
 //
-// comparison(one, other)  survey(picture)  meanDensity(picture, from, to)  carsInRows(picture, ..)
+// comparePictures(one, other)  survey(picture)  meanDensity(picture, from, to)
+// carsInRows(picture, from, to)
 // edieSums(picture, from, span, cells)  edieSpans(picture, {cells, span})  equalSpans(counts)
-// passings(picture, site, plan, from, to)  entries(picture, inlet, plan, from, to)
+// countPassings(picture, site, plan, from, to)  countEntries(picture, inlet, plan, from, to)
 // carsBetween(picture, step, cells)
 
-/** Compare two pictures in the steps that both show: {from, to, cells, step, cell} has the
- * number of cells that differ, the last common step, and the first cell that differs, null if
- * none does. */
-function comparison(one, other) {
+/** Compare two pictures in the steps that both show. Return {from, to, cells, step, cell}: the
+ * first and the last common step, the number of cells that differ, and the step and the cell of the
+ * first difference, null if there is none. */
+function comparePictures(one, other) {
   const from = Math.max(one.from, other.from);
   const to = Math.min(lastStep(one), lastStep(other));
   const found = {from, to, cells: 0, step: null, cell: null};
   for (let step = from; step <= to; step++) {
-    const [row, beside] = [rowAt(one, step), rowAt(other, step)];
-    if (row === beside) continue;
+    const [row, otherRow] = [rowAt(one, step), rowAt(other, step)];
+    if (row === otherRow) continue;
     for (let cell = 0; cell < row.length; cell++) {
-      if (row[cell] === beside[cell]) continue;
+      if (row[cell] === otherRow[cell]) continue;
       if (found.step === null) Object.assign(found, {step, cell});
       found.cells++;
     }
@@ -33,7 +35,7 @@ function survey(picture) {
     let cars = 0;
     for (let cell = 0; cell < row.length; cell++) {
       const code = row.charCodeAt(cell);
-      if (code > 46) cars++;   // behind "#" and "."
+      if (code > 46) cars++;   // a digit: its code is above those of "#" and "."
       if (code > most) most = code;
     }
     return cars;
@@ -41,7 +43,7 @@ function survey(picture) {
   picture.greatest = most - 48;
 }
 
-/** Return the mean density in cars a cell, if the picture has all of the steps. */
+/** Return the mean density in cars per cell; null if the picture does not have all of the steps. */
 function meanDensity(picture, from, to) {
   if (!picture || from < picture.from || to - 1 > lastStep(picture)) return null;
   const part = picture.cars.slice(from - picture.from, to - picture.from);
@@ -59,7 +61,7 @@ function edieSums(picture, from, span, cells) {
   for (let step = from; step < from + span; step++) {
     const row = rowAt(picture, step);
     for (let cell = cells[0]; cell < cells[1]; cell++) {
-      const speed = row.charCodeAt(cell) - 48;   // "#" and "." are below it
+      const speed = row.charCodeAt(cell) - 48;   // negative for "#" and "."
       if (speed < 0) continue;
       cars++;
       speeds += speed;
@@ -68,7 +70,8 @@ function edieSums(picture, from, span, cells) {
   return [cars, speeds];
 }
 
-/** Flow, space-mean speed and density of a stretch by Edie's sums, for each whole span of steps. */
+/** Return flow, space-mean speed and density of a stretch by Edie's sums, for each whole span of
+ * steps. */
 function edieSpans(picture, {cells, span}) {
   const found = [];
   for (let from = Math.ceil(picture.from / span) * span; from + span - 1 <= lastStep(picture);
@@ -81,7 +84,7 @@ function edieSpans(picture, {cells, span}) {
   return found;
 }
 
-/** Return the counts of the most frequent span, in order of time. */
+/** Return the counts over intervals of the most frequent length, in order of time. */
 function equalSpans(counts) {
   const sizes = new Map();
   for (const {from, to} of counts) sizes.set(to - from, (sizes.get(to - from) ?? 0) + 1);
@@ -90,12 +93,13 @@ function equalSpans(counts) {
     .sort((one, other) => one.from - other.from);
 }
 
-// Cars that pass and enter, by two rows one after the other: a car of speed v at cell c stood at
-// c - v before it moved, and no car overtakes another. One that has no such cell was taken off.
+// Cars that pass and enter, from two consecutive rows. A car with speed v at cell c was at cell
+// c - v before it moved, and no car overtakes another. A car that is not found in the next row has
+// left the road.
 
 const FASTEST = 9;
 
-const isCar = (row, cell) => row.charCodeAt(cell) > 46;   // behind "#" and "."
+const isCar = (row, cell) => row.charCodeAt(cell) > 46;   // a digit
 const speedAt = (row, cell) => (isCar(row, cell) ? row.charCodeAt(cell) - 48 : null);
 const endOfRoad = (plan) => plan.length - plan.exit;
 
@@ -107,10 +111,10 @@ function stays(next, cell, end) {
   return false;
 }
 
-/** Return how many cars move in each of the steps from a cell before the site to it or past it,
- * including those that are taken off in the step. At the end of the road these are all that
- * leave. */
-function passings(picture, site, plan, from, to) {
+/** Return how many cars move, in each of the steps, from a cell before the site to the site or past
+ * it, including cars that leave the road in the step. At the end of the road these are all cars
+ * that leave. */
+function countPassings(picture, site, plan, from, to) {
   const end = endOfRoad(plan);
   const found = [];
   for (let step = from; step < to; step++) {
@@ -127,9 +131,10 @@ function passings(picture, site, plan, from, to) {
   return found;
 }
 
-/** Return how many cars enter at an inlet's cell in the steps: such a car is there afterwards,
- * or has moved by one. Null if it is at once at the end of the road, where no row has it. */
-function entries(picture, inlet, plan, from, to) {
+/** Return how many cars enter at the cell of an inlet in the steps: after the step such a car is
+ * there, or has moved by one cell. Return null if it may be beyond the end of the road by then, so
+ * that no row shows it. */
+function countEntries(picture, inlet, plan, from, to) {
   if (inlet + 1 >= endOfRoad(plan)) return null;
   let cars = 0;
   for (let step = from; step < to; step++) {
@@ -140,7 +145,7 @@ function entries(picture, inlet, plan, from, to) {
   return cars;
 }
 
-/** Return the cars of a step on some cells. */
+/** Return the number of cars on some cells at a step. */
 function carsBetween(picture, step, cells) {
   const row = rowAt(picture, step);
   let cars = 0;

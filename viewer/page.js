@@ -1,12 +1,12 @@
 "use strict";
-// The page: files, examples, and what its buttons do.
+// The page: files, examples, and the actions of its buttons.
 
-const wanted = [0, 0];    // the newest reading of each slot; older ones stop
+const newestReading = [0, 0];   // its number, for each slot: earlier readings stop
 let exampleShown = false;
 
-/** Return a function that shows sentences: the first dozen of a reading, and how many more there
- * were. */
-function sayer() {
+/** Return a function that shows messages of a reading: the first dozen, and then how many are not
+ * shown. */
+function makeReporter() {
   let said = 0;
   const more = document.createElement("li");
   return (sentence) => {
@@ -21,21 +21,21 @@ function sayer() {
 
 async function readFiles(slot, files) {
   if (!files.length) return;
-  const turn = ++wanted[slot];
-  const say = sayer();
-  let told = 0;
-  const goesOn = (name, read, size) => {
-    if (performance.now() - told > 200) {
-      told = performance.now();
+  const turn = ++newestReading[slot];
+  const say = makeReporter();
+  let reported = 0;
+  const mayContinue = (name, read, size) => {
+    if (performance.now() - reported > 200) {
+      reported = performance.now();
       page.progress.textContent =
         `Reading ${name}: ${megabytes(read)} of ${megabytes(size)} MB`;
     }
-    return turn === wanted[slot];
+    return turn === newestReading[slot];
   };
   const read = [];
   for (const file of files) {
     try {
-      const lines = await linesOf(file, say, goesOn);
+      const lines = await readLines(file, say, mayContinue);
       if (!lines) return;
       if (lines.length) read.push({name: file.name, lines, role: roleOf(lines)});
       else say(`${file.name} is empty.`);
@@ -48,7 +48,7 @@ async function readFiles(slot, files) {
 }
 
 function openTranscript(slot, files, say) {
-  const exchanges = exchangesOf(files, say);
+  const exchanges = listExchanges(files, say);
   if (!exchanges) return;
   const name = files.map((file) => file.name).join(" and ");
   const transcript = new Transcript(name, Number(page["first" + slot].value) || 0, say);
@@ -62,7 +62,7 @@ function openTranscript(slot, files, say) {
   if (exampleShown) transcripts.fill(null);
   exampleShown = false;
   transcripts[slot] = transcript;
-  if (differentPart(transcripts[0]?.plan, transcripts[1]?.plan)) {
+  if (findDifferentPart(transcripts[0]?.plan, transcripts[1]?.plan)) {
     say(`${name} has a different plan: both are shown, but not compared.`);
   }
   offerPictures();
@@ -75,26 +75,26 @@ function takeUnits() {
   shown.pointed = null;
   page.readout.textContent = "Point at a cell to see what is in it.";
   setStep(shown.step);
-  tellAll();
+  refreshTexts();
 }
 
 function exampleLines(text) {
   const joined = text.trim().replace(/\n +/g, "");
   const answers = joined.replace(/(^[0-9.#]+(\n|$))+/gm, (rows) =>
     JSON.stringify({rows: rows.trim().split("\n")}) + "\n");
-  return answers.trim().split("\n").map((line, index) => lineOf(line, index + 1));
+  return answers.trim().split("\n").map((line, index) => parseLine(line, index + 1));
 }
 
 function openExample(id) {
   for (const slot of [0, 1]) {
-    wanted[slot]++;
+    newestReading[slot]++;
     transcripts[slot] = null;
     page["files" + slot].value = "";
   }
   page.messages.replaceChildren();
   page.progress.textContent = "";
   const {text, title} = EXAMPLES[id];
-  openTranscript(0, [{name: title, lines: exampleLines(text), role: "both"}], sayer());
+  openTranscript(0, [{name: title, lines: exampleLines(text), role: "both"}], makeReporter());
   exampleShown = true;
 }
 
@@ -121,13 +121,14 @@ function listenToSlot(slot) {
 
 function listen() {
   [0, 1].forEach(listenToSlot);
-  for (const name of ["dragover", "drop"]) {   // a file beside a box must not replace the page
+  // A file that is dropped next to a box must not replace the page.
+  for (const name of ["dragover", "drop"]) {
     on(window, name, (event) => event.preventDefault());
   }
   for (const button of document.querySelectorAll("[data-example]")) {
     on(button, "click", () => openExample(button.dataset.example));
   }
-  const acts = {closer: () => zoom(true), farther: () => zoom(false), fit: whole, play,
+  const acts = {closer: () => zoom(true), farther: () => zoom(false), fit: showWhole, play,
                 save: () => save(false), saveAll: () => save(true), csv: saveCsv,
                 cumulativeCsv: saveCumulative};
   for (const [closer, farther, side] of [["wider", "narrower", "width"],

@@ -1,5 +1,5 @@
 "use strict";
-// The two pictures of the page: what is shown, where the view is, and how it is moved.
+// The two pictures of the page: what is shown, where the view is, and how it moves.
 
 /** The elements of this page, by their ids. */
 const page = Object.fromEntries([...document.querySelectorAll("[id]")].map((one) => [one.id, one]));
@@ -8,7 +8,8 @@ const on = (target, name, act, options) => target.addEventListener(name, act, op
 const SCALES = [1 / 32, 1 / 16, 1 / 8, 1 / 4, 1 / 2, 1, 2, 3, 4, 6, 8, 10, 12, 14, 16, 20, 24, 32];
 
 /** What is shown of the first and of the second picture, and of both. `comparison` is null if they
- * are not compared, and `whyNot` says why; `fit` says how the view was chosen (null: a zoom). */
+ * are not compared, and `whyNot` says why. `fit` is the function that chose the view, or null after
+ * a zoom. */
 const shown = {pictures: [null, null], plans: [null, null], runs: [null, null], greatest: 1,
                comparison: null, whyNot: "", many: false, marksHid: false, fit: null, step: 0,
                pointed: null, saved: false};
@@ -42,8 +43,8 @@ function withText(name, text) {
 
 // 1. Drawing.
 
-/** Return whether mean speeds are painted. These have no marks, since each car that has only
- * moved would be marked. */
+/** Return whether mean speeds are painted. They have no marks, since each car in a slightly
+ * different place would be marked. */
 const byMeans = () => (page.paint.value === "zoom" ? meansAreSeen(view)
   : page.paint.value === "means");
 
@@ -85,7 +86,7 @@ function drawDiagram(which, {context, width, height}) {
   if (first !== null) drawWedge(context, view, first, DIFFERS, height);
 }
 
-/** Return the road at the slider's step, under the diagram's cells. */
+/** Draw the road at the step of the slider, below the cells of the diagram. */
 function drawRoad(which, {context, width}) {
   const picture = shown.pictures[which];
   pen(context, "right");
@@ -160,25 +161,25 @@ function fillingScales() {
 
 /** Show the whole picture: with square cells of 1 to 20 pixels, or filling its box if it is too
  * long for these. */
-function begin() {
+function showSquare() {
   const filling = fillingScales();
   const most = Math.min(...filling, 20);
   const square = SCALES.findLast((one) => one <= most);
   const [scale, tall] = most < 1 ? filling : [square, square];
   Object.assign(view, {cell: 0, step: stepsShown()[0], scale, tall});
-  shown.fit = begin;
+  shown.fit = showSquare;
   settle();
 }
 
-/** Show the whole picture: it fills its box. */
-function whole() {
+/** Show the whole picture, so that it fills its box. */
+function showWhole() {
   const [scale, tall] = fillingScales();
   Object.assign(view, {cell: 0, step: stepsShown()[0], scale, tall});
-  shown.fit = whole;
+  shown.fit = showWhole;
   settle();
 }
 
-/** Show as much as before in a box of another size. */
+/** Show the same part in a box of a different size. */
 const fitAgain = () => (shown.fit ?? settle)();
 
 /** Return the next larger or smaller scale. */
@@ -199,7 +200,7 @@ function zoom(closer, x, y, side = "both") {
 }
 
 function move(cells, steps) {
-  if (shown.fit === begin) shown.fit = null;
+  if (shown.fit === showSquare) shown.fit = null;
   view.cell += cells;
   view.step += steps;
   settle();
@@ -220,7 +221,7 @@ function setStep(step) {
   askDrawing();
 }
 
-function saidOf(picture, {step, cell}) {
+function describeCell(picture, {step, cell}) {
   const sign = rowAt(picture, step)?.[cell];
   if (sign === undefined) return "no row";
   if (sign === "#") return "blocked";
@@ -232,7 +233,7 @@ function point(step, cell, byKey) {
   const [from, to] = stepsShown();
   shown.pointed = {step: Math.max(from, Math.min(to, step)),
                    cell: Math.max(0, Math.min(cellsShown() - 1, cell))};
-  const texts = picturesShown().map((picture) => saidOf(picture, shown.pointed));
+  const texts = picturesShown().map((picture) => describeCell(picture, shown.pointed));
   page.readout.setAttribute("aria-live", byKey ? "polite" : "off");
   const said = texts.length === 2 ? `first ${texts[0]}, second ${texts[1]}` : texts[0] ?? "no row";
   const {step: at, cell: place} = shown.pointed;
@@ -261,7 +262,7 @@ function onKey(event) {
   const [from, to] = stepsShown();
   const arrow = ARROWS[event.key];
   const acts = {
-    "+": () => zoom(true), "=": () => zoom(true), "-": () => zoom(false), f: whole,
+    "+": () => zoom(true), "=": () => zoom(true), "-": () => zoom(false), f: showWhole,
     PageUp: () => move(0, -height), PageDown: () => move(0, height),
     Home: () => move(0, from - view.step), End: () => move(0, to - view.step),
     d: () => page.marks.click(),
@@ -327,12 +328,13 @@ function newPane() {
 const panes = [newPane(), newPane(), newPane()];
 panes[2].strip.hidden = true;
 
-// 5. Playing: N times as fast as the road's own time; a step is a second without units.
+// 5. Playing at a multiple of real time. Without units a step is a second.
 
 let playing = 0;
 let playedFrom = {step: 0, at: 0};
 
-/** Return the step some milliseconds after another one; after the last step it begins again. */
+/** Return the step that is shown some milliseconds after a given step. After the last step playing
+ * begins again. */
 function stepAfter(step, milliseconds, rate, [from, to]) {
   const steps = Math.floor(milliseconds / 1000 * rate / (unit.given ? 60 * unit.time : 1));
   return from + (step - from + steps) % (to - from + 1);

@@ -1,5 +1,5 @@
 "use strict";
-// Which pictures are shown, how they are called, and in what two of them differ.
+// Which pictures are shown, their names, and where two of them differ.
 
 const transcripts = [null, null];
 
@@ -12,7 +12,7 @@ function offers() {
   }));
 }
 
-/** Return figures in steps or cells, and also in minutes or km if there are units. */
+/** Return texts in steps or cells, with minutes or km added if there are units. */
 const minutes = (step) => String(Number((step * unit.time).toFixed(2)));
 const withUnit = (plain, figure, name) => (unit.given ? `${plain} (${figure} ${name})` : plain);
 const stepsText = (from, to) =>
@@ -21,7 +21,7 @@ const stepText = (step) => withUnit(step, minutes(step), "min");
 const cellText = (cell) => withUnit(cell, placeText(cell, unit), "km");
 const whereText = (cell) => (unit.given ? `km ${placeText(cell, unit)}` : `cell ${cell}`);
 
-/** Return the name of a picture: whose it is, after how many changes, and its steps. */
+/** Return the name of a picture: its replica, after how many changes, and its steps. */
 function labelOf({slot, run, picture}) {
   const steps = picture ? stepsText(picture.from, lastStep(picture)) : "only counts";
   const after = run.changes === 0 ? "before any edit"
@@ -40,11 +40,11 @@ const rowsShared = (one, other) => !one.picture || !other.picture ? 0
 const bestOf = (list, better) =>
   list.reduce((best, one) => (best && !better(one, best) ? best : one), null);
 
-/** Choose two pictures. With two transcripts: the longest picture of the first, and the last of
- * the second that shares most steps with it. With one: two that share half of the longest one's
- * steps, the first and the last of a replica, before and after a change; else the longest and
- * the last. */
-function choice(all) {
+/** Choose two pictures. With two transcripts these are the longest picture of the first, and of the
+ * second transcript the last picture that shares most steps with it. With one transcript they are
+ * the first and the last picture of a replica, before and after a change, if they share at least
+ * half of the steps of the longest picture; otherwise the longest picture and the last picture. */
+function choosePictures(all) {
   const longest = bestOf(all.filter(({slot}) => slot === all[0].slot),
                          (one, best) => rowsOf(one) > rowsOf(best));
   const second = all.filter(({slot}) => slot > longest.slot);
@@ -71,12 +71,12 @@ function beforeAndAfter(all, halves) {
 
 function offerPictures() {
   const all = offers();
-  choice(all).forEach((offer, which) => {
+  choosePictures(all).forEach((offer, which) => {
     const select = page["picture" + which];
     offerIn(select, optionsOf(which));
     select.value = all.indexOf(offer);
   });
-  for (const name of SITES) page[name].replaceChildren();   // of another road
+  for (const name of SITES) page[name].replaceChildren();   // (they may be of a different road)
   showPictures();
 }
 
@@ -85,8 +85,8 @@ function optionsOf(which) {
   return which ? [new Option("none", -1), ...options] : options;
 }
 
-/** Offer choices in a select element, which keeps its choice if it can; equal choices get their
- * new names while it may be open. */
+/** Offer choices in a select element, which keeps its choice if it can. If the values are the same,
+ * only the names are replaced, because the element may be open. */
 function offerIn(select, options, wanted) {
   const values = (list) => [...list].map(({value}) => value).join("\n");
   if (values(select.options) === values(options)) {
@@ -100,7 +100,7 @@ function offerIn(select, options, wanted) {
   else if (has(wanted)) select.value = wanted;
 }
 
-const picked = () => {
+const pickedOffers = () => {
   const all = offers();
   return [0, 1].map((which) => all[Number(page["picture" + which].value)] ?? null);
 };
@@ -112,7 +112,7 @@ function setScale() {
 }
 
 function showPictures() {
-  const offered = picked();
+  const offered = pickedOffers();
   shown.pictures = offered.map((offer) => offer?.picture ?? null);
   shown.runs = offered.map((offer) => offer?.run ?? null);
   picturesShown().filter((picture) => !picture.cars).forEach(survey);
@@ -120,18 +120,18 @@ function showPictures() {
   shown.pointed = null;
   shown.plans = offered.map((offer) => offer?.transcript.plan ?? null);
   shown.whyNot = whyNotCompared();
-  shown.comparison = shown.whyNot === null ? comparison(...shown.pictures) : null;
+  shown.comparison = shown.whyNot === null ? comparePictures(...shown.pictures) : null;
   tiles.clear();
   layPanes();
   setSlider();
-  if (shown.fit === whole) whole();
-  else begin();
+  if (shown.fit === showWhole) showWhole();
+  else showSquare();
   markWhereSeen();
-  tellAll();
+  refreshTexts();
 }
 
 /** Rewrite everything that shows figures in units. */
-function tellAll() {
+function refreshTexts() {
   for (const which of [0, 1]) offerIn(page["picture" + which], optionsOf(which));
   namePanes();
   page.difference.textContent = comparisonSentence();
@@ -142,17 +142,18 @@ function tellAll() {
   askDrawing();
 }
 
-/** Return why two pictures are not compared, "" if there are not two; else null. */
+/** Return why two pictures are not compared: a sentence, or "" if there are not two. Return null if
+ * they are compared. */
 function whyNotCompared() {
   const [one, other] = shown.pictures;
   if (!one || !other) return "";
-  const part = differentPart(...shown.plans);
+  const part = findDifferentPart(...shown.plans);
   if (part) return `Not compared: the ${part} of the two plans differ.`;
   return one.length === other.length ? null
     : "Not compared: the roads have different lengths.";
 }
 
-/** Small cells are marked whole: where many differ, marks are off at first. */
+/** Switch marks off if many cells differ and cells are small: marks would cover the picture. */
 function markWhereSeen() {
   const {cells, from, to} = shown.comparison ?? {cells: 0, from: 0, to: 0};
   const hide = cells > (to - from + 1) * cellsShown() / 10 && sizeOfCell(view) < FRAMES_FROM;
@@ -183,7 +184,8 @@ function layPanes() {
 }
 
 function namePanes() {
-  const names = picked().map((offer) => offer && `${offer.transcript.name}: ${labelOf(offer)}`);
+  const names = pickedOffers().map((offer) =>
+    offer && `${offer.transcript.name}: ${labelOf(offer)}`);
   names.push("The second picture compared with the first: where its cars are slower or faster");
   names.forEach((text, which) => {
     const {caption, diagram} = panes[which];
@@ -198,18 +200,18 @@ function namePanes() {
 const MOST_EDITS = 6;
 const OF_ZONES = {limit: "limit", slow: "slowing", start: "slowing of standing cars"};
 
-/** Return how many changes of a picture the first picture has too: those of the same replica
+/** Return how many changes of a picture the first picture also has: the changes of the same replica
  * before it. */
 function changesShared(which) {
-  const [one, other] = picked();
+  const [one, other] = pickedOffers();
   const same = which === 1 && one && other && one.transcript === other.transcript
     && one.run.at === other.run.at && one.run.changes <= other.run.changes;
   return same ? one.run.changes : 0;
 }
 
-/** Return the changes edit by edit; of imports, which come first, the winning edits that are not
- * withdrawals. */
-function oneByOne(made) {
+/** Return the changes edit by edit. Of imports, which come first, these are the winning edits that
+ * are not withdrawals. */
+function listOneByOne(made) {
   const winners = new Map();
   for (const edit of made.flatMap(({edits}) => edits ?? [])) {
     const key = `${edit.kind} ${edit.index} ${edit.step}`;
@@ -220,8 +222,8 @@ function oneByOne(made) {
           ...made.filter(({edits}) => !edits)];
 }
 
-/** Return the last edit of each object and step; none if it withdraws one of these. */
-function lasting(edits) {
+/** Return the last edit of each object and step. An edit and its withdrawal are both left out. */
+function dropWithdrawn(edits) {
   const kept = new Map();
   edits.forEach((edit, turn) => {
     const {title, kind, index, step, put} = edit;
@@ -231,9 +233,9 @@ function lasting(edits) {
   return [...kept.values()];
 }
 
-/** Merge edits with one value from one step on in neighbouring zones or cells into one, with
- * `last`. */
-function joined(edits) {
+/** Merge edits of neighbouring zones or cells that set the same value from the same step on into
+ * one edit, with the index `last`. */
+function mergeNeighbours(edits) {
   const found = [];
   const newest = new Map();
   for (const edit of edits) {
@@ -278,10 +280,11 @@ function editText({title, kind, index, last, step, put}, plan) {
 /** Return what was changed on a picture's road: all changes, or those that the first picture
  * does not have. */
 function editLines(which) {
-  const offer = picked()[which];
+  const offer = pickedOffers()[which];
   if (!offer) return [];
   const shared = changesShared(which);
-  const texts = joined(lasting(oneByOne(offer.run.made.slice(shared, offer.run.changes))))
+  const changes = listOneByOne(offer.run.made.slice(shared, offer.run.changes));
+  const texts = mergeNeighbours(dropWithdrawn(changes))
     .map((edit) => editText(edit, offer.transcript.plan));
   const more = texts.length - MOST_EDITS;
   const same = `The edits of the first picture${texts.length ? ", and:" : "."}`;

@@ -1,12 +1,12 @@
 "use strict";
-// Saving the pictures as one PNG: what is seen, or all of it.
+// Save the pictures as one PNG: the visible part, or all of them.
 
 const CAPTION_HIGH = 22;
 const LEGEND_WIDE = 1100;
 const BETWEEN = 12;
 const MOST_SAVED = {side: 8_000, area: 2.5e7};   // pixels of a side, and of all pictures
 
-/** Return the scale at which N pictures are saved. */
+/** Return the scale at which some pictures are saved as a whole. */
 function scaleOfAll(cells, steps, pictures) {
   const {side, area} = MOST_SAVED;
   return SCALES.findLast((one) => one <= 4 && Math.max(cells, steps) * one <= side
@@ -24,7 +24,7 @@ function drawSaved(which, context, size) {
   if (which < 2) drawRoad(which, {context, ...size});
 }
 
-/** Return the pictures as the view shows them on one canvas, with captions and legend, cut to
+/** Return one canvas with the pictures as the view shows them, with captions and legend, cut to
  * their rows. */
 function asOneCanvas(most) {
   const fine = most ? window.devicePixelRatio : 1;
@@ -52,8 +52,8 @@ function asOneCanvas(most) {
   return canvas;
 }
 
-/** Save what is visible, or all of the pictures; without the cell that is pointed at, and
- * without grey. */
+/** Save the visible part, or all of the pictures, without the frame of the cell that is pointed at,
+ * and without grey for missing rows. */
 function save(all) {
   if (!panesShown().length) return;
   const {diagram} = panes[panesShown()[0]];

@@ -1,9 +1,9 @@
 "use strict";
-// A transcript: a script's lines and the replies to them, read from files, as runs with pictures
-// (rows) and counts. It reads no element of the page.
+// Transcripts: the lines of a script and the replies to them, read from files, as runs with
+// pictures (rows) and counts. This script does not use the elements of the page.
 //
-// linesOf(file, say, goesOn)  exchangesOf(files, say)  roleOf(lines)
-// new Transcript(name, firstStep, say).take(exchange)  differentPart(plan, other)
+// readLines(file, say, mayContinue)  listExchanges(files, say)  roleOf(lines)
+// new Transcript(name, firstStep, say).take(exchange)  findDifferentPart(plan, other)
 
 // 1. Lines. A transcript is a plan line and commands, with a reply to each.
 
@@ -11,9 +11,9 @@ const COMMANDS = ["edit", "withdraw", "import", "send", "heads", "beyond", "take
                   "cells", "cars", "count", "diagram", "scenario", "crowd"];
 const REPLY_FIELDS = ["open", "refused", "horizon", "stamp", "touched", "cells", "cars", "rows",
                       "edits", "message"];
-const MOST_TEXT = 72e6;                  // of rows is kept: eight of the greatest diagrams
-const LONGEST_LINE = 16 * 1024 * 1024;   // twice the line of the greatest diagram
-const MOST_LINES = 2_000_002;            // those of the longest run: a script's, and its replies
+const MOST_TEXT = 72e6;                  // characters of rows that are kept: eight large diagrams
+const LONGEST_LINE = 16 * 1024 * 1024;   // twice the line of the largest diagram
+const MOST_LINES = 2_000_002;            // of the longest script with its replies
 const MOST_SENTENCES = 12;
 
 const isObject = (value) =>
@@ -29,8 +29,8 @@ function kindOf(value) {
   return REPLY_FIELDS.some((field) => field in value) ? "reply" : "other";
 }
 
-/** Return a line of a file as {number, kind, value}; a value keeps only what the page shows. */
-function lineOf(text, number) {
+/** Return a line of a file as {number, kind, value}; the value has only what the page shows. */
+function parseLine(text, number) {
   try {
     const value = JSON.parse(text);
     const kind = kindOf(value);
@@ -61,7 +61,7 @@ function importedEdit([kind, index, step, count, number, put]) {
   return {kind, index, step, put: put ?? undefined, stamp: [count, number]};
 }
 
-/** Cuts text that comes in pieces into lines; a line that is too long is left out whole. */
+/** Cuts text that comes in pieces into lines. A line that is too long is left out. */
 class LineCutter {
   constructor(take, tooLong) {
     Object.assign(this, {take, tooLong, parts: [], size: 0, number: 1});
@@ -92,14 +92,14 @@ class LineCutter {
 
 const megabytes = (bytes) => Math.ceil(bytes / 1e6);
 
-/** Return the lines of a file, read piece by piece, so that the page goes on meanwhile; null if
- * another reading has begun. */
-async function linesOf(file, say, goesOn) {
+/** Return the lines of a file. It is read piece by piece, so that the page stays responsive. Return
+ * null if a newer reading has begun. */
+async function readLines(file, say, mayContinue) {
   const lines = [];
   let kept = 0;
   const tell = (number, what) => say(`${file.name}, line ${number}: ${what}`);
   const cutter = new LineCutter((text, number) => {
-    const line = lineOf(text, number);
+    const line = parseLine(text, number);
     if (line.value?.rows) kept += text.length;
     if (line.value?.rows && kept > MOST_TEXT) {
       tell(number, `rows after the first ${megabytes(MOST_TEXT)} MB are left out.`);
@@ -116,7 +116,7 @@ async function linesOf(file, say, goesOn) {
   const decoder = new TextDecoder();
   for (let read = 0, piece = await reader.read(); !piece.done; piece = await reader.read()) {
     read += piece.value.length;
-    if (!goesOn(file.name, read, file.size)) return null;
+    if (!mayContinue(file.name, read, file.size)) return null;
     cutter.add(decoder.decode(piece.value, {stream: true}));
     if (lines.length > MOST_LINES) {
       tell(MOST_LINES, "more lines than any run has: the rest is not read.");
@@ -131,16 +131,16 @@ async function linesOf(file, say, goesOn) {
 
 const isReply = (line) => line.kind === "reply";
 
-/** "script", "replies" or "both": what a file's lines are. */
+/** Return what the lines of a file are: "script", "replies" or "both". */
 function roleOf(lines) {
   if (!lines.some(isReply)) return "script";
   return lines.some((line) => line.kind === "plan" || line.kind === "command") ? "both" : "replies";
 }
 
-const zipped = (asked, answered) => asked.map((command, index) => [command, answered[index]]);
+const pairLines = (asked, answered) => asked.map((command, index) => [command, answered[index]]);
 
-/** Return the exchanges of a file that has commands and replies in turn. */
-function exchangesWithin(lines) {
+/** Return the exchanges of a file in which each command is followed by its reply. */
+function splitExchanges(lines) {
   const exchanges = [];
   let open = null;
   for (const line of lines) {
@@ -155,16 +155,16 @@ function exchangesWithin(lines) {
   return open ? [...exchanges, [open, undefined]] : exchanges;
 }
 
-/** Return the exchanges of the files of one transcript; null, after a sentence, if there are
+/** Return the exchanges of the files of one transcript. Report why and return null if there are
  * none. */
-function exchangesOf(files, say) {
+function listExchanges(files, say) {
   const by = (role) => files.filter((file) => file.role === role);
   const [both, script, replies] = ["both", "script", "replies"].map(by);
   const used = both.length ? [both[0]] : [script[0], replies[0]].filter(Boolean);
   for (const {name} of files.filter((file) => !used.includes(file))) {
     say(`${name} is left out: choose a script and its replies, or one file with both.`);
   }
-  if (both.length) return exchangesWithin(both[0].lines);
+  if (both.length) return splitExchanges(both[0].lines);
   if (!replies.length) {
     say(`${script[0].name} has no replies: choose the file of its replies together with it.`);
     return null;
@@ -174,11 +174,11 @@ function exchangesOf(files, say) {
     say(`${script[0].name} has ${script[0].lines.length} lines and ${replies[0].name} has ` +
         `${replies[0].lines.length}: do they belong together?`);
   }
-  return zipped(script[0].lines, replies[0].lines);
+  return pairLines(script[0].lines, replies[0].lines);
 }
 
-// 3. Transcripts. A run is what a replica shows between two changes of its edits; it has pictures
-// (rows of adjacent steps) and the counts of its detectors.
+// 3. Transcripts. A run is what a replica shows between two changes of its edits. It has pictures
+//    (rows of consecutive steps) and the counts of its detectors.
 
 class Transcript {
   constructor(name, firstStep, say) {
@@ -203,9 +203,10 @@ class Transcript {
     return true;
   }
 
-  /** Note a change of a replica's edits: how many there were, which was the last, and all of
-   * them; what is taken from others by its title. Imports are listed edit by edit if nothing
-   * else came before them, so that it is known which edits win. */
+  /** Note a change of a replica's edits. For each replica this keeps the number of changes,
+   * the title of the last one, and all of them. A change by a message is kept as its title.
+   * Imports are kept edit by edit if only imports came before them, because then it is known
+   * which edits win. */
   change({at, title, edit, edits}) {
     const {count, made} = this.changesOf(at);
     const isFirst = made.every((one) => one.edits);
@@ -226,7 +227,8 @@ class Transcript {
     return !fault;
   }
 
-  /** Return a command for a reply without one: rows continue those before, counts have no steps. */
+  /** Return a command for a reply without one. Its rows continue the rows before; counts have no
+   * steps. */
   guess(told) {
     if (!told.rows) return {at: "replies"};
     const run = this.runOf("replies");
@@ -284,7 +286,7 @@ class Transcript {
   }
 }
 
-/** Join rows to a run: to a picture that they are in or continue, or as a new one. */
+/** Add rows to a run: to a picture that contains or precedes them, or as a new picture. */
 function addRows(run, from, rows) {
   const joined = run.pictures.find((one) => one.from <= from && from <= one.from + one.rows.length);
   if (!joined) {
@@ -294,15 +296,16 @@ function addRows(run, from, rows) {
   rows.forEach((row, index) => { joined.rows[from - joined.from + index] = row; });
 }
 
-/** Return what must be equal in two plans for their pictures to be compared: zones cell by cell,
- * so their bounds may differ; detectors and replicas may differ too. */
+/** Return what must be equal in two plans so that their pictures can be compared. It has zones cell
+ * by cell, so their bounds may differ. Detectors and replicas may differ, too. */
 function roadOf({length, exit, inlets, words, zones, zone}) {
   const ofCells = Array.from({length}, (_, cell) => zones[Math.floor(cell / zone)]);
   return {length, exit, zones: ofCells, inlets, words};
 }
 
-/** Return the name of the first part in which the roads of two plans differ; null if none does. */
-function differentPart(one, other) {
+/** Return the name of the first part in which the roads of two plans differ; null if they are
+ * equal. */
+function findDifferentPart(one, other) {
   if (!one || !other) return null;
   const roads = [one, other].map(roadOf);
   return Object.keys(roads[0]).find((part) =>

@@ -52,7 +52,7 @@ class Request:
             try:
                 raise self.fault
             finally:
-                self.fault = None  # (else the exception and its traceback hold each other)
+                self.fault = None  # (otherwise the exception and its traceback refer to each other)
         return self.reply
 
 
@@ -136,8 +136,8 @@ class Conversation:
             return "the program gives no reason"
 
     def _start(self) -> subprocess.Popen[bytes]:
-        """Return the program, started in a session of its own, so that Ctrl-C in a terminal does not reach it. If
-        ROAD_LAB_GUARD is `setpriv --pdeathsig KILL`, the words stand before its path, and the program ends with this process."""
+        """Return the program, started in its own process session, so that Ctrl-C in a terminal does not reach it. If ROAD_LAB_GUARD is
+        `setpriv --pdeathsig KILL`, its words are put before the path of the program, and the program ends with this process."""
         with self._ending:
             if self._broken is not None:
                 raise self._cause()
@@ -152,7 +152,7 @@ class Conversation:
             return self._process
 
     def _check_silence(self, process: subprocess.Popen[bytes]) -> None:
-        """Raise LabBroken if the program has written anything unasked, and Ended if it has ended."""
+        """Raise LabBroken if the program has written anything without a request, and Ended if it has ended."""
         assert process.stdout is not None
         waiting = select.poll()
         waiting.register(process.stdout, select.POLLIN)

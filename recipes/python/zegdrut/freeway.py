@@ -114,8 +114,8 @@ def warm_up_minutes(figures: Figures) -> int:
 
 
 def with_warm_up(figures: Figures, minutes: float) -> Figures:
-    """Return the figures of a run that begins some minutes earlier, with the first demand, so that the road is not empty at the former
-    beginning. Works that are there from the beginning on also begin earlier."""
+    """Return the figures of a run that begins some minutes earlier, with the first demand, so that the road is not empty when the given
+    run would have begun. Works that last from its beginning on also begin earlier."""
     if not minutes:
         return figures
     sections = [one._replace(begin=one.begin + minutes if one.begin > 0 else 0, end=one.end + minutes) for one in figures.sections]

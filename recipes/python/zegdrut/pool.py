@@ -66,7 +66,7 @@ def serve(work: Callable[[Job], object], jobs: Sequence[Job], pipe: Connection, 
     signal.signal(signal.SIGINT, signal.SIG_IGN)
     signal.signal(signal.SIGTERM, lambda *_: sys.exit(1))
     for stranger in strangers:
-        stranger.close()  # (otherwise this process keeps pipes open on whose end others wait)
+        stranger.close()  # (otherwise this process keeps pipes open, and other processes wait for their end)
     while True:
         try:
             job = pipe.recv()

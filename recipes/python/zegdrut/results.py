@@ -18,7 +18,7 @@ from .errors import Fault
 
 Row = dict[str, Any]
 PAGE = 4_096
-"""The bytes that a reader sees written at once."""
+"""The size of a memory page in bytes. What is written within one page appears to a reader at once."""
 
 
 def to_plain(value: object) -> int | float | str | None:

@@ -66,8 +66,8 @@ def read_arguments(words: Sequence[str] | None) -> argparse.Namespace:
 
 @dataclass(frozen=True)
 class Request:
-    """What was read: the road, the road before (if there is one), the names of both, the minutes before the window, the measured counts,
-    and the default title."""
+    """A request for a report: the road, the road before (if there is one), the names of both, the minutes before the window, the measured
+    counts, and the default title."""
 
     figures: Figures
     other: Figures | None
