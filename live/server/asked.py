@@ -21,8 +21,8 @@ from .refusals import NOT_A_COMMAND, Refused, not_a_command
 
 MOST_EDITS = 1_200  # raw edits of a gesture; the program gets them as one import
 LONGEST_NAME, LONGEST_NOTE, LONGEST_KEY = 64, 200, 40
-TOLD = 3  # faults of a list that a refusal names
-LONG = 2_000  # bytes of a field; in a longer one a refusal does not show numbers as they were written, since that takes long
+MOST_FAULTS_NAMED = 3  # faults of a list that a refusal names
+LONG_FIELD = 2_000  # bytes of a field; in a longer one a refusal does not show numbers as they were written, since that takes long
 
 
 RawEdit = tuple[str, int, int, "int | None"]
@@ -86,11 +86,11 @@ class CommandFields:
 
     def _checked(self, name: str, faults: Part) -> Json:
         value = self.require(name)
-        named = list(islice(faults(value), TOLD))
+        named = list(islice(faults(value), MOST_FAULTS_NAMED))
         if named:
             text = to_json(value).encode()
             try:
-                named = list(islice(faults(value_of(text)), TOLD)) if len(text) < LONG else named  # numbers as they were written
+                named = list(islice(faults(value_of(text)), MOST_FAULTS_NAMED)) if len(text) < LONG_FIELD else named  # numbers as they were written
             except ValueError as fault:
                 named = [str(fault)]
             raise not_a_command(f"`{name}`: {'; '.join(named)}")

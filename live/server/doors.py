@@ -22,14 +22,14 @@ import ssl
 import time
 from typing import Callable, Container, Deque, Iterable, Protocol
 
-MOST_WAITING = 64  # connections in the queue of an address
+MOST_QUEUED = 64  # connections in the queue of an address
 MOST_ADDRESSES = 256  # that have a queue
 ENTRY_BURST, ENTRIES_PER_SECOND = 128, 100  # connections that may enter in a burst, and per second
 MOST_ENTERING = 64  # connections before their first bytes, or in their TLS handshake
 HANDSHAKE = 10.0  # seconds for the first bytes, and again for the handshake
 TLS_SHUTDOWN = 5.0  # seconds for the TLS shutdown
 AT_A_TIME = 256  # connections that are accepted before other work has its turn
-FEW, MANY = 64, 512  # connections without the token, of an address, and of all addresses
+MOST_UNKNOWN_OF_ADDRESS, MOST_UNKNOWN = 64, 512  # connections without the token, of an address, and of all addresses
 SHORT = 60.0  # seconds in which a connection must show the token
 LOOK_EVERY = 0.2  # seconds between two looks at connections without the token
 TOO_MANY = 0.5  # seconds until the next try if the system has no more sockets
@@ -81,7 +81,7 @@ class Doors:
         """Put a connection into the queue of its address. Close the oldest one if the queue is full."""
         queue = self._waiting.setdefault(address, collections.deque())
         queue.append(connection)
-        if len(queue) > MOST_WAITING:
+        if len(queue) > MOST_QUEUED:
             queue.popleft().close()
         if len(self._waiting) > MOST_ADDRESSES:  # drop the queue whose turn is last
             for one in self._waiting.popitem()[1]:
@@ -185,7 +185,7 @@ class Strangers:
         addresses = {one: address_of(transport) for one, transport in there.items()}
         counts = collections.Counter(addresses.values())
         for one, address in sorted(addresses.items(), key=lambda pair: self._since[pair[0]]):
-            if counts[address] > FEW or counts.total() > MANY or now - self._since[one] > SHORT:
+            if counts[address] > MOST_UNKNOWN_OF_ADDRESS or counts.total() > MOST_UNKNOWN or now - self._since[one] > SHORT:
                 counts[address] -= 1
                 there[one].abort()
 

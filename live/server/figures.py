@@ -30,18 +30,18 @@ if TYPE_CHECKING:
     from zegdrut.trips import DetectorCount, TravelTime, Trips, Window
     from zegdrut.wire import PlanLine, WrittenEdit
 
-PATIENCE = 60.0  # seconds for a question; the next one resumes where this one stopped
+QUESTION_PATIENCE = 60.0  # seconds for a question; the next one resumes where this one stopped
 REPORT_EVERY = 5.0  # seconds after which the program reports its progress
 REPORT_PATIENCE = 600.0  # seconds without a report after which the program is ended
-PIECE = 1_920  # steps that are read at a time
-MOST_ROADS = 12  # roads that are kept
+STEPS_AT_ONCE = 1_920  # steps that are read at a time
+MOST_FIGURE_ROADS = 12  # roads that are kept
 RUNNING = asyncio.Semaphore(1)
-WAITING: list[int] = []  # seats for which a road is being simulated for figures or files, or will be
-MOST_WAITING = 8
+WAITING_SEATS: list[int] = []  # seats for which a road is being simulated for figures or files, or will be
+MOST_WAITING_SEATS = 8
 NICE = 5  # the priority: below editing, above what takes longer
 GUARD = "ROAD_LAB_GUARD"  # names a command for zegdrut, so that road_lab ends with the process that started it
 SIDES = "before", "after"
-NUMBER = 64  # the number in the stamps of edits, which no replica has
+STAMP_NUMBER = 64  # the number in the stamps of edits, which no replica has
 ENTRY = 60  # steps: travel times are grouped by the minute in which the cars entered
 Q = TypeVar("Q", bound=Mapping[str, object])
 A = TypeVar("A")
@@ -58,28 +58,28 @@ FiguresAsked = TypedDict("FiguresAsked", {"roads": TwoRoads, "slots": Sequence[s
 DetectorFigures = TypedDict("DetectorFigures", {"cars": int, "speeds": int, "flow": "float | None", "speed": "float | None", "on": int})
 """What a detector counted: cars, the sum of their speeds in cells per step, flow in cars per hour, mean speed in km/h; and for how
 many seconds it was on."""
-Times = Sequence[Sequence["float | None"]]
+MeanTimes = Sequence[Sequence["float | None"]]
 """For each detector, and last for the road's end, the number of cars and their mean seconds."""
 RoadFigures = TypedDict("RoadFigures", {
     "detectors": Sequence[Sequence[int]], "flows": Sequence[DetectorFigures], "asked": Sequence[float], "entered": Sequence[int],
-    "lost": Sequence[float], "scatter": Sequence[float], "vehicle_hours": float, "travel": Times, "travel_by_entry": Mapping[str, Times]})
+    "lost": Sequence[float], "scatter": Sequence[float], "vehicle_hours": float, "travel": MeanTimes, "travel_by_entry": Mapping[str, MeanTimes]})
 """The figures of a road. `asked`, `entered`, `lost` and `scatter` are numbers of cars for each inlet."""
 FiguresTold = TypedDict("FiguresTold", {
-    "done": int, "before": RoadFigures, "after": RoadFigures, "delay_hours": float, "delayed": int, "later": Times}, total=False)
+    "done": int, "before": RoadFigures, "after": RoadFigures, "delay_hours": float, "delayed": int, "later": MeanTimes}, total=False)
 """The figures of both roads, and what the change costs; or in `done` the step up to which the roads have been read."""
 
 
 @contextlib.asynccontextmanager
 async def wait_for_slot(index: int) -> AsyncIterator[None]:
     """Wait until no other road is simulated besides the laboratory's. Raise `Refused` if the seat waits already, or too many wait."""
-    if index in WAITING or len(WAITING) >= MOST_WAITING:
+    if index in WAITING_SEATS or len(WAITING_SEATS) >= MOST_WAITING_SEATS:
         raise Refused("Busy", "the server is simulating other roads for figures or files: try again later")
-    WAITING.append(index)
+    WAITING_SEATS.append(index)
     try:
         async with RUNNING:
             yield
     finally:
-        WAITING.remove(index)
+        WAITING_SEATS.remove(index)
 
 
 class Beside(Generic[Q, A]):
@@ -130,7 +130,7 @@ class Figures(Beside[FiguresAsked, FiguresTold]):
 
     async def compute(self, index: int, roads: TwoRoads, slots: Sequence[str]) -> FiguresTold:
         """Return the figures that a seat asks for. Raise `Refused` if they take too long, or others are waiting for theirs."""
-        until = time.monotonic() + PATIENCE
+        until = time.monotonic() + QUESTION_PATIENCE
         async with wait_for_slot(index):
             while True:
                 said = await self.ask({"roads": roads, "slots": slots, "seconds": REPORT_EVERY}, roads["program"])
@@ -180,7 +180,7 @@ class DrivenRoad:
         if not keys:
             return
         self._count += 1
-        for line in import_lines("road", [(*key, self._count, NUMBER, edits.get(key)) for key in sorted(keys)]):
+        for line in import_lines("road", [(*key, self._count, STAMP_NUMBER, edits.get(key)) for key in sorted(keys)]):
             self.lab.ask(line)
         self.trips.rewind(min(step for _, _, step in keys))
         self.edits = edits
@@ -188,7 +188,7 @@ class DrivenRoad:
     def read(self, to: int, until: float) -> None:
         """Simulate and read the road up to a row, or until the monotonic clock passes `until`."""
         while self.trips.horizon < to and time.monotonic() < until:
-            end = min(to, self.trips.horizon + PIECE)
+            end = min(to, self.trips.horizon + STEPS_AT_ONCE)
             self.lab.command("advance", "road", to=end)
             self.trips.follow(self.lab, "road", end)
 
@@ -220,10 +220,10 @@ def edits_of(rows: Sequence[WrittenEdit]) -> EditValues:
 def to_edits(edits: EditValues) -> list[Edit]:
     """Return edits in the form of the package zegdrut."""
     from zegdrut import Edit, Stamp
-    return [Edit((kind, index), step, Stamp(1, NUMBER), value) for (kind, index, step), value in edits.items()]
+    return [Edit((kind, index), step, Stamp(1, STAMP_NUMBER), value) for (kind, index, step), value in edits.items()]
 
 
-def travel_times(times: Sequence[TravelTime]) -> Times:
+def travel_times(times: Sequence[TravelTime]) -> MeanTimes:
     """Return travel times in the form of a reply."""
     return [[one.cars, one.mean] for one in times]
 
@@ -264,7 +264,7 @@ class Roads:
             road.lab.close()
             road = None
         self._roads[slot] = road = road or DrivenRoad(plan)
-        while len(self._roads) > MOST_ROADS:
+        while len(self._roads) > MOST_FIGURE_ROADS:
             self._roads.popitem(last=False)[1].lab.close()
         return road
 

@@ -6,7 +6,7 @@ from typing import Mapping, Sequence, TypedDict
 from zegdrut.wire import PlanLine, WrittenEdit
 
 from .chance import FigureTold
-from .figures import DetectorFigures, RoadFigures, Times
+from .figures import DetectorFigures, RoadFigures, MeanTimes
 from .lines import Act, Line
 from .model.operations import Json, Shape, Stamp
 from .peers import BrokerState
@@ -36,7 +36,7 @@ Frame = TypedDict("Frame", {
     "changes": Sequence[Act], "operations": Sequence[Held], "horizon": int, "cells": str, "rows": Sequence[str],
     "cars": Json, "speeds": int, "edits": Sequence[WrittenEdit], "sums": Sequence[int], "flows": Sequence[DetectorFigures],
     "counts": Json, "from": int, "to": int, "before": RoadFigures, "after": RoadFigures, "delay_hours": float,
-    "delayed": int, "later": Times, "days": int, "stopped": bool, "figures": Sequence[FigureTold], "lines": str, "html": str, "csv": str,
+    "delayed": int, "later": MeanTimes, "days": int, "stopped": bool, "figures": Sequence[FigureTold], "lines": str, "html": str, "csv": str,
     "own": int, "numbers": Sequence[BoundSite], "points": Sequence["tuple[int, float]"], "capacity": float, "now": int,
     "news": NewsFrame, "pong": Json, "broker": BrokerState, "trouble": "str | None", "program": Mapping[str, int]}, total=False)
 """The fields of all replies and news. Each frame has some of them."""

@@ -29,7 +29,7 @@ from .entries import CannotStart as CannotStart, CorruptJournal as CorruptJourna
 from .entries import journal_line as journal_line, to_json as to_json, read_entries as read_entries
 
 JOURNAL = "journal.jsonl"
-LINES_AT_ONCE = 1_000
+WRITTEN_AT_ONCE = 1_000
 ROOM = 262_144  # bytes that must fit on the disk before it counts as writable; no gesture is longer
 NICE = 5  # the priority of the process that shortens a journal, below editing
 LAST_WAIT = 5.0  # seconds that the end of the server waits for the disk
@@ -161,7 +161,7 @@ def fork_writer(path: Path, entries: Callable[[], Iterable[JournalLine]]) -> int
 def journal_lines(entries: Iterable[JournalLine]) -> Iterator[bytes]:
     """Yield the lines of entries, in blocks of many lines."""
     several = iter(entries)
-    while part := list(itertools.islice(several, LINES_AT_ONCE)):
+    while part := list(itertools.islice(several, WRITTEN_AT_ONCE)):
         yield b"".join(journal_line(to_json(entry), True) for entry in part)
 
 

@@ -36,7 +36,7 @@ from .supervised import supervise
 from .turns import MORE, Job, More, Turns
 
 MOST_UNDOABLE = 20  # newest private operations of a seat, which are never forgotten
-LONGEST_PAUSE = 60.0  # seconds between two tries of a disk that refuses writes
+LONGEST_DISK_PAUSE = 60.0  # seconds between two tries of a disk that refuses writes
 STALLS = 5.0  # seconds without an answer of the disk after which the page says so
 A_MOMENT = 1.0  # seconds that a try of the disk may keep others waiting
 SHARED = 0
@@ -245,7 +245,7 @@ class Keeper:
                 await self.turns.ask(SHARED, self.require_writable)
                 return
             await asyncio.sleep(pause)
-            pause = min(LONGEST_PAUSE, 2 * pause)
+            pause = min(LONGEST_DISK_PAUSE, 2 * pause)
 
     def clock(self) -> Clock:
         """Return the clock: the present step, the steps per second, and the step at which a fast clock stops."""

@@ -30,12 +30,12 @@ from .supervised import supervise
 from .timing import Timing
 from .writing import Write, wait_until_written
 
-MOST_TOLD = 200  # operations in the reply to a take
+MOST_IN_TAKE = 200  # operations in the reply to a take
 LOOKED_AT = 500  # operations that are looked at for news
 LIST_AT_ONCE = 0.02  # seconds for the lines of a reply; the page asks for the remaining lines
 MOST_BLOCKED = 5  # operations that undo skips, in a reply
 
-Reply = Mapping[str, object]
+ReplyFields = Mapping[str, object]
 """The fields of a reply to a tab."""
 NewsReply = TypedDict("NewsReply", {"size": int, "from": "list[str]", "shares": "list[dict[str, Json]]", "changes": "list[Act]"})
 Called = Union[Stamp, str]  # a stamp, or the key of an operation of the seat
@@ -96,7 +96,7 @@ class Lab:
     # Operations
 
     async def put_shape(self, index: int, times: Times, *, key: str, note: str, shape: Shape, demand: float | None = None,
-                        is_planned: bool = False) -> Reply:
+                        is_planned: bool = False) -> ReplyFields:
         """Put a shape on top of all. `demand` is what an inflow chance stands for, in cars per hour; it `is_planned` if it is the demand
         of the road's file."""
         self._checks.check_shape(shape)
@@ -104,7 +104,7 @@ class Lab:
         return await self._make(index, key, note, times, lambda seat, stamp, about: put(stamp, shape, add_fields(about, more)))
 
     async def change_line(self, index: int, times: Times, *, key: str, note: str, line: Called, shape: Shape | None,
-                          top: bool, demand: float | None = None) -> Reply:
+                          top: bool, demand: float | None = None) -> ReplyFields:
         """Change the shape of a line, or withdraw the line if `shape` is None. It keeps its height unless `top` is true."""
         if shape is not None:
             self._checks.check_shape(shape)
@@ -115,13 +115,13 @@ class Lab:
             return change(seat.road, stamp, changed, shape, top, add_fields(about, written_demand(said)))
         return await self._make(index, key, note, times, make_operation)
 
-    async def lift_line(self, index: int, times: Times, *, key: str, note: str, line: Called) -> Reply:
+    async def lift_line(self, index: int, times: Times, *, key: str, note: str, line: Called) -> ReplyFields:
         """Put a line on top, with its present shape."""
         return await self._make(index, key, note, times, lambda seat, stamp, about: lift(
             stamp, self._find_line(seat, line), about))
 
     async def put_edits(self, index: int, times: Times, *, key: str, note: str, edits: Sequence[RawEdit],
-                        shape: Shape | None = None) -> Reply:
+                        shape: Shape | None = None) -> ReplyFields:
         """Put raw edits. `shape` is only shown, and has no effect."""
         values: dict[RawName, int | None] = {(kind, thing, step): value for kind, thing, step, value in edits}
         for name, value in values.items():
@@ -129,7 +129,7 @@ class Lab:
         return await self._make(index, key, note, times, lambda seat, stamp, about: edit(
             stamp, values, About(about.who, about.note, about.when, shape)))
 
-    async def undo(self, index: int, times: Times, *, key: str, note: str, stamp: Called) -> Reply:
+    async def undo(self, index: int, times: Times, *, key: str, note: str, stamp: Called) -> ReplyFields:
         """Undo an operation."""
         def make_operation(seat: SeatReplica, new: Stamp, about: About) -> Operation:
             undone = self._find_operation(seat, stamp)
@@ -138,7 +138,7 @@ class Lab:
             return undo(new, undone, about)
         return await self._make(index, key, note, times, make_operation)
 
-    async def put_again(self, index: int, times: Times, *, key: str, stamp: Called) -> Reply:
+    async def put_again(self, index: int, times: Times, *, key: str, stamp: Called) -> ReplyFields:
         """Repeat what an operation did to its lines, on top of all."""
         def make_operation(seat: SeatReplica, new: Stamp, about: About) -> Operation:
             old = self._find_operation(seat, stamp)
@@ -147,7 +147,7 @@ class Lab:
             return repeat(seat.road, new, old, About(about.who, old.about.note, about.when, old.about.shape, old.about.more))
         return await self._make(index, key, "", times, make_operation)
 
-    async def exclude_site(self, index: int, times: Times, *, key: str, note: str, site: int, out: bool) -> Reply:
+    async def exclude_site(self, index: int, times: Times, *, key: str, note: str, site: int, out: bool) -> ReplyFields:
         """Ignore all past and future operations of a site if `out` is true; otherwise include them again."""
         if site == self.state.site:
             raise Refused("OwnSite", f"site {site} cannot exclude itself: another site must do it")
@@ -191,9 +191,9 @@ class Lab:
         later = sorted({other.about.who for other in by if other.names or other.excludes})
         return f"{' and '.join(later)} changed its line since" if later else "nothing of this change is in force any more"
 
-    async def _make(self, index: int, key: str, note: str, times: Times, make_operation: MakeOperation) -> Reply:
+    async def _make(self, index: int, key: str, note: str, times: Times, make_operation: MakeOperation) -> ReplyFields:
         """Make an operation, at most one for each key. Return the reply when the operation is on the disk."""
-        async def make(write: Write) -> Reply:
+        async def make(write: Write) -> ReplyFields:
             seat = self.seating.require_owned(index)
             if key in seat.done:  # a tab sends a key again after a lost connection: confirm the operation that it made then
                 write.dones.extend(self._pending.get((index, key), ()))
@@ -268,7 +268,7 @@ class Lab:
         seat.begin_list()
         return seat.version
 
-    def list_of(self, replica: Replica, version: int) -> Reply:
+    def list_of(self, replica: Replica, version: int) -> ReplyFields:
         """Return the lines that have changed since a version of the list, and what undo and redo would do."""
         marks = replica.begin_list()
         lines, after = Lister(self.state, replica).lines_since(marks, version - replica.begun, LIST_AT_ONCE)
@@ -277,14 +277,14 @@ class Lab:
                 "more": after is not None, "undo": found.undo and found.undo.stamp, "redo": found.redo and found.redo.stamp,
                 "blocked": self._blocked(replica.road, found.blocked)}
 
-    def _blocked(self, road: Road, some: list[Operation]) -> list[Reply]:
+    def _blocked(self, road: Road, some: list[Operation]) -> list[ReplyFields]:
         """Return the seat's operations that undo skips, each with the names of those who changed its line since."""
         return [{"stamp": one.stamp, "by": sorted({other.about.who for other in find_overruling(road, one)
                                                    if other.stamp[1] != one.stamp[1]})} for one in some[:MOST_BLOCKED]]
 
     # What is shared
 
-    async def share(self, index: int, times: Times, *, stamps: set[Stamp] | None, title: str) -> Reply:
+    async def share(self, index: int, times: Times, *, stamps: set[Stamp] | None, title: str) -> ReplyFields:
         """Share the operations of a seat with these stamps; without stamps all that have an effect."""
         async def make(write: Write) -> tuple[list[Stamp], int | None]:
             seat, shared = self.seating.require_owned(index), self.state.shared
@@ -303,9 +303,9 @@ class Lab:
             self.keeper.listeners.shared.notify(touched)
         return {"message": "shared", "size": len(found), "stamps": found, "touched": touched}
 
-    async def take(self, index: int, times: Times) -> Reply:
+    async def take(self, index: int, times: Times) -> ReplyFields:
         """Take all operations that have been shared so far."""
-        async def make(write: Write) -> Reply:
+        async def make(write: Write) -> ReplyFields:
             seat = self.seating.require_owned(index)
             await write.require_writable()
             version, before, upto = self._list_version(seat), seat.road, seat.upto
@@ -317,7 +317,7 @@ class Lab:
             edits = await self.keeper.differences.between(before, seat.road, (shared.upto(upto), shared.upto(seat.upto)))
             lister = Lister(self.state, seat)
             return {"touched": first_step(edits), "size": len(came),
-                    "changes": [lister.operation(one, None) for one in came[-MOST_TOLD:]], **self.list_of(seat, version)}
+                    "changes": [lister.operation(one, None) for one in came[-MOST_IN_TAKE:]], **self.list_of(seat, version)}
         return await self._write(index, make, times, takes_long=True)
 
     def unseen_shares(self, index: int, most: int) -> NewsReply:

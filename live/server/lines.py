@@ -12,8 +12,8 @@ from .model.road import Road, parts_of, is_standing
 from .model.seen import Rectangle, find_overruled, visible_rectangles
 from .state import Replica, SeatReplica, State
 
-SITE = "site"  # the kind of a line that excludes a site
-NONE: frozenset[Operation] = frozenset()
+SITE_KIND = "site"  # the kind of a line that excludes a site
+NO_OPERATIONS: frozenset[Operation] = frozenset()
 
 Act = TypedDict("Act", {
     "stamp": Stamp, "who": str, "note": str, "when": float, "does": str, "shared": bool, "undoes": "Stamp | None", "lost": "Stamp | None",
@@ -33,7 +33,7 @@ class Lister:
 
     def __init__(self, state: State, replica: Replica, road: Road | None = None) -> None:
         self._places, self._road = state.shared.places, road or replica.road
-        self._idle: AbstractSet[Operation] = replica.idle if isinstance(replica, SeatReplica) else NONE
+        self._idle: AbstractSet[Operation] = replica.idle if isinstance(replica, SeatReplica) else NO_OPERATIONS
 
     def line(self, line: Stamp) -> Line:
         """Return a line of the list. A line that was put and withdrawn again before it was shared is gone."""
@@ -75,7 +75,7 @@ class Lister:
     def kind(self, line: Stamp, done: list[Operation]) -> str | None:
         """Return the kind of a line; None if its raw edits have several kinds, or if the kind is not known."""
         if self._excluded_by(done) is not None:
-            return SITE
+            return SITE_KIND
         kinds = {shape.kind for one in done for name, shape in one.sets.items() if shape is not None and (
             name == line or is_raw(name) and line in (one.stamp, one.heights.get(name)))}
         return kinds.pop() if len(kinds) == 1 else None
@@ -84,7 +84,7 @@ class Lister:
         """Return the shape of a line; for raw edits the shape as which they were drawn, if all of them are still in force."""
         site = self._excluded_by(done)
         if site is not None:
-            return Shape(SITE, site, site, 0, None, 1) if self._is_standing(line, done) else None
+            return Shape(SITE_KIND, site, site, 0, None, 1) if self._is_standing(line, done) else None
         if line in self._road.layers:
             layer = self._road.layers[line]
             return Shape(layer.kind, layer.first, layer.last, layer.begin, self.shape_end(line), layer.value)

@@ -20,10 +20,10 @@ from zegdrut.wire import WrittenEdit
 from .journal import to_json
 
 LONGEST_REPLY = 1 << 26
-PIECE = 1_200  # edits of an import, so that its line has at most 65,536 bytes
+IMPORT_EDITS = 1_200  # edits of an import, so that its line has at most 65,536 bytes
 STEPS = 2_000  # steps that are simulated at a time, so that other seats get their turn
 IDLE_PATIENCE = 10.0  # seconds without processor time after which a program that owes an answer is ended
-LOOKS = 8  # how often the program is looked at in that time
+LOOKS_AT_IDLE = 8  # how often the program is looked at in that time
 LONG_ROAD = 4_096  # cells from which on two threads are faster than one; more than two are not, on a machine that does other work
 
 
@@ -49,8 +49,8 @@ def command_ending_with_parent(command: list[str]) -> list[str]:
 
 def import_lines(at: str, edits: Sequence[WrittenEdit]) -> list[dict[str, object]]:
     """Return the lines that import edits into the replica `at`."""
-    return [{"import": {"at": at, "edits": edits[begin:begin + PIECE], "form": 2}}
-            for begin in range(0, len(edits), PIECE)]
+    return [{"import": {"at": at, "edits": edits[begin:begin + IMPORT_EDITS], "form": 2}}
+            for begin in range(0, len(edits), IMPORT_EDITS)]
 
 
 class Program:
@@ -97,11 +97,11 @@ class Program:
         """While the program owes an answer, look at intervals whether it does anything. End it if it hangs."""
         now = self._find_progress()
         idle = idle + 1 if now == before else 0
-        if idle >= LOOKS:
+        if idle >= LOOKS_AT_IDLE:
             self._fault = f"the program did not answer and used no processor time for {IDLE_PATIENCE:g} seconds"
             self.kill()
         else:
-            self._watch = asyncio.get_running_loop().call_later(IDLE_PATIENCE / LOOKS, self._look, now, idle)
+            self._watch = asyncio.get_running_loop().call_later(IDLE_PATIENCE / LOOKS_AT_IDLE, self._look, now, idle)
 
     def _find_progress(self) -> object:
         """Return a value that changes when the program has done something."""

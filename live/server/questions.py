@@ -18,7 +18,7 @@ from .figures import DetectorFigures, TwoDemands, TwoRoads
 from .journal import to_json
 from .keeper import SHARED, Times
 from .lab import Lab
-from .lab import Reply as Fields
+from .lab import ReplyFields as Fields
 from .lines import Line, Lister
 from .model.changes import all_lines, find_altered_lines
 from .model.choices import sendable
@@ -39,7 +39,7 @@ MOST_ROWS, MOST_BYTES = 1_024, 1_100_000  # rows in a reply, and their bytes
 MOST_COUNTS = 4_096
 MINUTE = 60  # steps
 MOST_MINUTES = 120  # in a query of sums
-LINES_AT_ONCE = 128
+ASKED_AT_ONCE = 128
 MOST_AGAIN = 16  # times that a query begins again because its road has changed
 PIECE_OF_LIST = 1_000_000  # bytes, approximately, of operations in a reply
 LINES_FOR = 0.02  # seconds for making lines until others get their turn
@@ -193,7 +193,7 @@ class Questions:
 
         async def body() -> More | None:
             if len(found) < len(lines):
-                found.extend(await road.say_all(lines[len(found):len(found) + LINES_AT_ONCE], times))
+                found.extend(await road.say_all(lines[len(found):len(found) + ASKED_AT_ONCE], times))
             return MORE if len(found) < len(lines) else None
         mark = await self._of_one_road(road, found, body)
         if isinstance(road, Side):

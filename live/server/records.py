@@ -175,11 +175,11 @@ def pairs_format(read_key: Callable[[Json], T], write_key: Callable[[T], Json]) 
     return field_format(read_all, write_all)
 
 
-TEXT, TIME, NUMBER = unconverted(read_string), unconverted(read_time), unconverted(read_number)
-SEAT, SITE, STEP = count_format(MOST_SEATS - 1, "seat"), count_format(1_023, "site"), count_format(1 << 30, "step")
+TEXT_FORMAT, TIME_FORMAT, NUMBER_FORMAT = unconverted(read_string), unconverted(read_time), unconverted(read_number)
+SEAT_FORMAT, SITE_FORMAT, STEP_FORMAT = count_format(MOST_SEATS - 1, "seat"), count_format(1_023, "site"), count_format(1 << 30, "step")
 COUNT, PLACE = count_format(GREATEST_COUNT, "count"), count_format(1 << 40, "place")
 STAMPS = list_format(read_stamp, lambda stamp: [*stamp])
-SHARED, UNSENT = (unconverted(lambda value: value is True, name) for name in ("shared", "unsent"))
+SHARED_FORMAT, UNSENT_FORMAT = (unconverted(lambda value: value is True, name) for name in ("shared", "unsent"))
 
 
 # Entries
@@ -190,8 +190,8 @@ class Folder(Entry):
 
     kind = "lab"
     plan: PlanLine = field(metadata=field_format(read_plan_line, write_plan))
-    site: int = field(metadata=SITE)
-    folder: str = field(metadata=TEXT)
+    site: int = field(metadata=SITE_FORMAT)
+    folder: str = field(metadata=TEXT_FORMAT)
     form: int = field(default_factory=lambda: JOURNAL_FORM, metadata=form(*FORMER_FORMS, JOURNAL_FORM))
 
     def apply(self, state: State) -> None:
@@ -214,9 +214,9 @@ class Clock(Entry):
     """The clock: the steps per second, the present step, and the step at which a fast clock stops."""
 
     kind = "clock"
-    rate: float = field(metadata=NUMBER)
-    now: int = field(metadata=STEP)
-    stop: int | None = field(default=None, metadata=STEP)
+    rate: float = field(metadata=NUMBER_FORMAT)
+    now: int = field(metadata=STEP_FORMAT)
+    stop: int | None = field(default=None, metadata=STEP_FORMAT)
 
     def apply(self, state: State) -> None:
         state.rate, state.now, state.stop = self.rate, self.now, self.stop
@@ -228,10 +228,10 @@ class SeatGiven(Entry):
     operations it has taken."""
 
     kind = "seat"
-    seat: int = field(metadata=SEAT)
-    name: str = field(metadata=TEXT)
-    key: str = field(metadata=TEXT)
-    when: float = field(metadata=TIME)
+    seat: int = field(metadata=SEAT_FORMAT)
+    name: str = field(metadata=TEXT_FORMAT)
+    key: str = field(metadata=TEXT_FORMAT)
+    when: float = field(metadata=TIME_FORMAT)
     count: int = field(default=0, metadata=COUNT)
     upto: int = field(default=0, metadata=PLACE)
 
@@ -247,8 +247,8 @@ class SeatUsed(Entry):
     """A seat last had a tab at this time."""
 
     kind = "left"
-    seat: int = field(metadata=SEAT)
-    when: float = field(metadata=TIME)
+    seat: int = field(metadata=SEAT_FORMAT)
+    when: float = field(metadata=TIME_FORMAT)
 
     def apply(self, state: State) -> None:
         state.seats[self.seat].used = self.when
@@ -259,7 +259,7 @@ class SeatFreed(Entry):
     """A seat was freed. `count` is the greatest count in its stamps."""
 
     kind = "free"
-    seat: int = field(metadata=SEAT)
+    seat: int = field(metadata=SEAT_FORMAT)
     count: int = field(default=0, metadata=COUNT)
 
     def apply(self, state: State) -> None:
@@ -271,12 +271,12 @@ class Made(Entry):
     """A seat made an operation. If `is_shared`, it is on the shared road, too; if `is_unsent`, other sites may not have it."""
 
     kind = "made"
-    seat: int = field(metadata=SEAT)
+    seat: int = field(metadata=SEAT_FORMAT)
     operation: Operation = field(metadata=field_format(read_operation, Operation.written))
-    key: str | None = field(default=None, metadata=TEXT)
-    is_shared: bool = field(default=False, metadata=SHARED)
-    is_unsent: bool = field(default=False, metadata=UNSENT)
-    title: str = field(default="", metadata=TEXT)
+    key: str | None = field(default=None, metadata=TEXT_FORMAT)
+    is_shared: bool = field(default=False, metadata=SHARED_FORMAT)
+    is_unsent: bool = field(default=False, metadata=UNSENT_FORMAT)
+    title: str = field(default="", metadata=TEXT_FORMAT)
 
     def apply(self, state: State) -> None:
         seat, one = state.seats[self.seat], state.intern(self.operation)
@@ -292,7 +292,7 @@ class StampedAnew(Entry):
     """Private operations of a seat got new stamps, since the clock was wrong when they were made."""
 
     kind = "restamp"
-    seat: int = field(metadata=SEAT)
+    seat: int = field(metadata=SEAT_FORMAT)
     stamps: Mapping[Stamp, Stamp] = field(metadata=pairs_format(read_stamp, lambda stamp: [*stamp]))
 
     def apply(self, state: State) -> None:
@@ -304,11 +304,11 @@ class Share(Entry):
     """A seat shared private operations."""
 
     kind = "share"
-    seat: int = field(metadata=SEAT)
+    seat: int = field(metadata=SEAT_FORMAT)
     stamps: Sequence[Stamp] = field(metadata=STAMPS)
-    who: str = field(default="", metadata=TEXT)
-    title: str = field(default="", metadata=TEXT)
-    when: float = field(default=0, metadata=TIME)
+    who: str = field(default="", metadata=TEXT_FORMAT)
+    title: str = field(default="", metadata=TEXT_FORMAT)
+    when: float = field(default=0, metadata=TIME_FORMAT)
 
     def apply(self, state: State) -> None:
         wanted = set(self.stamps)
@@ -323,10 +323,10 @@ class Came(Entry):
 
     kind = "came"
     operations: Sequence[Operation] = field(metadata=list_format(read_operation, Operation.written))
-    who: str = field(default="", metadata=TEXT)
-    title: str = field(default="", metadata=TEXT)
-    when: float = field(default=0, metadata=TIME)
-    is_unsent: bool = field(default=False, metadata=UNSENT)
+    who: str = field(default="", metadata=TEXT_FORMAT)
+    title: str = field(default="", metadata=TEXT_FORMAT)
+    when: float = field(default=0, metadata=TIME_FORMAT)
+    is_unsent: bool = field(default=False, metadata=UNSENT_FORMAT)
 
     def apply(self, state: State) -> None:
         fresh = state.hold_shared([*map(state.intern, self.operations)], self.is_unsent, self.title)
@@ -338,7 +338,7 @@ class Take(Entry):
     """A seat took the first `upto` operations of the shared road."""
 
     kind = "take"
-    seat: int = field(metadata=SEAT)
+    seat: int = field(metadata=SEAT_FORMAT)
     upto: int = field(metadata=PLACE)
 
     def apply(self, state: State) -> None:
@@ -362,8 +362,8 @@ class Bound(Entry):
     """A site's number was bound to a folder; an empty folder revokes the binding."""
 
     kind = "bound"
-    site: int = field(metadata=SITE)
-    folder: str = field(metadata=TEXT)
+    site: int = field(metadata=SITE_FORMAT)
+    folder: str = field(metadata=TEXT_FORMAT)
 
     def apply(self, state: State) -> None:
         state.bound[self.site] = self.folder
@@ -374,7 +374,7 @@ class Keys(Entry):
     """The stamps of a seat's operations by their keys."""
 
     kind = "done"
-    seat: int = field(metadata=SEAT)
+    seat: int = field(metadata=SEAT_FORMAT)
     keys: Mapping[str, Stamp] = field(metadata=pairs_format(str, str))
 
     def apply(self, state: State) -> None:
@@ -386,9 +386,9 @@ class News(Said):
     """Operations that were shared together: `size` is their number, `upto` how many the shared road had afterwards."""
 
     upto: int = field(metadata=PLACE)
-    who: str = field(metadata=TEXT)
-    title: str = field(metadata=TEXT)
-    when: float = field(metadata=TIME)
+    who: str = field(metadata=TEXT_FORMAT)
+    title: str = field(metadata=TEXT_FORMAT)
+    when: float = field(metadata=TIME_FORMAT)
     size: int = field(metadata=PLACE)
 
     def reply_fields(self) -> dict[str, Json]:

@@ -23,7 +23,7 @@ if TYPE_CHECKING:
 
 DAYS = 5
 NICE = 8
-PATIENCE = 600.0
+REPORT_PATIENCE = 600.0
 MOST_DATES = 12  # changes of a demand that a sentence lists; if there are more, the chart shows them
 ReportAsked = TypedDict("ReportAsked", {
     "roads": figures.TwoRoads, "title": str, "works": Sequence[str], "names": Sequence[str], "clock": Sequence["str | None"], "days": int})
@@ -37,10 +37,10 @@ async def make_report(index: int, asked: ReportAsked) -> str:
             *figures.command_at_low_priority(__name__, NICE), stdin=asyncio.subprocess.PIPE, stdout=asyncio.subprocess.PIPE, 
             env=figures.environment(asked["roads"]["program"]), start_new_session=True, cwd=LIVE)
         try:
-            async with asyncio.timeout(PATIENCE):
+            async with asyncio.timeout(REPORT_PATIENCE):
                 out, _ = await process.communicate(to_json(asked).encode())
         except asyncio.TimeoutError:
-            raise Refused("TooLong", f"the report took more than {PATIENCE:.0f} seconds: choose a shorter period") from None
+            raise Refused("TooLong", f"the report took more than {REPORT_PATIENCE:.0f} seconds: choose a shorter period") from None
         finally:
             if process.returncode is None:  # nobody waits for it any more
                 figures.kill(process)
@@ -59,16 +59,16 @@ def sides_of(asked: ReportAsked) -> list[Side]:
     found, last = [], asked["roads"]["last"]
     plan = asked["roads"]["plan"].copy()
     plan["replicas"] = ["A"]
-    both = edits_of(asked["roads"])
+    both = both_edits(asked["roads"])
     known = asked["roads"]["demands"]
     for edits, name, demands in zip(both, asked["names"], (known["before"], known["after"])):
-        lines: list[Fields] = [*import_lines("A", [(*key, 1, figures.NUMBER, value) for key, value in sorted(edits.items())]),
+        lines: list[Fields] = [*import_lines("A", [(*key, 1, figures.STAMP_NUMBER, value) for key, value in sorted(edits.items())]),
                                {"advance": {"at": "A", "to": last}}]
         found.append(Side(name, Script(plan, lines), compute_demands(plan, figures.to_edits(edits), last, asked=demands)))
     return found if both[0] != both[1] else found[1:]
 
 
-def edits_of(roads: figures.TwoRoads) -> list[figures.EditValues]:
+def both_edits(roads: figures.TwoRoads) -> list[figures.EditValues]:
     """Return the edits of the roads before and after the change."""
     return [figures.edits_of(roads["before"]), figures.edits_of(roads["after"])]
 
@@ -152,7 +152,7 @@ def make_page(asked: ReportAsked) -> str:
     clock, seed = Clock.read(*asked["clock"]), plan["words"]
     sides = sides_of(asked)
     days = run_sides(sides, [seed] if not isinstance(seed, int) else list(range(seed, seed + asked["days"])), window)
-    closed = [closures_of(edits, window.last) for edits in edits_of(roads)]
+    closed = [closures_of(edits, window.last) for edits in both_edits(roads)]
     return format_page(Contents(
         title=asked["title"], facts=facts_of(roads, sides[-1], clock), works=asked["works"], notes=[], clock=clock, window=window,
         length=plan["length"], detectors=plan["detectors"], sides=sides, days=days, rows=make_table(sides, days, window), seed=seed,

@@ -19,7 +19,7 @@ from .turns import Job, More
 
 SIDES = ("before", "after")
 MOST_PREVIEWS = 4  # previews with a program; to make room, the least recently used one is dropped
-UNUSED = 600.0  # seconds without a query after which a preview is dropped
+PREVIEW_UNUSED = 600.0  # seconds without a query after which a preview is dropped
 LET_GO = "the two roads of this preview were dropped"
 T = TypeVar("T")
 
@@ -195,7 +195,7 @@ class Previews:
         running = sorted((one for at, one in self._of.items() if one.is_idle and at != index), key=lambda one: one.used)
         for one in running[:max(0, len(running) + 1 - MOST_PREVIEWS)]:
             one.close()
-        before = time.monotonic() - UNUSED
+        before = time.monotonic() - PREVIEW_UNUSED
         for at in [at for at, one in self._of.items() if one.used < before and at != index]:
             self.put(at, None)
         if index not in self._of:

@@ -19,7 +19,7 @@ MOST = 64_000_000  # bytes of rows in a transcript
 MOST_PIECE = 1_000_000  # bytes of a piece of a transcript, approximately
 EACH = 60  # steps of a count
 MOST_SAVED = 4  # transcripts that are kept at a time, for the tabs that fetch them
-UNUSED = 60.0  # seconds after which a transcript that is not fetched is dropped
+TRANSCRIPT_UNUSED = 60.0  # seconds after which a transcript that is not fetched is dropped
 LONGEST_REPLICA = 64  # bytes of a replica's name
 
 
@@ -75,7 +75,7 @@ class Saved:
     def make_room(self, index: int) -> None:
         """Make room for a new transcript of a seat. Raise `Refused` if other seats are fetching too many."""
         self.drop(index)
-        before = self._clock() - UNUSED
+        before = self._clock() - TRANSCRIPT_UNUSED
         self._of = {one: (pieces, used) for one, (pieces, used) in self._of.items() if used > before}
         if len(self._of) >= MOST_SAVED:
             raise Refused("Busy", f"{MOST_SAVED} other users are saving transcripts: try again later")

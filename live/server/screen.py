@@ -13,14 +13,14 @@ from .model.projection import Edits, difference, difference_like
 from .model.road import Road
 from .program import Program, import_lines
 
-NUMBER = 64  # the number in all stamps that the program gets; no replica has it
+STAMP_NUMBER = 64  # the number in all stamps that the program gets; no replica has it
 MOST_INLINE = 64  # layers of two roads whose difference is computed in the event loop; if there are more, in a thread
 MOST_DIFFERENCES = 16  # differences
 
 
 def rows_of(edits: Edits, count: int = 1) -> list[WrittenEdit]:
     """Return edits as rows of an import. Their stamps have a meaning only for the program."""
-    return [(kind, index, step, count, NUMBER, value) for (kind, index, step), value in edits.items()]
+    return [(kind, index, step, count, STAMP_NUMBER, value) for (kind, index, step), value in edits.items()]
 
 
 def first_step(edits: Edits) -> int | None:

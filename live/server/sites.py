@@ -37,13 +37,13 @@ from .supervised import supervise
 if TYPE_CHECKING:
     import paho.mqtt.client as mqtt
 
-LONGEST_PAUSE = 300.0  # seconds after which an operation is sent again at the latest
+LONGEST_RESEND_PAUSE = 300.0  # seconds after which an operation is sent again at the latest
 LONGEST = 2_000_000  # bytes of a message
-LARGE = 100_000  # bytes; a longer message is read in a thread
-PIECE = 500_000  # bytes, approximately, of the operations in a message
+LARGE_MESSAGE = 100_000  # bytes; a longer message is read in a thread
+MESSAGE_BYTES = 500_000  # bytes, approximately, of the operations in a message
 OPERATIONS_AT_ONCE = 500  # operations that are sent, or taken, without a pause
 READ_FOR = 0.02  # seconds for reading operations until others get their turn
-TOLD, MOST_STAY = 5, 20  # sentences that are shown: said once, and true at present
+MOST_SENTENCES, MOST_STAY = 5, 20  # sentences that are shown: said once, and true at present
 MOST_EARLY, LONGEST_EARLY = 1_000, 2_000_000  # operations that wait until their day comes, and their bytes
 SITES_TOPIC = "road/sites"
 TOTAL = "all"  # next to the numbers in `numbers`: the hash of all operations
@@ -72,7 +72,7 @@ class Sites:
         self._connected = False
         self._peers = Peers(lab, self._run, self._road, self._say, lambda: self._tell())
         self._keeper.stamps.follow(self._peers.seconds_ahead)
-        self._told: Deque[str] = collections.deque(maxlen=TOLD)
+        self._told: Deque[str] = collections.deque(maxlen=MOST_SENTENCES)
         self._sent: dict[Operation, tuple[float, float]] = {}  # when it was sent last, and the seconds until it is sent again
         self._sums: dict[str, tuple[str, str]] = {}  # by folder: its latest hash, and this site's hash at that time
         self._pauses: dict[str, Pause] = {}  # by folder
@@ -214,7 +214,7 @@ class Sites:
             written = one.written()
             part.append(written)
             size += len(to_json(written))
-            if size > PIECE:
+            if size > MESSAGE_BYTES:
                 self._send_part(part, title)
                 part, size = [], 0
         if part:
@@ -233,7 +233,7 @@ class Sites:
         due = [one for one in self._unreturned() if sum(self._sent.get(one, (0.0, 0.0))) <= now][:OPERATIONS_AT_ONCE]
         for one in due:
             _, pause = self._sent.get(one, (0.0, ANNOUNCE_EVERY / 2))
-            self._sent[one] = now, min(LONGEST_PAUSE, 2 * pause)
+            self._sent[one] = now, min(LONGEST_RESEND_PAUSE, 2 * pause)
         self._send(due)
 
     def _unreturned(self) -> list[Operation]:
@@ -302,7 +302,7 @@ class Sites:
 
     async def _receive(self, topic: str, folder: str, body: bytes) -> None:
         try:
-            value = read_message(body) if len(body) < LARGE else await asyncio.to_thread(read_message, body)
+            value = read_message(body) if len(body) < LARGE_MESSAGE else await asyncio.to_thread(read_message, body)
             if topic == SITES_TOPIC:
                 await self._receive_announcement(folder, value)
             elif topic.endswith("/sum"):
@@ -435,7 +435,7 @@ class Sites:
         self._send(lacking[place:place + OPERATIONS_AT_ONCE])
         has_more = place + OPERATIONS_AT_ONCE < len(lacking)
         self._pauses[folder] = (Pause(now, pause, place + OPERATIONS_AT_ONCE, held) if has_more
-                                else Pause(now, min(LONGEST_PAUSE, max(ANNOUNCE_EVERY, 2 * pause)), 0, held))
+                                else Pause(now, min(LONGEST_RESEND_PAUSE, max(ANNOUNCE_EVERY, 2 * pause)), 0, held))
         drop_oldest(self._pauses)
 
 

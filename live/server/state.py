@@ -30,8 +30,8 @@ TAB_FORM = 4  # the protocol of tabs
 SITE_FORM = 3  # the protocol of sites
 MOST_NEWS = 100
 APPLIED_AT_ONCE = 100  # operations that are applied before others get a turn
-LARGE = 12  # layers of an operation that count as one more operation
-MOST_ROADS = 8  # values of the shared road that are kept for seats that take
+LAYERS_PER_UNIT = 12  # layers of an operation that count as one more operation
+MOST_SHARED_ROADS = 8  # values of the shared road that are kept for seats that take
 
 NO_PLAN: PlanLine = {"length": 0, "inlets": (), "zones": (), "zone": 0, "exit": 0, "detectors": (), "words": 0, "replicas": ()}
 """The plan of a state that has not read a plan."""
@@ -54,7 +54,7 @@ def plan_value(plan: PlanLine, kind: str, index: int) -> int | None:
 
 def size_of_part(some: list[Operation]) -> int:
     """Return how many of these operations, from the first on, are applied at once: fewer if they are large."""
-    work = itertools.accumulate(1 + len(one.sets) // LARGE for one in some)
+    work = itertools.accumulate(1 + len(one.sets) // LAYERS_PER_UNIT for one in some)
     return max(1, sum(1 for _ in itertools.takewhile(lambda done: done <= APPLIED_AT_ONCE, work)))
 
 
@@ -166,7 +166,7 @@ class SharedReplica(Replica):
         """Keep a value of the road for the seats that will need it, and drop values that none needs."""
         self._roads[size] = road
         used = {seat.upto for seat in self._state.seats if seat.key}
-        for old in [one for one in self._roads if one not in used][:-MOST_ROADS]:
+        for old in [one for one in self._roads if one not in used][:-MOST_SHARED_ROADS]:
             del self._roads[old]
 
     def become(self, road: Road) -> None:
@@ -228,7 +228,7 @@ class SeatReplica(Replica):
         lately = self._state.lately
         known, then = lately.pop(self.index, (shared, shared))
         lately[self.index] = shared, (then if known is shared else shared).adding(self._state.private(self))
-        if len(lately) > MOST_ROADS:
+        if len(lately) > MOST_SHARED_ROADS:
             del lately[next(iter(lately))]
         return lately[self.index][1]
 

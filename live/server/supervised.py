@@ -9,7 +9,7 @@ import logging
 import time
 from typing import Awaitable, Callable
 
-PAUSE, LONGEST_PAUSE = 1.0, 60.0  # seconds until it is started again; doubled each time that it ends soon
+RESTART_PAUSE, LONGEST_PAUSE = 1.0, 60.0  # seconds until it is started again; doubled each time that it ends soon
 
 
 def supervise(what: str, run: Callable[[], Awaitable[object]], warn: Callable[[str], None]) -> asyncio.Task[None]:
@@ -19,7 +19,7 @@ def supervise(what: str, run: Callable[[], Awaitable[object]], warn: Callable[[s
 
 
 async def restart_for_ever(what: str, run: Callable[[], Awaitable[object]], warn: Callable[[str], None]) -> None:
-    pause = PAUSE
+    pause = RESTART_PAUSE
     while True:
         began = time.monotonic()
         try:
@@ -28,6 +28,6 @@ async def restart_for_ever(what: str, run: Callable[[], Awaitable[object]], warn
         except Exception:  # pylint: disable=broad-except
             logging.exception("%s: this task has ended", what)
         warn(f"A fault in the server has stopped {what}: it is started again. The server's log says why")
-        pause = PAUSE if time.monotonic() - began > LONGEST_PAUSE else min(LONGEST_PAUSE, pause)
+        pause = RESTART_PAUSE if time.monotonic() - began > LONGEST_PAUSE else min(LONGEST_PAUSE, pause)
         await asyncio.sleep(pause)
         pause *= 2

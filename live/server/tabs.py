@@ -39,19 +39,19 @@ if TYPE_CHECKING:
     from .peers import BrokerState
 
 LONGEST_FRAME = 65_536
-WAITING = 8  # commands of a tab that may wait
-MOST_CHANGING = 2 * WAITING  # waiting commands of a seat that change something, including those of former tabs
-PAUSE = 0.01  # seconds that a tab is not read after each frame too many
+MOST_PENDING = 8  # commands of a tab that may wait
+MOST_CHANGING = 2 * MOST_PENDING  # waiting commands of a seat that change something, including those of former tabs
+FLOOD_PAUSE = 0.01  # seconds that a tab is not read after each frame too many
 MOST_FAULTS = 20  # malformed frames
 MOST_TABS = 200  # tabs that have shown the token
-PATIENCE = 20.0  # seconds for a tab to read a frame, and to answer a ping
+FRAME_PATIENCE = 20.0  # seconds for a tab to read a frame, and to answer a ping
 CLOSE_PATIENCE = 5.0  # seconds for a tab to close its end, once it has been told why
 ABNORMAL = 1006  # the close code of a socket whose other end has not sent a close frame
 NAMED = 900.0  # seconds from the token to `hello`, while a person types a name
 BUFFER = 262_144  # bytes for a tab in the kernel's send buffer
 TOLD_EVERY = 0.2  # seconds between two news of a running clock
 STANDS = 60.0  # seconds for which the page says that a task of the server has ended
-MOST_TOLD = 50  # operations in news
+MOST_IN_NEWS = 50  # operations in news
 
 
 class Tab:
@@ -119,7 +119,7 @@ class Tab:
                 text = self._next_message()
                 self._read.set()
                 try:
-                    async with asyncio.timeout(PATIENCE):  # (`wait_for` may swallow a cancellation of the task)
+                    async with asyncio.timeout(FRAME_PATIENCE):  # (`wait_for` may swallow a cancellation of the task)
                         await self._socket.send_str(text)
                 except asyncio.TimeoutError:
                     self.close_reason = 1013, "too slow"
@@ -133,7 +133,7 @@ class Tab:
                 self.close_reason = 1003, "frames are text"
                 return
             await self._handle_frame(message.data)
-            while len(self._replies) > WAITING:  # do not read from a tab that does not read
+            while len(self._replies) > MOST_PENDING:  # do not read from a tab that does not read
                 self._read.clear()
                 await self._read.wait()
 
@@ -151,9 +151,9 @@ class Tab:
             await self._enter(number, verb, fields)
         elif self.index is None:
             self.disconnect(1008, "the first command must be hello")
-        elif len(self._asked) >= WAITING or verb in verbs.CHANGES and self._tabs.changing[self.index] >= MOST_CHANGING:
-            self._send({"id": number, **Refused("Busy", f"{WAITING} commands of this tab are waiting: try again later").reply()})
-            await asyncio.sleep(PAUSE)
+        elif len(self._asked) >= MOST_PENDING or verb in verbs.CHANGES and self._tabs.changing[self.index] >= MOST_CHANGING:
+            self._send({"id": number, **Refused("Busy", f"{MOST_PENDING} commands of this tab are waiting: try again later").reply()})
+            await asyncio.sleep(FLOOD_PAUSE)
         else:
             task = asyncio.ensure_future(self._answer(self.index, number, verb, fields, came))
             self._asked[task] = verb
@@ -307,7 +307,7 @@ class Tabs:
         """Serve a tab on a new WebSocket until the tab goes."""
         if len(self.known()) >= MOST_TABS:
             raise web.HTTPServiceUnavailable(text=f"{MOST_TABS} tabs are open, which is the limit: close one")
-        socket = web.WebSocketResponse(max_msg_size=LONGEST_FRAME + 1, heartbeat=2 * PATIENCE, compress=False)
+        socket = web.WebSocketResponse(max_msg_size=LONGEST_FRAME + 1, heartbeat=2 * FRAME_PATIENCE, compress=False)
         await socket.prepare(request)
         socket_of(request).setsockopt(sockets.SOL_SOCKET, sockets.SO_SNDBUF, BUFFER)
         tab = Tab(self, socket, request.protocol)
@@ -431,7 +431,7 @@ class Tabs:
     def _news_of(self, tab: Tab, index: int) -> Mapping[str, object]:
         """Return the news for a tab. Their `touched` is the first of all steps that the tab has not been told of."""
         first, tab.steps = min(tab.steps, default=None), []
-        return {**self.lab.unseen_shares(index, MOST_TOLD), "touched": first}
+        return {**self.lab.unseen_shares(index, MOST_IN_NEWS), "touched": first}
 
     async def _tick(self) -> None:
         while True:

@@ -22,7 +22,7 @@ import math
 import time
 from typing import Awaitable, Callable, Deque, Dict, Generic, TypeVar, Union
 
-LONG = 0.03  # seconds from which a turn counts as long
+LONG_TURN = 0.03  # seconds from which a turn counts as long
 FORGOTTEN = 2.0  # seconds after which the time that a seat has used counts only about a third (1/e)
 LITTLE = 0.25  # the part of the long seat's used time below which a seat has used little
 PUT_OFF = 0.25  # the part of a long turn's duration that other seats get before it
@@ -114,13 +114,13 @@ class Turns:
     def _takes_long(self, seat: int) -> bool:
         """Return whether the next job of a seat takes long, as far as is known."""
         said = self._first(seat)[0].takes_long
-        return self._uses[seat].last >= LONG if said is None else said
+        return self._uses[seat].last >= LONG_TURN if said is None else said
 
     async def _serve_others_first(self, seat: int) -> None:
         """Before a long turn, do jobs of other seats that have used little time or whose turns are not long. Also wait a moment for the
         next jobs of seats that have used little and were just answered."""
         own = self._uses[seat]
-        left, wait = max(LONG, own.last) * PUT_OFF, min(own.last * WAITED, self._most_waited)
+        left, wait = max(LONG_TURN, own.last) * PUT_OFF, min(own.last * WAITED, self._most_waited)
         while left > 0:
             lighter = self._is_lighter_than(seat)
             asking = next((one for one in self._turn if one != seat and (lighter(one) or not self._takes_long(one))), None)

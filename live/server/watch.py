@@ -20,10 +20,10 @@ from typing import Callable
 
 HERE = str(Path(__file__).resolve().parent)
 CLIENT = str(Path(HERE, "client.py"))  # not a part of the server
-LOOKS = 4  # how often a piece of the longest allowed duration is looked at
+LOOKS_AT_PIECE = 4  # how often a piece of the longest allowed duration is looked at
 FRAMES = 4  # frames of the stack in a warning
 SAID = "all others waited"
-LONG = 0.01  # seconds of processor time from which a full garbage collection counts as long
+LONG_COLLECTION = 0.01  # seconds of processor time from which a full garbage collection counts as long
 
 
 class Watch:
@@ -68,9 +68,9 @@ class Watch:
         self._told(f"{SAID} for a piece of work of {took:.2f} s: {where}")
 
     def _look(self) -> None:
-        while not self._ended.wait(self._longest / LOOKS):
+        while not self._ended.wait(self._longest / LOOKS_AT_PIECE):
             piece = self._piece
-            if piece is not None and time.monotonic() - piece[1] > self._longest / LOOKS:
+            if piece is not None and time.monotonic() - piece[1] > self._longest / LOOKS_AT_PIECE:
                 frame = sys._current_frames().get(piece[0])
                 stack = traceback.extract_stack(frame)[-FRAMES:] if frame is not None else []
                 del frame
@@ -111,7 +111,7 @@ def keep_collections_short() -> None:
             return
         if phase == "start":
             began = time.thread_time()
-        elif time.thread_time() - began > LONG:
+        elif time.thread_time() - began > LONG_COLLECTION:
             gc.freeze()
     gc.callbacks.append(look)
     gc.collect()

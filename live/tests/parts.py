@@ -28,7 +28,7 @@ def failing_once(does: Any) -> Any:
 
 class Parts(Case):
     def setUp(self) -> None:
-        self.enterContext(mock.patch.object(supervised, "PAUSE", 0.02))
+        self.enterContext(mock.patch.object(supervised, "RESTART_PAUSE", 0.02))
         self.enterContext(self.assertLogs(level="ERROR"))
 
     async def ends(self, here: Here, call: Any, what: str) -> None:
@@ -73,7 +73,7 @@ class Parts(Case):
 
         async def ends() -> None:
             pass
-        with mock.patch.object(supervised, "PAUSE", 1.0), mock.patch.object(asyncio, "sleep", sleep):
+        with mock.patch.object(supervised, "RESTART_PAUSE", 1.0), mock.patch.object(asyncio, "sleep", sleep):
             with self.assertRaises(asyncio.CancelledError):
                 await supervised.supervise("it", ends, told.append)
         self.assertEqual(slept, [1, 2, 4, 8, 16, 32, 60, 60, 60, 60])

@@ -210,7 +210,7 @@ class Seats(Case):
             self.assertEqual(await self.saved(seats[4]), alone[4])
             for seat in seats[:4]:
                 await self.piece(seat, 0)
-            with mock.patch("server.saving.UNUSED", 0):
+            with mock.patch("server.saving.TRANSCRIPT_UNUSED", 0):
                 await self.piece(seats[4], 0)  # of files that nobody fetches
 
     async def piece(self, seat: int, number: int) -> Any:

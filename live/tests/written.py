@@ -122,7 +122,7 @@ class Written(Case):
             return await ask_all(program, lines)
         for step in (50, 60, 70):
             await self.here.put(self.ada, ["limit", 2, step, step % 9])
-        with mock.patch.object(Program, "ask_all", held_up), mock.patch("server.program.PIECE", 1):
+        with mock.patch.object(Program, "ask_all", held_up), mock.patch("server.program.IMPORT_EDITS", 1):
             share = asyncio.create_task(self.here.share(self.ada))
 
             async def is_kept() -> bool:

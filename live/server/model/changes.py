@@ -10,7 +10,7 @@ from typing import Iterable
 
 from .layers import Rank, Stretch, rank, touches
 from .operations import Name, Operation, RawName, Stamp, sort_by_stamp, is_line, is_raw, line_of
-from .projection import MANY, changed_layers, changed_stretches, merge_stretches
+from .projection import MOST_STRETCHES, changed_layers, changed_stretches, merge_stretches
 from .road import Road, parts_of
 
 
@@ -112,7 +112,7 @@ def find_lines_beneath(before: Road, after: Road, names: Iterable[Name]) -> set[
     """Return the lines beneath these layers on either road. Which lines cover them, and where raw edits among them end, may have
     changed."""
     names, lines = set(names), set[Stamp]()
-    if len(names) > MANY:
+    if len(names) > MOST_STRETCHES:
         return {line for stretch in merge_stretches(changed_stretches(before, after, names))
                 for line in touched_lines((before, after), stretch, None)}
     for name in names:

@@ -13,7 +13,7 @@ from typing import AbstractSet, Iterable, Iterator
 
 from .operations import Operation, Stamp, sort_by_stamp
 
-NONE: frozenset[Operation] = frozenset()
+NO_OPERATIONS: frozenset[Operation] = frozenset()
 
 
 class Record:
@@ -67,7 +67,7 @@ class Record:
             passed.update(some)
         return found
 
-    def counts(self, one: Operation, flipped: AbstractSet[Operation] = NONE) -> bool:
+    def counts(self, one: Operation, flipped: AbstractSet[Operation] = NO_OPERATIONS) -> bool:
         """Return whether an operation counts."""
         return (one in self.void) == (one in flipped)
 
@@ -108,7 +108,7 @@ class Record:
         flipped: set[Operation] = set()
         while waiting:
             one = waiting.pop()
-            if self._is_void(one, NONE) != (one in self.void):
+            if self._is_void(one, NO_OPERATIONS) != (one in self.void):
                 self.void ^= {one}
                 flipped ^= {one}
                 waiting += self.undone_by(one)
@@ -119,7 +119,7 @@ class Record:
             return any(other.site == one.site and self.counts(other, flipped) for other in self.undos_of(one))
         return one.site in self.excluded or any(self.counts(other, flipped) for other in self.undos_of(one))
 
-    def excluded_if(self, flipped: AbstractSet[Operation] = NONE) -> frozenset[int]:
+    def excluded_if(self, flipped: AbstractSet[Operation] = NO_OPERATIONS) -> frozenset[int]:
         """Return the excluded sites. Exclusions are applied from the oldest on, and those of excluded sites are ignored."""
         says: dict[int, bool] = {}
         for one in self.exclusions:

@@ -11,7 +11,7 @@ from .operations import About, Json, Name, Operation, RawName, Shape, Stamp, is_
 from .reading import (GREATEST_VALUE, LONGEST_NAME, LONGEST_NOTE, Malformed, read_optional, read_name, read_raw_name, read_row,
                       read_set, read_shape, read_stamp, read_time, whole)
 
-SITE = "site"  # the kind of a layer that excluded a site
+SITE_KIND = "site"  # the kind of a layer that excluded a site
 
 
 def read_former_gesture(value: Json) -> Operation | None:
@@ -29,7 +29,7 @@ def read_former_gesture(value: Json) -> Operation | None:
     for lay in read_list(value["lays"]):
         written, shape, height = read_row(lay, 5, "a layer of form 2 must have five parts")[:3]
         name = read_name(written)
-        if name[0] == SITE:
+        if name[0] == SITE_KIND:
             excludes = name[1], shape is not None
             continue
         sets[name] = read_set(name, shape)

@@ -14,7 +14,7 @@ from .road import Road
 Edits = dict[RawName, "int | None"]
 """Edits by kind, object and step: the value, or None, which withdraws the edit."""
 
-MANY = 64  # stretches from which on whole kinds are compared
+MOST_STRETCHES = 64  # stretches from which on whole kinds are compared
 
 
 def difference(before: Road, after: Road, within: set[Stretch] | None = None) -> Edits:
@@ -43,7 +43,7 @@ def difference_like(known: tuple[Road, Road, Edits], before: Road, after: Road) 
     differ from the other two are computed, so seats that take the same operations share most of the work."""
     own = (changed_stretches(known[0], before, changed_layers(known[0], before))
            | changed_stretches(known[1], after, changed_layers(known[1], after)))
-    if len(own) >= MANY:
+    if len(own) >= MOST_STRETCHES:
         return difference(before, after)
     by_kind: dict[str, list[Stretch]] = {}
     for one in own:
@@ -87,7 +87,7 @@ def intersect(ones: Iterable[Stretch], others: Iterable[Stretch]) -> set[Stretch
 
 def merge_stretches(some: set[Stretch]) -> set[Stretch]:
     """Return the stretches unchanged if there are few. Otherwise return one for each kind that covers all of them, at all steps."""
-    if len(some) < MANY:
+    if len(some) < MOST_STRETCHES:
         return some
     kinds: dict[str, list[Stretch]] = {}
     for one in some:

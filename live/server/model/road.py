@@ -10,7 +10,7 @@ from __future__ import annotations
 import weakref
 from typing import AbstractSet, Callable, Iterable
 
-from .counting import NONE, Record, insert_in_order
+from .counting import NO_OPERATIONS, Record, insert_in_order
 from .layers import Layer, Stretch, sort_from_top, touches
 from .operations import END, NOTHING, About, Name, Operation, RawName, Shape, Stamp, sort_by_stamp, is_line, is_raw, line_of
 
@@ -87,20 +87,20 @@ class Road:
 
     # Layers
 
-    def setter(self, name: Name, flipped: AbstractSet[Operation] = NONE) -> Operation | None:
+    def setter(self, name: Name, flipped: AbstractSet[Operation] = NO_OPERATIONS) -> Operation | None:
         """Return the operation that gives a layer its shape; None if there is none."""
         return next((one for one in reversed(self.setters_of(name)) if self.record.counts(one, flipped)), None)
 
-    def height_of(self, line: Stamp, flipped: AbstractSet[Operation] = NONE) -> Stamp:
+    def height_of(self, line: Stamp, flipped: AbstractSet[Operation] = NO_OPERATIONS) -> Stamp:
         """Return the height of a line: as its last lifter says, or else its own name."""
         lifter = self.lifter(line, flipped)
         return line if lifter is None else lifter.heights[line]
 
-    def lifter(self, name: Name, flipped: AbstractSet[Operation] = NONE) -> Operation | None:
+    def lifter(self, name: Name, flipped: AbstractSet[Operation] = NO_OPERATIONS) -> Operation | None:
         """Return the operation that gives a layer its height; None if it was never put on top."""
         return next((one for one in reversed(self.lifters_of(name)) if self.record.counts(one, flipped)), None)
 
-    def layer(self, name: Name, flipped: AbstractSet[Operation] = NONE) -> Layer | None:
+    def layer(self, name: Name, flipped: AbstractSet[Operation] = NO_OPERATIONS) -> Layer | None:
         """Return a layer, as if the operations in `flipped` counted if they do not, and the reverse. None if there is no such layer."""
         setter = self.setter(name, flipped)
         shape = None if setter is None else setter.sets[name]
