@@ -32,7 +32,7 @@ pub trait Crew {
         ensures gone { times_gone self.new ≡ gone_after result (times_gone self.old) };
 
     /// Return the maximum number of steps that this crew should run in one call, at least one. A caller that counts
-    /// steps as they are computed should not ask for more, since it counts them after each call.
+    /// steps counts them after each call, so it should not ask for more.
     fn most_steps(&self) -> u32
         ensures { 0 < result }
     {

@@ -19,7 +19,7 @@ pub(crate) struct Piece {
 }
 
 impl Piece {
-    // Return the piece of a worker, numbered from 0, by whole division. It may be empty.
+    // Return the piece of a worker, numbered from 0, by integer division. The piece may be empty.
     pub fn of(worker: u32, workers: u32, cars: usize) -> Piece
         requires worker { worker < workers }
         requires workers { workers ≤ MOST_WORKERS }
@@ -47,8 +47,8 @@ pub(crate) fn cars_in(input: &StepInput) -> usize
     input.road().cars().len()
 }
 
-// Make an empty list for the speeds of all workers. If there is only one worker, the list has no room: `append` returns
-// that worker's own list instead.
+// Make the empty list to which the workers' speeds are appended. For one worker its capacity is 0: then `append`
+// returns that worker's list, without copying it.
 pub(crate) fn list_for(alloc: Global, workers: u32, cars: usize) -> Result<Vec<u8>, OutOfMemory>
     ensures { IfOk result (λ whole. whole.items ≡ []) }
 {
@@ -58,8 +58,8 @@ pub(crate) fn list_for(alloc: Global, workers: u32, cars: usize) -> Result<Vec<u
     Vec::with_capacity(alloc, cars)
 }
 
-// Append the speeds of a piece to those of the pieces before it. If these are a list without speeds and without room,
-// return the list of the piece.
+// Append the speeds of a piece to those of the pieces before it. If `whole` is empty and has capacity 0, return the list
+// of the piece.
 #[tactic(auto, using(crate::proofs::PiecesInOrder::take_piece))]
 pub(crate) fn append(whole: PieceAnswer, piece: PieceAnswer) -> PieceAnswer
     ensures { (all : List ℕ) (first end : ℕ) → first ≤ end → IfOk whole (λ front. front.items ≡ take first all)

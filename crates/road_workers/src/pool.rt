@@ -197,6 +197,7 @@ impl<R: Wait> Crew for Pool<R> {
         answer
     }
 
+    // A pool runs any span in one call.
     fn most_steps(&self) -> u32
         ensures { 0 < result }
     {

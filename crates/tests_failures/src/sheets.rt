@@ -306,7 +306,7 @@ pub(crate) fn try_draft(alloc: Global, until: Until, keep: u32, shown: &Shown) -
     try_call(alloc, until, &mut drafting)
 }
 
-// Return the draft of a run that resumes at a step.
+// Begin a draft of the free road, which is already simulated to this step.
 fn draft_at(alloc: Global, step: u32) -> Option<Draft> {
     let scenario = Scenario::empty(alloc);
     let sheet = run_of(alloc, &[], step)?;
@@ -424,7 +424,7 @@ fn judge_push(alloc: Global, until: Until, draft: &mut Draft) -> Option<Verdict>
     push(alloc, draft, &input, &speeds, &before)
 }
 
-// Judge a draft after one more step. The last row must be this one.
+// Return the verdict on a draft after one more step: its last row must be this one.
 fn is_pushed(alloc: Global, draft: Draft, row: &str, verdict: Verdict) -> Option<Verdict> {
     let sheet = draft.sheet();
     let is_shown = shows_row(alloc, &sheet, sheet.horizon(), row)?;

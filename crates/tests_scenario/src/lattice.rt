@@ -116,7 +116,7 @@ fn merge_to(first: &Replica, second: &Replica, entries: &[Entry]) -> Result<bool
     )
 }
 
-// Return whether a replica merges with a replica of these puts and no horizon to the expected one. A replica without
+// Return whether merging a replica with one that has these puts and no horizon gives these entries. A replica without
 // puts is the least.
 fn merges_with(
     alloc: Global,
