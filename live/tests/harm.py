@@ -144,8 +144,8 @@ class Bounds(Case):
         line = list(await here.put(1, ["limit", 1, 50, 4]))
         await here.ask(1, "gesture", key="w", layer=line, shape=None)
         cases: list[tuple[dict[str, Any], str]] = [
-            ({"layer": line, "shape": None}, "left to withdraw"), ({"layer": line, "top": True}, "left to put on top"),
-            ({"edits": [["limit", 1, 50, None]]}, "left to withdraw")]
+            ({"layer": line, "shape": None}, "nothing to withdraw"), ({"layer": line, "top": True}, "on top already"),
+            ({"edits": [["limit", 1, 50, None]]}, "nothing to withdraw")]
         for what, why in cases:
             with self.assertRaisesRegex(Refused, "NoEffect") as caught:
                 await here.ask(1, "gesture", key="again", **what)
