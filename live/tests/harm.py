@@ -194,10 +194,11 @@ class Bounds(Case):
         with mock.patch("logging.error") as error, mock.patch("logging.exception", error):
             for number in range(600 if ALL else 200):
                 stamp = [stamps.next_count(number, stamps.milliseconds(), 0), 70 * 64 + 1]
-                operation = {"stamp": stamp, "who": "Eve", "note": "", "when": 1, "undoes": [stamp[0] - 1, 70],
+                operation = {"stamp": stamp, "who": "Eve", "note": "", "when": 1, "excludes": [2, False],
                              "seen": [stamp[0] - 2, 71], "sets": [[stamp, ["block", 60, 61, 30, None, 1]], [["limit", 1, 20], 3]],
-                             "heights": [[[stamp[0] - 1, 70], stamp]], "excludes": [2, False]}
-                message: dict[str, Any] = {"form": 3, "operations": [operation], "who": "Eve", "title": ""}
+                             "heights": [[[stamp[0] - 1, 70], stamp]]}
+                undo = {"stamp": [stamp[0], stamp[1] + 1], "who": "Eve", "undoes": [stamp[0] - 1, 70]}
+                message: dict[str, Any] = {"form": 3, "operations": [operation, undo], "who": "Eve", "title": ""}
                 places = list(places_in(message))
                 for _ in range(chance.randrange(1, 3)):
                     parent, key = chance.choice(places)
