@@ -310,7 +310,7 @@ class Refusals(unittest.TestCase):
 
     def test_each_refusal_is_used_and_no_other(self) -> None:
         texts = [path.read_text() for path in (LIVE / "server").rglob("*.py")]
-        used = {name for text in texts for name in re.findall(r'(?:[rR]efused|super\(\).__init__)\(\s*"([^"]+)"', text)}
+        used = {name for text in texts for name in re.findall(r'(?:Refused|_refuse_with_seats|super\(\).__init__)\(\s*"([^"]+)"', text)}
         self.assertEqual(used - OF_THE_FORMAT, MEANINGS.keys() - OF_THE_FORMAT)
         for name in MEANINGS:
             self.assertRegex(name, r"^[A-Z][A-Za-z]+$")
