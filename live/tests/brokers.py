@@ -165,7 +165,7 @@ class Brokers(Case):
         broker = self.broker()
         first, second = self.site(broker, 7), self.site(broker, 7)
         async with first.seat("Ada") as ada, second.seat("Sam") as sam:
-            await until(lambda: self.stays("has this site's number, 7", ada, sam), "one number twice")
+            await until(lambda: self.stays("uses this site's number, 7", ada, sam), "one number twice")
             await put(ada, ["limit", 2, 80, 1])
             await put(sam, ["limit", 2, 80, 2])
             await asyncio.sleep(4)  # by then both have announced themselves again
@@ -183,7 +183,7 @@ class Brokers(Case):
         second = Server(copy, None, "--broker", broker.address)
         self.addCleanup(lambda: end(second.process))
         async with first.seat("Ada") as ada, second.seat("Sam") as sam:
-            await until(lambda: self.stays("has this site's number, 7", ada, sam), "one number twice")
+            await until(lambda: self.stays("uses this site's number, 7", ada, sam), "one number twice")
 
     async def test_a_site_whose_plan_has_another_seed_is_reported(self) -> None:
         broker = self.broker()

@@ -167,7 +167,7 @@ class Days(Case):
         with self.assertRaises(Refused) as caught:
             await soon(self.here.ask(self.ben, "days", of="mine", **SPAN))
         self.assertEqual(caught.exception.text, "Busy")
-        self.assertIn("Ada asks about 20 days just now (0 done)", caught.exception.why)
+        self.assertIn("20 days are being simulated for Ada (0 done)", caught.exception.why)
         self.assertEqual(await soon(self.here.ask(self.ben, "days", of=None)), {"stopped": False})
         await soon(self.here.put(self.ben, ["limit", 2, 50, 3]))  # edits do not wait for it
         other, more = await self.asks(self.ada)  # her next question replaces it
@@ -196,7 +196,7 @@ class Leaving(Case):
                 asked = asyncio.ensure_future(ada.reply("days", at=ada.at, of="mine", **{"from": 0, "to": 3_600}))
                 await ada.reply("ping")  # (her questions are begun in their order)
                 busy = await self.refusal(ben)
-                self.assertIn("Ada asks about 4 days", busy)
+                self.assertIn("4 days are being simulated for Ada", busy)
                 asked.cancel()
 
             async def free() -> bool:

@@ -144,8 +144,8 @@ class Bounds(Case):
         line = list(await here.put(1, ["limit", 1, 50, 4]))
         await here.ask(1, "gesture", key="w", layer=line, shape=None)
         cases: list[tuple[dict[str, Any], str]] = [
-            ({"layer": line, "shape": None}, "left to withdraw"), ({"layer": line, "top": True}, "left to put on top"),
-            ({"edits": [["limit", 1, 50, None]]}, "left to withdraw")]
+            ({"layer": line, "shape": None}, "nothing to withdraw"), ({"layer": line, "top": True}, "on top already"),
+            ({"edits": [["limit", 1, 50, None]]}, "nothing to withdraw")]
         for what, why in cases:
             with self.assertRaisesRegex(Refused, "NoEffect") as caught:
                 await here.ask(1, "gesture", key="again", **what)
@@ -194,10 +194,11 @@ class Bounds(Case):
         with mock.patch("logging.error") as error, mock.patch("logging.exception", error):
             for number in range(600 if ALL else 200):
                 stamp = [stamps.next_count(number, stamps.milliseconds(), 0), 70 * 64 + 1]
-                operation = {"stamp": stamp, "who": "Eve", "note": "", "when": 1, "undoes": [stamp[0] - 1, 70],
+                operation = {"stamp": stamp, "who": "Eve", "note": "", "when": 1, "excludes": [2, False],
                              "seen": [stamp[0] - 2, 71], "sets": [[stamp, ["block", 60, 61, 30, None, 1]], [["limit", 1, 20], 3]],
-                             "heights": [[[stamp[0] - 1, 70], stamp]], "excludes": [2, False]}
-                message: dict[str, Any] = {"form": 3, "operations": [operation], "who": "Eve", "title": ""}
+                             "heights": [[[stamp[0] - 1, 70], stamp]]}
+                undo = {"stamp": [stamp[0], stamp[1] + 1], "who": "Eve", "undoes": [stamp[0] - 1, 70]}
+                message: dict[str, Any] = {"form": 3, "operations": [operation, undo], "who": "Eve", "title": ""}
                 places = list(places_in(message))
                 for _ in range(chance.randrange(1, 3)):
                     parent, key = chance.choice(places)
@@ -309,7 +310,7 @@ class Refusals(unittest.TestCase):
 
     def test_each_refusal_is_used_and_no_other(self) -> None:
         texts = [path.read_text() for path in (LIVE / "server").rglob("*.py")]
-        used = {name for text in texts for name in re.findall(r'(?:[rR]efused|super\(\).__init__)\(\s*"([^"]+)"', text)}
+        used = {name for text in texts for name in re.findall(r'(?:Refused|_refuse_with_seats|super\(\).__init__)\(\s*"([^"]+)"', text)}
         self.assertEqual(used - OF_THE_FORMAT, MEANINGS.keys() - OF_THE_FORMAT)
         for name in MEANINGS:
             self.assertRegex(name, r"^[A-Z][A-Za-z]+$")

@@ -103,7 +103,7 @@ class TwoTabs(BrowserCase):
         ada.press("Over 3 days")
         ada.until(lambda: " of 3 days" in ada.text("days"), "it runs")
         ben.press("Over 3 days")
-        ben.until(lambda: "Ada asks about 3 days just now" in ben.text("said"), "he sees who asks")
+        ben.until(lambda: "3 days are being simulated for Ada" in ben.text("said"), "he sees who asks")
         self.assertEqual(ben.text("days"), "Over 3 days")
         ada.press("Stop")
         ada.until(lambda: ada.text("days") in ("Over 3 days", "One day"), "it is stopped")  # one may be done

@@ -150,7 +150,7 @@ class Shell(Case):
                 (("cron", "ask", '{"scenario":{"at":"cron"}}'), 1, 'here `at` must be "seat1" or "shared"'),
                 (("cron", "ask", '{"take":{"at":"shared","message":"shared"}}'), 1, 'here `at` must be "seat1"'),
                 (("cron", "ask", '{"crowd":{}}'), 1, "there is no command `crowd`"),
-                (("cron",), 2, "NAME and a command"), (("cron",), 2, "live/road Cron edit limit 11 5400 2"),
+                (("cron",), 2, "NAME of a seat and a command"), (("cron",), 2, "live/road Cron edit limit 11 5400 2"),
                 (("cron", "dance"), 2, "unknown command or wrong arguments")):
             ended, _, said = await self.road(*words)
             self.assertEqual(ended, status, words)

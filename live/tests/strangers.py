@@ -115,7 +115,7 @@ class Strangers(Case):
         self.assertEqual(await self.shared(third), [])
         self.assertEqual([each["site"] for each in third_site.state()["sites"]], [7])
         for site in (one, other):
-            self.assertIn("has this site's number, 7, too", " ".join(site.state()["stays"]))
+            self.assertIn("uses this site's number, 7, too", " ".join(site.state()["stays"]))
             self.assertEqual([each["site"] for each in site.state()["sites"]], [8])
         self.leave(other)
         await self.bus.rounds()

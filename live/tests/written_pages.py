@@ -55,7 +55,7 @@ class Reports(Case):
             seat, = await here.join("Ada")
             cases: list[tuple[dict[str, Any], str]] = [
                 ({"works": "a"}, "at most 200 strings"), ({"works": [1]}, "at most 200 strings"), ({"of": "all"}, '"preview" or'),
-                ({"to": 5}, "not below")]
+                ({"to": 5}, "must be below")]
             for wrong, said in cases:
                 with self.assertRaises(Refused) as caught:
                     await here.ask(seat, "report", **{**ASKED, **SPAN, **wrong})
