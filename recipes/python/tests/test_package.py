@@ -9,7 +9,7 @@ import tempfile
 import unittest
 from pathlib import Path
 
-from test_page import TOP, python_with
+from test_page import TOP, find_python
 from zegdrut.__main__ import COMMANDS
 from zegdrut.programs import program_path
 
@@ -42,7 +42,7 @@ class Package(unittest.TestCase):
 
     def test_installed_by_pip(self) -> None:
         """Install with Debian's setuptools, without a network."""
-        python = python_with("setuptools, wheel, pip")
+        python = find_python("setuptools, wheel, pip")
         if python is None:
             self.skipTest("pip, setuptools and wheel not installed")
         source = shutil.copytree(TOP, self.folder / "source", ignore=shutil.ignore_patterns("__pycache__", "build", "*.egg-info"))

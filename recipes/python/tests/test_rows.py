@@ -5,7 +5,7 @@ import subprocess
 import sys
 import unittest
 
-from test_page import TOP, python_with
+from test_page import TOP, find_python
 from zegdrut import Plan, RoadLab, measure_traffic
 from zegdrut.rows import Sums, to_array, add_up
 
@@ -33,7 +33,7 @@ class Rows(unittest.TestCase):
 
     def test_arrays(self) -> None:
         """Check the smallest type that holds all speeds and both marks, with a Python that has numpy."""
-        python = python_with("numpy")
+        python = find_python("numpy")
         if python is None:
             self.skipTest("numpy not installed")
         code = ("from zegdrut import to_array\n"

@@ -15,7 +15,7 @@ import unittest
 from pathlib import Path
 from typing import Any
 
-from test_page import TOP, python_with
+from test_page import TOP, find_python
 from zegdrut import Fault, Plan, RoadLab
 from zegdrut.commands.sweep import format_duration, read_seeds, read_values
 from zegdrut.pool import run_in_parallel
@@ -365,7 +365,7 @@ class Resuming(Folder):
         self.assertEqual([(row["a"], row["b"], row["seed"]) for row in read_rows(self.out)], KEYS)
 
     def test_pandas(self) -> None:
-        python = python_with("pandas")
+        python = find_python("pandas")
         if python is None:
             self.skipTest("pandas not installed")
         self.run_command("model.py:slow", *GRID, TAKES="0")
