@@ -45,16 +45,17 @@ def at_the_end(plan, step):
 
 def random_words():
     """Yield random words of 64 bits, always the same ones: SplitMix64 (Steele, Lea and Flood, OOPSLA 2014) with seed 42."""
-    last, state = (1 << 64) - 1, 42
+    mask, state = (1 << 64) - 1, 42
     while True:
-        state = (state + 0x9E3779B97F4A7C15) & last
-        word = ((state ^ state >> 30) * 0xBF58476D1CE4E5B9) & last
-        word = ((word ^ word >> 27) * 0x94D049BB133111EB) & last
+        state = (state + 0x9E3779B97F4A7C15) & mask
+        word = ((state ^ state >> 30) * 0xBF58476D1CE4E5B9) & mask
+        word = ((word ^ word >> 27) * 0x94D049BB133111EB) & mask
         yield word ^ word >> 31
 
 
 def late_blocks(plan, horizon, count):
-    """Return a run, and then edits 200 steps before its end: a random cell is closed, and opened again."""
+    """Return the script of a run followed by edits that are dated 200 steps before its end: they close a random cell and open it again,
+    in turn."""
     words, lines = random_words(), [line(plan), advance(horizon)]
     for number in range(count):
         if number % 2 == 0:
@@ -64,7 +65,7 @@ def late_blocks(plan, horizon, count):
 
 
 def late_imports(plan, horizon, count, objects):
-    """Return a run, and then imports of `count` edits that close and open `objects` cells at random steps, 1,200 edits a line."""
+    """Return the script of a run followed by imports: `count` edits close and open `objects` cells at random steps, 1,200 edits a line."""
     words, lines = random_words(), [line(plan), advance(horizon)]
     closed = [next(words) % plan["length"] for _ in range(objects)]
     edits = [["block", closed[number % objects], next(words) % horizon, number + 1, 64, 1 - number // objects % 2]
@@ -75,7 +76,7 @@ def late_imports(plan, horizon, count, objects):
 
 
 def random_queries(plan, horizon, count):
-    """Return a run, and then queries of it at random steps: alternately a row and a count."""
+    """Return the script of a run followed by queries at random steps: a row and a count in turn."""
     words, lines = random_words(), [line(plan), advance(horizon)]
     for number in range(count):
         if number % 2 == 0:
@@ -97,7 +98,7 @@ SCRIPTS = [
      "3738265f58ba181fe9563cb79ecfc92a97843ea6c6f4e5b10c5f5e6e56c89c9b"),
     ("8,192 cells, 16 inlets, dense, 20,000 steps", at_the_end(DENSE, 20000), 20000,
      "a9420509196dd6d5b81b3463fcbf0ebe5bedc2b50b2051ba94650c8f1c0cbdb8"),
-    ("the third, and 1,000 late edits", late_blocks(WATCHED, 20000, 1000), 20000 + 224 * 1000,
+    ("the third, and 1,000 late edits", late_blocks(WATCHED, 20000, 1000), 20000 + 224 * 1000,  # from 19,776
      "1e76446fa58fbc1fd3efe20a7921fa3e2ca9f280b2ad69e7ec62c9ad77bd8689"),
     ("the third, and 10,000 queries at random steps", random_queries(WATCHED, 20000, 10000), 20000,
      "32916fef17cebda9a4a4187d119ea2f6145ea1615ba87f4d3cf82a4c9c83e839"),
@@ -133,7 +134,7 @@ def build_hand_written():
 
 
 def time_script(program, script):
-    """Return the seconds that a program takes for a script, including its start, reading and writing, and its answers."""
+    """Return the seconds from the start of a program to its exit, and its answers to a script."""
     begin = time.perf_counter()
     ended = subprocess.run([program], input=script.encode(), stdout=subprocess.PIPE)
     spent = time.perf_counter() - begin

@@ -20,7 +20,8 @@ def refused(why):
     return line({"refused": why})
 
 
-def padded(text, length):
+def pad_line(text, length):
+    """Return a line of `length` bytes and a newline: the text with spaces behind it."""
     return text.rstrip(b"\n").ljust(length) + b"\n"
 
 
@@ -32,9 +33,9 @@ def script(road, *lines):
 
 PLAN, OPEN = line(ROAD), line({"open": 3})
 
-# Plan lines: the fields that differ from the road above, and why the line is refused (None: it is accepted).
-MOST = 2 ** 32 - 1
+MAX_U32 = 2 ** 32 - 1
 FREE_ZONE = [2, 0]
+# Plan lines: the fields that differ from the road above, and why the line is refused (None: it is accepted).
 PLANS = [
     # The lengths of the road, of its deleted zone and of its zones.
     ({}, None),
@@ -43,13 +44,13 @@ PLANS = [
     ({"length": 0}, "Length"),
     ({"length": 8192, "zone": 8193}, None),
     ({"length": 8193, "zone": 8193}, "Length"),
-    ({"length": MOST}, "Length"),
+    ({"length": MAX_U32}, "Length"),
     ({"exit": 3}, None),
     ({"exit": 0}, "Exit"),
     ({"exit": 12}, "Exit"),
     ({"length": 100, "exit": 64, "zone": 100}, None),
     ({"length": 100, "exit": 65, "zone": 100}, "Exit"),
-    ({"exit": MOST}, "Exit"),
+    ({"exit": MAX_U32}, "Exit"),
     # The last zone may have one cell, or be wider than the road.
     ({"zone": 11}, "Zones"),
     ({"zone": 11, "zones": [FREE_ZONE] * 2}, None),
@@ -57,7 +58,7 @@ PLANS = [
     ({"zone": 6, "zones": [FREE_ZONE] * 3}, "Zones"),
     ({"zones": []}, "Zones"),
     ({"zone": 0}, "Zones"),
-    ({"zone": MOST}, None),
+    ({"zone": MAX_U32}, None),
     # There may be 64 zones and no more.
     ({"length": 64, "zone": 1, "zones": [FREE_ZONE] * 64}, None),
     ({"length": 65, "zone": 1, "zones": [FREE_ZONE] * 65}, "Zones"),
@@ -69,7 +70,7 @@ PLANS = [
     ({"inlets": [[10, 0]]}, None),
     ({"inlets": [[11, 0]]}, "Inlets"),
     ({"inlets": [[11, 65536]]}, "Inlets"),
-    ({"inlets": [[MOST, 0]]}, "Inlets"),
+    ({"inlets": [[MAX_U32, 0]]}, "Inlets"),
     ({"inlets": []}, "Inlets"),
     ({"inlets": [[3, 0], [0, 0]]}, None),
     ({"inlets": [[3, 1], [3, 0]]}, "Inlets"),

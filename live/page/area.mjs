@@ -35,10 +35,10 @@ export function faultOfValue(kind, first, from) {
 /** Return the area of a shape: its texts, and a fault if it cannot be put.
  * @param {Shape} shape
  * @param {Change | null} [old]  the change that it alters
- * @param {boolean} [few]        it covers less than half of each zone that it touches
+ * @param {boolean} [coversNoZone]        it covers less than half of each zone that it touches
  * @returns {Area}
  */
-export function areaOfShape(shape, old = null, few = false) {
+export function areaOfShape(shape, old = null, coversNoZone = false) {
   const {kind, first, last, from, to, value, demand} = shape;
   const [plan, mine] = [need("plan"), layersOf("mine")];
   const isValid = !Number.isNaN(value);
@@ -46,7 +46,7 @@ export function areaOfShape(shape, old = null, few = false) {
   const what = isValid ? valueText(mine, kind, value, first, from, demand) : "";
   const lines = [what, placesText(plan, kind, first, last),
                  takenZonesText(plan, kind, first, last), mine.day.spanText(from, to)].filter(Boolean);
-  const fault = few ? messages.TOO_FEW_ZONES : faultOf(shape);
+  const fault = coversNoZone ? messages.TOO_FEW_ZONES : faultOf(shape);
   return {shape, note, lines, fault, old};
 }
 

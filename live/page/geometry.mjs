@@ -153,7 +153,7 @@ export function snap([cell, step], {span, scale, exact}) {
 
 /** Return the objects and steps of a rectangle between two places. It takes zones that are at least
  * half covered or, with `all`, that it touches. If no zone is half covered, return those that it
- * touches, with `few`. `open`: a click, which has no end.
+ * touches, with `coversNoZone`. `open`: a click, which has no end.
  * @param {Plan} plan
  * @param {Kind} kind
  * @param {Place} place
@@ -169,7 +169,7 @@ export function rectangleBetween(plan, kind, [cell, step], [otherCell, otherStep
   const covered = OF_ZONES.includes(kind) ? zonesIn(plan, cells, all) : [];
   const [first, last] = covered?.length ? covered : objectsIn(plan, kind, cells, cell);
   const [from, end] = inOrder(step, otherStep).map((one) => Math.max(0, one));
-  return {first, last, from, to: open ? null : Math.max(from + 1, end), few: covered === null};
+  return {first, last, from, to: open ? null : Math.max(from + 1, end), coversNoZone: covered === null};
 }
 
 /** Return a shape with one edge moved to a place. It takes zones that are at least half covered or,

@@ -45,9 +45,9 @@ const snapHere = (place, exact) =>
  * @param {{open?: boolean, all?: boolean}} how
  */
 function areaBetween(kind, one, other, how) {
-  const {first, last, from, to, few} = rectangleBetween(need("plan"), kind, one, other, how);
+  const {first, last, from, to, coversNoZone} = rectangleBetween(need("plan"), kind, one, other, how);
   const value = valueOfTool(kind, first, from);
-  return areaOfShape({kind, first, last, from, to, value, ...demandOfTool(kind)}, null, few);
+  return areaOfShape({kind, first, last, from, to, value, ...demandOfTool(kind)}, null, coversNoZone);
 }
 
 /** Return the place of a pointer.
@@ -265,13 +265,13 @@ function showStride() {
 function onArrow(direction, far) {
   moveCursor(direction, far);
   readPlace(need("cursor"), true);
-  if (store.corner) stretchArea();
+  if (store.corner) extendRectangle();
 }
 
-/** Draw the rectangle to the cursor. Return what it would do; null with the tool `look`.
+/** Extend the rectangle from its corner to the cursor. Return what it would do; null with the tool `look`.
  * @param {boolean} [all]   it takes all zones that it touches
  */
-function stretchArea(all = false) {
+function extendRectangle(all = false) {
   if (store.tool === "look") return null;
   const area = areaBetween(store.tool, need("corner"), need("cursor"), {all});
   showArea(area);
@@ -286,7 +286,7 @@ function onSpace() {
   }
   beginCorner();
   readPlace(need("cursor"), true);
-  stretchArea();
+  extendRectangle();
 }
 
 /** Discard the rectangle. */
@@ -295,11 +295,11 @@ function drop() {
   if (store.cursor) readPlace(store.cursor, true);
 }
 
-/** Put the rectangle that was drawn by keys.
+/** Make the change that the rectangle shows, which was drawn with keys.
  * @param {boolean} all     it takes all zones that it touches
  */
 function onEnter(all) {
-  const area = store.corner && stretchArea(all);
+  const area = store.corner && extendRectangle(all);
   if (area && applyArea(area)) drop();
 }
 

@@ -176,7 +176,7 @@ class Journal:
         self._waiting: list[tuple[str, Then, asyncio.Future[None]]] = []
         self._last: asyncio.Future[None] | None = None
         self._writer: asyncio.Future[None] | None = None
-        self._began: float | None = None  # when the call began that the disk has not answered yet
+        self._began: float | None = None  # the start of the pending call to the disk; None if there is none
         self._is_read_only = self._is_closed = False
         self._file = self._open()
         self._held = -1
@@ -204,7 +204,7 @@ class Journal:
             if not is_read_only(fault) or not self.path.exists():
                 raise
             logging.warning("%s is read-only (%s): everything can be viewed, but nothing can be changed", self.path, fault.strerror)
-            self._note_fault(fault)
+            self._fail_waiting(fault)
             self._is_read_only = True
             return os.open(self.path, os.O_RDONLY)
 
@@ -219,7 +219,7 @@ class Journal:
         self._waiting.append((to_json(entry), then, done))
         self._last = done
         if self._writer is None:
-            self._writer = asyncio.ensure_future(self._write_all())
+            self._writer = asyncio.ensure_future(self._write_waiting())
         return done
 
     def has_waited(self, seconds: float) -> bool:
@@ -231,28 +231,28 @@ class Journal:
         if self._last is not None:
             await asyncio.shield(self._last)
 
-    async def _write_all(self) -> None:
+    async def _write_waiting(self) -> None:
         try:
             while self._waiting and self.fault is None:
                 batch, self._waiting = self._waiting, []
                 data = b"".join(journal_line(text, place == 0) for place, (text, _, _) in enumerate(batch))
                 try:
-                    await self._run_on_disk_thread(self._append, data)
+                    await self._call_disk(self._append, data)
                 except OSError as fault:
                     self._waiting = batch + self._waiting
-                    self._note_fault(fault)
+                    self._fail_waiting(fault)
                     return
                 for _, then, done in batch:
                     try:
                         then()
                     except Exception:  # pylint: disable=broad-except
-                        logging.exception("a callback after a write failed; what was written is on the disk")
+                        logging.exception("an entry is on the disk, but its callback raised an exception")
                     if not done.done():
                         done.set_result(None)
         finally:
             self._writer = None
 
-    async def _run_on_disk_thread(self, does: Callable[P, None], *given: P.args, **named: P.kwargs) -> None:
+    async def _call_disk(self, does: Callable[P, None], *given: P.args, **named: P.kwargs) -> None:
         """Call a function that waits for the disk, on another thread."""
         self._began = time.monotonic()
         try:
@@ -260,7 +260,7 @@ class Journal:
         finally:
             self._began = None
 
-    def _note_fault(self, fault: OSError) -> None:
+    def _fail_waiting(self, fault: OSError) -> None:
         self.fault = f"the disk does not accept writes ({fault.strerror})"
         self.failures += 1
         waiting, self._waiting, self._last = self._waiting, [], None
@@ -288,7 +288,7 @@ class Journal:
     async def probe_disk(self, entry: JournalLine) -> None:
         """Try whether the disk accepts writes again: append an entry and as many bytes as a gesture can have, and remove these bytes.
         From then on `write` works again. Raise OSError if the disk refuses."""
-        await self._run_on_disk_thread(self._write_probe, entry)
+        await self._call_disk(self._write_probe, entry)
         self.fault = None
 
     def _write_probe(self, entry: JournalLine) -> None:
@@ -350,15 +350,15 @@ class Journal:
 
     async def _replace(self, file: int, copied: int) -> None:
         try:
-            await self._run_on_disk_thread(self._rename, file, copied)
+            await self._call_disk(self._rename, file, copied)
         except OSError as fault:
             logging.warning("the journal was not compacted: %s", fault)
         else:
             try:
-                await self._run_on_disk_thread(sync_folder, self.path.parent)
+                await self._call_disk(sync_folder, self.path.parent)
             except OSError as fault:  # after a crash the old journal may be there again
-                self._note_fault(fault)
-        await self._write_all()
+                self._fail_waiting(fault)
+        await self._write_waiting()
 
     def _rename(self, file: int, copied: int) -> None:
         """Lock the new file, and rename it over the old one. A reader sees either file, complete."""

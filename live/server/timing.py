@@ -42,7 +42,7 @@ class Timing:
         return {"now": step}
 
     def _put(self, clock: Clock) -> asyncio.Future[None]:
-        """Save a clock. It takes effect once it is on the disk, and then counts from now."""
+        """Save a clock. It takes effect once it is on the disk, and counts from the time of this call."""
         def begin() -> None:
             self._keeper.clock_started = begun
         begun = time.monotonic()
@@ -51,7 +51,8 @@ class Timing:
         return done
 
     def save(self) -> None:
-        """Save the present step if the clock has run on; keep the fraction of a step. Stop a fast clock at its end."""
+        """Save the present step if the clock has run on, without losing the fraction of a step since then. Stop the clock when it
+        reaches its `stop`."""
         keeper = self._keeper
         clock, before = keeper.clock(), keeper.state.now
         if self._waiting or keeper.journal.has_waited(A_MOMENT):
@@ -60,8 +61,8 @@ class Timing:
             keeper.record(clock)
             keeper.clock_started += (clock.now - before) / clock.rate
         elif clock.now == clock.stop:
-            self._put(Clock(0, before)).add_done_callback(self._has_stopped)
+            self._put(Clock(0, before)).add_done_callback(self._notify_stopped)
 
-    def _has_stopped(self, done: asyncio.Future[None]) -> None:
+    def _notify_stopped(self, done: asyncio.Future[None]) -> None:
         if not done.cancelled() and done.exception() is None:
             self._keeper.listeners.clock.notify()

@@ -18,8 +18,8 @@ from .roads import SIDES, AskedRoad
 from .state import Replica
 from .timing import FASTEST
 
-MOST_WORKS = 200  # sentences about the change in a report
-ALL = frozenset[str]()  # the command has no `at`
+MOST_SENTENCES = 200  # sentences about the change in a report
+NO_ROAD = frozenset[str]()  # the command has no `at`
 OWN = frozenset({"own"})
 SHARED_ROAD = frozenset({"shared"})
 KEPT_ROADS = OWN | SHARED_ROAD
@@ -49,9 +49,9 @@ class Call:
         return self.questions.road(self.index, self.at)
 
 
-Does = Callable[[Call], Awaitable[Reply]]
+Handler = Callable[[Call], Awaitable[Reply]]
 """A command whose fields have been read. It answers a call."""
-Reads = Callable[[CommandFields], Does]
+Reader = Callable[[CommandFields], Handler]
 T = TypeVar("T")
 
 
@@ -61,7 +61,7 @@ class Verb:
     show changes of other seats, so it waits until these are on the disk."""
 
     of: frozenset[str]
-    reads: Reads
+    reader: Reader
     lists: frozenset[str] = frozenset()
 
 
@@ -72,8 +72,8 @@ async def answer(lab: Lab, questions: Questions, index: int, asked: CommandField
     verb = VERBS[asked.verb]
     call = Call(lab, questions, index, road_name(lab, index, asked, verb), times)
     with asked:
-        does = verb.reads(asked)
-    if verb.of in (ALL, OWN) and not verb.lists:
+        does = verb.reader(asked)
+    if verb.of in (NO_ROAD, OWN) and not verb.lists:
         return await does(call)
     may_see = "shared" if call.at in verb.lists else "nothing"
     return await lab.keeper.read_committed(lambda: does(call), may_see)
@@ -81,7 +81,7 @@ async def answer(lab: Lab, questions: Questions, index: int, asked: CommandField
 
 def road_name(lab: Lab, index: int, asked: CommandFields, verb: Verb) -> str:
     """Return the road that `at` names."""
-    if verb.of == ALL:
+    if verb.of == NO_ROAD:
         return "own"
     at, own = asked.require("at"), lab.state.seats[index].at
     meant = "own" if at == own else at
@@ -94,16 +94,16 @@ def road_name(lab: Lab, index: int, asked: CommandFields, verb: Verb) -> str:
 
 # How fields are read
 
-def no_fields(does: Does) -> Reads:
+def no_fields(does: Handler) -> Reader:
     return lambda _asked: does
 
 
-def reader_of_one_part(read: Callable[[CommandFields], T], does: Callable[[Call, T], Awaitable[Reply]]) -> Reads:
-    """Return the reader of a command whose fields `read` returns as one value or tuple, which `does` gets."""
-    def reads(asked: CommandFields) -> Does:
+def reader_of_one_part(read: Callable[[CommandFields], T], does: Callable[[Call, T], Awaitable[Reply]]) -> Reader:
+    """Return a reader that passes what `read` returns to `does`, as one argument."""
+    def reader(asked: CommandFields) -> Handler:
         part = read(asked)
         return lambda call: does(call, part)
-    return reads
+    return reader
 
 
 def read_steps(asked: CommandFields) -> tuple[int, int]:
@@ -137,7 +137,7 @@ async def seats(call: Call) -> Reply:
     return {"seats": await call.lab.seating.list_saved_seats(call.index)}
 
 
-def clock(asked: CommandFields) -> Does:
+def clock(asked: CommandFields) -> Handler:
     rate = asked.number("rate", FASTEST) if asked.has("rate") else None
     to = asked.whole("to") if rate is None else None
     return lambda call: call.lab.timing.set_clock(rate, to)
@@ -153,7 +153,7 @@ async def unbind(call: Call, site: int) -> Reply:
     return {}
 
 
-def admission(asked: CommandFields) -> Does:
+def admission(asked: CommandFields) -> Handler:
     """Read an inlet, the slow-to-start chance there, and the chances of the inlets upstream."""
     inlet = asked.whole("inlet")
     start = None if asked.is_null("start") else asked.whole("start", 0, 65_536)
@@ -173,7 +173,7 @@ def admission(asked: CommandFields) -> Does:
 
 # Commands that change, share or take
 
-def gesture(asked: CommandFields) -> Does:
+def gesture(asked: CommandFields) -> Handler:
     """Read a gesture: raw edits, a new shape, or a new shape or height for a line."""
     key, note = read_key_and_note(asked)
     if asked.has("edits"):
@@ -210,24 +210,24 @@ async def put_edits(call: Call, edits: list[RawEdit]) -> Reply:
     return {"stamp": said["stamp"]}
 
 
-def undo(asked: CommandFields) -> Does:
+def undo(asked: CommandFields) -> Handler:
     key, note = read_key_and_note(asked)
     stamp = asked.stamp_or_key("stamp")
     return lambda call: call.lab.undo(call.index, call.times, key=key, note=note, stamp=stamp)
 
 
-def put_again(asked: CommandFields) -> Does:
+def put_again(asked: CommandFields) -> Handler:
     key, stamp = asked.key(), asked.stamp_or_key("stamp")
     return lambda call: call.lab.put_again(call.index, call.times, key=key, stamp=stamp)
 
 
-def exclude_site(asked: CommandFields) -> Does:
+def exclude_site(asked: CommandFields) -> Handler:
     key, note = read_key_and_note(asked)
     site, is_out = read_site(asked), asked.flag("out")
     return lambda call: call.lab.exclude_site(call.index, call.times, key=key, note=note, site=site, out=is_out)
 
 
-def share(asked: CommandFields) -> Does:
+def share(asked: CommandFields) -> Handler:
     require_shared(asked, "name")
     stamps, title = asked.stamps(), asked.text("title", LONGEST_NOTE, "")
     return lambda call: call.lab.share(call.index, call.times, stamps=stamps, title=title)
@@ -240,19 +240,19 @@ async def leave(call: Call) -> Reply:
 
 # Queries of roads
 
-def forward(asked: CommandFields) -> Does:
+def forward(asked: CommandFields) -> Handler:
     """Forward a command to the program unchanged."""
     fields = asked.remaining()
     return lambda call: call.questions.ask_program(call.road, call.times, asked.verb, fields)
 
 
-def diagram(asked: CommandFields) -> Does:
+def diagram(asked: CommandFields) -> Handler:
     first, last = read_steps(asked)
     every, cells = asked.whole("every", 1, LAST_HORIZON, 1), asked.stretch()
     return lambda call: call.questions.diagram(call.road, call.times, first=first, last=last, every=every, cells=cells)
 
 
-def counts(asked: CommandFields) -> Does:
+def counts(asked: CommandFields) -> Handler:
     first, last = read_steps(asked)
     each = asked.whole("each", 1, LAST_HORIZON) if asked.has("each") else None
     return lambda call: call.questions.counts(call.road, call.times, first=first, last=last, each=each)
@@ -260,7 +260,7 @@ def counts(asked: CommandFields) -> Does:
 
 # Lists and previews
 
-def preview(asked: CommandFields) -> Does:
+def preview(asked: CommandFields) -> Handler:
     what = None if asked.is_null("what") else asked.require("what")
     if what not in (None, "share", "take"):
         raise not_a_command('`what` must be "share", "take" or null')
@@ -268,7 +268,7 @@ def preview(asked: CommandFields) -> Does:
     return lambda call: call.questions.preview(call.index, what, stamps)
 
 
-def days(asked: CommandFields) -> Does:
+def days(asked: CommandFields) -> Handler:
     """Read a comparison over many days. If `of` is null, the command stops the one that is running."""
     if asked.is_null("of"):
         return lambda call: call.questions.days(call.index, call.replica, None, 0, 0)
@@ -278,20 +278,20 @@ def days(asked: CommandFields) -> Does:
 
 # Files
 
-def transcript(asked: CommandFields) -> Does:
+def transcript(asked: CommandFields) -> Handler:
     first, last = asked.whole("from", default=0), asked.whole("to", 0, LAST_HORIZON)
     piece = asked.whole("next", default=0)
     return lambda call: call.questions.transcript(call.index, call.replica, first, last, piece)
 
 
-def report(asked: CommandFields) -> Does:
+def report(asked: CommandFields) -> Handler:
     """Read a comparison, the title of its report, and sentences about the change."""
     of, first, last = read_comparison(asked)
-    title, works = asked.text("title", LONGEST_NOTE), asked.texts("works", MOST_WORKS, LONGEST_NOTE)
+    title, works = asked.text("title", LONGEST_NOTE), asked.texts("works", MOST_SENTENCES, LONGEST_NOTE)
     return lambda call: call.questions.report(call.index, call.replica, of, first, last, title, works)
 
 
-def table_of_counts(asked: CommandFields) -> Does:
+def table_of_counts(asked: CommandFields) -> Handler:
     if asked.require("what") != "counts":
         raise not_a_command('`what` must be "counts"')
     first, last = read_steps(asked)
@@ -301,11 +301,11 @@ def table_of_counts(asked: CommandFields) -> Does:
 
 VERBS: dict[str, Verb] = {
     # Commands without a road
-    "seats": Verb(ALL, no_fields(seats)),
-    "clock": Verb(ALL, clock),
-    "numbers": Verb(ALL, no_fields(list_numbers)),
-    "unbind": Verb(ALL, reader_of_one_part(read_site, unbind)),
-    "admission": Verb(ALL, admission),
+    "seats": Verb(NO_ROAD, no_fields(seats)),
+    "clock": Verb(NO_ROAD, clock),
+    "numbers": Verb(NO_ROAD, no_fields(list_numbers)),
+    "unbind": Verb(NO_ROAD, reader_of_one_part(read_site, unbind)),
+    "admission": Verb(NO_ROAD, admission),
     # Commands that change, share or take
     "gesture": Verb(OWN, gesture),
     "edit": Verb(OWN, reader_of_one_part(read_edit, put_edits)),

@@ -105,7 +105,7 @@ class Bursts(Case):
         await asyncio.gather(*tasks)
 
     async def puts(self, server: Server, engineer: Engineer, count: int, some: list[Engineer]) -> None:
-        """Put, share and take until every seat has put this many gestures. A seat whose connection breaks joins again."""
+        """Put, share and take until all seats together have this many confirmed gestures. A seat whose connection breaks joins again."""
         while sum(len(one.confirmed) for one in some) < count:
             try:
                 async with engineer.seat(server) as seat:
@@ -113,9 +113,9 @@ class Bursts(Case):
                     await engineer.burst(seat, lambda: sum(len(one.confirmed) for one in some) >= count)
             except (ConnectionError, ClientError, RefusedReply):
                 await asyncio.sleep(0.05)
-            self.keep(engineer)
+            self.check_stamps(engineer)
 
-    def keep(self, engineer: Engineer) -> None:
+    def check_stamps(self, engineer: Engineer) -> None:
         """Check that no stamp is used twice, in any folder."""
         for key, stamp in engineer.confirmed.items():
             self.assertEqual(self.stamps.setdefault(tuple(stamp), key), key)
@@ -123,11 +123,11 @@ class Bursts(Case):
     # What must be so afterwards
 
     async def look(self, engineer: Engineer) -> None:
-        """Check that each confirmed gesture is there. Send each other one again, and check that it is there once."""
+        """Check that each confirmed gesture is there. Send every unconfirmed gesture again, and check that it is there once."""
         async with engineer.seat(self.one) as seat:
             for key in engineer.sent.keys() - engineer.confirmed.keys():
                 engineer.confirmed[key] = (await seat.ask("gesture", key=key, edits=engineer.sent[key]))["stamp"]
-            self.keep(engineer)
+            self.check_stamps(engineer)
             held = {tuple(one["stamp"]): raw_edits(one) for one in await self.operations(seat, seat.at)}
             for key, stamp in engineer.confirmed.items():
                 self.assertEqual(held[tuple(stamp)], engineer.sent[key])
@@ -142,14 +142,14 @@ class Bursts(Case):
                 return found
 
     async def share(self, number: int) -> None:
-        """Something of the other site."""
+        """Make a change at the other site, and share it."""
         async with self.two.seat(**self.tom) as tom:
             self.tom = {"key": tom.key}
             await tom.ask("gesture", key=f"s{number}", edits=[["limit", 1, number, 2]])
             await tom.ask("send", name="shared")
 
     async def are_same(self) -> bool:
-        """Check that both sites hold the same gestures, also those that are covered, and the same edits."""
+        """Return whether both sites hold the same gestures, also those that are covered, and the same edits."""
         async with self.one.seat(key=self.engineers[0].key) as here, self.two.seat(**self.tom) as there:
             self.tom = {"key": there.key}
             one, other = [{tuple(one["stamp"]) for one in await self.operations(seat, "shared")} for seat in (here, there)]

@@ -24,7 +24,7 @@ ORACLE = oracle_of(PLAN, LAST + 1)
 
 
 class Engineer:
-    """A seat that puts one gesture after another, and notes which were confirmed."""
+    """An engineer who puts one gesture after another, and notes which were confirmed."""
 
     def __init__(self, name: str, chance: random.Random) -> None:
         self.name, self.key, self._chance = name, "", chance
@@ -91,8 +91,8 @@ class Crashes(Case):
         await until(has_more, "gestures are confirmed")
 
     async def look(self, server: Server, engineers: list[Engineer]) -> None:
-        """Check that every confirmed gesture is there with its edits. Send each other one again, and check that it is there
-        once."""
+        """Check that every confirmed gesture is there with its edits. Send every unconfirmed gesture again, and check that it is
+        there once."""
         for engineer in engineers:
             async with engineer.seat(server) as seat:
                 for key in engineer.sent.keys() - engineer.confirmed.keys():

@@ -65,7 +65,7 @@ test("a drag takes zones that it covers at least by half; with Shift, all that i
   }
   // The last zone may be shorter: here it has 40 cells.
   assert.deepEqual(zonesIn({...PLAN, length: 790}, [769, 790], false), [15, 15]);
-  const few = (how) => rectangleBetween(PLAN, "limit", [400, 0], [424, 60], how).few;
+  const few = (how) => rectangleBetween(PLAN, "limit", [400, 0], [424, 60], how).coversNoZone;
   assert.ok(few());
   assert.ok(!few({all: true}));
   assert.ok(!rectangleBetween(PLAN, "block", [400, 0], [401, 60]).few);

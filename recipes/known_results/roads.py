@@ -9,13 +9,13 @@ AT_ONCE = 1 << 20
 """The number of steps that `advance` simulates at a time: more than any of these roads runs for."""
 LENGTH, WARM_UP = 512, 20_000
 """For roads whose flow is known: their length in cells, and the steps before cars are counted."""
-JAM, FRONT = 2_400, 2_000
+JAM, FRONT_STEPS = 2_400, 2_000
 """The cells of a jam, and the steps in which its front moves back."""
 CARS = 400
 """The number of cars that leave a jam at limit 1."""
 OUTFLOW, DOWNSTREAM = 1_500, 200
 """The steps in which the flow out of a jam is counted, and the cells to the detector after the jam."""
-WIDE, QUEUE = 2_000, 500
+WIDE_STEPS, QUEUE = 2_000, 500
 """The steps in which a wide jam is observed, and about the number of cars that it has at first."""
 
 Counted = dict[str, float]
@@ -30,56 +30,56 @@ def flow(limit: int, slowing: int, steps: int, seed: int) -> Counted:
 
 
 def open_jam(limit: int, slowing: int, start: int, cells: int, after: int, seed: int) -> tuple[RoadLab, int]:
-    """Return a lab with a jam before a cell that opens at some step, and this step.
+    """Return a lab with a jam upstream of a closed cell that opens at some step, and this step.
 
     Nobody is slowed until then, so a car enters in every other step, and they stop without gaps. Fault: the jam has gaps.
     """
-    opened = 2 * cells + cells // limit + 100
+    opening = 2 * cells + cells // limit + 100
     width = -(-(cells + after + 2) // 64)
     zones = -(-(cells + after + 2) // width)
     plan = Plan(length=cells + after + 2, inlets=[(0, ALWAYS)], zones=[(limit, 0)] * zones, zone=width, detectors=[cells, cells + after],
                 words=seed)
     lab = RoadLab(plan)
     lab.edit("A", ("block", cells), 0, 1)
-    lab.edit("A", ("block", cells), opened, 0)
+    lab.edit("A", ("block", cells), opening, 0)
     for zone in range(zones):
-        lab.edit("A", ("slow", zone), opened, slowing)
-        lab.edit("A", ("start", zone), opened, start)
-    lab.advance("A", opened, AT_ONCE)
-    if lab.cells("A", opened)[:cells].strip("0"):
+        lab.edit("A", ("slow", zone), opening, slowing)
+        lab.edit("A", ("start", zone), opening, start)
+    lab.advance("A", opening, AT_ONCE)
+    if lab.cells("A", opening)[:cells].strip("0"):
         lab.close()
         raise Fault("the jam has gaps")
-    return lab, opened
+    return lab, opening
 
 
 def front(limit: int, slowing: int, start: int, seed: int) -> Counted:
     """Return the number of cells that the front of a jam has moved back, which is the number of its cars that have started."""
-    lab, opened = open_jam(limit, slowing, start, JAM, 10, seed)
+    lab, opening = open_jam(limit, slowing, start, JAM, 10, seed)
     with lab:
-        lab.advance("A", opened + FRONT, AT_ONCE)
-        before = {car.number: car.cell for car in lab.cars("A", opened)}
-        stands = sum(before.get(car.number) == car.cell for car in lab.cars("A", opened + FRONT))
-    return {"counted": JAM - stands}
+        lab.advance("A", opening + FRONT_STEPS, AT_ONCE)
+        before = {car.number: car.cell for car in lab.cars("A", opening)}
+        standing = sum(before.get(car.number) == car.cell for car in lab.cars("A", opening + FRONT_STEPS))
+    return {"counted": JAM - standing}
 
 
 def time(slowing: int, seed: int) -> Counted:
     """Return the number of steps in which CARS cars leave a jam, at limit 1."""
-    lab, opened = open_jam(1, slowing, slowing, CARS + 100, 100, seed)
+    lab, opening = open_jam(1, slowing, slowing, CARS + 100, 100, seed)
     with lab:
         first, last = 0, 20 * CARS
-        lab.advance("A", opened + last, AT_ONCE)
+        lab.advance("A", opening + last, AT_ONCE)
         while last - first > 1:
             middle = (first + last) // 2
-            is_done = lab.count("A", 0, opened, opened + middle).cars >= CARS
+            is_done = lab.count("A", 0, opening, opening + middle).cars >= CARS
             first, last = (first, middle) if is_done else (middle, last)
     return {"counted": last}
 
 
 def outflow(limit: int, start: int, seed: int) -> Counted:
     """Return the cars that leave a jam whose cars are slow to start but are not slowed otherwise."""
-    lab, opened = open_jam(limit, 0, start, JAM, DOWNSTREAM, seed)
+    lab, opening = open_jam(limit, 0, start, JAM, DOWNSTREAM, seed)
     with lab:
-        begin = opened + 2 * DOWNSTREAM
+        begin = opening + 2 * DOWNSTREAM
         lab.advance("A", begin + OUTFLOW, AT_ONCE)
         if count_cars(lab.cells("A", begin + OUTFLOW)[:100]) < 90:
             raise Fault("the jam has gone")
@@ -92,15 +92,15 @@ def wide_jam(start: int, seed: int) -> Counted:
     Fault: at the end it is not a single jam of standing cars.
     """
     cell, closed = 3_000, 1_000
-    opened = closed + round(QUEUE * 9 / 5)
+    opening = closed + round(QUEUE * 9 / 5)
     plan = Plan(length=3_600, inlets=[(0, ALWAYS)], zones=[(5, 0)] * 36, words=seed)
     with RoadLab(plan) as lab:
         lab.edit("A", ("block", cell), closed, 1)
-        lab.edit("A", ("block", cell), opened, 0)
+        lab.edit("A", ("block", cell), opening, 0)
         for zone in range(1, 36):
-            lab.edit("A", ("start", zone), opened, start)
-        lab.advance("A", opened + WIDE, AT_ONCE)
-        rows = [lab.cells("A", step)[100:] for step in (opened, opened + WIDE)]
+            lab.edit("A", ("start", zone), opening, start)
+        lab.advance("A", opening + WIDE_STEPS, AT_ONCE)
+        rows = [lab.cells("A", step)[100:] for step in (opening, opening + WIDE_STEPS)]
     for row in rows:
         if row.strip(".123456789").strip("0#"):
             raise Fault("it is not a single jam of standing cars")

@@ -4,7 +4,8 @@ An operation counts unless an operation that counts undoes it, or its site is ex
 After new operations, only those decisions are made again that may change. Exclusions are decided first: only their own site can undo
 them, whether it is excluded or not. So no two decisions depend on each other.
 
-Several functions take `flipped`, a set of operations, and answer as if each of these counted if it does not, and the reverse.
+Several functions take `flipped`, a set of operations. In their answer, operations in it that count are ignored, and the others in it
+count.
 """
 from __future__ import annotations
 

@@ -18,8 +18,8 @@ Plan = Callable[[str, int], "int | None"]
 """Returns the plan's value of an object, given its kind and index; None for the kind `start`, for which the plan has no value."""
 
 
-class Step:
-    """The step from one road to another: the new operations, those that now count or no longer count, and the layers that may differ."""
+class RoadChange:
+    """The difference to the road that this one was made from: the new operations, those that now count or no longer count, and the layers that may differ."""
 
     def __init__(self, before: Road, fresh: set[Operation], flipped: set[Operation], names: set[Name]) -> None:
         self.before = weakref.ref(before)
@@ -36,7 +36,7 @@ class Road:
         self.shapes: dict[str, dict[Name, Layer]] = {}  # the layers that are not raw edits, by kind and name
         self.raws: dict[tuple[str, int], dict[int, Layer]] = {}  # the raw edits, by object and step
         self.members: dict[Stamp, frozenset[RawName]] = {}  # the raw edits that are in force, by line
-        self.step: Step | None = None  # how this road was made
+        self.step: RoadChange | None = None  # how this road was made
         self._setters: dict[Name, tuple[Operation, ...]] = {}  # by layer, the oldest first; layers that were only put are missing
         self._lifters: dict[Name, tuple[Operation, ...]] = {}
 
@@ -44,6 +44,7 @@ class Road:
         return one in self.record
 
     def setters_of(self, name: Name) -> tuple[Operation, ...]:
+        """Return the operations that set a layer, the oldest first, whether they count or not."""
         some = self._setters.get(name)
         if some is not None or not is_line(name):
             return some or ()
@@ -52,6 +53,7 @@ class Road:
             sort_by_stamp(one for one in puts if name in one.sets))
 
     def lifters_of(self, name: Name) -> tuple[Operation, ...]:
+        """Return the operations that put a layer on top, the oldest first, whether they count or not."""
         return self._lifters.get(name, ())
 
     def empty(self) -> Road:
@@ -82,7 +84,7 @@ class Road:
         names = {name for one in flipped for name in one.names}
         names.update(raw for name in list(names) if is_line(name) for raw in road.members.get(name, ()))
         road._lay(names)
-        road.step = Step(self, fresh, flipped, names)
+        road.step = RoadChange(self, fresh, flipped, names)
         return road
 
     # Layers
@@ -101,7 +103,8 @@ class Road:
         return next((one for one in reversed(self.lifters_of(name)) if self.record.counts(one, flipped)), None)
 
     def layer(self, name: Name, flipped: AbstractSet[Operation] = NO_OPERATIONS) -> Layer | None:
-        """Return a layer, as if the operations in `flipped` counted if they do not, and the reverse. None if there is no such layer."""
+        """Return a layer; None if there is no such layer. Of the operations in `flipped`, those that count are ignored, and the others
+        count."""
         setter = self.setter(name, flipped)
         shape = None if setter is None else setter.sets[name]
         if setter is None or shape is None:
@@ -111,7 +114,8 @@ class Road:
         return Layer(self.height_of(line, flipped), name, line, kind, first, last, begin, END if end is None else end, value)
 
     def is_changed_by(self, flipped: set[Operation]) -> bool:
-        """Return whether a layer or an exclusion would change if these operations counted if they do not, and the reverse."""
+        """Return whether a layer or an exclusion would change if, of these operations, those that count were ignored and the others
+        counted."""
         names = {name for one in flipped for name in one.names}
         names.update(raw for name in list(names) if is_line(name) for raw in self.members.get(name, ()))
         return (any(self.layer(name, flipped) != self.layers.get(name) for name in names)

@@ -50,7 +50,7 @@ class Linter:
             (verb, given), = cast("dict[str, CommandFields]", value).items()
             for check in (self._check_values, self._check_withdrawal, self._check_crowd, self._check_advance):
                 said += check(verb, given)
-            self._note(verb, given, reply)
+            self._remember(verb, given, reply)
         return join_faults(said) if said else None
 
     def finish(self) -> dict[int, str]:
@@ -58,8 +58,8 @@ class Linter:
         said: dict[int, str] = {}
         horizon = max(self._horizons.values(), default=0)
         for line, kind, step in self._dated:
-            if horizon and is_past(kind, step, horizon):
-                said.setdefault(line, self._describe_late(step, horizon))
+            if horizon and is_beyond(kind, step, horizon):
+                said.setdefault(line, self._describe_unshown(step, horizon))
         for cell, dates in self._blocks.items():
             step = max(dates, default=0)
             line, value = dates.get(step, (0, 0))
@@ -70,7 +70,7 @@ class Linter:
 
     # Warnings about one line
 
-    def _describe_late(self, step: int, last: int) -> str:
+    def _describe_unshown(self, step: int, last: int) -> str:
         minutes = self._units.minutes
         return (f"it applies from step {step}{minutes(step)} on, but the road is simulated only to step {last}{minutes(last)}, "
                 "so no row shows it")
@@ -82,9 +82,9 @@ class Linter:
             yield from (f"inlet {index}: {said}" for said in self._check_chance("inflow", inflow))
 
     def _check_values(self, verb: str, given: CommandFields) -> Iterator[str]:
-        for called, (kind, *_, value) in list_edits(verb, given):
+        for prefix, (kind, *_, value) in list_edits(verb, given):
             if value is not None:
-                yield from (called + said for said in (*self._check_limit(kind, value), *self._check_chance(kind, value)))
+                yield from (prefix + said for said in (*self._check_limit(kind, value), *self._check_chance(kind, value)))
 
     def _check_limit(self, kind: str, value: int) -> Iterator[str]:
         """Yield a warning if a limit is too high for a road."""
@@ -118,27 +118,27 @@ class Linter:
 
     def _check_crowd(self, verb: str, given: CommandFields) -> Iterator[str]:
         if verb == "crowd":
-            for called, (kind, _, step, *_) in list_edits(verb, given):
-                if is_past(kind, step, given["to"]):
-                    yield called + self._describe_late(step, given["to"])
+            for prefix, (kind, _, step, *_) in list_edits(verb, given):
+                if is_beyond(kind, step, given["to"]):
+                    yield prefix + self._describe_unshown(step, given["to"])
 
     def _check_advance(self, verb: str, given: CommandFields) -> Iterator[str]:
         if verb == "advance" and given["to"] < self._horizons.get(given["at"], 0):
             here, to, minutes = self._horizons[given["at"]], given["to"], self._units.minutes
             yield f"{shown(given['at'])} is already at step {here}{minutes(here)}: `advance` to {to}{minutes(to)} does nothing"
 
-    # Notes for later lines
+    # What later lines are compared with
 
-    def _note(self, verb: str, given: CommandFields, reply: Fields) -> None:
+    def _remember(self, verb: str, given: CommandFields, reply: Fields) -> None:
         if verb in ("edit", "import"):
             edits = [edit for _, edit in list_edits(verb, given)]
             self._keys_of(given["at"]).update((kind, index, step) for kind, index, step, *_, value in edits if value is not None)
             self._dated += [(self._line, kind, step) for kind, _, step, *_ in edits]
             for kind, index, step, *_, value in edits:
-                self._note_block(kind, index, step, value)
+                self._remember_block(kind, index, step, value)
         elif verb == "withdraw":
             kind, index = given["object"]
-            self._note_block(kind, index, given["step"], None)
+            self._remember_block(kind, index, given["step"], None)
         elif verb == "advance":
             self._horizons[given["at"]] = cast(ReplyFields, reply)["horizon"]
         elif verb == "send":
@@ -148,8 +148,8 @@ class Linter:
         elif verb == "take":
             self._keys_of(given["at"]).update(self._sent.get(given["message"], ()))
 
-    def _note_block(self, kind: str, cell: int, step: int, value: int | None) -> None:
-        """Note the last value of a cell at each step, in any replica."""
+    def _remember_block(self, kind: str, cell: int, step: int, value: int | None) -> None:
+        """Remember the last value of a cell at each step, in any replica."""
         if kind == "block":
             dates = self._blocks.setdefault(cell, {})
             if value is None:
@@ -161,7 +161,7 @@ class Linter:
         return self._keys.setdefault(at, set())
 
 
-def is_past(kind: str, step: int, horizon: int) -> bool:
+def is_beyond(kind: str, step: int, horizon: int) -> bool:
     """Return whether an edit changes no row up to a horizon. (The last row shows the cells that are closed in its step.)"""
     return step > horizon or step == horizon and kind != "block"
 

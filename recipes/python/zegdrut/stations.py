@@ -354,7 +354,7 @@ def read_time(path: Path, number: int, text: str) -> datetime.datetime | datetim
 # Checks
 
 def check_rows(counts: Counts) -> Counts:
-    """Add notes on rows out of order and stations out of order. Keep the first of duplicate rows, and sort the rest."""
+    """Add notes on rows out of order and stations out of order. Keep the first of duplicate rows."""
     seen: dict[tuple[str, object], Row] = {}
     late, last = [], dict[str, Row]()
     for row in counts.rows:
