@@ -143,7 +143,7 @@ def time_script(program, script):
     return spent, ended.stdout
 
 
-def measure(program, script):
+def time_with_memory(program, script):
     """Return the seconds that a program takes for a script, its answers, and its maximum memory in MiB."""
     begin = time.perf_counter()
     ended = subprocess.run(["/usr/bin/time", "-f", "%M", program], input=script.encode(), capture_output=True, check=True)

@@ -204,7 +204,7 @@ function saveLines(title, lines, what, whose, period) {
   tell(messages.savedFile(saveAs(what, [csvOf(title, lines)], "text/csv", whose, period)));
 }
 
-const MOST_WORKS = 200;         // lines of a report
+const MOST_SENTENCES = 200;         // lines of a report
 const MOST_CHARACTERS = 200;    // of a line
 
 /** Return the changes of a road that are not withdrawn, in sentences, the oldest first.
@@ -227,7 +227,7 @@ async function worksText() {
   const [after, before] = both.map(textsOf);
   const gone = before.filter((text) => !after.includes(text));
   const fresh = after.map((text) => (before.includes(text) ? text : `${text} (new)`));
-  return [...fresh, ...gone.map((text) => `${text} (only before)`)].slice(0, MOST_WORKS)
+  return [...fresh, ...gone.map((text) => `${text} (only before)`)].slice(0, MOST_SENTENCES)
     .map((text) => text.slice(0, MOST_CHARACTERS));
 }
 

@@ -108,7 +108,7 @@ class Bursts(Case):
         """Put, share and take until all seats together have this many confirmed gestures. A seat whose connection breaks joins again."""
         while sum(len(one.confirmed) for one in some) < count:
             try:
-                async with engineer.seat(server) as seat:
+                async with engineer.connect(server) as seat:
                     engineer.key = seat.key
                     await engineer.burst(seat, lambda: sum(len(one.confirmed) for one in some) >= count)
             except (ConnectionError, ClientError, RefusedReply):

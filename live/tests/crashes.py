@@ -32,7 +32,7 @@ class Engineer:
         self.confirmed: dict[str, Stamp] = {}
         self.shared: set[tuple[int, ...]] = set()
 
-    def seat(self, server: Server) -> Seat:
+    def connect(self, server: Server) -> Seat:
         return server.seat(key=self.key) if self.key else server.seat(self.name)
 
     async def burst(self, seat: Seat, is_enough: Callable[[], bool] = lambda: False) -> None:
@@ -68,7 +68,7 @@ class Crashes(Case):
         for number in range(ROUNDS):
             seats = []
             for engineer in engineers:
-                seat = engineer.seat(server)
+                seat = engineer.connect(server)
                 seats.append(await seat.__aenter__())
                 engineer.key = seat.key
             if not number:
@@ -94,7 +94,7 @@ class Crashes(Case):
         """Check that every confirmed gesture is there with its edits. Send every unconfirmed gesture again, and check that it is
         there once."""
         for engineer in engineers:
-            async with engineer.seat(server) as seat:
+            async with engineer.connect(server) as seat:
                 for key in engineer.sent.keys() - engineer.confirmed.keys():
                     said = await seat.ask("gesture", key=key, edits=engineer.sent[key])
                     engineer.confirmed[key] = said["stamp"]
@@ -149,7 +149,7 @@ class Crashes(Case):
             await asyncio.gather(*tasks, return_exceptions=True)
             broker.start()
         await self.rounds(server, engineers, kill)
-        async with engineers[0].seat(server) as here, other.seat("Sam") as there:
+        async with engineers[0].connect(server) as here, other.seat("Sam") as there:
             async def shared() -> list[Any]:
                 return [numbers((await seat.ask("scenario", at="shared"))["edits"]) for seat in (here, there)]
 
