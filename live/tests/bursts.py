@@ -124,7 +124,7 @@ class Bursts(Case):
 
     async def look(self, engineer: Engineer) -> None:
         """Check that each confirmed gesture is there. Send every unconfirmed gesture again, and check that it is there once."""
-        async with engineer.seat(self.one) as seat:
+        async with engineer.connect(self.one) as seat:
             for key in engineer.sent.keys() - engineer.confirmed.keys():
                 engineer.confirmed[key] = (await seat.ask("gesture", key=key, edits=engineer.sent[key]))["stamp"]
             self.check_stamps(engineer)
