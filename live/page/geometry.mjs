@@ -111,8 +111,9 @@ export function zonesIn({length, zone}, [from, to], all) {
   return begin <= end ? [begin, end] : null;
 }
 
-/** Return the first and last object in a stretch of cells that is typed. For zones, round its ends to
- * the nearest zone boundaries. If both are rounded to the same one, return the zone of its middle.
+/** Return the first and last object in a stretch of cells that the user typed. For zones, round its
+ * ends to the nearest zone boundaries. If both are rounded to the same one, return the zone of its
+ * middle.
  * @param {Plan} plan
  * @param {Kind} kind
  * @param {Span} cells

@@ -161,7 +161,7 @@ function detectorText(flow, speed) {
 const spanOf = ({from, to, each}, point) =>
   store.day.spanText(from + point * each, Math.min(to, from + (point + 1) * each));
 
-/** Return the text of flow and speed at the selected point. The road after comes first, as in the
+/** Return the text of flow and speed at the selected point. The `after` road comes first, as in the
  * table.
  * @param {Chart[]} charts   of flow and speed
  */

@@ -297,7 +297,7 @@ class Keeper:
             for _ in range(2):
                 if self.journal.failures != self._forgotten:
                     await self._start_over()
-                self._change_in_time()
+                self._replace_in_time()
                 try:
                     return await job()
                 except ProgramExited as fault:
@@ -328,9 +328,9 @@ class Keeper:
             self._next.cancel()
             self._next = None
 
-    def _change_in_time(self) -> None:
+    def _replace_in_time(self) -> None:
         """Start a successor of the program in the background if the program is near its limit of lines, or holds many edits without an
-        effect. Switch to the successor when it has run as far."""
+        effect. Switch to the successor once it has simulated as far as the program."""
         if self._next is not None and self._next.done():
             successor, self._next = self._next, None
             if successor.exception() is None:
@@ -338,11 +338,11 @@ class Keeper:
                 self._screen, self.changes, self.why_changed = successor.result(), self.changes + 1, None
                 self.listeners.program.notify()
             else:
-                logging.warning("the successor of the program could not be started: %s", successor.exception())
+                logging.warning("a new program, which is to replace the present one, could not be started: %s", successor.exception())
         settings = self.settings
-        is_late = (self.program.lines >= settings.most_lines or self.undo_count >= settings.most_undone
+        is_due = (self.program.lines >= settings.most_lines or self.undo_count >= settings.most_undone
                    or self.screen.withdrawn >= settings.most_withdrawn)
-        if self._next is None and is_late:
+        if self._next is None and is_due:
             self._forget()
             self._next = asyncio.ensure_future(self._start_successor())
 

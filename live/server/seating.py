@@ -23,7 +23,7 @@ from .state import SeatReplica, State
 from .writing import wait_until_written
 
 JUMP = 60.0  # seconds that the system's clock must differ from the time that passed, to count as a jump
-NOTED = 1 / 24  # the part of the time after which unused seats are freed: how often the use of a seat is noted
+NOTED = 1 / 24  # how often the use of a seat is noted, as a fraction of the time after which unused seats are freed
 
 
 def digest(key: str) -> str:
@@ -108,8 +108,8 @@ class Seating:
             raise self._refuse_with_seats("NoName", "give a name of 1 to 64 characters")
         alike = self._find_similar_name(name)
         if alike is not None:
-            looks = "" if alike == name else f", and {name} looks like it"
-            raise self._refuse_with_seats("NameTaken", f"there is a seat of {alike} already{looks}: take it over, or choose another name")
+            give_unsaved = "" if alike == name else f", and {name} give_unsaved like it"
+            raise self._refuse_with_seats("NameTaken", f"there is a seat of {alike} already{give_unsaved}: take it over, or choose another name")
         free = [seat.index for seat in self._state.seats[1:] if not seat.key]
         if not free:
             raise self._refuse_with_seats("AllSeatsTaken", "all 63 seats are taken: take one over")
@@ -127,7 +127,7 @@ class Seating:
         return await self._give(index, name, self._state.works, key)
 
     def _find_similar_name(self, name: str) -> str | None:
-        """Return the name of a seat that is equal to this name or looks like it; None if there is none."""
+        """Return the name of a seat that is equal to this name or give_unsaved like it; None if there is none."""
         return next((seat.name for seat in self._state.seats if seat.key and fold_look_alikes(seat.name) == fold_look_alikes(name)), None)
 
     def _refuse_with_seats(self, text: str, why: str) -> Refused:
@@ -140,14 +140,14 @@ class Seating:
             try:
                 await self._keeper.turns.ask(SHARED, self._keeper.require_writable)
                 await wait_until_written(self._keeper.apply_when_written(self._entry(index, name, key, upto), lambda: None), {})
-            except NotKept:  # a newcomer can view everything without the disk
+            except NotKept:  # the disk does not accept writes: give the seat anyway, so that the newcomer can view everything
                 key = self._sign(key[:8], index, name)
                 entry = self._entry(index, name, key, upto)
 
-                async def looks() -> None:
+                async def give_unsaved() -> None:
                     entry.apply(self._state)
                     self._unkept[index] = entry
-                await self._keeper.turns.ask(SHARED, looks)
+                await self._keeper.turns.ask(SHARED, give_unsaved)
         except BaseException:  # also if the tab has gone meanwhile
             self._keeper.connected.discard(index)
             raise
@@ -183,7 +183,7 @@ class Seating:
         await wait_until_written(await self._keeper.turns.ask(index, body), {})
 
     def require_owned(self, index: int) -> SeatReplica:
-        """Return a seat. Raise `Refused` if an earlier command has left it."""
+        """Return a seat. Raise `Refused` if an earlier command has released it."""
         seat = self._state.seats[index]
         if not seat.key:
             raise Refused("NotYourReplica", "this tab has left its seat: say `hello` again")

@@ -92,7 +92,7 @@ class Sites:
         host, port = self._broker
         self._client.connect_async(host, port, keepalive=30)
         self._client.loop_start()
-        self._tasks = [supervise("the announcements to other sites", self._announce, self._keeper.report_end)]
+        self._tasks = [supervise("the announcements to other sites", self._announce_forever, self._keeper.report_end)]
         return self
 
     async def __aexit__(self, kind: type[BaseException] | None, fault: BaseException | None,
@@ -251,7 +251,7 @@ class Sites:
                               "silent": self._peers.is_anothers(), "bound": {str(one): folder for one, folder in
                                                                        self._peers.disputed().items()}}, 0)
 
-    async def _announce(self) -> None:
+    async def _announce_forever(self) -> None:
         while True:
             await asyncio.sleep(ANNOUNCE_EVERY)
             try:

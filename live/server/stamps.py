@@ -11,7 +11,7 @@ import random
 import time
 from typing import Callable
 
-A_MILLISECOND = 32  # counts in a millisecond in a millisecond in a millisecond
+A_MILLISECOND = 32  # counts in a millisecond
 A_DAY = 86_400_000 * A_MILLISECOND
 
 

@@ -157,18 +157,18 @@ def admission(asked: CommandFields) -> Handler:
     """Read an inlet, the slow-to-start chance there, and the chances of the inlets upstream."""
     inlet = asked.whole("inlet")
     start = None if asked.is_null("start") else asked.whole("start", 0, 65_536)
-    before = asked.pairs("before")
+    upstream = asked.pairs("before")
 
-    async def does(call: Call) -> Reply:
+    async def reply(call: Call) -> Reply:
         inlets = len(call.lab.state.plan["inlets"])
-        for one, chance in [(inlet, 0), *before]:
+        for one, chance in [(inlet, 0), *upstream]:
             if one >= inlets or chance > 65_536:
                 raise Refused("Range", f"an inlet must be 0 to {inlets - 1}, and its chance 0 to 65536")
-        cell, *cells = (call.lab.state.plan["inlets"][one][0] for one in (inlet, *(one for one, _ in before)))
+        cell, *cells = (call.lab.state.plan["inlets"][one][0] for one in (inlet, *(one for one, _ in upstream)))
         if len({*cells}) < len(cells) or max(cells, default=-1) >= cell:
             raise Refused("Range", "`before` must list inlets upstream of this one, each once")
-        return await call.questions.admission(inlet, start, before)
-    return does
+        return await call.questions.admission(inlet, start, upstream)
+    return reply
 
 
 # Commands that change, share or take

@@ -56,13 +56,13 @@ class Bursts(Case):
         await self.burst(self.one, lambda: os.kill(self.one.program, signal.SIGKILL))
 
     async def broker_is_killed(self) -> None:
-        def again() -> None:
+        def restart_broker() -> None:
             self.mosquitto.kill()
             self.mosquitto.start()
-        await self.burst(self.one, again)
+        await self.burst(self.one, restart_broker)
 
     async def folder_is_restored(self) -> None:
-        """Restore the folder from before the burst. What was shared since comes back from the other site."""
+        """Restore the folder from before the burst. What was shared during the burst comes back from the other site."""
         old = self.copy(self.one.folder)
         before = [dict(engineer.confirmed) for engineer in self.engineers]
         await self.burst(self.one, lambda: None)
@@ -92,7 +92,7 @@ class Bursts(Case):
         return copy
 
     async def burst(self, server: Server, fault: Any, engineers: list[Engineer] | None = None) -> None:
-        """Make this many gestures, and let the fault happen at some time between them."""
+        """Make GESTURES gestures, and let the fault happen at some time between them."""
         some = engineers or self.engineers
         left = [GESTURES - self.chance.randrange(GESTURES // 5, GESTURES * 4 // 5)]
         count = sum(len(one.confirmed) for one in some) + GESTURES

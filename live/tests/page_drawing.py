@@ -11,7 +11,7 @@ from browsers import COLOURS, FREE_ROAD, FREEWAY, BrowserCase, Tab, example_rows
 from selenium.webdriver.common.action_chains import ActionChains
 from selenium.webdriver.common.keys import Keys
 
-TWICE = 500  # milliseconds: within these the page takes two clicks for a double click
+DOUBLE_CLICK = 500  # milliseconds: two clicks within this time are a double click
 
 
 class OnePicture(BrowserCase):
@@ -328,15 +328,15 @@ class OneFreeway(BrowserCase):
         tab.tool("limit")
         tab.script("window.ends = []; document.getElementById('diagram')"
                    ".addEventListener('pointerup', (event) => ends.push(event.timeStamp))")
-        milliseconds, count = TWICE, 2
-        while milliseconds >= TWICE:  # a busy machine may take longer, and then these are two clicks
+        milliseconds, count = DOUBLE_CLICK, 2
+        while milliseconds >= DOUBLE_CLICK:  # a busy machine may take longer, and then these are two clicks
             tab.script("ends.length = 0")
             ActionChains(tab.driver, duration=0).move_to_element_with_offset(
                 tab.part("diagram"), *tab.place(430, 1200)).double_click().perform()
             tab.settled()
             first, second = tab.script("return ends")
             milliseconds = second - first
-            count += 1 if milliseconds < TWICE else 2
+            count += 1 if milliseconds < DOUBLE_CLICK else 2
             self.assertEqual(len(operations_of(self.server)), count)
 
     def test_a_road_of_8192_cells_is_drawn(self) -> None:

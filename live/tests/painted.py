@@ -173,7 +173,7 @@ class History:
         elif what < 0.82:
             site.takes(seat, chance.choice([len(site.order), len(site.order), chance.randrange(len(site.order) + 1)]), chance)
         elif what < 0.84 and seat.road.record.held:
-            self.twin(site, seat)
+            self.reuse_stamp(site, seat)
         else:
             self.deliver(site)
         if chance.random() < 0.3:
@@ -208,7 +208,7 @@ class History:
         if some:
             site.shares(some, self.chance)
 
-    def twin(self, site: Site, seat: Seat) -> None:
+    def reuse_stamp(self, site: Site, seat: Seat) -> None:
         """Make an operation whose stamp was used before, as a copied folder does."""
         old = self.chance.choice(list(seat.road.record.operations()))
         if old.stamp[1] == seat.number and old.sets and not any(map(is_raw, old.sets)):

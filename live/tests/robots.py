@@ -1,6 +1,5 @@
-"""Let robots put, change, withdraw, put on top and undo shapes and raw edits, share and take, on one server or on several with a
-broker. At the end every road equals, row by row, that of a program that is given the values of the shapes in force, step by
-step."""
+"""Let robots make random shapes and raw edits, change or undo them, and share and take, on one server or on several with a
+broker. At the end every road equals, row by row, one that a program simulates from the values in force at each step."""
 from __future__ import annotations
 
 import random
@@ -28,8 +27,8 @@ def random_edits(chance: random.Random) -> list[list[Any]]:
     """Return edits of few objects and steps, so that they collide."""
     edits: dict[tuple[str, int, int], list[Any]] = {}
     for _ in range(chance.randrange(1, 6)):
-        kind, there, most = chance.choice(OBJECTS)
-        index, step = chance.randrange(min(there, 3)), chance.randrange(0, LAST, 10)
+        kind, number_of_objects, most = chance.choice(OBJECTS)
+        index, step = chance.randrange(min(number_of_objects, 3)), chance.randrange(0, LAST, 10)
         value = None if chance.random() < 0.1 else chance.randint(0, most)
         edits[kind, index, step] = [kind, index, step, value]
     return list(edits.values())
@@ -37,10 +36,10 @@ def random_edits(chance: random.Random) -> list[list[Any]]:
 
 def random_shape(chance: random.Random) -> list[Any]:
     """Return a shape of random objects, steps and value."""
-    kind, there, most = chance.choice(OBJECTS)
-    first, begin = chance.randrange(there), chance.randrange(0, LAST, 5)
+    kind, number_of_objects, most = chance.choice(OBJECTS)
+    first, begin = chance.randrange(number_of_objects), chance.randrange(0, LAST, 5)
     end = None if chance.random() < 0.2 else begin + chance.randrange(1, 40)
-    return [kind, first, min(there - 1, first + chance.randrange(12)), begin, end, chance.randint(0, most)]
+    return [kind, first, min(number_of_objects - 1, first + chance.randrange(12)), begin, end, chance.randint(0, most)]
 
 
 class Acts(Case):

@@ -38,7 +38,7 @@ class Reports(Case):
             self.assertEqual(rows["delay, vehicle hours"][4], f"{figures['delay_hours']:.2f}")
             self.assertEqual(figures["after"]["flows"][2]["on"], 340)
 
-    async def test_a_report_is_self_contained_and_has_no_markup_of_others(self) -> None:
+    async def test_a_report_is_self_contained_and_escapes_what_users_wrote(self) -> None:
         async with Here() as here:
             seat, = await here.join("<b>")
             await here.lab.timing.set_clock(to=600)

@@ -51,7 +51,7 @@ def plain_model(x: float, seed: int) -> dict[str, Any]:
     return {"y": x * 10 + seed, "always": 3, "odd": None if seed % 2 else 1.5, "text": "a,b"}
 
 
-def by_x(x: int, seed: int) -> dict[str, Any]:
+def fail_by_x(x: int, seed: int) -> dict[str, Any]:
     """Fail in each way that a run can fail."""
     if x == 1:
         raise ZeroDivisionError("no such road")
@@ -62,7 +62,7 @@ def by_x(x: int, seed: int) -> dict[str, Any]:
     if x == 4:
         return {}
     if x == 5:
-        return {"other": 1}
+        return {"z": 1}
     if x == 6:
         return {"y": [1]}
     if x == 7:
@@ -134,9 +134,9 @@ class Sweeps(Folder):
 
     def test_failures_are_named_and_left_out(self) -> None:
         with self.subTest("in memory and in a file"):
-            found = sweep(by_x, {"x": range(10)}, (1, 2), out=self.out, jobs=3)
+            found = sweep(fail_by_x, {"x": range(10)}, (1, 2), out=self.out, jobs=3)
             errors = ["ZeroDivisionError: no such road", "its process ended by SIGKILL", "its process ended with status 5",
-                      "Fault: it returns {}, not a dictionary of figures", "Fault: its figures are other, but other rows have y",
+                      "Fault: it returns {}, but a run must return a dictionary with at least one figure", "Fault: its figures are z, but other rows have y",
                       "TypeError: [1] must be a number, a string or None"]
             self.assertEqual([(failure.point["x"], failure.seed, failure.error) for failure in found.failures[:12]],
                              [(x, seed, error) for x, error in enumerate(errors, 1) for seed in (1, 2)])

@@ -243,7 +243,7 @@ class Admission:
 
     @property
     def capacity(self) -> float:
-        """Return the cars per hour at chance 1. ValueError: only some smaller demands were measured."""
+        """Return the cars per hour at chance 1. ValueError: no demand up to the capacity was measured."""
         if self.chances[-1] < 1:
             raise ValueError(f"the capacity is unknown: only up to {self.flow(self.chances[-1]):,.0f} cars per hour were measured")
         return self.flow(1.0)

@@ -203,7 +203,7 @@ def run_point(model: Model, measure: Measure | None, point: Row, seed: int) -> R
         with RoadLab(dataclasses.replace(plan, words=seed)) as lab:
             found = measure(lab)
     if not isinstance(found, Mapping) or not found:
-        raise Fault(f"it returns {found!r}, not a dictionary of figures")
+        raise Fault(f"it returns {found!r}, but a run must return a dictionary with at least one figure")
     return {str(name): to_plain(value) for name, value in found.items()}
 
 

@@ -12,10 +12,11 @@ A window is the steps `first` to `last` - 1. Step s leads from row s to row s + 
 - *Vehicle hours*: the cars on the road in each row of the window, one second each.
 - *Admitted*: the cars that enter in the steps of the window.
 - *Travel time*: the seconds from a car's step of entry to the step in which it leaves the road (or passes a site). The mean of a
-  window is over the cars that leave (or pass) in it. By entry minute it is over the cars that entered then and have left.
+  window is over the cars that leave (or pass) in it. By minute of entry, the mean is over the cars that entered in that
+  minute and have left.
 - *Delay* of a change: the time that cars spend on the road in the rows of the window, after minus before, over the cars that
-  both roads admitted. Cars that only one road admitted have no delay: they belong to the lost demand. *Delay at a site* is the
-  mean of passing time after minus before, over the cars that entered in the window and passed on both roads by its end.
+  both roads admitted. Cars that only one road admitted have no delay: they belong to the lost demand. *Delay at a site* is
+  how much later, on average, cars reach the site: the mean over the cars that entered in the window and passed on both roads by its end.
 - *Counts*: the cars that pass a detector in the steps of the window in which it is on, and their time-mean speed.
 """
 from __future__ import annotations
@@ -293,7 +294,7 @@ class TripsCompared:
     """The cost of a change in a window, by the definitions at the head of this module."""
 
     cars: int
-    """Cars that both roads admitted by the window's end and that spend time in the window on one of them."""
+    """Cars that both roads admitted by the window's end and that spend time in the window on at least one of them."""
     delay: int
     """The seconds of all these cars together, after minus before."""
     at_sites: list[TravelTime]
