@@ -283,7 +283,7 @@ class Acts(Case):
         cases: list[tuple[str, str, list[Any]]] = [
             ("NoObject", "no zone 99", [["limit", 99, 5, 1]]), ("ValueOutOfRange", "0 to 9", [["limit", 1, 5, 10]]),
             ("Step", "at most 1048575", [["limit", 1, 1_048_576, 1]]),
-            ("not a command", "twice", [["limit", 1, 5, 1], ["limit", 1, 5, 2]]),
+            ("not a command", "two edits of one object at one step", [["limit", 1, 5, 1], ["limit", 1, 5, 2]]),
             ("not a command", "is not a number", [["limit", {}, 5, 1]]),
             ("not a command", "in quotes", [["limit", "1", 5, 1]]),
             ("not a command", "without sign", [["limit", 1, 5.5, 1]]),

@@ -148,7 +148,7 @@ class Certificates(Case):
     def test_without_a_certificate_other_hosts_are_refused(self) -> None:
         self.refused("--listen 0.0.0.0 requires --certificate", "--listen", "0.0.0.0")
         folder = new_folder() / "new"
-        self.refused("no certificate", "--listen", "0.0.0.0", "--name", "x", "--certificate", str(LIVE / "serve"),
+        self.refused("cannot be loaded as a certificate", "--listen", "0.0.0.0", "--name", "x", "--certificate", str(LIVE / "serve"),
                      "--folder", str(folder))
         self.assertFalse(folder.exists())
 
