@@ -108,8 +108,8 @@ class Seating:
             raise self._refuse_with_seats("NoName", "give a name of 1 to 64 characters")
         alike = self._find_similar_name(name)
         if alike is not None:
-            give_unsaved = "" if alike == name else f", and {name} give_unsaved like it"
-            raise self._refuse_with_seats("NameTaken", f"there is a seat of {alike} already{give_unsaved}: take it over, or choose another name")
+            hint = "" if alike == name else f", and {name} looks like it"
+            raise self._refuse_with_seats("NameTaken", f"there is a seat of {alike} already{hint}: take it over, or choose another name")
         free = [seat.index for seat in self._state.seats[1:] if not seat.key]
         if not free:
             raise self._refuse_with_seats("AllSeatsTaken", "all 63 seats are taken: take one over")
@@ -127,7 +127,7 @@ class Seating:
         return await self._give(index, name, self._state.works, key)
 
     def _find_similar_name(self, name: str) -> str | None:
-        """Return the name of a seat that is equal to this name or give_unsaved like it; None if there is none."""
+        """Return the name of a seat that is equal to this name or looks like it; None if there is none."""
         return next((seat.name for seat in self._state.seats if seat.key and fold_look_alikes(seat.name) == fold_look_alikes(name)), None)
 
     def _refuse_with_seats(self, text: str, why: str) -> Refused:

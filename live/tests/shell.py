@@ -101,7 +101,7 @@ class Shell(Case):
         self.here.kill()
         await self.road("cron", "share")
         status, _, why = await self.road("cron", "tell", PATIENCE="1")
-        self.assertEqual((status, why.split(";")[0]), (1, "1 change has not come back"))
+        self.assertEqual((status, why.strip()), (1, "1 change has not come back from the broker, which is away"))
 
     async def test_changes_are_written_in_km_and_clock_times(self) -> None:
         """A demand agrees with the package's curve, within half a car per hour."""
