@@ -13,7 +13,7 @@ from selenium.webdriver.common.keys import Keys
 HANGS, STALLS = 10, 5  # seconds, as live/README says them
 SOONER = """
     const later = setTimeout;
-    window.setTimeout = (does, wait, ...more) => later(does, wait >= 30_000 ? 3_000 : wait, ...more);"""
+    window.setTimeout = (does, wait, ...more) => later(does, wait >= 30_000 ? 12_000 : wait, ...more);"""
 
 
 class OneTab(BrowserCase):
