@@ -46,7 +46,7 @@ def write_record(path: Path, text: str, proved: bool, checks: bool) -> None:
 
 
 def current_path(name: str, with_checks: bool = True) -> Path | None:
-    """Return a program that was made from the present source text, the proved one if there are two, or None if there is none.
+    """Return a program that was made from the present source text, the proved one if there are two, or None if it was never made.
 
     A proved laboratory without a record was built by hand, and counts as present. If `with_checks` is False, a program with the
     compiler's checks does not count.

@@ -11,7 +11,7 @@
 
 /** Compare two pictures in the steps that both show. Return {from, to, cells, step, cell}: the
  * first and the last common step, the number of cells that differ, and the step and the cell of the
- * first difference, null if there is none. */
+ * first difference, null if all rows agree. */
 function comparePictures(one, other) {
   const from = Math.max(one.from, other.from);
   const to = Math.min(lastStep(one), lastStep(other));

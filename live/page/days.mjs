@@ -16,7 +16,7 @@ const keyOfRoads = () => [layersOf("mine").next, layersOf("shared").next].join()
  */
 export const comparedNow = () => (store.preview ? "preview" : "mine");
 
-/** Return the comparison over many days of the roads that are compared now; null if there is none. */
+/** Return the comparison over many days of the roads that are compared now; null before it was made. */
 export const daysShown = () => (store.days?.of === comparedNow() ? store.days : null);
 
 /** Ask for a comparison over many days. */

@@ -141,7 +141,7 @@ export function showDrawn(area) {
   showArea(area);
 }
 
-/** End the drag. Return it, with the area that it drew; null if there is none. */
+/** End the drag. Return it, with the area that it drew; null if nothing was being dragged. */
 export function endDrag() {
   const {drag} = store;
   assign(store, {drag: null, area: null});

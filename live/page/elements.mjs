@@ -62,7 +62,7 @@ export function on(id, type, act, how) {
 }
 
 /** Return the innermost element that matches a selector and contains the target of an event; null
- * if there is none.
+ * if no element does.
  * @param {Event} event
  * @param {string} selector
  */

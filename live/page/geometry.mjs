@@ -94,7 +94,7 @@ export function objectsIn(plan, kind, [from, to], near = from) {
 }
 
 /** Return the first and last zone that a stretch of cells covers at least by half or, with `all`, that
- * it touches; null if there is none.
+ * it touches; null if it covers no zone.
  * @param {Plan} plan
  * @param {Span} cells
  * @param {boolean} [all]

@@ -81,8 +81,8 @@ const dragsEdges = ({kind}) => store.tool === "look" || store.tool === kind;
  */
 const canBeDragged = ({kind}, edge) => !OF_ONE.includes(kind) || ["top", "bottom"].includes(edge);
 
-/** Return the own change whose edge is visible at a pixel, and the edge; null if there is none, or
- * another change covers it there.
+/** Return the own change whose edge is visible at a pixel, and the edge; null if no edge is
+ * there, or another change covers it.
  * @param {number} x
  * @param {number} y
  * @returns {{change: Change, edge: Edge} | null}

@@ -75,7 +75,7 @@ export function dropDuplicates(labels) {
 }
 
 /** Return the place, left and top, of a label of a frame, within bounds and clear of boxes; null
- * if there is none.
+ * if it fits nowhere.
  * @param {Box} frame
  * @param {Size} size
  * @param {Box} bounds

@@ -108,14 +108,14 @@ export class Layers {
     return road;
   }
 
-  /** Return the change of a name; undefined if there is none.
+  /** Return the change of a name; undefined if no change has it.
    * @param {Stamp} name
    */
   find(name) {
     return this.changes.get(keyOf(name));
   }
 
-  /** Return the change on which an operation was made; undefined if there is none.
+  /** Return the change on which an operation was made; undefined if it is not listed.
    * @param {Stamp} stamp
    */
   findByOperation(stamp) {
@@ -171,7 +171,7 @@ export const lastOf = ({operations, name: stamp, when, note}) =>
 export const privateOf = ({operations}) => operations.filter(({shared, idle}) => !shared && !idle);
 
 /** Return a seat's last operation on a change, and the one that was made at the same time and won
- * over it; null if there is none.
+ * over it; null if none won over it.
  * @param {Pick<Change, "operations">} change
  * @param {number} number    the seat's, in stamps
  */

@@ -176,7 +176,7 @@ class Journal:
         self._waiting: list[tuple[str, Then, asyncio.Future[None]]] = []
         self._last: asyncio.Future[None] | None = None
         self._writer: asyncio.Future[None] | None = None
-        self._began: float | None = None  # the start of the pending call to the disk; None if there is none
+        self._began: float | None = None  # the start of the pending call to the disk; None if no call is pending
         self._is_read_only = self._is_closed = False
         self._file = self._open()
         self._held = -1

@@ -125,7 +125,7 @@ class Peers:
         self.known = {key: site for key, site in self.known.items() if site.when > before}
 
     def twin(self) -> Site | None:
-        """Return another folder that uses this site's number, or a clone of this folder; None if there is none."""
+        """Return another folder that uses this site's number, or a clone of this folder; None if no folder was heard that does."""
         self.forget_silent()
         return next((site for site in self.known.values() if site.number == self._keeper.state.site
                      and not site.is_silent and site.road == self._road), None)

@@ -64,7 +64,7 @@ class Program:
         self.horizons: dict[str, int] = {}
 
     async def ask(self, line: bytes) -> bytes:
-        """Return the reply to a line. Raise `ProgramExited` if there is none."""
+        """Return the reply to a line. Raise `ProgramExited` if it does not come."""
         return (await self.ask_all([line]))[0]
 
     async def ask_all(self, lines: Sequence[bytes]) -> list[bytes]:

@@ -24,7 +24,7 @@ def rows_of(edits: Edits, count: int = 1) -> list[WrittenEdit]:
 
 
 def first_step(edits: Edits) -> int | None:
-    """Return the first step at which edits change a road; None if there are none."""
+    """Return the first step at which edits change a road; None if they change nothing."""
     return min((step for _, _, step in edits), default=None)
 
 

@@ -127,7 +127,7 @@ class Seating:
         return await self._give(index, name, self._state.works, key)
 
     def _find_similar_name(self, name: str) -> str | None:
-        """Return the name of a seat that is equal to this name or looks like it; None if there is none."""
+        """Return the name of a seat that is equal to this name or looks like it; None if no seat has such a name."""
         return next((seat.name for seat in self._state.seats if seat.key and fold_look_alikes(seat.name) == fold_look_alikes(name)), None)
 
     def _refuse_with_seats(self, text: str, why: str) -> Refused:

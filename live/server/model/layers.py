@@ -25,7 +25,7 @@ class Layer(NamedTuple):
 
 
 Piece = tuple[int, int, "Layer | None"]
-"""A span of steps, from one to before another, and the topmost layer there; None if there is none."""
+"""A span of steps, from one to before another, and the topmost layer there; None if no layer is there."""
 Rank = tuple[Stamp, int, Name]
 
 

@@ -90,7 +90,7 @@ class Road:
     # Layers
 
     def setter(self, name: Name, flipped: AbstractSet[Operation] = NO_OPERATIONS) -> Operation | None:
-        """Return the operation that gives a layer its shape; None if there is none."""
+        """Return the operation that gives a layer its shape; None if no operation does."""
         return next((one for one in reversed(self.setters_of(name)) if self.record.counts(one, flipped)), None)
 
     def height_of(self, line: Stamp, flipped: AbstractSet[Operation] = NO_OPERATIONS) -> Stamp:
@@ -200,7 +200,7 @@ def is_standing(road: Road, line: Stamp) -> bool:
 
 
 def last_setter(road: Road, line: Stamp) -> Stamp | None:
-    """Return the stamp of the operation that gave a line its present shape; None if there is none. A new change of the line has it as
+    """Return the stamp of the operation that gave a line its present shape; None if no operation did. A new change of the line has it as
     `seen`."""
     setter = road.setter(line)
     if setter is not None:

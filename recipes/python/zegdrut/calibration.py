@@ -183,7 +183,7 @@ def excess_seconds_per_km(kmh: float, free: float) -> float:
 
 
 def mean_or_zero(values: Sequence[float]) -> float:
-    """Return the mean of values, or 0 if there are none."""
+    """Return the mean of values, or 0 without values."""
     return math.fsum(values) / len(values) if values else 0.0
 
 

@@ -295,7 +295,7 @@ def compare_speeds(measured: Measured, days: Sequence[Day]) -> list[SpeedError]:
 
 
 def compute_total_rmse(errors: Sequence[SpeedError]) -> float | None:
-    """Return the RMSE of speeds over all intervals of all stations in km/h, or None if there are none."""
+    """Return the RMSE of speeds over all intervals of all stations in km/h, or None without intervals."""
     pairs = [(one.intervals, one.rmse) for one in errors if one.rmse is not None]
     total = sum(number for number, _ in pairs)
     return math.sqrt(sum(number * rmse * rmse for number, rmse in pairs) / total) if total else None

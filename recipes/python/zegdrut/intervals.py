@@ -79,7 +79,7 @@ def estimate_mean(values: Sequence[float]) -> Estimate:
 
 
 def average_known(values: Sequence[float | None]) -> float | None:
-    """Return the mean of the values that are not None, or None if there are none."""
+    """Return the mean of the values that are not None, or None if all are."""
     known = [value for value in values if value is not None]
     return math.fsum(known) / len(known) if known else None
 

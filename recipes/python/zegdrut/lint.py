@@ -38,7 +38,7 @@ class Linter:
         self._blocks: dict[int, dict[int, tuple[int, int]]] = {}
 
     def check(self, line: bytes, reply: Fields) -> str | None:
-        """Take the next line with its reply. Return a warning, or None if there is none or the line was refused."""
+        """Take the next line with its reply. Return a warning, or None if nothing is unusual or the line was refused."""
         self._line += 1
         if "refused" in reply:
             return None

@@ -97,7 +97,7 @@ def write_record(path: Path, text: str, proved: bool, checks: bool) -> None:
 
 
 def read_record(path: Path) -> Made | None:
-    """Return the record of a program, or None if there is none, or it describes an earlier program at this path."""
+    """Return the record of a program, or None if it is missing or describes an earlier program at this path."""
     try:
         made = Made(**json.loads(path.with_name(path.name + ".made").read_text(encoding="utf-8")))
         return made if made.program == sum_file(path) else None

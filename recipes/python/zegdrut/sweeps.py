@@ -235,7 +235,7 @@ def check_marks(results: Results, place: int, mark: str) -> None:
 
 
 def list_failures(out: Path, names: Sequence[str], failures: Sequence[Failure]) -> None:
-    """List the failed runs in OUT.failed, or remove that file if there are none."""
+    """List the failed runs in OUT.failed, or remove that file if no run failed."""
     path = out.with_name(out.name + ".failed")
     if failures:
         rows = [[*map(format_cell, failure.point.values()), str(failure.seed), failure.error] for failure in failures]
