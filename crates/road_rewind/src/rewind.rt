@@ -23,8 +23,7 @@ use road_workers::Crew;
 use std::alloc::Global;
 
 /// Join a scenario into a sheet, and simulate at least up to the step `to`. The new sheet is that of the joined
-/// scenario, and its horizon is the greater of the old horizon and `to`. The old sheet is unchanged, and the new one
-/// shares with it each whole interval that is valid in both.
+/// scenario, and its horizon is the greater of the old horizon and `to`. The old sheet is unchanged.
 ///
 /// The scenario must fit the sheet's plan, and `to` must be at most 1,048,576. If the call succeeds, the meter counts
 /// exactly the steps that were computed. If no simulated step is touched, these are the steps after the old horizon.
@@ -32,8 +31,8 @@ use std::alloc::Global;
 ///
 /// # Errors
 ///
-/// `WorkersGone` if the crew returned it, else `OutOfMemory` if an allocation failed. The meter has then counted the
-/// steps of the runs that were finished, and none of the run that failed: no more than a call that succeeds may count.
+/// `WorkersGone` if the crew returned it, else `OutOfMemory` if an allocation failed. The meter has then counted no
+/// more steps than a call that succeeds may count.
 pub fn grown<C: Crew>(
     alloc: Global,
     sheet: &Sheet,

@@ -179,8 +179,8 @@ impl Scenario {
     }
 
     /// Return the first step after a given step at which an edit, perhaps a withdrawal, takes effect, or `None` if no
-    /// edit is dated later. All steps before it have the settings of the given step. It takes a few look-ups for each
-    /// object, and does not allocate.
+    /// edit is dated later. All steps from the given one up to it, or all later ones if there is none, have the
+    /// settings of the given step. It takes a few look-ups for each object, and does not allocate.
     pub fn next_date(&self, step: u32) -> Option<u32>
         ensures date { result ≡ next_date self.now step }
         ensures settings { (plan : Plan) (t : ℕ) → step ≤ t → IsBefore t result →

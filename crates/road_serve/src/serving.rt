@@ -34,9 +34,9 @@ struct Limits {
 }
 
 /// Read an input to its end, and write the reply to each of its lines. At most 1,000,000 lines after the plan line are
-/// read, and at most 2^32 bytes. The crew computes the speeds of simulated steps, and `crowds` gathers crowds. The
-/// hasher hashes names to find them, and no reply depends on it. If no crowd is read, only calls of the source, the
-/// sink and the crew may block.
+/// read, and at most 2^32 bytes. The crew runs the road for everything that changes a replica, and `crowds` gathers
+/// crowds. The hasher hashes names to find them, and no reply depends on it. If no crowd is read, only calls of the
+/// source, the sink and the crew may block.
 ///
 /// # Errors
 ///
