@@ -12,8 +12,8 @@ import sys
 from pathlib import Path
 
 TOP = Path(__file__).resolve().parent.parent
-sys.path.insert(0, str(TOP / "recipes" / "python"))
-from zegdrut import programs  # noqa: E402  (the only import of the package by these tools)
+sys.path.insert(0, str(TOP / "python"))
+from zegdrut.program import programs  # noqa: E402  (the only import of the package by these tools)
 
 LABORATORY, WITHIN, CALLS = "road_lab", "tests_within", "tests_failures"
 PROGRAMS = (LABORATORY, WITHIN, CALLS)

@@ -50,7 +50,7 @@ def all_parts() -> list[Part]:
         Part("unproved", "the program without a proof, with and without checks", ("tests/unproved",), processors=2, needs_kit=True),
         Part("process", "the program as a process: arguments, streams, limits", ("tests/process --program $road_lab",), (LABORATORY,)),
         Part("recipes", "the recipes, compared with results of other programs", ("ROAD_LAB=$road_lab recipes/test",), (LABORATORY,)),
-        Part("types", "the types of the Python package, and of live's server and tests", ("recipes/python/types", "live/types")),
+        Part("types", "the types of the Python package, and of live's server and tests", ("python/types", "live/types")),
         Part("viewer", "the viewer, in a real browser", ("viewer/test",), processors=2),
         Part("refused-uses", "programs that must not compile", (".ci/refused-uses",), needs_kit=True),
         Part("lost-worker", "the loss of a worker is detected", (".ci/lost-worker",), needs_kit=True),

@@ -20,13 +20,13 @@ from unittest import mock
 
 import running
 from faulty import Disk
-from server.client import Seat
-from server.journal import CannotStart, Entries, Journal, NotWritten, lock, put_in_place, read_entries
-from server.keeper import Keeper
-from server.settings import Settings
+from server.tabs.client import Seat
+from server.journal.journal import CannotStart, Entries, Journal, NotWritten, lock, put_in_place, read_entries
+from server.journal.keeper import Keeper
+from server.background.settings import Settings
 from crashes import numbers
 from running import LIVE, SMALL, Case
-from server.state import State
+from server.journal.state import State
 from working import takes_at_most
 
 GESTURES: list[Any] = [{"gesture": {"seat": 1, "key": f"k{count}", "stamp": [count, 65], "who": "Ada", "when": 1,
@@ -231,7 +231,7 @@ class Writing(unittest.IsolatedAsyncioTestCase):
             if is_file:
                 raise OSError(errno.EIO, os.strerror(errno.EIO))
         close = os.close
-        with mock.patch("server.journal.os.close", closes_badly):
+        with mock.patch("server.journal.journal.os.close", closes_badly):
             await journal.compact(lambda: [GESTURES[1]])
         sockets = [socket.socketpair() for _ in range(4)]
         with contextlib.suppress(NotWritten):

@@ -7,10 +7,10 @@ from unittest import mock
 
 from faulty import Here, soon
 from running import Case, until
-from server import supervised
-from server.timing import Timing
-from server.tabs import Tabs
-from server.turns import Turns
+from server.background import supervised
+from server.journal.timing import Timing
+from server.tabs.tabs import Tabs
+from server.roads.turns import Turns
 
 
 def failing_once(does: Any) -> Any:
