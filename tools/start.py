@@ -68,6 +68,7 @@ def provide_packages(others: list[str]) -> None:
 
 def load_serve() -> ModuleType:
     """Load the script live/serve as a module, for its options and its ports."""
+    sys.path.insert(0, str(SERVE.parent))  # as if the script were run
     loader = SourceFileLoader("live_serve", str(SERVE))
     spec = spec_from_loader(loader.name, loader)
     assert spec is not None
