@@ -18,13 +18,14 @@ from ..model.demands import kept_demand, written_demand
 from ..model.operations import (About, Json, Operation, RawName, Shape, Stamp, edit, exclude, sort_by_stamp, lift, put, restamp,
                                undo)
 from ..model.road import Road, change, repeat, is_standing
+from ..roads.program import Times
 from ..roads.screen import first_step
 from ..tabs.asked import RawEdit
 from ..tabs.lines import Act, Lister
 from ..tabs.refusals import Refused
 from ..tabs.seating import Seating
 from .checks import Checks
-from .keeper import SHARED, Keeper, Times
+from .keeper import SHARED, Keeper
 from .records import Bound, Came, CameBack, Made, Share, StampedAnew, Take, Works
 from .state import Replica, SeatReplica, State
 from .timing import Timing
